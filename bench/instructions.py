@@ -40,7 +40,7 @@ PROGRAM = os.environ.get("JUDYD") or os.path.join(TOP, "crates", "judyd", "out",
 # Which layer a symbol belongs to: the first that its name begins with.
 LAYERS = (
     ("SHA-256", ("sha2::", "judy_bytes::hash::")),
-    ("read, cut, hold, send", ("judy_protocol::connection::", "judy_protocol::held::", "judy_programs::", "judy_stream::", "std_io::")),
+    ("read, cut, hold, send", ("judy_protocol::connection::", "judy_protocol::gathering::", "judy_protocol::held::", "judy_programs::", "judy_stream::", "std_io::")),
     ("parse: numbers", ("judy_protocol::numbers::",)),
     ("parse: request of a key, with its digits", ("judy_protocol::requests::", "hex::")),
     ("parse: fields, name, command", ("judy_protocol::turns::hear", "judy_protocol::fields::", "judy_protocol::commands::")),

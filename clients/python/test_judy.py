@@ -16,7 +16,8 @@ sys.path.insert(0, os.path.dirname(os.path.abspath(__file__)))
 
 from judy_runs import JudyTest, alice, run_judy, start_judy  # noqa: E402
 from judyd import Client, Closed, __version__  # noqa: E402
-from judyd.command import SUBCOMMANDS, first_words, subcommand  # noqa: E402
+from judyd.command import SUBCOMMANDS  # noqa: E402
+from judyd.options import first_words, subcommand  # noqa: E402
 from judyd.wording import WORDS, told, wrong_in  # noqa: E402
 from served import HERE, Served, odd_server  # noqa: E402
 

@@ -25,17 +25,19 @@ pub struct NoMemory;
 /// keeps its number until it is released. The number of a released block may be used again.
 ///
 /// Released blocks merge. So the words taken from the machine stay below a multiple of the greatest
-/// number of words that were live at once, whatever the order of calls.
+/// number of words that were live at once, whatever the order of calls, or are those that were taken
+/// beforehand.
 #[derive(Drop)]
 pub struct Arena {
     pool: Pool,
     live: u64,
     peak: u64,
+    reserved: u64,
     refusals: u64,
 }
 
 impl Model for Arena {
-    ghost use Rattle.std.specs.Prelude.{◌≡◌, ◌≤◌, ◌+◌, ◌*◌};
+    ghost use Rattle.std.specs.Prelude.{◌≡◌, ◌≤◌, ◌+◌, ◌*◌, max};
     ghost use Rattle.judy_arena.specs.Blocks.{ArenaState, state_code, AreSized, total_words};
     ghost use Rattle.judy_arena.specs.Ready.{greatest};
 
@@ -50,10 +52,11 @@ impl Model for Arena {
       region = a.pool.region;
       live = a.live;
       peak = a.peak;
+      reserved = a.reserved;
     } };
 
     ghost invariant = { λ a. AreSized a.pool.blocks × (a.live ≡ total_words a.pool.blocks)
-        × (total_words a.pool.blocks ≤ a.peak) × (a.pool.region ≤ 128 * a.peak + 512) };
+        × (total_words a.pool.blocks ≤ a.peak) × (a.pool.region ≤ max a.reserved (128 * a.peak + 512)) };
 }
 
 impl Arena {
@@ -65,11 +68,13 @@ impl Arena {
         ensures region { result.region ≡ 0 }
         ensures live { result.live ≡ 0 }
         ensures peak { result.peak ≡ 0 }
+        ensures reserved { result.reserved ≡ 0 }
     {
         Arena {
             pool: Pool::new(alloc),
             live: 0,
             peak: 0,
+            reserved: 0,
             refusals: 0,
         }
     }
@@ -165,12 +170,41 @@ impl Arena {
         ensures live { self.new.live ≡ self.old.live }
         ensures refusals { self.new.refusals
             ≡ (if is_ok result then self.old.refusals else count_up self.old.refusals) }
+        ensures memory { Takes (if is_ok result then 1 else 0) self.old self.new }
     {
         if self.pool.first(LAST).is_some() {
             return Ok(());
         }
         self.pool.is_filled();
         if self.pool.grow(alloc) {
+            return Ok(());
+        }
+        self.refusals = self.refusals.saturating_add(1);
+        Err(NoMemory)
+    }
+
+    /// Takes runs of 512 words from the machine until it has taken at least this many words. They are
+    /// free. No block changes.
+    ///
+    /// Err if out of memory or if no block number below 2^32 is left: the runs that were taken until
+    /// then stay, and the count of refusals rises by 1.
+    pub fn prepare(&mut self, alloc: Global, words: u64) -> Result<(), NoMemory>
+        ensures region { OnOk result (words ≤ self.new.region) }
+        ensures short { OnErr result (self.new.region < words) }
+        ensures cause { OnErr result (self.new.region % 65536 ≡ 0) }
+        ensures most { self.new.region ≤ max self.old.region (words + 511) }
+        ensures kept { self.old.region ≤ self.new.region }
+        ensures reserved { self.new.reserved ≡ max self.old.reserved self.new.region }
+        ensures free { self.old.region < self.new.region → 512 ≤ self.new.ready }
+        ensures blocks { self.new.blocks ≡ self.old.blocks }
+        ensures peak { self.new.peak ≡ self.old.peak }
+        ensures live { self.new.live ≡ self.old.live }
+        ensures refusals { self.new.refusals
+            ≡ (if is_ok result then self.old.refusals else count_up self.old.refusals) }
+    {
+        let done = self.pool.prepare(alloc, words);
+        self.reserved = self.reserved.max(self.pool.region());
+        if done {
             return Ok(());
         }
         self.refusals = self.refusals.saturating_add(1);
@@ -254,9 +288,9 @@ impl Arena {
     }
 
     /// A law, with an empty body: the words taken from the machine are bounded by the words that were
-    /// live at once, whatever was allocated and released in between.
+    /// live at once, whatever was allocated and released in between, or by what was taken beforehand.
     pub fn the_region_is_bounded(&self)
-        ensures bound { self.now.region ≤ 128 * self.now.peak + 512 }
+        ensures bound { self.now.region ≤ max self.now.reserved (128 * self.now.peak + 512) }
         ensures live { total_words self.now.blocks ≤ self.now.peak }
         ensures sum { self.now.live ≡ total_words self.now.blocks }
     {

@@ -339,6 +339,25 @@ impl Pool {
         true
     }
 
+    /// Adds free blocks of the last class until the region has at least this many words, if there is
+    /// memory and numbers are left.
+    pub(crate) fn prepare(&mut self, alloc: Global, words: u64) -> bool
+        ensures blocks { self.new.blocks ≡ self.old.blocks }
+        ensures enough { IsTrue result → words ≤ self.new.region }
+        ensures short { IsFalse result → self.new.region < words }
+        ensures cause { IsFalse result → self.new.region % 65536 ≡ 0 }
+        ensures most { self.new.region ≤ max self.old.region (words + 511) }
+        ensures kept { self.old.region ≤ self.new.region }
+        ensures free { self.old.region < self.new.region → 0 < slice_index self.new.heads 7 }
+    {
+        while self.region() < words {
+            if !self.grow(alloc) {
+                return false;
+            }
+        }
+        true
+    }
+
     /// Takes a block of a class, all zeros, if there is memory and a number is left.
     pub(crate) fn allot(&mut self, alloc: Global, class: usize) -> Option<u32>
         requires { class < 8 }

@@ -132,8 +132,6 @@ impl<H: KeyHash> JudyHS<H> {
         ensures refused { OnErr result
             (IsRefused arena.old self.old.words arena.new self.new.words) }
         ensures quiet { OnOk result (arena.new.refusals ≡ arena.old.refusals) }
-        ensures rests { IsTrue (has_bytes_key arena.old self.old.words key.now)
-            → arena.new.region ≡ arena.old.region }
         ensures memory { Takes
             (if has_bytes_key arena.old self.old.words key.now then 0 else 65)
             arena.old arena.new }
@@ -162,8 +160,6 @@ impl<H: KeyHash> JudyHS<H> {
         ensures content { BytesSets arena.old self.old.words key.now value arena.new
             self.new.words }
         ensures word { self.new.words ≡ self.old.words }
-        ensures refusals { arena.new.refusals ≡ arena.old.refusals }
-        ensures region { arena.new.region ≡ arena.old.region }
         ensures memory { TakesNothing arena.old arena.new }
     {
         let first = words::first(arena, self.words, self.hash.word(key));
@@ -183,8 +179,6 @@ impl<H: KeyHash> JudyHS<H> {
         ensures content { BytesLoses arena.old self.old.words key.now arena.new self.new.words }
         ensures step { AnswersDelete arena.old self.old.words key.now result
             arena.new self.new.words }
-        ensures refusals { arena.new.refusals ≡ arena.old.refusals }
-        ensures region { arena.new.region ≡ arena.old.region }
         ensures memory { TakesNothing arena.old arena.new }
     {
         let hash = self.hash.word(key);
@@ -205,8 +199,6 @@ impl<H: KeyHash> JudyHS<H> {
             first }
         ensures there { IsTrue
             (has_bytes_key arena.old self.old.words (first_key arena.old.blocks first)) }
-        ensures refusals { arena.new.refusals ≡ arena.old.refusals }
-        ensures region { arena.new.region ≡ arena.old.region }
         ensures memory { TakesNothing arena.old arena.new }
     {
         let rest = chain::pop(arena, first);
@@ -223,8 +215,6 @@ impl<H: KeyHash> JudyHS<H> {
         ensures content { bytes_in arena.new.blocks self.new.words ≡ [] }
         ensures step { BytesAnswers arena.old self.old.words bytes.Free (reply.Count result)
             arena.new self.new.words }
-        ensures refusals { arena.new.refusals ≡ arena.old.refusals }
-        ensures region { arena.new.region ≡ arena.old.region }
         ensures memory { TakesNothing arena.old arena.new }
     {
         let mut count = 0;

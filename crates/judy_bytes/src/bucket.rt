@@ -72,8 +72,6 @@ pub(crate) fn value(arena: &Arena, bucket: Block) -> u64
 pub(crate) fn set_next(arena: &mut Arena, bucket: Block, next: Ref)
     requires { IsBucket arena.old.blocks bucket }
     ensures blocks { arena.new.blocks ≡ with_word arena.old.blocks bucket 0 next }
-    ensures refusals { arena.new.refusals ≡ arena.old.refusals }
-    ensures region { arena.new.region ≡ arena.old.region }
     ensures memory { TakesNothing arena.old arena.new }
 {
     arena.set(bucket, NEXT, next.word());
@@ -83,8 +81,6 @@ pub(crate) fn set_next(arena: &mut Arena, bucket: Block, next: Ref)
 pub(crate) fn set_value(arena: &mut Arena, bucket: Block, value: u64)
     requires { IsBucket arena.old.blocks bucket }
     ensures blocks { arena.new.blocks ≡ with_word arena.old.blocks bucket 1 value }
-    ensures refusals { arena.new.refusals ≡ arena.old.refusals }
-    ensures region { arena.new.region ≡ arena.old.region }
     ensures memory { TakesNothing arena.old arena.new }
 {
     arena.set(bucket, VALUE, value);

@@ -64,8 +64,6 @@ pub(crate) fn take_out(arena: &mut Arena, first: Ref, key: &[u8]) -> Option<Ref>
     ensures there { OnSome result (IsTrue (chain_has arena.old.blocks first key.now)) }
     ensures absent { IfNone result (value_in_chain arena.old.blocks first key.now ≡ None) }
     ensures blocks { IfNone result (arena.new.blocks ≡ arena.old.blocks) }
-    ensures refusals { arena.new.refusals ≡ arena.old.refusals }
-    ensures region { arena.new.region ≡ arena.old.region }
     ensures memory { TakesNothing arena.old arena.new }
 {
     let block = first.block()?;
@@ -84,8 +82,6 @@ pub(crate) fn release(arena: &mut Arena, bucket: Ref)
     requires bucket { IsBucket arena.old.blocks (number_of bucket) }
     requires named { block_of bucket ≡ Some (number_of bucket) }
     ensures blocks { arena.new.blocks ≡ without arena.old.blocks (number_of bucket) }
-    ensures refusals { arena.new.refusals ≡ arena.old.refusals }
-    ensures region { arena.new.region ≡ arena.old.region }
     ensures memory { TakesNothing arena.old arena.new }
 {
     if let Some(block) = bucket.block() {
@@ -99,8 +95,6 @@ pub(crate) fn pop(arena: &mut Arena, first: Ref) -> Ref
     requires some { first ≢ 0 }
     ensures chain { LosesHead arena.old.blocks arena.new.blocks first result }
     ensures there { IsTrue (chain_has arena.old.blocks first (first_key arena.old.blocks first)) }
-    ensures refusals { arena.new.refusals ≡ arena.old.refusals }
-    ensures region { arena.new.region ≡ arena.old.region }
     ensures memory { TakesNothing arena.old arena.new }
 {
     let Some(block) = first.block() else {

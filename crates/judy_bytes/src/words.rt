@@ -75,8 +75,6 @@ pub(crate) fn lead(arena: &mut Arena, words: JudyL, hash: u64, first: Ref) -> Ju
     requires there { IsTrue (has_key word_order (long_in arena.old.blocks words) hash) }
     ensures words { WordsBecome arena.old.blocks arena.new.blocks words result hash
         (if_some first) }
-    ensures refusals { arena.new.refusals ≡ arena.old.refusals }
-    ensures region { arena.new.region ≡ arena.old.region }
     ensures memory { TakesNothing arena.old arena.new }
 {
     let mut words = words;

@@ -7,7 +7,7 @@ use Rattle.clap.specs.Words.{Text}
 use Rattle.clap.specs.ValueTests.{is_unsigned_in}
 use Rattle.clap.specs.declared.builder.value_parser.ValueParser.TheVariants as parser
 use Rattle.clap.proofs.ValueTestLemmas.{accepts-Accepts, Accepts-accepts}
-use Rattle.judy_command.specs.CommandLine.{number_in, most_count, StopsBy, judyd_app, job_of, IsCount, IsInRange, job_at, is_set}
+use Rattle.judy_command.specs.CommandLine.{number_in, most_count, most_megabytes, StopsBy, judyd_app, job_of, IsCount, IsInRange, job_at, is_set}
 use Rattle.std.proofs.Common.{◌∷◌, [], inl, inr, subst, sym, Some, None, codes}
 use Rattle.clap.specs.Words.{Row, first_of, Kinds, IsAmong, takes, subcommand_of, fault_of}
 use Rattle.clap.proofs.OnLiterals.{clap_on_literals}
@@ -46,28 +46,30 @@ count_given : (most other : ℕ) → IsCount most other → (o : Option Text) �
 count_given most other h None = h
 count_given most other h (Some t) = count_of most (omega (arith, h.0, h.1)) t
 
-counts_given : (o : Option Text) → IfSome (option_map (number_in most_count) o) (IsCount most_count)
-counts_given None = tt
-counts_given (Some t) = count_of most_count (omega arith) t
+counts_given : (most : ℕ) → 1 ≤ most → (o : Option Text) → IfSome (option_map (number_in most) o) (IsCount most)
+counts_given most some None = tt
+counts_given most some (Some t) = count_of most some t
 
-in_range : (run words : Bool) (config socket : Text) (clients connections idle turn : Option Text) (check : Bool)
-    → IsInRange (if run then Run words else Serve config socket (unwrap_or (option_map (number_in 1024) clients) 64)
+in_range : (run words : Bool) (config socket : Text) (status : Option Text) (clients connections idle turn reserve : Option Text) (check : Bool)
+    → IsInRange (if run then Run words else Serve config socket status (unwrap_or (option_map (number_in 1024) clients) 64)
     (unwrap_or (option_map (number_in most_count) connections) most_count)
-    (option_map (number_in most_count) idle) (option_map (number_in most_count) turn) check)
-in_range true words config socket clients connections idle turn check = tt
-in_range false words config socket clients connections idle turn check = (
+    (option_map (number_in most_count) idle) (option_map (number_in most_count) turn) (option_map (number_in most_megabytes) reserve) check)
+in_range true words config socket status clients connections idle turn reserve check = tt
+in_range false words config socket status clients connections idle turn reserve check = (
   count_given 1024 64 (omega arith, omega arith) clients,
   count_given most_count most_count (omega arith, omega arith) connections,
-  counts_given idle,
-  counts_given turn,
+  counts_given most_count (omega arith) idle,
+  counts_given most_count (omega arith) turn,
+  counts_given most_megabytes (omega arith) reserve,
 )
 
 pub job_at-in_range : (job : Job) (name : Text) (rows : List Row) → job ≡ job_at name rows → IsInRange job
 job_at-in_range job name rows e =
     let P : Job → Type 0 = λ j. IsInRange j in
     subst P (sym e) (in_range (bytes_eq name (codes "run")) (is_set (codes "words") rows)
-    (unwrap_or (first_of (codes "config") rows) []) (unwrap_or (first_of (codes "socket") rows) [])
-    (first_of (codes "clients") rows) (first_of (codes "connections") rows) (first_of (codes "idle") rows) (first_of (codes "turn") rows) (is_set (codes "check") rows))
+    (unwrap_or (first_of (codes "config") rows) []) (unwrap_or (first_of (codes "socket") rows) []) (first_of (codes "status") rows)
+    (first_of (codes "clients") rows) (first_of (codes "connections") rows) (first_of (codes "idle") rows) (first_of (codes "turn") rows)
+    (first_of (codes "reserve") rows) (is_set (codes "check") rows))
 
 among_moved : (j k : ErrorKind) (kinds : Kinds) → IsAmong k kinds → IsAmong j (k ∷ []) → IsAmong j kinds
 among_moved j k kinds h (inl e) = let P : ErrorKind → Type 0 = λ i. IsAmong i kinds in subst P (sym e) h
@@ -97,9 +99,24 @@ unfolding clap_on_literals
 taken-serve = refl
 
 job-serve : job_of (subcommand_of judyd_app (codes "serve" ∷ codes "--config" ∷ codes "c" ∷ codes "--socket" ∷ codes "s" ∷ []))
-    ≡ Some (Serve (codes "c") (codes "s") 64 4294967295 None None false)
+    ≡ Some (Serve (codes "c") (codes "s") None 64 4294967295 None None None false)
 unfolding clap_on_literals
 job-serve = refl
+
+job-status : job_of (subcommand_of judyd_app (codes "serve" ∷ codes "--config" ∷ codes "c" ∷ codes "--socket" ∷ codes "s" ∷ codes "--status" ∷ codes "t" ∷ []))
+    ≡ Some (Serve (codes "c") (codes "s") (Some (codes "t")) 64 4294967295 None None None false)
+unfolding clap_on_literals
+job-status = refl
+
+job-reserve : job_of (subcommand_of judyd_app (codes "serve" ∷ codes "--config" ∷ codes "c" ∷ codes "--socket" ∷ codes "s" ∷ codes
+    "--reserve" ∷ codes "64" ∷ [])) ≡ Some (Serve (codes "c") (codes "s") None 64 4294967295 None None (Some 64) false)
+unfolding clap_on_literals
+job-reserve = refl
+
+refused-more-than-an-arena : fault_of judyd_app (codes "serve" ∷ codes "--config" ∷ codes "c" ∷ codes "--socket" ∷ codes "s" ∷ codes
+    "--reserve" ∷ codes "131073" ∷ []) ≡ kind.ValueValidation ∷ []
+unfolding clap_on_literals
+refused-more-than-an-arena = refl
 
 refused-zero : fault_of judyd_app (codes "serve" ∷ codes "--config" ∷ codes "c" ∷ codes "--socket" ∷ codes "s" ∷ codes
     "--connections" ∷ codes "0" ∷ []) ≡ kind.ValueValidation ∷ []

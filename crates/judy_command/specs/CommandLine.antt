@@ -36,6 +36,10 @@ number_rule name = record (valued_rule name) { parser = Some (parser.Signed (pos
 abbrev pub limited_rule : Text → Rule
 limited_rule name = record (valued_rule name) { parser = Some (parser.Signed (pos 1) (pos 1024)) }
 
+-- a number from 1 to 131072
+abbrev pub reserve_rule : Rule
+reserve_rule = record (valued_rule (codes "reserve")) { parser = Some (parser.Signed (pos 1) (pos 131072)) }
+
 -- 64 unless it is given
 abbrev pub clients_rule : Rule
 clients_rule = record (limited_rule (codes "clients")) { defaults = codes "64" ∷ [] }
@@ -48,18 +52,18 @@ connections_rule = record (number_rule (codes "connections")) { defaults = codes
 abbrev pub run_app : App
 run_app = with_rule (new_app (codes "run")) (flag_rule (codes "words"))
 
--- `--config FILE --socket PATH`
+-- `--config FILE --socket PATH [--status PATH]`
 abbrev pub with_places : App → App
-with_places a = with_rule (with_rule a (needed_rule (codes "config"))) (needed_rule (codes "socket"))
+with_places a = with_rule (with_rule (with_rule a (needed_rule (codes "config"))) (needed_rule (codes "socket"))) (valued_rule (codes "status"))
 
 -- `[--clients N] [--connections N] [--idle SECONDS] [--turn SECONDS]`
 abbrev pub with_limits : App → App
 with_limits a = with_rule (with_rule (with_rule (with_rule a clients_rule) connections_rule) (number_rule (codes "idle"))) (number_rule (codes "turn"))
 
--- `serve --config FILE --socket PATH [--clients N] [--connections N] [--idle SECONDS]
--- [--turn SECONDS] [--check]`
+-- `serve --config FILE --socket PATH [--status PATH] [--clients N] [--connections N]
+-- [--idle SECONDS] [--turn SECONDS] [--reserve MB] [--check]`
 abbrev pub serve_app : App
-serve_app = with_rule (with_limits (with_places (new_app (codes "serve")))) (flag_rule (codes "check"))
+serve_app = with_rule (with_rule (with_limits (with_places (new_app (codes "serve")))) reserve_rule) (flag_rule (codes "check"))
 
 -- one of the two commands is required; the words do not include the program's name
 abbrev pub bare_app : App
@@ -76,9 +80,12 @@ judyd_app = with_subcommand (with_subcommand bare_app run_app.top) serve_app.top
 abbrev pub is_set : Text → List Row → Bool
 is_set id rows = option_map_or (λ t. bytes_eq t (codes "true")) (first_of id rows) false
 
--- the most clients at once, and the most of anything else that is counted
+-- the most clients at once, the most megabytes, and the most of anything else that is counted
 abbrev pub most_clients : ℕ
 most_clients = 1024
+
+abbrev pub most_megabytes : ℕ
+most_megabytes = 131072
 
 abbrev pub most_count : ℕ
 most_count = 4294967295
@@ -96,24 +103,25 @@ abbrev pub job_at : Text → List Row → Job
 job_at name rows =
     if bytes_eq name (codes "run")
     then Run (is_set (codes "words") rows)
-    else Serve (unwrap_or (first_of (codes "config") rows) []) (unwrap_or (first_of (codes "socket") rows) [])
+    else Serve (unwrap_or (first_of (codes "config") rows) []) (unwrap_or (first_of (codes "socket") rows) []) (first_of (codes "status") rows)
     (unwrap_or (number_given most_clients (codes "clients") rows) 64)
     (unwrap_or (number_given most_count (codes "connections") rows) most_count)
     (number_given most_count (codes "idle") rows) (number_given most_count (codes "turn") rows)
-    (is_set (codes "check") rows)
+    (number_given most_megabytes (codes "reserve") rows) (is_set (codes "check") rows)
 
 abbrev pub job_of : Option (Text × List Row) → Option Job
 job_of = option_map (λ p. job_at p.0 p.1)
 
--- clients are 1 to 1024, connections and seconds 1 to 4294967295
+-- clients are 1 to 1024, megabytes 1 to 131072, connections and seconds 1 to 4294967295
 abbrev pub IsCount : ℕ → ℕ → Type 0
 IsCount most n = (1 ≤ n) × (n ≤ most)
 
 abbrev pub IsInRange : Job → Type 0
 IsInRange (Run words) = Unit {0}
-IsInRange (Serve config socket clients connections idle turn check) =
+IsInRange (Serve config socket status clients connections idle turn reserve check) =
     IsCount most_clients clients × IsCount most_count connections
     × IfSome idle (IsCount most_count) × IfSome turn (IsCount most_count)
+    × IfSome reserve (IsCount most_megabytes)
 
 -- a `Help` refusal comes from a request for help or the version, a `Usage` refusal from any other
 -- fault

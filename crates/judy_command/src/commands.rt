@@ -3,7 +3,7 @@ ghost use Rattle.std.specs.Prelude.{◌≡◌, false, true, IfOk};
 ghost use Rattle.clap.specs.Words.{app_of, new_app, rule_of, with_rule};
 ghost use Rattle.clap.specs.declared.builder.Command.TheViews.{out-Command as fields_of};
 ghost use Rattle.judy_command.specs.CommandLine.{clients_rule, connections_rule, flag_rule, judyd_app};
-ghost use Rattle.judy_command.specs.CommandLine.{limited_rule, number_rule, run_app};
+ghost use Rattle.judy_command.specs.CommandLine.{limited_rule, number_rule, reserve_rule, run_app};
 ghost use Rattle.judy_command.specs.CommandLine.{serve_app, valued_rule, with_limits, with_places};
 
 use clap::{Arg, ArgAction, Command};
@@ -27,6 +27,8 @@ const CONFIG_HELP: &str = "The file with the table of tenants";
 
 const SOCKET_HELP: &str = "Where the Unix socket is made; nothing may stand there yet";
 
+const STATUS_HELP: &str = "Where a second Unix socket is made, for STATUS, GET /metrics and STOP";
+
 const CLIENTS_HELP: &str = "How many clients to serve at once, 1 to 1024; others wait";
 
 const CONNECTIONS_HELP: &str = "How many connections to serve before it ends";
@@ -34,6 +36,8 @@ const CONNECTIONS_HELP: &str = "How many connections to serve before it ends";
 const IDLE_HELP: &str = "Close a client that sends no byte and takes none for so long";
 
 const TURN_HELP: &str = "Close a connection that has lasted so long";
+
+const RESERVE_HELP: &str = "Take MB times 1,048,576 bytes for the arrays before the socket is made";
 
 const CHECK_HELP: &str = "Read the table, tell its fault if it has one, and serve nothing";
 
@@ -86,6 +90,16 @@ fn limited<'a>(alloc: Global, name: &'a str, value: &'a str, help: &'a str) -> A
     valued(alloc, name, value, help).value_parser(clap::value_parser!(u32).range(1..1025))
 }
 
+/// `--reserve MB`, a number from 1 to 131072: an arena has at most 2^37 bytes.
+fn reserve<'a>(alloc: Global) -> Arg<'a>
+    ensures rule { rule_of result ≡ reserve_rule }
+    ensures local { result.global ≡ false }
+{
+    valued(alloc, "reserve", "MB", RESERVE_HELP).value_parser(clap::value_parser!(u32).range(
+        1..131_073,
+    ))
+}
+
 /// `--clients N`; the default is 64.
 fn clients<'a>(alloc: Global) -> Arg<'a>
     ensures rule { rule_of result ≡ clients_rule }
@@ -136,7 +150,7 @@ fn run_command<'a>(alloc: Global) -> Result<Command<'a>, AllocError>
     )
 }
 
-/// A command with the options for the table of tenants and the socket.
+/// A command with the options for the table of tenants and the sockets.
 fn with_places<'a>(alloc: Global, command: Command<'a>) -> Result<Command<'a>, AllocError>
     requires local { (fields_of command).has_globals ≡ false }
     ensures app { IfOk result (λ c. app_of c ≡ with_places (app_of command.entry)) }
@@ -145,7 +159,8 @@ fn with_places<'a>(alloc: Global, command: Command<'a>) -> Result<Command<'a>, A
     let config = valued(alloc, "config", "FILE", CONFIG_HELP);
     let socket = valued(alloc, "socket", "PATH", SOCKET_HELP);
     let command = with(command, config.required(true))?;
-    with(command, socket.required(true))
+    let command = with(command, socket.required(true))?;
+    with(command, valued(alloc, "status", "PATH", STATUS_HELP))
 }
 
 /// A command with the options for the limits of connections.
@@ -171,6 +186,7 @@ fn serve_command<'a>(alloc: Global) -> Result<Command<'a>, AllocError>
     );
     let command = with_places(alloc, command)?;
     let command = with_limits(alloc, command)?;
+    let command = with(command, reserve(alloc))?;
     with(command, flag(alloc, "check", CHECK_HELP))
 }
 

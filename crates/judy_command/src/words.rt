@@ -38,6 +38,8 @@ pub enum Job {
         config: Word,
         /// The path of the socket.
         socket: Word,
+        /// The path of the status socket, if one is wanted.
+        status: Option<Word>,
         /// How many clients to serve at once: 1 to 1024.
         clients: u32,
         /// How many connections to serve: 1 to 4294967295.
@@ -47,6 +49,8 @@ pub enum Job {
         idle: Option<u32>,
         /// How many seconds a connection may last, if there is a limit: 1 to 4294967295.
         turn: Option<u32>,
+        /// How many megabytes to take for the arrays before the socket is made: 1 to 131072.
+        reserve: Option<u32>,
         /// Whether to only read the table and report its fault.
         check: bool,
     },
@@ -65,6 +69,9 @@ pub enum Refusal {
 
 /// The most clients that are served at once.
 const MOST_CLIENTS: u32 = 1024;
+
+/// The most megabytes that are taken before the socket is made: an arena has at most 2^37 bytes.
+const MOST_MEGABYTES: u32 = 131_072;
 
 /// The number of a text, from 1 to `most`, or `most` if the text is no such number.
 fn number(text: &str, most: u32) -> u32
@@ -93,6 +100,16 @@ fn word_of(alloc: Global, matches: &ArgMatches<'_>, id: &str) -> Result<Word, Al
         None => String::new(alloc),
     };
     Ok(Word(text))
+}
+
+/// A copy of the first value of an argument, if it has one.
+fn word_given(alloc: Global, matches: &ArgMatches<'_>, id: &str) -> Result<Option<Word>, AllocError>
+    ensures { IfOk result (λ w. w ≡ first_of id.now (rows_of (found_of matches.now))) }
+{
+    let Some(text) = text_of(matches, id) else {
+        return Ok(None);
+    };
+    Ok(Some(Word(String::from_str(alloc, text)?)))
 }
 
 /// Whether a flag was given.
@@ -126,13 +143,16 @@ fn job_of(alloc: Global, name: &str, matches: &ArgMatches<'_>) -> Result<Job, Al
     }
     let config = word_of(alloc, matches, "config")?;
     let socket = word_of(alloc, matches, "socket")?;
+    let status = word_given(alloc, matches, "status")?;
     Ok(Job::Serve {
         config,
         socket,
+        status,
         clients: number_given(matches, "clients", MOST_CLIENTS).unwrap_or(64),
         connections: number_given(matches, "connections", u32::MAX).unwrap_or(u32::MAX),
         idle: number_given(matches, "idle", u32::MAX),
         turn: number_given(matches, "turn", u32::MAX),
+        reserve: number_given(matches, "reserve", MOST_MEGABYTES),
         check: is_set(matches, "check"),
     })
 }

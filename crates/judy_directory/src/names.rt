@@ -1,11 +1,11 @@
 //! The names that have a place: a hash table, and a short list beside it.
-ghost use Rattle.std.specs.Prelude.{◌≡◌, ◌≤◌, IfOk, OnOk, OnErr, IsTrue, None, []};
+ghost use Rattle.std.specs.Prelude.{◌≡◌, ◌≤◌, IfOk, OnOk, OnErr, IsTrue, None, [], max};
 ghost use Rattle.std.specs.FinMap as map;
 ghost use Rattle.std.specs.HashMap.{hasher_of, spare};
 ghost use Rattle.judy_directory.specs.Places.{at, nothing};
 ghost use Rattle.judy_directory.specs.Secrets.{start_of};
 
-use crate::kept::{drop_kept, find_kept, push_kept};
+use crate::kept::{drop_kept, find_kept, push_kept, reserve_kept};
 use crate::keyed::Keyed;
 use crate::spot::{Place, Spot};
 use judy_arena::NoMemory;
@@ -13,7 +13,7 @@ use std::alloc::Global;
 use std::collections::HashMap;
 use std::marker::Model;
 
-/// How many places need no memory later.
+/// How many places need no memory later, if no more are reserved.
 const FREE_PLACES: usize = 256;
 
 /// How many places the table of names has room for at first, at least and at most. std chooses one of
@@ -42,9 +42,9 @@ fn empty_table(alloc: Global, secret: &[u8]) -> Result<HashMap<Spot, Place, Keye
     Ok(table)
 }
 
-/// The place of each tenant, kind and name. Contracts see a finite map and the prefix of every
-/// hash. A place that the table has no memory for is kept in a list, whose memory is taken at the
-/// start.
+/// The place of each tenant, kind and name. Contracts see a finite map, the start of every hash, and
+/// the room. A place that the table has no memory for is kept in a list, whose memory is taken
+/// beforehand: the room is the capacity of the list.
 #[derive(Drop)]
 pub struct Names {
     table: HashMap<Spot, Place, Keyed>,
@@ -53,29 +53,35 @@ pub struct Names {
 
 impl Model for Names {
     ghost use Rattle.std.specs.FinMap as map;
-    ghost use Rattle.std.specs.Prelude.{ℕ};
     ghost use Rattle.std.specs.Coded.{coded_ℕ, coded_list, coded×};
     ghost use Rattle.judy_model.specs.Contents.{string_order};
-    ghost use Rattle.judy_directory.specs.Places.{Stand, stand_code};
+    ghost use Rattle.judy_directory.specs.Places.{Stand, stand_code, Footing, footing_code};
 
-    ghost Value = { map.FinMap string_order Stand × ℕ };
+    ghost Value = { map.FinMap string_order Stand × Footing };
 
-    ghost coded = { coded× (map.code (coded_list coded_ℕ) stand_code) coded_ℕ };
+    ghost coded = { coded× (map.code (coded_list coded_ℕ) stand_code) footing_code };
 
     ghost use Rattle.std.specs.Prelude.{vec_capacity, ◌++◌};
     ghost use Rattle.std.specs.HashMap.{hasher_of};
     ghost use Rattle.judy_directory.specs.Rooms.{HasListRoom};
 
-    ghost view = { λ d. (map.from_entries (d.table.entries ++ d.kept.items), (hasher_of d.table).start.state) };
+    ghost view = { λ d. (
+      map.from_entries (d.table.entries ++ d.kept.items),
+      record {
+        start = (hasher_of d.table).start.state;
+        room = vec_capacity d.kept;
+      },
+    ) };
 
     ghost invariant = { λ d. HasListRoom d.table.entries d.kept.items (vec_capacity d.kept) };
 }
 
 impl Names {
-    /// No names. Hashes depend on the secret. The first 256 places take no memory afterwards.
+    /// No names. Hashes depend on the secret. There is room for 256 names.
     pub fn new(alloc: Global, secret: &[u8]) -> Result<Names, NoMemory>
         ensures empty { IfOk result (λ d. d.0 ≡ map.empty) }
-        ensures secret { IfOk result (λ d. d.1 ≡ start_of secret.now) }
+        ensures secret { IfOk result (λ d. d.1.start ≡ start_of secret.now) }
+        ensures room { IfOk result (λ d. d.1.room ≡ 256) }
     {
         let table = empty_table(alloc, secret)?;
         let Ok(kept) = Vec::with_capacity(alloc, FREE_PLACES) else {
@@ -101,16 +107,32 @@ impl Names {
         self.table.len() + self.kept.len()
     }
 
+    /// Makes room for this many names, in the table and in the list. No place changes.
+    ///
+    /// Err: out of memory. The room is unchanged.
+    pub fn reserve(&mut self, names: usize) -> Result<(), NoMemory>
+        ensures places { self.new.0 ≡ self.old.0 }
+        ensures start { self.new.1.start ≡ self.old.1.start }
+        ensures room { OnOk result (self.new.1.room ≡ max self.old.1.room names) }
+        ensures refused { OnErr result (self.new.1.room ≡ self.old.1.room) }
+    {
+        let more = names.saturating_sub(self.table.len());
+        if self.table.reserve(more).is_err() {
+            return Err(NoMemory);
+        }
+        reserve_kept(&mut self.kept, names)
+    }
+
     /// The place of a name. A name without a place gets an empty one. Err: out of memory for a new
-    /// place, and at least 256 names have one. The names are unchanged.
+    /// place, and there is room for no more names. The names are unchanged.
     pub fn place(&mut self, spot: &Spot) -> Result<Place, NoMemory>
         ensures found { IfOk result (λ p. p ≡ at self.old.0 spot.now) }
         ensures place { OnOk result (self.new.0
             ≡ map.insert self.old.0 spot.now (at self.old.0 spot.now)) }
         ensures absent { OnErr result (map.get self.old.0 spot.now ≡ None) }
-        ensures full { OnErr result (256 ≤ map.len self.old.0) }
+        ensures full { OnErr result (self.old.1.room ≤ map.len self.old.0) }
         ensures unchanged { OnErr result (self.new.0 ≡ self.old.0) }
-        ensures start { self.new.1 ≡ self.old.1 }
+        ensures footing { self.new.1 ≡ self.old.1 }
     {
         if let Some(place) = self.find(spot) {
             return Ok(place);
@@ -123,14 +145,14 @@ impl Names {
     fn take(&mut self, spot: &Spot) -> Result<(), NoMemory>
         requires { map.get self.old.0 spot.now ≡ None }
         ensures ok { OnOk result (self.new.0 ≡ map.insert self.old.0 spot.now nothing) }
-        ensures full { OnErr result (256 ≤ map.len self.old.0) }
+        ensures full { OnErr result (self.old.1.room ≤ map.len self.old.0) }
         ensures unchanged { OnErr result (self.new.0 ≡ self.old.0) }
-        ensures start { self.new.1 ≡ self.old.1 }
+        ensures footing { self.new.1 ≡ self.old.1 }
     {
         let Err(_) = self.table.insert(spot.copied(), Place::nothing()) else {
             return Ok(());
         };
-        if self.kept.len() >= FREE_PLACES {
+        if self.kept.len() == self.kept.capacity() {
             return Err(NoMemory);
         }
         push_kept(&mut self.kept, spot, Place::nothing());
@@ -141,7 +163,7 @@ impl Names {
     pub fn set(&mut self, spot: &Spot, place: Place)
         requires { IsTrue (map.contains_key self.old.0 spot.now) }
         ensures places { self.new.0 ≡ map.insert self.old.0 spot.now place }
-        ensures start { self.new.1 ≡ self.old.1 }
+        ensures footing { self.new.1 ≡ self.old.1 }
     {
         if let Some(old) = self.table.get_mut(spot) {
             *old = place;
@@ -154,7 +176,7 @@ impl Names {
     /// Removes a name.
     pub fn forget(&mut self, spot: &Spot)
         ensures places { self.new.0 ≡ map.remove self.old.0 spot.now }
-        ensures start { self.new.1 ≡ self.old.1 }
+        ensures footing { self.new.1 ≡ self.old.1 }
     {
         let _ = self.table.remove(spot);
         drop_kept(&mut self.kept, spot);

@@ -56,7 +56,7 @@ pub fn drop_recent(recent: &mut Option<Recent>, spot: &Spot)
 pub fn write_back(names: &mut Names, recent: &Option<Recent>)
     requires { IsTrue (has_recent recent.now names.old.0) }
     ensures places { names.new.0 ≡ with_recent recent.now names.old.0 }
-    ensures start { names.new.1 ≡ names.old.1 }
+    ensures footing { names.new.1 ≡ names.old.1 }
 {
     if let Some(recent) = recent {
         names.set(&recent.spot, recent.place);

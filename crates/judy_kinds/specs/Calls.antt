@@ -4,9 +4,10 @@
 --     is_insertion call            the call may ask for a new entry
 --     has_string call              the call's key is a string, if it is a JudySL call
 --     asks_at b w call             the call asks for an entry that the array at w does not have
+--     blocks_of_call b w call      the blocks that the call takes at most, of 512 words or less
 --     AnswersAt a w call r b x with room, the reply to the call of the array at w in a is r, and
 --                              the array is then at x in b
-use Rattle.std.specs.Prelude.{◌≡◌, ℕ, Bool, true, false, List, []}
+use Rattle.std.specs.Prelude.{◌≡◌, ℕ, Bool, true, false, List, [], if◌then◌else◌}
 use Rattle.judy_arena.specs.Blocks.{Blocks, ArenaState}
 use Rattle.judy_arena.specs.Frame.{Frame}
 use Rattle.judy_model.specs.declared.calls.Call.{Call}
@@ -90,6 +91,17 @@ asks_at b w (call.Long name c) = long_asks_for_new (long_in b w) c
 asks_at b w (call.Str name c) = string_asks_for_new (string_in b w) c
 asks_at b w (call.Bytes name c) = bytes_asks_for_new (bytes_in b w) c
 asks_at b w call.Used = false
+
+-- the blocks that an insertion into an array of this kind takes at most
+abbrev pub blocks_of_kind : ArrayKind → ℕ
+blocks_of_kind One = 64
+blocks_of_kind Long = 64
+blocks_of_kind Str = 380
+blocks_of_kind Bytes = 65
+
+-- the blocks that the call takes at most: none unless it asks for a new entry
+abbrev pub blocks_of_call : Blocks → ℕ → Call → ℕ
+blocks_of_call b w call = if asks_at b w call then blocks_of_kind (kind_of_call call) else 0
 
 -- with room, the reply to the call of the array at w in a is r, and the array is then at x in b
 abbrev pub AnswersAt : Blocks → ℕ → Call → Reply → Blocks → ℕ → Type 0

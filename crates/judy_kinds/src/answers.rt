@@ -1,6 +1,7 @@
 //! Calls of an array of any kind at its place.
-ghost use Rattle.std.specs.Prelude.{◌≡◌, ◌≤◌, ◌<◌, ◌^◌, IfOk, OnOk, OnErr, IsTrue, IsFalse};
-ghost use Rattle.judy_kinds.specs.Calls.{is_of_array, kind_of_call, has_string, asks_at, AnswersAt, ArrayBecomes};
+ghost use Rattle.std.specs.Prelude.{◌≡◌, ◌≤◌, ◌<◌, ◌^◌, IfOk, OnOk, OnErr, IsTrue};
+ghost use Rattle.judy_arena.specs.Takes.{Takes};
+ghost use Rattle.judy_kinds.specs.Calls.{is_of_array, kind_of_call, has_string, asks_at, blocks_of_call, AnswersAt, ArrayBecomes};
 ghost use Rattle.judy_kinds.specs.Kinds.{IsPlaceOf};
 ghost use Rattle.judy_tree.specs.Changes.{IsShort};
 
@@ -49,8 +50,8 @@ pub fn answer<'a, H: KeyHash>(
     ensures step { IfOk result
         (λ r. AnswersAt arena.old.blocks place.root call.now r.0 arena.new.blocks r.1.root) }
     ensures quiet { OnOk result (arena.new.refusals ≡ arena.old.refusals) }
-    ensures region { IsFalse (asks_at arena.old.blocks place.root call.now)
-        → arena.new.region ≡ arena.old.region }
+    ensures memory { Takes (blocks_of_call arena.old.blocks place.root call.now)
+        arena.old arena.new }
     ensures asked { OnErr result (IsTrue (asks_at arena.old.blocks place.root call.now)) }
     ensures refused { OnErr result (IsShort arena.old arena.new) }
 {

@@ -1,6 +1,9 @@
 //! Calls of a map from byte keys at its place.
-ghost use Rattle.std.specs.Prelude.{◌≡◌, ◌≤◌, ◌<◌, ◌^◌, IfOk, OnOk, OnErr, IsTrue, IsFalse};
+ghost use Rattle.std.specs.Prelude.{◌≡◌, ◌≤◌, ◌<◌, ◌^◌, IfOk, OnOk, OnErr, IsTrue, IsFalse, if◌then◌else◌};
+ghost use Rattle.judy_arena.specs.Takes.{Takes, TakesNothing};
 ghost use Rattle.judy_bytes.specs.BytesArrays.{IsBytesArray, bytes_in, BytesAnswers, BytesLooks, BytesBecomes};
+ghost use Rattle.judy_directory.specs.declared.spot.ArrayKind.TheVariants as kind;
+ghost use Rattle.judy_kinds.specs.Calls.{blocks_of_kind};
 ghost use Rattle.judy_kinds.specs.Counts.{HasCounts};
 ghost use Rattle.judy_model.specs.Contents.{string_order, has_key};
 ghost use Rattle.judy_model.specs.Pieces.{string_pieces};
@@ -47,8 +50,9 @@ pub(crate) fn answer<H: KeyHash>(
     ensures step { IfOk result (λ r. BytesAnswers arena.old place.root call.now r.0 arena.new
         r.1.root) }
     ensures quiet { OnOk result (arena.new.refusals ≡ arena.old.refusals) }
-    ensures region { IsFalse (bytes_asks_for_new (bytes_in arena.old.blocks place.root) call.now)
-        → arena.new.region ≡ arena.old.region }
+    ensures memory { Takes
+        (if bytes_asks_for_new (bytes_in arena.old.blocks place.root) call.now then blocks_of_kind kind.Bytes else 0)
+        arena.old arena.new }
     ensures asked { OnErr result
         (IsTrue (bytes_asks_for_new (bytes_in arena.old.blocks place.root) call.now)) }
     ensures refused { OnErr result (IsShort arena.old arena.new) }
@@ -86,8 +90,8 @@ fn insert<H: KeyHash>(
     ensures asked { OnErr result
         (IsFalse (has_key string_order (bytes_in arena.old.blocks place.root) key.now)) }
     ensures refused { OnErr result (IsShort arena.old arena.new) }
-    ensures rests { IsTrue (has_key string_order (bytes_in arena.old.blocks place.root) key.now)
-        → arena.new.region ≡ arena.old.region }
+    ensures memory { Takes (if has_key string_order (bytes_in arena.old.blocks place.root) key.now
+        then 0 else blocks_of_kind kind.Bytes) arena.old arena.new }
 {
     judy_bytes::laws::content_is_sound();
     let mut map = JudyHS::from_reference(hash, place.root);
@@ -116,8 +120,7 @@ fn delete<H: KeyHash>(
     ensures counts { HasCounts string_pieces (bytes_in arena.new.blocks result.1.root) result.1 }
     ensures step { BytesAnswers arena.old place.root (bytes.Delete key.now) result.0
         arena.new result.1.root }
-    ensures quiet { arena.new.refusals ≡ arena.old.refusals }
-    ensures region { arena.new.region ≡ arena.old.region }
+    ensures memory { TakesNothing arena.old arena.new }
 {
     judy_bytes::laws::content_is_sound();
     let mut map = JudyHS::from_reference(hash, place.root);
@@ -136,8 +139,7 @@ fn clear<H: KeyHash>(arena: &mut Arena, hash: H, place: Place) -> (Reply<'static
     ensures array { BytesBecomes H.hashed arena.old place.root arena.new result.1.root }
     ensures counts { HasCounts string_pieces (bytes_in arena.new.blocks result.1.root) result.1 }
     ensures step { BytesAnswers arena.old place.root bytes.Free result.0 arena.new result.1.root }
-    ensures quiet { arena.new.refusals ≡ arena.old.refusals }
-    ensures region { arena.new.region ≡ arena.old.region }
+    ensures memory { TakesNothing arena.old arena.new }
 {
     let mut map = JudyHS::from_reference(hash, place.root);
     let count = map.clear(arena);

@@ -1,5 +1,8 @@
 //! Calls of a map from words to words at its place.
-ghost use Rattle.std.specs.Prelude.{◌≡◌, ◌≤◌, IfOk, OnOk, OnErr, IsTrue, IsFalse};
+ghost use Rattle.std.specs.Prelude.{◌≡◌, ◌≤◌, IfOk, OnOk, OnErr, IsTrue, if◌then◌else◌};
+ghost use Rattle.judy_arena.specs.Takes.{Takes};
+ghost use Rattle.judy_directory.specs.declared.spot.ArrayKind.TheVariants as kind;
+ghost use Rattle.judy_kinds.specs.Calls.{blocks_of_kind};
 ghost use Rattle.judy_kinds.specs.Counts.{HasCounts};
 ghost use Rattle.judy_model.specs.Pieces.{word_pieces};
 ghost use Rattle.judy_model.specs.Tenant.{long_asks_for_new};
@@ -38,8 +41,9 @@ pub(crate) fn answer(
         (λ r. HasCounts word_pieces (long_in arena.new.blocks r.1.root) r.1) }
     ensures step { IfOk result (λ r. LongAnswers arena.old place.root call r.0 arena.new r.1.root) }
     ensures quiet { OnOk result (arena.new.refusals ≡ arena.old.refusals) }
-    ensures region { IsFalse (long_asks_for_new (long_in arena.old.blocks place.root) call)
-        → arena.new.region ≡ arena.old.region }
+    ensures memory { Takes
+        (if long_asks_for_new (long_in arena.old.blocks place.root) call then blocks_of_kind kind.Long else 0)
+        arena.old arena.new }
     ensures asked { OnErr result
         (IsTrue (long_asks_for_new (long_in arena.old.blocks place.root) call)) }
     ensures refused { OnErr result (IsShort arena.old arena.new) }

@@ -1,6 +1,8 @@
 //! Calls of a JudySL at its place.
-ghost use Rattle.std.specs.Prelude.{◌≡◌, ◌<◌, ◌≤◌, length, ◌^◌, IfOk, OnOk, OnErr, IsTrue, IsFalse, not};
-ghost use Rattle.judy_kinds.specs.Calls.{has_key_string};
+ghost use Rattle.std.specs.Prelude.{◌≡◌, ◌<◌, ◌≤◌, length, ◌^◌, IfOk, OnOk, OnErr, IsTrue, IsFalse, not, if◌then◌else◌};
+ghost use Rattle.judy_arena.specs.Takes.{Takes, TakesNothing};
+ghost use Rattle.judy_directory.specs.declared.spot.ArrayKind.TheVariants as kind;
+ghost use Rattle.judy_kinds.specs.Calls.{has_key_string, blocks_of_kind};
 ghost use Rattle.judy_kinds.specs.Counts.{HasCounts};
 ghost use Rattle.judy_model.specs.Contents.{string_order, has_key};
 ghost use Rattle.judy_model.specs.Grammar.{is_string};
@@ -68,9 +70,9 @@ pub(crate) fn answer<'a>(
     ensures step { IfOk result (λ r. StringAnswers arena.old place.root call.now r.0 arena.new
         r.1.root) }
     ensures quiet { OnOk result (arena.new.refusals ≡ arena.old.refusals) }
-    ensures region { IsFalse
-        (string_asks_for_new (string_in arena.old.blocks place.root) call.now)
-        → arena.new.region ≡ arena.old.region }
+    ensures memory { Takes
+        (if string_asks_for_new (string_in arena.old.blocks place.root) call.now then blocks_of_kind kind.Str else 0)
+        arena.old arena.new }
     ensures asked { OnErr result
         (IsTrue (string_asks_for_new (string_in arena.old.blocks place.root) call.now)) }
     ensures refused { OnErr result (IsShort arena.old arena.new) }
@@ -107,8 +109,8 @@ fn insert(
     ensures asked { OnErr result
         (IsFalse (has_key string_order (string_in arena.old.blocks place.root) key.now)) }
     ensures refused { OnErr result (IsShort arena.old arena.new) }
-    ensures rests { IsTrue (has_key string_order (string_in arena.old.blocks place.root) key.now)
-        → arena.new.region ≡ arena.old.region }
+    ensures memory { Takes (if has_key string_order (string_in arena.old.blocks place.root) key.now
+        then 0 else blocks_of_kind kind.Str) arena.old arena.new }
 {
     judy_string::laws::content_is_sound();
     let mut map = JudySL::from_reference(place.root);
@@ -134,8 +136,7 @@ fn delete(arena: &mut Arena, place: Place, key: &Key<'_>) -> (Reply<'static>, Pl
         result.1 }
     ensures step { StringAnswers arena.old place.root (str.Delete key.now) result.0
         arena.new result.1.root }
-    ensures quiet { arena.new.refusals ≡ arena.old.refusals }
-    ensures region { arena.new.region ≡ arena.old.region }
+    ensures memory { TakesNothing arena.old arena.new }
 {
     judy_string::laws::content_is_sound();
     let mut map = JudySL::from_reference(place.root);
@@ -155,8 +156,7 @@ fn clear(arena: &mut Arena, place: Place) -> (Reply<'static>, Place)
     ensures counts { HasCounts string_pieces (string_in arena.new.blocks result.1.root)
         result.1 }
     ensures step { StringAnswers arena.old place.root str.Free result.0 arena.new result.1.root }
-    ensures quiet { arena.new.refusals ≡ arena.old.refusals }
-    ensures region { arena.new.region ≡ arena.old.region }
+    ensures memory { TakesNothing arena.old arena.new }
 {
     let mut map = JudySL::from_reference(place.root);
     let count = map.clear(arena);

@@ -91,8 +91,6 @@ impl JudyL {
             (IsFalse (has_key word_order (long_in arena.old.blocks self.old) x)) }
         ensures refused { OnErr result (IsRefused arena.old self.old arena.new self.new) }
         ensures quiet { OnOk result (arena.new.refusals ≡ arena.old.refusals) }
-        ensures rests { IsTrue (has_key word_order (long_in arena.old.blocks self.old) x)
-            → arena.new.region ≡ arena.old.region }
         ensures memory { Takes
             (if has_key word_order (long_in arena.old.blocks self.old) x then 0 else 64)
             arena.old arena.new }
@@ -110,8 +108,6 @@ impl JudyL {
         ensures content { long_in arena.new.blocks self.new
             ≡ with_entry word_order (long_in arena.old.blocks self.old) x value }
         ensures word { self.new ≡ self.old }
-        ensures refusals { arena.new.refusals ≡ arena.old.refusals }
-        ensures region { arena.new.region ≡ arena.old.region }
         ensures memory { TakesNothing arena.old arena.new }
     {
         self.root.write(arena, x, value);
@@ -136,8 +132,6 @@ impl JudyL {
             ≡ without_key word_order (long_in arena.old.blocks self.old) x }
         ensures step { LongAnswers arena.old self.old (long.Delete x) (reply.Int result)
             arena.new self.new }
-        ensures refusals { arena.new.refusals ≡ arena.old.refusals }
-        ensures region { arena.new.region ≡ arena.old.region }
         ensures memory { TakesNothing arena.old arena.new }
     {
         self.root.remove(arena, x).is_some()
@@ -315,8 +309,6 @@ impl JudyL {
         ensures content { long_in arena.new.blocks self.new ≡ [] }
         ensures step { LongAnswers arena.old self.old long.Free (reply.Count result)
             arena.new self.new }
-        ensures refusals { arena.new.refusals ≡ arena.old.refusals }
-        ensures region { arena.new.region ≡ arena.old.region }
         ensures memory { TakesNothing arena.old arena.new }
     {
         self.root.clear(arena)
@@ -351,8 +343,6 @@ impl JudyL {
             (IsFalse (has_key word_order (long_in arena.old.blocks self.old) x)) }
         ensures refused { OnErr result (IsRefused arena.old self.old arena.new self.new) }
         ensures quiet { OnOk result (arena.new.refusals ≡ arena.old.refusals) }
-        ensures rests { IsTrue (has_key word_order (long_in arena.old.blocks self.old) x)
-            → arena.new.region ≡ arena.old.region }
         ensures memory { Takes
             (if has_key word_order (long_in arena.old.blocks self.old) x then 0 else 64)
             arena.old arena.new }
@@ -394,8 +384,6 @@ impl JudyL {
             (IsTrue (long_asks_for_new (long_in arena.old.blocks self.old) call)) }
         ensures refused { OnErr result (IsRefused arena.old self.old arena.new self.new) }
         ensures quiet { OnOk result (arena.new.refusals ≡ arena.old.refusals) }
-        ensures region { IsFalse (long_asks_for_new (long_in arena.old.blocks self.old) call)
-            → arena.new.region ≡ arena.old.region }
         ensures memory { Takes
             (if long_asks_for_new (long_in arena.old.blocks self.old) call then 64 else 0)
             arena.old arena.new }

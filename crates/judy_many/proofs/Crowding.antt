@@ -11,29 +11,31 @@ use Rattle.judy_many.specs.Queues.{nobody}
 use Rattle.judy_protocol.specs.Talks.{Holds}
 use Rattle.judy_many.specs.Lives.{IsLive, IsPart, IsReason, IsServed, Lives, SlotDid, View, is_orderly, read_in, wrote_in}
 use Rattle.judy_many.specs.Nets.{Act, Acts, DidLog}
-use Rattle.judy_many.specs.Nets.Act.{Came, Refused, Closed, Waited}
+use Rattle.judy_many.specs.Nets.Act.{Came, Refused, Closed, Questioned, Reported, Waited}
 use Rattle.judy_many.specs.Arrivals.{Arrives, IsArrival}
 use Rattle.judy_many.specs.Sessions.{AreTurns, Turn}
+use Rattle.judy_many.specs.Statuses.{HasAnswered, Passes, Tells}
 use Rattle.judy_many.specs.Stories.{AreWithin, Phase, IsAllowed, InPhase, IsPhased, IsPiece, Mine, Share, Story, acts_in, came_in, closed_in, most, own, times, turns_in, turns_since, writes_since}
 use Rattle.judy_many.specs.Stories.Moment.{Did}
 use Rattle.judy_many.specs.declared.serve.Limits.{Limits}
 use Rattle.judy_many.specs.declared.network.How.{How}
 use Rattle.judy_many.specs.declared.network.How.TheVariants as how
+use Rattle.judy_many.specs.declared.network.Question.TheVariants as question
 use Rattle.judy_many.specs.Fates.{Leaves, Stays}
 use Rattle.judy_many.proofs.Owning.{own-append, own-mine, own-other, same_eq}
 use Rattle.judy_many.proofs.Seats.{At-here, At-index, At-keep, At-only, At-set, At-some, free_at, long_set, taken_at, taken_free, taken_most, taken_none}
 use Rattle.judy_many.proofs.Turning.{GoOn, fair-append, lost-append, mine_plain, since-append, since_fresh, since_most, since_other, since_quiet, still, takes_turn, times-append, waits-append}
+use Rattle.judy_many.proofs.Passing.{Passes-append, passes_plain}
 use Rattle.judy_many.proofs.Living.{live_part, no_log, then_log}
-use Rattle.judy_many.proofs.Stepping.{AreTurns-append}
-use Rattle.judy_many.proofs.Telling.{AreWithin-append, InPhase-append, IsPhased-append, Mine-append, acts_in-append, came-append, closed-append, leaves_part, left_served, lives_served, piece_none, split, stays_none, turns_in-append, writes_since-append}
+use Rattle.judy_many.proofs.Telling.{AreWithin-append, InPhase-append, IsPhased-append, Mine-append, acts_in-append, came-append, closed-append, leaves_part, left_served, lives_served, piece_none, split, stays_none, writes_since-append}
 
 -- ---- the whole story
 
-module _ {B S : Type 0} (made : Made S) (limits : Limits) (first : S) (start : Acts) where
+module _ {B S : Type 0} (made : Made S) (status : S → List ℕ) (limits : Limits) (first : S) (start : Acts) where
   -- more happened
   pub told_more : (phase phase' : Phase) (lost lost' waits waits' : ℕ) (log log' : Acts) (slots slots' : List (Option B)) (count count' : ℕ) (now after : S) (story more : Story)
-      → IsTold made limits first start phase lost waits log slots count now story
-      → DidLog log (acts_in more) log' → AreTurns made now (turns_in more) after
+      → IsTold made status limits first start phase lost waits log slots count now story
+      → DidLog log (acts_in more) log' → Passes made status now more after
       → count' ≡ count + came_in (acts_in more) → count' ≤ limits.connections
       → came_in (acts_in more) + taken slots ≡ closed_in (acts_in more) + taken slots'
       → taken slots + came_in (acts_in more) ≤ limits.clients → length slots' ≤ limits.clients
@@ -41,11 +43,10 @@ module _ {B S : Type 0} (made : Made S) (limits : Limits) (first : S) (start : A
       → IsPhased (writes_since false story) more
       → (phase' ≡ Phase.Reads → writes_since (writes_since false story) more ≡ false)
       → GoOn story more → lost' ≡ lost + lost_in (acts_in more) → waits' ≡ waits + waits_in (acts_in more)
-      → IsTold made limits first start phase' lost' waits' log' slots' count' after (story ++ more)
+      → IsTold made status limits first start phase' lost' waits' log' slots' count' after (story ++ more)
   told_more phase phase' lost lost' waits waits' log log' slots slots' count count' now after story more h k r counts capped sums room sized within phases quiet turns lose wait = record {
     logged = subst (λ a. DidLog start a log') (sym (acts_in-append story more)) (then_log start log log' (acts_in story) (acts_in more) h.logged k);
-    run = subst (λ t. AreTurns made first t after) (sym (turns_in-append story more))
-        (AreTurns-append made first now after (turns_in story) (turns_in more) h.run r);
+    run = Passes-append made status first now after story more h.run r;
     total = let e = came-append story more in let f = h.total in omega (arith, e, f, counts);
     capped = capped;
     opened = let e = came-append story more in let f = closed-append story more in let o = h.opened in omega (arith, e, f, o, sums);
@@ -72,7 +73,7 @@ module _ {B S : Type 0} (made : Made S) (limits : Limits) (first : S) (start : A
 
   -- the moments of one phase of a round
   told_phase : (phase : Phase) (lost waits : ℕ) (log : Acts) (slots : List (Option B)) (count : ℕ) (now : S) (story more : Story)
-      → IsTold made limits first start phase lost waits log slots count now story → InPhase phase more
+      → IsTold made status limits first start phase lost waits log slots count now story → InPhase phase more
       → IsPhased (writes_since false story) more × (phase ≡ Phase.Reads → writes_since (writes_since false story) more ≡ false)
   told_phase Phase.Reads lost waits log slots count now story more h part =
       let e = h.quiet refl in
@@ -96,12 +97,12 @@ reads_most Share.Reading = omega arith
 reads_most Share.Running = omega arith
 reads_most Share.Writing = omega arith
 
-module _ {B S : Type 0} (view : B → View) (made : Made S) (login : Login) (limits : Limits) (first : S) (start : Acts) where
+module _ {B S : Type 0} (view : B → View) (made : Made S) (status : S → List ℕ) (login : Login) (limits : Limits) (first : S) (start : Acts) where
   abbrev Now : Phase → (ℕ → Type 0) → ℕ → Acts → List (Option B) → ℕ → S → Type 0
-  Now = Crowd view made login limits first start
+  Now = Crowd view made status login limits first start
 
   abbrev Told : Phase → ℕ → Acts → List (Option B) → ℕ → S → Story → Type 0
-  Told phase waits log slots count now story = IsTold made limits first start phase 0 waits log slots count now story
+  Told phase waits log slots count now story = IsTold made status limits first start phase 0 waits log slots count now story
 
   -- the slots that had no turn have had none after the moments of another connection
   open_other : (story more : Story) (n m : ℕ) (bound : Share → ℕ) → Mine n more → m ≢ n
@@ -279,7 +280,7 @@ module _ {B S : Type 0} (view : B → View) (made : Made S) (login : Login) (lim
       → Now phase had waits log' slots count now
   idle phase had waits log log' slots count now k h =
       foreign phase phase had had waits waits log log' slots slots count now h [] (λ n. refl)
-      (told_more made limits first start phase phase 0 0 waits waits log log' slots slots count count now now h.story [] h.is_told k refl (omega arith) h.is_told.capped (omega arith)
+      (told_more made status limits first start phase phase 0 0 waits waits log log' slots slots count count now now h.story [] h.is_told k refl (omega arith) h.is_told.capped (omega arith)
       (let a = taken_most slots in let b = h.is_told.sized in omega (arith, a, b)) h.is_told.sized tt tt h.is_told.quiet
       (still h.story [] h.is_told.fair (λ share. refl)) refl (omega arith))
       (λ j c at. at) (λ j c at. at) (open_still phase had had waits log slots count now h [] (λ j k. k) (λ share. refl))
@@ -289,13 +290,32 @@ module _ {B S : Type 0} (view : B → View) (made : Made S) (login : Login) (lim
       → Now Phase.Reads nobody (waits + 1) log' slots count now
   has_waited phase had waits log log' slots count now k h =
       foreign phase Phase.Reads had nobody waits (waits + 1) log log' slots slots count now h (Did Waited ∷ []) (λ n. refl)
-      (told_more made limits first start phase Phase.Reads 0 0 waits (waits + 1) log log' slots slots count count now now h.story (Did Waited ∷ []) h.is_told k refl (omega arith) h.is_told.capped (omega arith)
+      (told_more made status limits first start phase Phase.Reads 0 0 waits (waits + 1) log log' slots slots count count now now h.story (Did Waited ∷ []) h.is_told k (tt, refl) (omega arith) h.is_told.capped (omega arith)
       (let a = taken_most slots in let b = h.is_told.sized in omega (arith, a, b)) h.is_told.sized (tt, tt) (tt, tt) (λ e. refl)
       (still h.story (Did Waited ∷ []) h.is_told.fair (λ share. refl)) refl (omega arith))
       (λ j c at. at) (λ j c at. at) (λ j c at not share.
       let e : turns_since (view c).number share 0 (h.story ++ Did Waited ∷ []) ≡ 0 = since-append (view c).number share 0 h.story (Did Waited ∷ []) in
       let f = reads_most share in
       omega (arith, e, f))
+
+  -- a status was asked for, and told
+  has_told : (phase : Phase) (had : ℕ → Type 0) (waits : ℕ) (log log' : Acts) (slots : List (Option B)) (count : ℕ) (now : S) (text : List ℕ) → limits.status ≡ true
+      → Tells (status now) (Reported text) → DidLog log (Questioned question.Status ∷ Reported text ∷ []) log' → Now phase had waits log slots count now
+      → Now phase had waits log' slots count now
+  has_told phase had waits log log' slots count now text watches tells k h =
+      let more : Story = Did (Questioned question.Status) ∷ Did (Reported text) ∷ [] in
+      foreign phase phase had had waits waits log log' slots slots count now h more (λ n. refl)
+      (told_more made status limits first start phase phase 0 0 waits waits log log' slots slots count count now now h.story more h.is_told k (tt, (tells, refl)) (omega arith) h.is_told.capped (omega arith)
+      (let a = taken_most slots in let b = h.is_told.sized in omega (arith, a, b)) h.is_told.sized (watches, (watches, tt)) (tt, (tt, tt)) h.is_told.quiet
+      (still h.story more h.is_told.fair (λ share. refl)) refl (omega arith))
+      (λ j c at. at) (λ j c at. at) (open_still phase had had waits log slots count now h more (λ j k. k) (λ share. refl))
+
+  -- the server goes on after it asked
+  pub answered : (phase : Phase) (had : ℕ → Type 0) (waits : ℕ) (log log' : Acts) (slots : List (Option B)) (count : ℕ) (now : S) (watches : Bool) → limits.status ≡ watches
+      → HasAnswered watches false (status now) log log' → Now phase had waits log slots count now → Now phase had waits log' slots count now
+  answered phase had waits log log' slots count now true e (inl k) h = idle phase had waits log log' slots count now k h
+  answered phase had waits log log' slots count now true e (inr (text, tells, k)) h = has_told phase had waits log log' slots count now text e tells k h
+  answered phase had waits log log' slots count now false e k h = idle phase had waits log log' slots count now k h
 
   -- the next phase of a round begins, or more slots are said to have had a turn
   next : (phase phase' : Phase) (had had' : ℕ → Type 0) (waits : ℕ) (log : Acts) (slots : List (Option B)) (count : ℕ) (now : S) (h : Now phase had waits log slots count now)
@@ -369,7 +389,7 @@ module _ {B S : Type 0} (view : B → View) (made : Made S) (login : Login) (lim
       let count_is = taken_free slots i None within free in
       subst (λ a. Now phase had' waits log' (slice_set slots i None) count a) (sym same)
       (foreign phase phase had had' waits waits log log' slots (slice_set slots i None) count now h [] (λ n. refl)
-      (told_more made limits first start phase phase 0 0 waits waits log log' slots (slice_set slots i None) count count now now h.story [] h.is_told quiet refl (omega arith) h.is_told.capped
+      (told_more made status limits first start phase phase 0 0 waits waits log log' slots (slice_set slots i None) count count now now h.story [] h.is_told quiet refl (omega arith) h.is_told.capped
       (let a = count_is.0 in omega (arith, a))
       (let a = taken_most slots in let b = h.is_told.sized in omega (arith, a, b))
       (let a = long_set slots i None in let b = h.is_told.sized in omega (arith, a, b)) tt tt h.is_told.quiet
@@ -391,7 +411,7 @@ module _ {B S : Type 0} (view : B → View) (made : Made S) (login : Login) (lim
   crowd_turn phase had had' waits log log' slots count now after i (Some b) None more wider new done h within is k r (mine, came, closing, part, once, (close, goes)) =
       let at = At-index slots i (Some b) b within is refl in
       let n = (view b).number in
-      let fits = told_phase made limits first start phase 0 waits log slots count now h.story more h.is_told part in
+      let fits = told_phase made status limits first start phase 0 waits log slots count now h.story more h.is_told part in
       let count_is = taken_at slots i b None at in
       let unclosed = (h.live i b at).unclosed in
       let all = closed-append (own n h.story) more in
@@ -399,7 +419,7 @@ module _ {B S : Type 0} (view : B → View) (made : Made S) (login : Login) (lim
       let lost = plain.1 in
       let waited = plain.0 in
       gone phase had had' wider waits log log' slots count now after h n more mine i b at refl
-      (told_more made limits first start phase phase 0 0 waits waits log log' slots (slice_set slots i None) count count now after h.story more h.is_told k r
+      (told_more made status limits first start phase phase 0 0 waits waits log log' slots (slice_set slots i None) count count now after h.story more h.is_told k (passes_plain made status now after more plain.2 r)
       (omega (arith, came)) h.is_told.capped (omega (arith, came, close, count_is))
       (let a = taken_most slots in let b = h.is_told.sized in omega (arith, a, b, came))
       (let a = long_set slots i None in let b = h.is_told.sized in omega (arith, a, b)) closing fits.0 fits.1
@@ -408,7 +428,7 @@ module _ {B S : Type 0} (view : B → View) (made : Made S) (login : Login) (lim
   crowd_turn phase had had' waits log log' slots count now after i (Some b) (Some s) more wider new done h within is k r (mine, came, closing, part, once, (same, close, goes)) =
       let at = At-index slots i (Some b) b within is refl in
       let n = (view b).number in
-      let fits = told_phase made limits first start phase 0 waits log slots count now h.story more h.is_told part in
+      let fits = told_phase made status limits first start phase 0 waits log slots count now h.story more h.is_told part in
       let count_is = taken_at slots i b (Some s) at in
       let plain = mine_plain n more mine in
       let lost = plain.1 in
@@ -417,7 +437,7 @@ module _ {B S : Type 0} (view : B → View) (made : Made S) (login : Login) (lim
       (λ m q d e. d (sym q.is ∙ ap (λ c. (view c).number) (At-only slots i q.b b (subst (λ j. At slots j q.b) e q.there) at)))
       same (omega arith) (h.below i b at)
       (λ j c d there e. d (h.apart j i c b there at e))
-      (told_more made limits first start phase phase 0 0 waits waits log log' slots (slice_set slots i (Some s)) count count now after h.story more h.is_told k r
+      (told_more made status limits first start phase phase 0 0 waits waits log log' slots (slice_set slots i (Some s)) count count now after h.story more h.is_told k (passes_plain made status now after more plain.2 r)
       (omega (arith, came)) h.is_told.capped (omega (arith, came, close, count_is))
       (let a = taken_most slots in let b = h.is_told.sized in omega (arith, a, b, came))
       (let a = long_set slots i (Some s) in let b = h.is_told.sized in omega (arith, a, b)) closing fits.0 fits.1
@@ -432,14 +452,14 @@ module _ {B S : Type 0} (view : B → View) (made : Made S) (login : Login) (lim
       → Told Phase.Reads waits log' (slice_set slots i s) (count + came) now (h.story ++ more)
   arrives waits log log' slots count now i s more came closed h within free k a sums one capped =
       let count_is = taken_free slots i s within free in
-      let fits = told_phase made limits first start Phase.Reads 0 waits log slots count now h.story more h.is_told a.part in
+      let fits = told_phase made status limits first start Phase.Reads 0 waits log slots count now h.story more h.is_told a.part in
       let came_is = a.came_is in
       let closed_is = a.closed_is in
       let sized = h.is_told.sized in
       let lost = a.unlost in
       let waited = a.waited in
-      told_more made limits first start Phase.Reads Phase.Reads 0 0 waits waits log log' slots (slice_set slots i s) count (count + came) now now h.story more h.is_told k
-      (subst (λ t. AreTurns made now t now) (sym a.none) refl)
+      told_more made status limits first start Phase.Reads Phase.Reads 0 0 waits waits log log' slots (slice_set slots i s) count (count + came) now now h.story more h.is_told k
+      (passes_plain made status now now more a.untold (subst (λ t. AreTurns made now t now) (sym a.none) refl))
       (omega (arith, came_is)) capped (let e = count_is.0 in omega (arith, came_is, closed_is, sums, e))
       (let e = count_is.1 in omega (arith, came_is, one, e, sized))
       (let e = long_set slots i s in omega (arith, e, sized)) (a.within limits) fits.0 fits.1
@@ -559,9 +579,9 @@ unserved login = record {
         some : m ∷ (p ++ q) ≡ [] → ⊥
         some e = cc
 
-pub crowd_first : {B S : Type 0} (view : B → View) (made : Made S) (login : Login) (limits : Limits) (first : S) (start : Acts) (slots : List (Option B)) → AreFree slots
-    → length slots ≤ limits.clients → (h : Crowd view made login limits first start Phase.Reads nobody 0 start slots 0 first) × (h.story ≡ [])
-crowd_first view made login limits first start slots free sized = (
+pub crowd_first : {B S : Type 0} (view : B → View) (made : Made S) (status : S → List ℕ) (login : Login) (limits : Limits) (first : S) (start : Acts) (slots : List (Option B)) → AreFree slots
+    → length slots ≤ limits.clients → (h : Crowd view made status login limits first start Phase.Reads nobody 0 start slots 0 first) × (h.story ≡ [])
+crowd_first view made status login limits first start slots free sized = (
   record {
     story = [];
     is_told = record {
@@ -604,9 +624,9 @@ crowd_first view made login limits first start slots free sized = (
         some : m ∷ (p ++ q) ≡ [] → ⊥
         some e = cc
 
-pub crowd_none : {B S : Type 0} (view : B → View) (made : Made S) (login : Login) (limits : Limits) (first : S) (start : Acts) (slots : List (Option B)) → AreFree slots
-    → length slots ≤ limits.clients → Crowd view made login limits first start Phase.Reads nobody 0 start slots 0 first
-crowd_none view made login limits first start slots free sized = (crowd_first view made login limits first start slots free sized).0
+pub crowd_none : {B S : Type 0} (view : B → View) (made : Made S) (status : S → List ℕ) (login : Login) (limits : Limits) (first : S) (start : Acts) (slots : List (Option B)) → AreFree slots
+    → length slots ≤ limits.clients → Crowd view made status login limits first start Phase.Reads nobody 0 start slots 0 first
+crowd_none view made status login limits first start slots free sized = (crowd_first view made status login limits first start slots free sized).0
 
 -- ---- one slot
 
@@ -657,17 +677,17 @@ module _ {B : Type 0} (view : B → View) (login : Login) (limits : Limits) (pha
 
 -- a client came
 pub arrived : (n : ℕ) → IsArrival 1 0 (Did (Came n) ∷ [])
-arrived n = record { came_is = refl; closed_is = refl; within = λ limits. (tt, tt); none = refl; silent = λ share. refl; waited = refl; unlost = refl; part = ((tt, tt), refl) }
+arrived n = record { came_is = refl; closed_is = refl; within = λ limits. (tt, tt); none = refl; silent = λ share. refl; waited = refl; unlost = refl; untold = refl; part = ((tt, tt), refl) }
 
 -- none came
 pub came_not : {B : Type 0} (view : B → View) (s : Option B) (n : ℕ) → s ≡ None → Arrives n false (option_map view s) []
 came_not view s n e = subst (λ o. Arrives n false (option_map view o) []) (sym e)
-    (record { came_is = refl; closed_is = refl; within = λ limits. tt; none = refl; silent = λ share. refl; waited = refl; unlost = refl; part = (tt, refl) }, λ m. refl)
+    (record { came_is = refl; closed_is = refl; within = λ limits. tt; none = refl; silent = λ share. refl; waited = refl; unlost = refl; untold = refl; part = (tt, refl) }, λ m. refl)
 
 -- one could not be accepted
 pub refused : {B : Type 0} (view : B → View) (s : Option B) (n : ℕ) → s ≡ None → Arrives n false (option_map view s) (Did Refused ∷ [])
 refused view s n e = subst (λ o. Arrives n false (option_map view o) (Did Refused ∷ [])) (sym e)
-    (record { came_is = refl; closed_is = refl; within = λ limits. (tt, tt); none = refl; silent = λ share. refl; waited = refl; unlost = refl; part = ((tt, tt), refl) }, λ m. refl)
+    (record { came_is = refl; closed_is = refl; within = λ limits. (tt, tt); none = refl; silent = λ share. refl; waited = refl; unlost = refl; untold = refl; part = ((tt, tt), refl) }, λ m. refl)
 
 -- a client came, and is in the slot
 pub came_in_slot : (v : View) (n : ℕ) → v.number ≡ n → Holds [] v.held → v.who ≡ None → v.waiting ≡ [] → v.pending ≡ [] → v.quits ≡ false
@@ -706,7 +726,7 @@ came_in_slot v n is held who waiting pending quits = (
 pub dropped : {B : Type 0} (view : B → View) (s : Option B) (n : ℕ) → s ≡ None
     → Arrives n true (option_map view s) (Did (Came n) ∷ Did (Closed n how.Memory) ∷ [])
 dropped view s n e = subst (λ o. Arrives n true (option_map view o) (Did (Came n) ∷ Did (Closed n how.Memory) ∷ [])) (sym e) (
-  record { came_is = refl; closed_is = refl; within = λ limits. (tt, (tt, tt)); none = refl; silent = λ share. refl; waited = refl; unlost = refl; part = ((tt, (tt, tt)), refl) },
+  record { came_is = refl; closed_is = refl; within = λ limits. (tt, (tt, tt)); none = refl; silent = λ share. refl; waited = refl; unlost = refl; untold = refl; part = ((tt, (tt, tt)), refl) },
   (same_eq n, (same_eq n, tt)),
   λ login. record {
     order = λ p q cut. at_each login p q cut;

@@ -3,6 +3,7 @@ mod Crowding
 mod Known
 mod Living
 mod Owning
+mod Passing
 mod Queueing
 mod Seats
 mod Stepping

@@ -2,9 +2,9 @@
 use Rattle.std.proofs.Common.{◌≡◌, ◌≢◌, inl, inr, ◌≤◌, ◌+◌, ℕ, Bool, true, false, List, [], ◌∷◌, ◌++◌, arith, sym, ◌∙◌, ap, subst, refl, append-nil}
 use Rattle.std.specs.Prelude.{◌==◌, if◌then◌else◌}
 use Rattle.std.proofs.lemmas.Bool.Decides.{eqb_tells}
-use Rattle.judy_many.specs.Endings.{lost_by, lost_in, waits_in}
+use Rattle.judy_many.specs.Endings.{lost_by, lost_in, reports_by, reports_in, waits_in}
 use Rattle.judy_many.specs.Nets.{Act}
-use Rattle.judy_many.specs.Nets.Act.{Came, Refused, Read, Ended, Broke, Wrote, Failed, Closed, Waited, Lost, Asked}
+use Rattle.judy_many.specs.Nets.Act.{Came, Refused, Read, Ended, Broke, Wrote, Failed, Closed, Waited, Lost, Asked, Questioned, Reported}
 use Rattle.judy_many.specs.Stories.{HasTurns, Mine, Moment, Share, Story, acts_in, belongs, is_of, is_wait, own, share_by, times, turns_after, turns_since, waits_by, writes_after, writes_since}
 use Rattle.judy_many.specs.Stories.Moment.{Did, Ran}
 use Rattle.judy_many.proofs.Owning.{belongs_other}
@@ -139,20 +139,22 @@ since_quiet n wrote count (m ∷ story) h e = since_quiet n (writes_after wrote 
     after (Did Waited) e = refl
     after (Did Lost) e = h e
     after (Did (Asked s)) e = h e
+    after (Did (Questioned q)) e = h e
+    after (Did (Reported text)) e = h e
     after (Ran k turns) e = same (k == n) e
 
 -- ---- pieces
 
--- a connection's own moments are no wait, and no fault of the listener
-no_wait : (n : ℕ) (a : Act) → is_of n a ≡ true → (is_wait a ≡ false) × (lost_by a ≡ 0)
-no_wait n (Came m) e = (refl, refl)
-no_wait n Refused e = (refl, refl)
-no_wait n (Read m bytes) e = (refl, refl)
-no_wait n (Ended m) e = (refl, refl)
-no_wait n (Broke m) e = (refl, refl)
-no_wait n (Wrote m bytes) e = (refl, refl)
-no_wait n (Failed m) e = (refl, refl)
-no_wait n (Closed m how) e = (refl, refl)
+-- a connection's own moments are no wait, no fault of the listener, and no report
+no_wait : (n : ℕ) (a : Act) → is_of n a ≡ true → (is_wait a ≡ false) × (lost_by a ≡ 0) × (reports_by a ≡ 0)
+no_wait n (Came m) e = (refl, refl, refl)
+no_wait n Refused e = (refl, refl, refl)
+no_wait n (Read m bytes) e = (refl, refl, refl)
+no_wait n (Ended m) e = (refl, refl, refl)
+no_wait n (Broke m) e = (refl, refl, refl)
+no_wait n (Wrote m bytes) e = (refl, refl, refl)
+no_wait n (Failed m) e = (refl, refl, refl)
+no_wait n (Closed m how) e = (refl, refl, refl)
 no_wait n Waited e = absurd (never e)
   where
     never : false ≡ true → ⊥
@@ -161,21 +163,31 @@ no_wait n Lost e = absurd (never e)
   where
     never : false ≡ true → ⊥
     never e = cc
-no_wait n (Asked s) e = (refl, refl)
+no_wait n (Asked s) e = (refl, refl, refl)
+no_wait n (Questioned q) e = absurd (never e)
+  where
+    never : false ≡ true → ⊥
+    never e = cc
+no_wait n (Reported text) e = absurd (never e)
+  where
+    never : false ≡ true → ⊥
+    never e = cc
 
 abbrev count_of : Bool → ℕ
 count_of w = if w then 1 else 0
 
-pub mine_plain : (n : ℕ) (more : Story) → Mine n more → (waits_in (acts_in more) ≡ 0) × (lost_in (acts_in more) ≡ 0)
-mine_plain n [] h = (refl, refl)
+pub mine_plain : (n : ℕ) (more : Story) → Mine n more → (waits_in (acts_in more) ≡ 0) × (lost_in (acts_in more) ≡ 0) × (reports_in (acts_in more) ≡ 0)
+mine_plain n [] h = (refl, refl, refl)
 mine_plain n (Did a ∷ more) h =
     let one = no_wait n a h.0 in
     let rest = mine_plain n more h.1 in
     let none : count_of (is_wait a) ≡ 0 = ap count_of one.0 in
     let all = one.1 in
+    let untold = one.2 in
     let waits = rest.0 in
     let lost = rest.1 in
-    (omega (arith, none, waits), omega (arith, all, lost))
+    let reports = rest.2 in
+    (omega (arith, none, waits), omega (arith, all, lost), omega (arith, untold, reports))
 mine_plain n (Ran m turns ∷ more) h = mine_plain n more h.1
 
 waits_in-append : (a b : List Act) → waits_in (a ++ b) ≡ waits_in a + waits_in b

@@ -2,7 +2,7 @@
 use Rattle.std.specs.Prelude.{◌≡◌, ℕ, Bool, true, false, [], Option, Some, None}
 use Rattle.judy_model.specs.Stream.{Login}
 use Rattle.judy_many.specs.declared.serve.Limits.{Limits}
-use Rattle.judy_many.specs.Endings.{lost_in, waits_in}
+use Rattle.judy_many.specs.Endings.{lost_in, reports_in, waits_in}
 use Rattle.judy_many.specs.Lives.{IsServed, Lives, View}
 use Rattle.judy_many.specs.Stories.{AreWithin, Phase, InPhase, Mine, Share, Story, acts_in, came_in, closed_in, own, times, turns_in}
 
@@ -15,6 +15,7 @@ pub record IsArrival (came closed : ℕ) (more : Story) : Type 0 where
   pub silent : (share : Share) → times share more ≡ 0
   pub waited : waits_in (acts_in more) ≡ 0
   pub unlost : lost_in (acts_in more) ≡ 0
+  pub untold : reports_in (acts_in more) ≡ 0
   pub part : InPhase Phase.Reads more
 
 -- a client of this number came, and is in the slot; or it came and was closed; or none came

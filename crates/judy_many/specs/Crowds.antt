@@ -14,6 +14,7 @@ use Rattle.judy_many.specs.Endings.{IsCaused, lost_in, waits_in}
 use Rattle.judy_many.specs.Lives.{IsPart, IsServed, Lives, View}
 use Rattle.judy_many.specs.Nets.{Acts, DidLog}
 use Rattle.judy_many.specs.Sessions.{AreTurns, Turn, replies_in}
+use Rattle.judy_many.specs.Statuses.{Passes}
 use Rattle.judy_many.specs.Stories.{AreWithin, HasTurns, IsPhased, Phase, Share, Story, acts_in, came_in, closed_in, most, own, turns_in, turns_since, writes_since}
 
 -- the calls of the lines
@@ -54,9 +55,9 @@ HasFew clients story = (p q : Story) → story ≡ p ++ q → came_in (acts_in p
 
 -- What holds of a story so far, whoever its connections are. In the first phase of a round nothing was
 -- written since the server last waited.
-pub record IsTold {B S : Type 0} (made : Made S) (limits : Limits) (first : S) (start : Acts) (phase : Phase) (lost waits : ℕ) (log : Acts) (slots : List (Option B)) (count : ℕ) (now : S) (story : Story) : Type 0 where
+pub record IsTold {B S : Type 0} (made : Made S) (status : S → List ℕ) (limits : Limits) (first : S) (start : Acts) (phase : Phase) (lost waits : ℕ) (log : Acts) (slots : List (Option B)) (count : ℕ) (now : S) (story : Story) : Type 0 where
   pub logged : DidLog start (acts_in story) log
-  pub run : AreTurns made first (turns_in story) now
+  pub run : Passes made status first story now
   pub total : came_in (acts_in story) ≡ count
   pub capped : count ≤ limits.connections
   pub opened : came_in (acts_in story) ≡ closed_in (acts_in story) + taken slots
@@ -72,9 +73,9 @@ pub record IsTold {B S : Type 0} (made : Made S) (limits : Limits) (first : S) (
 -- So far this happened. Each client in a slot is one of its own number, below the count of connections,
 -- and every connection is served so far. Each connection that came is in a slot or was closed. Those
 -- whose slots had no turn in this phase may have one.
-pub record Crowd {B S : Type 0} (view : B → View) (made : Made S) (login : Login) (limits : Limits) (first : S) (start : Acts) (phase : Phase) (had : ℕ → Type 0) (waits : ℕ) (log : Acts) (slots : List (Option B)) (count : ℕ) (now : S) : Type 0 where
+pub record Crowd {B S : Type 0} (view : B → View) (made : Made S) (status : S → List ℕ) (login : Login) (limits : Limits) (first : S) (start : Acts) (phase : Phase) (had : ℕ → Type 0) (waits : ℕ) (log : Acts) (slots : List (Option B)) (count : ℕ) (now : S) : Type 0 where
   pub story : Story
-  pub is_told : IsTold made limits first start phase 0 waits log slots count now story
+  pub is_told : IsTold made status limits first start phase 0 waits log slots count now story
   pub below : (i : ℕ) (b : B) → At slots i b → (view b).number < count
   pub live : (i : ℕ) (b : B) → At slots i b → Lives login (own (view b).number story) (view b)
   pub apart : (i j : ℕ) (b c : B) → At slots i b → At slots j c → (view b).number ≡ (view c).number → i ≡ j
@@ -89,7 +90,7 @@ pub record Crowd {B S : Type 0} (view : B → View) (made : Made S) (login : Log
 -- that it would get alone, without the calls that were refused for memory. Another server that agrees
 -- on a tenant's quota, arrays, calls and refusals would give it the same replies, whatever else that
 -- server holds and does.
-pub record HasServedMany {S : Type 0} (made : Made S) (seen : S → Seen) (limits : Limits) (how : Ending) (log log' : Acts) (before after : S) : Type 0 where
+pub record HasServedMany {S : Type 0} (made : Made S) (status : S → List ℕ) (seen : S → Seen) (limits : Limits) (how : Ending) (log log' : Acts) (before after : S) : Type 0 where
   pub story : Story
   pub logged : DidLog log (acts_in story) log'
   pub served : (n : ℕ) → IsServed (seen before).logins (own n story)
@@ -103,12 +104,15 @@ pub record HasServedMany {S : Type 0} (made : Made S) (seen : S → Seen) (limit
   -- at each moment at most so many connections were open, and at most so many came
   pub few : HasFew limits.clients story
   pub total : came_in (acts_in story) ≤ limits.connections
-  -- connections were closed for their time only where it has a limit, and nothing else was asked
+  -- connections were closed for their time only where it has a limit, there are questions only where
+  -- there is a status socket, and nothing else was asked
   pub within : AreWithin limits (acts_in story)
   -- the server ended for a cause, and no fault of a connection is one
   pub cause : IsCaused how story
   -- at `Done` as many connections as were wanted have come, and each of them was closed
   pub done : how ≡ ending.Done → (n : ℕ) → n < limits.connections → closed_in (acts_in (own n story)) ≡ 1
   pub run : AreTurns made before (turns_in story) after
+  -- each status that was told is that of the service at this moment; nothing but lines changes the service
+  pub told : Passes made status before story after
   pub solo : let turns = turns_in story in AreServed (seen before).quotas (seen before).states (events_in turns) (replies_in turns) (seen after).states
   pub worlds : let turns = turns_in story in AreTheOnly (seen before).quotas (seen before).states (zip (events_in turns) (replies_in turns)) (seen after).states

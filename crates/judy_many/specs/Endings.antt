@@ -3,14 +3,15 @@
 use Rattle.std.specs.Prelude.{◌≡◌, ◌⊎◌, ◌+◌, ℕ, List, [], ◌∷◌, ◌++◌, Bool, true, false, if◌then◌else◌}
 use Rattle.judy_many.specs.declared.arrivals.Arrival.{Arrival}
 use Rattle.judy_many.specs.declared.arrivals.Arrival.TheVariants as arrival
+use Rattle.judy_many.specs.declared.network.Question.TheVariants as question
 use Rattle.judy_many.specs.declared.serve.Ending.{Ending}
 use Rattle.judy_many.specs.declared.serve.Ending.TheVariants as ending
 use Rattle.judy_many.specs.Nets.{Act}
-use Rattle.judy_many.specs.Nets.Act.{Came, Refused, Read, Ended, Broke, Wrote, Failed, Closed, Waited, Lost, Asked}
+use Rattle.judy_many.specs.Nets.Act.{Came, Refused, Read, Ended, Broke, Wrote, Failed, Closed, Waited, Lost, Asked, Questioned, Reported}
 use Rattle.judy_many.specs.Stories.{Story, acts_in, is_wait}
 use Rattle.judy_many.specs.Stories.Moment.{Did}
 
--- how often the listener, or the wait, failed for good
+-- how often the listener, or the wait, failed for good, or a stop was asked for: the server then ends
 abbrev pub lost_by : Act → ℕ
 lost_by (Came m) = 0
 lost_by Refused = 0
@@ -23,10 +24,34 @@ lost_by (Closed m how) = 0
 lost_by Waited = 0
 lost_by Lost = 1
 lost_by (Asked s) = 0
+lost_by (Questioned question.Nothing) = 0
+lost_by (Questioned question.Status) = 0
+lost_by (Questioned question.Stop) = 1
+lost_by (Reported text) = 0
 
 abbrev pub lost_in : List Act → ℕ
 lost_in [] = 0
 lost_in (a ∷ acts) = lost_by a + lost_in acts
+
+-- how often a status was told
+abbrev pub reports_by : Act → ℕ
+reports_by (Came m) = 0
+reports_by Refused = 0
+reports_by (Read m bytes) = 0
+reports_by (Ended m) = 0
+reports_by (Broke m) = 0
+reports_by (Wrote m bytes) = 0
+reports_by (Failed m) = 0
+reports_by (Closed m how) = 0
+reports_by Waited = 0
+reports_by Lost = 0
+reports_by (Asked s) = 0
+reports_by (Questioned q) = 0
+reports_by (Reported text) = 1
+
+abbrev pub reports_in : List Act → ℕ
+reports_in [] = 0
+reports_in (a ∷ acts) = reports_by a + reports_in acts
 
 -- how often the server waited
 abbrev pub waits_in : List Act → ℕ
@@ -54,15 +79,23 @@ pub record IsLost (story : Story) : Type 0 where
   pub last : story ≡ before ++ Did Lost ∷ []
   pub once : lost_in (acts_in before) ≡ 0
 
+-- the last thing that happened is that a stop was asked for, and nothing failed for good before
+pub record IsStopped (story : Story) : Type 0 where
+  pub before : Story
+  pub last : story ≡ before ++ Did (Questioned question.Stop) ∷ []
+  pub once : lost_in (acts_in before) ≡ 0
+
 -- 2^64 - 1 rounds have passed, and nothing failed for good
 pub record IsSpent (story : Story) : Type 0 where
   pub rounds : waits_in (acts_in story) ≡ 18446744073709551615
   pub unlost : lost_in (acts_in story) ≡ 0
 
 -- The server ends in order only where nothing failed for good. It ends with a fault of the socket only
--- where the listener or the wait failed for good, or after 2^64 - 1 rounds, and for memory only before
--- anything was asked of the system. No fault of a connection ends it.
+-- where the listener or the wait failed for good, or after 2^64 - 1 rounds, for memory only before
+-- anything was asked of the system, and by a stop only where one was asked for, as the last thing. A
+-- stop ends it at once, with no other ending. No fault of a connection ends it.
 abbrev pub IsCaused : Ending → Story → Type 0
 IsCaused ending.Done story = lost_in (acts_in story) ≡ 0
 IsCaused ending.Memory story = story ≡ []
+IsCaused ending.Stopped story = IsStopped story
 IsCaused ending.Socket story = IsLost story ⊎ IsSpent story

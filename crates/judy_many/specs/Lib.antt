@@ -9,5 +9,6 @@ pub mod Nets
 pub mod Queues
 pub mod Sessions
 pub mod Slots
+pub mod Statuses
 pub mod Stories
 pub mod Times

@@ -16,7 +16,7 @@ use Rattle.judy_many.specs.declared.network.How.{How}
 use Rattle.judy_many.specs.declared.network.How.TheVariants as how
 use Rattle.judy_many.specs.declared.serve.Limits.{Limits}
 use Rattle.judy_many.specs.Nets.{Act}
-use Rattle.judy_many.specs.Nets.Act.{Came, Refused, Read, Ended, Broke, Wrote, Failed, Closed, Waited, Lost, Asked}
+use Rattle.judy_many.specs.Nets.Act.{Came, Refused, Read, Ended, Broke, Wrote, Failed, Closed, Waited, Lost, Asked, Questioned, Reported}
 use Rattle.judy_many.specs.Sessions.{Turn, lines_in, replies_in, texts, Speaks}
 use Rattle.judy_many.specs.Stories.{AreWithin, Phase, InPhase, IsOnce, Mine, Story, acts_in, came_in, closed_in, is_end, is_fault, turns_in}
 use Rattle.judy_many.specs.Stories.Moment.{Did}
@@ -34,6 +34,8 @@ read_by (Closed m how) = []
 read_by Waited = []
 read_by Lost = []
 read_by (Asked s) = []
+read_by (Questioned q) = []
+read_by (Reported text) = []
 
 abbrev pub read_in : List Act → List ℕ
 read_in [] = []
@@ -52,6 +54,8 @@ wrote_by (Closed m how) = []
 wrote_by Waited = []
 wrote_by Lost = []
 wrote_by (Asked s) = []
+wrote_by (Questioned q) = []
+wrote_by (Reported text) = []
 
 abbrev pub wrote_in : List Act → List ℕ
 wrote_in [] = []
@@ -78,6 +82,8 @@ ends_well (Closed m how) = is_orderly how
 ends_well Waited = false
 ends_well Lost = false
 ends_well (Asked s) = false
+ends_well (Questioned q) = false
+ends_well (Reported text) = false
 
 abbrev pub end_well : List Act → Bool
 end_well [] = false

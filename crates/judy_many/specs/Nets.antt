@@ -6,6 +6,8 @@ use Rattle.std.specs.Prelude.{◌≡◌, ℕ, ◌≤◌, ◌++◌, Bool, true, f
 use Rattle.judy_many.specs.declared.network.How.{How}
 use Rattle.judy_many.specs.declared.network.Got.{Got}
 use Rattle.judy_many.specs.declared.network.Got.TheVariants as got
+use Rattle.judy_many.specs.declared.network.Question.{Question}
+use Rattle.judy_many.specs.declared.network.Question.TheVariants as question
 use Rattle.judy_many.specs.declared.network.Put.{Put}
 use Rattle.judy_many.specs.declared.network.Put.TheVariants as put
 
@@ -25,6 +27,10 @@ pub data Step : Type 0 where
   Bound : List ℕ → Step
   -- the socket cannot be made
   Unbound : List ℕ → Step
+  -- the status socket was made at this path
+  Watched : List ℕ → Step
+  -- the status socket cannot be made
+  Unwatched : List ℕ → Step
 
 -- an answer of the system
 pub data Act : Type 0 where
@@ -48,6 +54,9 @@ pub data Act : Type 0 where
   Lost : Act
   -- something else was asked of the system
   Asked : Step → Act
+  -- this was asked on the status socket, and this text is what it was answered
+  Questioned : Question → Act
+  Reported : List ℕ → Act
 
 -- the answers so far, where they are known
 abbrev pub Acts : Type 0
@@ -93,3 +102,9 @@ gives (got.Bytes n) = true
 gives got.Nothing = false
 gives got.End = false
 gives got.Fault = false
+
+-- what was asked on the status socket
+abbrev pub question_acts : Question → List Act
+question_acts question.Nothing = []
+question_acts question.Status = Questioned question.Status ∷ []
+question_acts question.Stop = Questioned question.Stop ∷ []

@@ -16,7 +16,7 @@ use Rattle.judy_many.specs.declared.network.Got.{Got}
 use Rattle.judy_many.specs.declared.network.Got.TheVariants as got
 use Rattle.judy_many.specs.declared.serve.Limits.{Limits}
 use Rattle.judy_many.specs.Nets.{Act}
-use Rattle.judy_many.specs.Nets.Act.{Came, Refused, Read, Ended, Broke, Wrote, Failed, Closed, Waited, Lost, Asked}
+use Rattle.judy_many.specs.Nets.Act.{Came, Refused, Read, Ended, Broke, Wrote, Failed, Closed, Waited, Lost, Asked, Questioned, Reported}
 use Rattle.judy_many.specs.Sessions.{Turn}
 
 -- an answer of the system, or lines of one connection that were run one after another
@@ -63,6 +63,8 @@ is_of n (Closed m how) = m == n
 is_of n Waited = false
 is_of n Lost = false
 is_of n (Asked s) = false
+is_of n (Questioned q) = false
+is_of n (Reported text) = false
 
 -- whether a moment is this connection's
 abbrev pub belongs : ℕ → Moment → Bool
@@ -92,6 +94,8 @@ IsRead n (Closed m how) = ⊥
 IsRead n Waited = ⊥
 IsRead n Lost = ⊥
 IsRead n (Asked s) = ⊥
+IsRead n (Questioned q) = ⊥
+IsRead n (Reported text) = ⊥
 
 abbrev pub AreReads : ℕ → List Act → Type 0
 AreReads n [] = Unit {0}
@@ -110,6 +114,8 @@ IsWrite n (Closed m how) = ⊥
 IsWrite n Waited = ⊥
 IsWrite n Lost = ⊥
 IsWrite n (Asked s) = ⊥
+IsWrite n (Questioned q) = ⊥
+IsWrite n (Reported text) = ⊥
 
 abbrev pub AreWrites : ℕ → List Act → Type 0
 AreWrites n [] = Unit {0}
@@ -128,6 +134,8 @@ is_end (Closed m how) = false
 is_end Waited = false
 is_end Lost = false
 is_end (Asked s) = false
+is_end (Questioned q) = false
+is_end (Reported text) = false
 
 -- whether it says that a read or a write failed
 abbrev pub is_fault : Act → Bool
@@ -142,6 +150,8 @@ is_fault (Closed m how) = false
 is_fault Waited = false
 is_fault Lost = false
 is_fault (Asked s) = false
+is_fault (Questioned q) = false
+is_fault (Reported text) = false
 
 -- what a read, and a write, says of the connection
 abbrev pub TellsRead : Got → List Act → Type 0
@@ -168,6 +178,8 @@ came_by (Closed m how) = 0
 came_by Waited = 0
 came_by Lost = 0
 came_by (Asked s) = 0
+came_by (Questioned q) = 0
+came_by (Reported text) = 0
 
 abbrev pub came_in : List Act → ℕ
 came_in [] = 0
@@ -186,6 +198,8 @@ closed_by (Closed m how) = 1
 closed_by Waited = 0
 closed_by Lost = 0
 closed_by (Asked s) = 0
+closed_by (Questioned q) = 0
+closed_by (Reported text) = 0
 
 abbrev pub closed_in : List Act → ℕ
 closed_in [] = 0
@@ -204,6 +218,8 @@ writes_after wrote (Did (Closed m how)) = wrote
 writes_after wrote (Did Waited) = false
 writes_after wrote (Did Lost) = wrote
 writes_after wrote (Did (Asked s)) = wrote
+writes_after wrote (Did (Questioned q)) = wrote
+writes_after wrote (Did (Reported text)) = wrote
 writes_after wrote (Ran n turns) = wrote
 
 abbrev pub writes_since : Bool → Story → Bool
@@ -229,8 +245,8 @@ IsAllowed limits how.Idle = is_some limits.idle ≡ true
 IsAllowed limits how.Over = is_some limits.turn ≡ true
 IsAllowed limits how.Memory = Unit {0}
 
--- Connections were closed for lack of bytes or for their age only where a limit was given, and nothing
--- besides connections was asked of the system.
+-- Connections were closed for lack of bytes or for their age only where a limit was given. Questions
+-- were answered only where there is a status socket. Nothing else was asked of the system.
 abbrev pub IsWithin : Limits → Act → Type 0
 IsWithin limits (Came m) = Unit {0}
 IsWithin limits Refused = Unit {0}
@@ -243,6 +259,8 @@ IsWithin limits (Closed m how) = IsAllowed limits how
 IsWithin limits Waited = Unit {0}
 IsWithin limits Lost = Unit {0}
 IsWithin limits (Asked s) = ⊥
+IsWithin limits (Questioned q) = limits.status ≡ true
+IsWithin limits (Reported text) = limits.status ≡ true
 
 abbrev pub AreWithin : Limits → List Act → Type 0
 AreWithin limits [] = Unit {0}
@@ -296,6 +314,8 @@ share_of (Closed m how) share = 0
 share_of Waited share = 0
 share_of Lost share = 0
 share_of (Asked s) share = 0
+share_of (Questioned q) share = 0
+share_of (Reported text) share = 0
 
 abbrev pub share_by : Moment → Share → ℕ
 share_by (Did a) share = share_of a share
@@ -327,6 +347,8 @@ is_wait (Closed m how) = false
 is_wait Waited = true
 is_wait Lost = false
 is_wait (Asked s) = false
+is_wait (Questioned q) = false
+is_wait (Reported text) = false
 
 abbrev pub waits_by : Moment → Bool
 waits_by (Did a) = is_wait a

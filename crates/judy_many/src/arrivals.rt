@@ -1,5 +1,5 @@
 //! Accepts connections into free slots.
-ghost use Rattle.std.specs.Prelude.{◌≡◌, ◌++◌, ℕ, None, option_map, if◌then◌else◌};
+ghost use Rattle.std.specs.Prelude.{◌≡◌, ◌++◌, ℕ, None, option_map, if◌then◌else◌, List};
 ghost use Rattle.judy_model.specs.Stream.{Login};
 ghost use Rattle.judy_many.specs.Came.{has_come};
 ghost use Rattle.judy_many.specs.Crowds.{Crowd};
@@ -106,11 +106,11 @@ pub fn accept<S: Served, N: Network>(
     limits: Limits,
     now: Option<u64>,
 ) -> bool
-    ensures crowd { (login : Login) (first now : S) (start : Acts) (waits : ℕ)
-        → Crowd (λ b. view_of S.who N.number b.value) S.made login limits first start Reads nobody waits
+    ensures crowd { (login : Login) (first now : S) (status : S → List ℕ) (start : Acts) (waits : ℕ)
+        → Crowd (λ b. view_of S.who N.number b.value) S.made status login limits first start Reads nobody waits
         (N.log network.old) clients.old.slots.items clients.old.accepted now
         → (mid : Acts) × DidLog mid (lost_unless result) (N.log network.new)
-        × Crowd (λ b. view_of S.who N.number b.value) S.made login limits first start Reads nobody waits
+        × Crowd (λ b. view_of S.who N.number b.value) S.made status login limits first start Reads nobody waits
         mid clients.new.slots.items clients.new.accepted now }
     ensures known { (login : Login)
         → AreKnown (λ b. option_map S.who b.value.session.speaker) login clients.old.slots.items

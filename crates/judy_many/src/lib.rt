@@ -2,23 +2,28 @@
 #![tactic(auto)]
 
 mod arrivals;
+mod asking;
 mod buffers;
 mod client;
 mod clients;
+mod counts;
+mod desk;
 mod network;
 mod queue;
 mod rounds;
 mod serve;
 mod session;
+mod shows;
 mod sockets;
 mod sweeps;
 mod times;
 
 pub use buffers::{Answers, Input, Sent};
 pub use client::{Client, Fate, listen, tell};
-pub use network::{Accept, Got, How, Network, Put};
+pub use network::{Accept, Got, How, Network, Put, Question};
 pub use queue::{CLIENTS_LIMIT, Left, Queue};
 pub use serve::{Ending, Limits, serve_many};
 pub use session::{ANSWERS_LIMIT, Ran, Rooms, Session, run_line, run_lines};
+pub use shows::Shows;
 pub use sockets::{Connection, Sockets};
 pub use times::is_past;

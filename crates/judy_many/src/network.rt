@@ -1,7 +1,7 @@
 //! What the loop asks of the system: to wait, to accept, to read, to write and to close.
 ghost use Rattle.std.specs.Prelude.{◌≡◌, ◌<◌, ℕ, [], ◌∷◌, length};
-ghost use Rattle.judy_many.specs.Nets.{Acts, DidLog, Fits, Takes, read_acts, wait_acts, write_acts};
-ghost use Rattle.judy_many.specs.Nets.Act.{Closed};
+ghost use Rattle.judy_many.specs.Nets.{Acts, DidLog, Fits, Takes, question_acts, read_acts, wait_acts, write_acts};
+ghost use Rattle.judy_many.specs.Nets.Act.{Closed, Reported};
 ghost use Rattle.judy_many.specs.Comes.{HasCome};
 
 use crate::queue::Queue;
@@ -59,6 +59,17 @@ pub enum How {
     Memory,
 }
 
+/// What is asked on the status socket.
+#[derive(Clone, Copy, Debug, PartialEq, Eq)]
+pub enum Question {
+    /// Nothing, for now.
+    Nothing,
+    /// The status.
+    Status,
+    /// That the server ends.
+    Stop,
+}
+
 /// A listener and its connections, none of which waits.
 pub trait Network {
     /// A connection.
@@ -106,4 +117,12 @@ pub trait Network {
     /// The seconds since some time that does not change. None if the clock fails.
     fn seconds(&mut self) -> Option<u64>
         ensures { DidLog (log self.old) [] (log self.new) };
+
+    /// What was asked on the status socket, if there is one.
+    fn ask(&mut self) -> Question
+        ensures { DidLog (log self.old) (question_acts result) (log self.new) };
+
+    /// Answers what was asked last. What the asker does not take at once is dropped.
+    fn report(&mut self, text: &[u8])
+        ensures { DidLog (log self.old) (Reported text.now ∷ []) (log self.new) };
 }

@@ -1,5 +1,5 @@
 //! A round: each client that is ready has a turn, in two halves.
-ghost use Rattle.std.specs.Prelude.{◌≡◌, ◌<◌, ◌+◌, ℕ, [], length, option_map};
+ghost use Rattle.std.specs.Prelude.{◌≡◌, ◌<◌, ◌+◌, ℕ, [], length, option_map, List};
 ghost use Rattle.judy_model.specs.Stream.{Login};
 ghost use Rattle.judy_many.specs.Crowds.{Crowd};
 ghost use Rattle.judy_many.specs.Queues.{AreApart, IsBefore, nobody};
@@ -64,11 +64,11 @@ fn listen_to<S: Served, N: Network>(
         (S.seen service.old).logins clients.old.slots.items }
     requires within { place < length clients.old.queue }
     requires apart { AreApart clients.old.queue }
-    ensures crowd { (limits : Limits) (first : S) (start : Acts) (waits : ℕ)
-        → Crowd (λ b. view_of S.who N.number b.value) S.made (S.seen service.old).logins limits first start
+    ensures crowd { (limits : Limits) (first : S) (status : S → List ℕ) (start : Acts) (waits : ℕ)
+        → Crowd (λ b. view_of S.who N.number b.value) S.made status (S.seen service.old).logins limits first start
         Reads (IsBefore clients.old.queue place) waits
         (N.log network.old) clients.old.slots.items clients.old.accepted service.old
-        → Crowd (λ b. view_of S.who N.number b.value) S.made (S.seen service.old).logins limits first start
+        → Crowd (λ b. view_of S.who N.number b.value) S.made status (S.seen service.old).logins limits first start
         Reads (IsBefore clients.old.queue (place + 1)) waits
         (N.log network.new) clients.new.slots.items clients.new.accepted service.new }
     ensures queue { clients.new.queue ≡ clients.old.queue }
@@ -96,11 +96,11 @@ pub fn listen_all<S: Served, N: Network>(
 )
     requires known { AreKnown (λ b. option_map S.who b.value.session.speaker)
         (S.seen service.old).logins clients.old.slots.items }
-    ensures crowd { (limits : Limits) (first : S) (start : Acts) (waits : ℕ)
-        → Crowd (λ b. view_of S.who N.number b.value) S.made (S.seen service.old).logins limits first start
+    ensures crowd { (limits : Limits) (first : S) (status : S → List ℕ) (start : Acts) (waits : ℕ)
+        → Crowd (λ b. view_of S.who N.number b.value) S.made status (S.seen service.old).logins limits first start
         Reads nobody waits
         (N.log network.old) clients.old.slots.items clients.old.accepted service.old
-        → Crowd (λ b. view_of S.who N.number b.value) S.made (S.seen service.old).logins limits first start
+        → Crowd (λ b. view_of S.who N.number b.value) S.made status (S.seen service.old).logins limits first start
         Writes nobody waits
         (N.log network.new) clients.new.slots.items clients.new.accepted service.new }
     ensures logins { (S.seen service.new).logins ≡ (S.seen service.old).logins }
@@ -151,11 +151,11 @@ fn tell_to<S: Served, N: Network>(
 )
     requires within { place < length clients.old.queue }
     requires apart { AreApart clients.old.queue }
-    ensures crowd { (login : Login) (limits : Limits) (first now : S) (start : Acts) (waits : ℕ)
-        → Crowd (λ b. view_of S.who N.number b.value) S.made login limits first start
+    ensures crowd { (login : Login) (limits : Limits) (first now : S) (status : S → List ℕ) (start : Acts) (waits : ℕ)
+        → Crowd (λ b. view_of S.who N.number b.value) S.made status login limits first start
         Writes (IsBefore clients.old.queue place) waits
         (N.log network.old) clients.old.slots.items clients.old.accepted now
-        → Crowd (λ b. view_of S.who N.number b.value) S.made login limits first start
+        → Crowd (λ b. view_of S.who N.number b.value) S.made status login limits first start
         Writes (IsBefore clients.old.queue (place + 1)) waits
         (N.log network.new) clients.new.slots.items clients.new.accepted now }
     ensures queue { clients.new.queue ≡ clients.old.queue }
@@ -175,10 +175,10 @@ fn tell_to<S: Served, N: Network>(
 
 /// The second half of a round: each client in the queue, in its order, writes once. No line is run.
 pub fn tell_all<S: Served, N: Network>(network: &mut N, clients: &mut Clients<S, N>, now: u64)
-    ensures crowd { (login : Login) (limits : Limits) (first now : S) (start : Acts) (waits : ℕ)
-        → Crowd (λ b. view_of S.who N.number b.value) S.made login limits first start Writes nobody waits
+    ensures crowd { (login : Login) (limits : Limits) (first now : S) (status : S → List ℕ) (start : Acts) (waits : ℕ)
+        → Crowd (λ b. view_of S.who N.number b.value) S.made status login limits first start Writes nobody waits
         (N.log network.old) clients.old.slots.items clients.old.accepted now
-        → Crowd (λ b. view_of S.who N.number b.value) S.made login limits first start Sweeps nobody waits
+        → Crowd (λ b. view_of S.who N.number b.value) S.made status login limits first start Sweeps nobody waits
         (N.log network.new) clients.new.slots.items clients.new.accepted now }
     ensures known { (login : Login)
         → AreKnown (λ b. option_map S.who b.value.session.speaker) login clients.old.slots.items

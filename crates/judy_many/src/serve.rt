@@ -5,10 +5,12 @@ ghost use Rattle.judy_many.specs.Endings.{waited_if};
 ghost use Rattle.judy_many.specs.Nets.{DidLog};
 
 use crate::arrivals::accept;
+use crate::asking::answer;
 use crate::clients::{Clients, Listening};
 use crate::network::Network;
 use crate::rounds::{listen_all, tell_all};
 use crate::session::Rooms;
+use crate::shows::Shows;
 use crate::sweeps::sweep;
 use judy_model::laws::{one_call_is_a_run, served_runs_go_on, tenants_are_answered_equally};
 use judy_protocol::Served;
@@ -25,6 +27,8 @@ pub struct Limits {
     pub idle: Option<u32>,
     /// How many seconds a connection may last.
     pub turn: Option<u32>,
+    /// Whether there is a status socket.
+    pub status: bool,
 }
 
 /// How the serving of many ended.
@@ -34,6 +38,8 @@ pub enum Ending {
     Done,
     /// Out of memory for the table of slots. No connection came.
     Memory,
+    /// A stop was asked for on the status socket.
+    Stopped,
     /// The listener, or the wait, failed for good; or 2^64 - 1 rounds have passed.
     Socket,
 }
@@ -82,17 +88,19 @@ fn time<N: Network>(network: &mut N, asked: bool) -> Option<u64>
     network.seconds()
 }
 
-/// Serves many connections at once, until as many as are wanted have come and were closed.
+/// Serves many connections at once, until as many as are wanted have come and were closed, or a stop is
+/// asked for.
 ///
 /// In each round every client that is ready has a turn, in the order in which they became so: first
-/// all of them read and run their lines, then all write their answers.
-pub fn serve_many<S: Served, N: Network>(
+/// all of them read and run their lines, then all write their answers. After that one question on the
+/// status socket is answered.
+pub fn serve_many<S: Shows, N: Network>(
     alloc: Global,
     network: &mut N,
     service: &mut S,
     limits: Limits,
 ) -> Ending
-    ensures { HasServedMany S.made S.seen limits result (N.log network.old) (N.log network.new)
+    ensures { HasServedMany S.made S.status S.seen limits result (N.log network.old) (N.log network.new)
         service.old service.new }
 {
     // Laws: calls one after another are one run, and another service gives the same replies.
@@ -103,6 +111,7 @@ pub fn serve_many<S: Served, N: Network>(
         return Ending::Memory;
     };
     let mut rooms = Rooms::new();
+    let mut text = Vec::new(alloc);
     for _round in 0..u64::MAX {
         if clients.accepted >= limits.connections && clients.is_empty() {
             return Ending::Done;
@@ -119,6 +128,9 @@ pub fn serve_many<S: Served, N: Network>(
         tell_all(network, &mut clients, second);
         sweep(network, &mut clients, limits, now);
         clients.queue.end_round();
+        if answer(network, &*service, limits, &mut text) {
+            return Ending::Stopped;
+        }
     }
     Ending::Socket
 }

@@ -1,7 +1,9 @@
-//! Unix sockets, by `epoll`.
+//! Unix sockets, by `epoll`. A second one may answer questions for the status.
 ghost use Rattle.std.specs.Prelude.{None};
 
-use crate::network::{Accept, Got, How, Network, Put};
+use crate::counts::Counts;
+use crate::desk::{ASKER, DESK, Desk};
+use crate::network::{Accept, Got, How, Network, Put, Question};
 use crate::queue::{CLIENTS_LIMIT, Queue};
 use mio::net::{UnixListener, UnixStream};
 use mio::{Events, Interest, Poll, Token};
@@ -12,8 +14,9 @@ use std::net::Net;
 use std::rt::Clock;
 use std::time::{Duration, Instant};
 
-/// The most events of one wait: one for each client, and one for the listener.
-const EVENTS: usize = CLIENTS_LIMIT + 1;
+/// The most events of one wait: one for each client, one for the listener, and two for the status
+/// socket.
+const EVENTS: usize = CLIENTS_LIMIT + 3;
 
 /// The token of the listener.
 const LISTENER: Token = Token(usize::MAX);
@@ -30,6 +33,8 @@ pub struct Sockets<'a, F> {
     events: Events<Global>,
     began: Option<Instant>,
     fault: Option<io::Error>,
+    desk: Option<Desk>,
+    counts: Counts,
 }
 
 /// A connection, and whether it waits for room to write.
@@ -58,7 +63,15 @@ impl<'a, F: Files + Net + Clock> Sockets<'a, F> {
             events,
             began: Instant::now(rt).ok(),
             fault: None,
+            desk: None,
+            counts: Counts::new(),
         })
+    }
+
+    /// Makes the status socket at a path.
+    pub fn watch(&mut self, path: &str) -> io::Result<()> {
+        self.desk = Some(Desk::bind(self.rt, self.poll.registry(), path)?);
+        Ok(())
     }
 
     /// Why the listener or a wait failed for good, if one did.
@@ -87,13 +100,19 @@ impl<'a, F: Files + Net + Clock> Network for Sockets<'a, F> {
             Ok((mut stream, _)) => {
                 let registry = self.poll.registry();
                 match registry.register(&mut stream, Token(slot), Interest::READABLE) {
-                    Ok(()) => Accept::Came(Connection {
-                        id,
-                        stream,
-                        slot,
-                        blocked: false,
-                    }),
-                    Err(_) => Accept::Later,
+                    Ok(()) => {
+                        self.counts.accept();
+                        Accept::Came(Connection {
+                            id,
+                            stream,
+                            slot,
+                            blocked: false,
+                        })
+                    }
+                    Err(_) => {
+                        self.counts.fail();
+                        Accept::Later
+                    }
                 }
             }
             Err(e) => {
@@ -101,6 +120,7 @@ impl<'a, F: Files + Net + Clock> Network for Sockets<'a, F> {
                     return Accept::Nothing;
                 }
                 if is_passing(&e) {
+                    self.counts.fail();
                     return Accept::Later;
                 }
                 self.fault = Some(e);
@@ -110,6 +130,10 @@ impl<'a, F: Files + Net + Clock> Network for Sockets<'a, F> {
     }
 
     fn wait(&mut self, time: Option<u32>, queue: &mut Queue) -> Option<bool> {
+        let time = match &self.desk {
+            Some(desk) => desk.patience(time),
+            None => time,
+        };
         let timeout = match time {
             Some(n) => Some(Duration::from_millis(u64::from(n))),
             None => None,
@@ -125,7 +149,12 @@ impl<'a, F: Files + Net + Clock> Network for Sockets<'a, F> {
         for event in self.events.iter() {
             let Token(slot) = event.token();
             if slot >= CLIENTS_LIMIT {
-                comes = true;
+                comes = comes || event.token() == LISTENER;
+                if event.token() == DESK
+                    && let Some(desk) = &mut self.desk
+                {
+                    desk.expect_one();
+                }
             } else if event.is_read_closed() || event.is_error() {
                 queue.mark_ended(slot);
             } else {
@@ -138,7 +167,10 @@ impl<'a, F: Files + Net + Clock> Network for Sockets<'a, F> {
     fn read(&mut self, connection: &mut Connection, buf: &mut [u8]) -> Got {
         match connection.stream.read(buf) {
             Ok(0) => Got::End,
-            Ok(n) => Got::Bytes(n),
+            Ok(n) => {
+                self.counts.receive(n);
+                Got::Bytes(n)
+            }
             Err(e) => {
                 if e.kind() == ErrorKind::WouldBlock {
                     return Got::Nothing;
@@ -158,6 +190,7 @@ impl<'a, F: Files + Net + Clock> Network for Sockets<'a, F> {
                 0
             }
         };
+        self.counts.send(put);
         let blocked = put < bytes.len();
         if blocked != connection.blocked {
             let interest = if blocked {
@@ -178,13 +211,38 @@ impl<'a, F: Files + Net + Clock> Network for Sockets<'a, F> {
         Put::Took(put)
     }
 
-    fn close(&mut self, _connection: &mut Connection, _how: How) {}
+    fn close(&mut self, _connection: &mut Connection, how: How) {
+        self.counts.close(how);
+    }
 
     fn seconds(&mut self) -> Option<u64> {
         let began = self.began?;
         match began.elapsed(self.rt) {
             Ok(time) => Some(time.as_secs()),
             Err(_) => None,
+        }
+    }
+
+    fn ask(&mut self) -> Question {
+        let Some(desk) = &self.desk else {
+            return Question::Nothing;
+        };
+        if !desk.is_busy() {
+            return Question::Nothing;
+        }
+        let now = self.seconds();
+        let Some(desk) = &mut self.desk else {
+            return Question::Nothing;
+        };
+        desk.accept(self.poll.registry(), now);
+        desk.ask(now)
+    }
+
+    fn report(&mut self, text: &[u8]) {
+        let seconds = self.seconds().unwrap_or(0);
+        let first = self.counts.text(seconds);
+        if let Some(desk) = &mut self.desk {
+            desk.answer(first.as_slice(), text);
         }
     }
 }

@@ -66,10 +66,10 @@ pub fn sweep<S: Served, N: Network>(
     limits: Limits,
     now: Option<u64>,
 )
-    ensures crowd { (login : Login) (first now : S) (start : Acts) (waits : ℕ)
-        → Crowd (λ b. view_of S.who N.number b.value) S.made login limits first start Sweeps nobody waits
+    ensures crowd { (login : Login) (first now : S) (status : S → List ℕ) (start : Acts) (waits : ℕ)
+        → Crowd (λ b. view_of S.who N.number b.value) S.made status login limits first start Sweeps nobody waits
         (N.log network.old) clients.old.slots.items clients.old.accepted now
-        → Crowd (λ b. view_of S.who N.number b.value) S.made login limits first start Sweeps nobody waits
+        → Crowd (λ b. view_of S.who N.number b.value) S.made status login limits first start Sweeps nobody waits
         (N.log network.new) clients.new.slots.items clients.new.accepted now }
     ensures known { (login : Login)
         → AreKnown (λ b. option_map S.who b.value.session.speaker) login clients.old.slots.items

@@ -20,16 +20,34 @@ fn has_name_letters(bytes: &[u8]) -> bool
     bytes.iter().all(|b| is_name_letter(*b))
 }
 
+/// For each byte, whether it may be part of a name.
+static NAME_LETTERS: [bool; 256] = [
+    false, false, false, false, false, false, false, false, false, false, false, false, false,
+    false, false, false, false, false, false, false, false, false, false, false, false, false,
+    false, false, false, false, false, false, false, false, false, false, false, false, false,
+    false, false, false, false, false, false, true, true, false, true, true, true, true, true,
+    true, true, true, true, true, false, false, false, false, false, false, false, true, true,
+    true, true, true, true, true, true, true, true, true, true, true, true, true, true, true, true,
+    true, true, true, true, true, true, true, true, false, false, false, false, true, false, true,
+    true, true, true, true, true, true, true, true, true, true, true, true, true, true, true, true,
+    true, true, true, true, true, true, true, true, true, false, false, false, false, false, false,
+    false, false, false, false, false, false, false, false, false, false, false, false, false,
+    false, false, false, false, false, false, false, false, false, false, false, false, false,
+    false, false, false, false, false, false, false, false, false, false, false, false, false,
+    false, false, false, false, false, false, false, false, false, false, false, false, false,
+    false, false, false, false, false, false, false, false, false, false, false, false, false,
+    false, false, false, false, false, false, false, false, false, false, false, false, false,
+    false, false, false, false, false, false, false, false, false, false, false, false, false,
+    false, false, false, false, false, false, false, false, false, false, false, false, false,
+    false, false, false, false, false, false, false, false, false, false, false, false, false,
+    false, false, false, false, false, false, false, false, false, false,
+];
+
 /// Whether the byte may be part of a name: a letter, a digit, `_`, `-` or `.`.
 pub fn is_name_letter(b: u8) -> bool
     ensures { result ≡ is_name_byte b }
 {
-    b.is_ascii_digit()
-        || (b'A'..=b'Z').contains(&b)
-        || (b'a'..=b'z').contains(&b)
-        || b == b'_'
-        || b == b'-'
-        || b == b'.'
+    NAME_LETTERS[usize::from(b)]
 }
 
 /// Whether the bytes can be an index of a JudySL: at most 1,000 bytes, none of them 0.

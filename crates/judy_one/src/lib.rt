@@ -86,8 +86,6 @@ impl Judy1 {
             (IsFalse (has_key word_order (one_in arena.old.blocks self.old) x)) }
         ensures refused { OnErr result (IsRefused arena.old self.old arena.new self.new) }
         ensures quiet { OnOk result (arena.new.refusals ≡ arena.old.refusals) }
-        ensures rests { IsTrue (has_key word_order (one_in arena.old.blocks self.old) x)
-            → arena.new.region ≡ arena.old.region }
         ensures memory { Takes
             (if has_key word_order (one_in arena.old.blocks self.old) x then 0 else 64)
             arena.old arena.new }
@@ -104,8 +102,6 @@ impl Judy1 {
         ensures space { HasOneSpace arena.new self.new }
         ensures step { OneAnswers arena.old self.old (one.Unset x) (reply.Int result)
             arena.new self.new }
-        ensures refusals { arena.new.refusals ≡ arena.old.refusals }
-        ensures region { arena.new.region ≡ arena.old.region }
         ensures memory { TakesNothing arena.old arena.new }
     {
         self.root.remove(arena, x).is_some()
@@ -245,8 +241,6 @@ impl Judy1 {
         ensures space { HasOneSpace arena.new self.new }
         ensures step { OneAnswers arena.old self.old one.Free (reply.Count result) arena.new
             self.new }
-        ensures refusals { arena.new.refusals ≡ arena.old.refusals }
-        ensures region { arena.new.region ≡ arena.old.region }
         ensures memory { TakesNothing arena.old arena.new }
     {
         self.root.clear(arena)
@@ -279,8 +273,6 @@ impl Judy1 {
             (IsTrue (one_asks_for_new (one_in arena.old.blocks self.old) call)) }
         ensures refused { OnErr result (IsRefused arena.old self.old arena.new self.new) }
         ensures quiet { OnOk result (arena.new.refusals ≡ arena.old.refusals) }
-        ensures region { IsFalse (one_asks_for_new (one_in arena.old.blocks self.old) call)
-            → arena.new.region ≡ arena.old.region }
         ensures memory { Takes
             (if one_asks_for_new (one_in arena.old.blocks self.old) call then 64 else 0)
             arena.old arena.new }

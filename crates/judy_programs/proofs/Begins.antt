@@ -1,7 +1,7 @@
 -- How a server begins: the file with the table, and what follows if it gives no service.
-use Rattle.std.proofs.Common.{inl, inr, ℕ, List, [], ◌∷◌, ◌++◌, None, Some, Result}
-use Rattle.std.proofs.Common.{Ok, Err, sym, ◌∙◌, ap, subst, append_assoc, append-nil}
-use Rattle.std.specs.Prelude.{◌≢◌, IfErr, IfOk}
+use Rattle.std.proofs.Common.{inl, inr, ℕ, List, [], ◌∷◌, ◌++◌, None, Some, map, refl}
+use Rattle.std.proofs.Common.{true, sym, ◌∙◌, ap, subst, append_assoc, append-nil}
+use Rattle.std.specs.Prelude.{◌≡◌, ◌≢◌, IsSome, Option}
 use Rattle.judy_many.specs.Nets.{Act, DidLog, Step}
 use Rattle.judy_many.specs.Nets.Act.{Asked}
 use Rattle.judy_many.specs.Nets.Step.{Bound, Opened, Shut}
@@ -11,7 +11,7 @@ use Rattle.judy_many.specs.declared.serve.Limits.{Limits}
 use Rattle.judy_protocol.specs.Services.{Made, Seen}
 use Rattle.judy_protocol.specs.Serving.{MaybeBytes}
 use Rattle.judy_programs.specs.Asking.{Log, Logs}
-use Rattle.judy_programs.specs.Hosting.{Begins, Checks, HasBegun, HasServedAll, Hosts, Refuses}
+use Rattle.judy_programs.specs.Hosting.{Checks, HasBegun, HasNoReserve, HasServedAll, Hosts, Refuses, Watches, watched}
 use Rattle.judy_programs.specs.Opening.{HasOpened, IsShut}
 use Rattle.judy_programs.specs.declared.socket.Hosted.{Hosted}
 use Rattle.judy_programs.specs.declared.socket.Hosted.TheVariants as hosted
@@ -34,55 +34,96 @@ logs_two a b c x y h k = logs_then a b c (Asked x ∷ []) (Asked y ∷ []) h k
 
 -- ---- no service
 
-module _ {S : Type 0} (is_new : List Tenant → S → Type 0) where
+-- a service that is new in one sense is new in another
+begun_as : {S : Type 0} (is_new is_new' : List Tenant → S → Type 0) (config : List ℕ) (left left' : MaybeBytes) (log log' : Log) (s s' : S)
+    → HasOpened is_new left left' s → ((tenants : List Tenant) → is_new tenants s → is_new' tenants s')
+    → Logs log (Opened config left ∷ Shut left' ∷ []) log' → HasBegun is_new' config log log' s'
+begun_as is_new is_new' config left left' log log' s s' o new a = record {
+  left = left;
+  left' = left';
+  opened = record {
+    text = o.text;
+    tenants = o.tenants;
+    read = o.read;
+    end = o.end;
+    short = o.short;
+    reads = o.reads;
+    fresh = new o.tenants o.fresh;
+  };
+  asked = a;
+}
+
+module _ {S : Type 0} (is_new : Option ℕ → List Tenant → S → Type 0) (reserve : Option ℕ) where
   -- the file with the table gave no service
   pub no_service : (how : Hosted) (config : List ℕ) (left left' : MaybeBytes) (log log' : Log)
-      → IsShut how left left' → Logs log (Opened config left ∷ Shut left' ∷ []) log' → Refuses is_new how config log log'
+      → IsShut how left left' → Logs log (Opened config left ∷ Shut left' ∷ []) log' → Refuses is_new reserve how config log log'
   no_service hosted.Done config left left' log log' h a = absurd h
+  no_service hosted.Stopped config left left' log log' h a = absurd h
   no_service hosted.Socket config left left' log log' h a = absurd h
+  no_service hosted.Reserve config left left' log log' h a = absurd h
   no_service hosted.Config config left left' log log' h a = inr (record { left = left; left' = left'; shut = h; asked = a })
   no_service hosted.Long config left left' log log' h a = record { left = left; left' = left'; shut = h; asked = a }
   no_service (hosted.Table f) config left left' log log' h a = record { left = left; left' = left'; shut = h; asked = a }
   no_service hosted.Memory config left left' log log' h a = record { left = left; left' = left'; shut = h; asked = a }
 
-  -- the service of the file, or why there is none
-  pub begins : (opened : Result S Hosted) (config : List ℕ) (left left' : MaybeBytes) (log log' : Log) → IfOk opened (λ s. HasOpened is_new left left' s)
-      → IfErr opened (λ how. IsShut how left left') → Logs log (Opened config left ∷ Shut left' ∷ []) log' → Begins is_new opened config log log'
-  begins (Ok s) config left left' log log' ok err a = record { left = left; left' = left'; opened = ok; asked = a }
-  begins (Err how) config left left' log log' ok err a = no_service how config left left' log log' err a
+  -- the file gave a service, and so much memory was taken for it
+  pub begins : (config : List ℕ) (left left' : MaybeBytes) (log log' : Log) (s s' : S) → HasOpened (is_new None) left left' s
+      → ((tenants : List Tenant) → is_new None tenants s → is_new reserve tenants s')
+      → Logs log (Opened config left ∷ Shut left' ∷ []) log' → HasBegun (is_new reserve) config log log' s'
+  begins = begun_as (is_new None) (is_new reserve)
+
+  -- the file gave a service, and there was not so much memory for it
+  pub no_reserve : (config : List ℕ) (left left' : MaybeBytes) (log log' : Log) (s : S) → HasOpened (is_new None) left left' s → IsSome reserve
+      → Logs log (Opened config left ∷ Shut left' ∷ []) log' → HasNoReserve is_new reserve config log log'
+  no_reserve config left left' log log' s o some a = by reserve refl some
+    where
+      by : (r : Option ℕ) → reserve ≡ r → IsSome r → HasNoReserve is_new reserve config log log'
+      by None e i = cc
+      by (Some megabytes) e i = record {
+        megabytes = megabytes;
+        wanted = e;
+        before = s;
+        begun = begun_as (is_new None) (is_new None) config left left' log log' s s o (λ tenants new. new) a;
+      }
 
   -- then there is no service to check, and none to serve with
-  pub checks_none : (how : Hosted) (config : List ℕ) (log log' : Log) → Refuses is_new how config log log' → Checks is_new how config log log'
+  pub checks_none : (how : Hosted) (config : List ℕ) (log log' : Log) → Refuses is_new reserve how config log log'
+      → Checks is_new reserve how config log log'
   checks_none hosted.Done config log log' h = absurd h
+  checks_none hosted.Stopped config log log' h = absurd h
   checks_none hosted.Socket config log log' h = h
   checks_none hosted.Config config log log' h = h
   checks_none hosted.Long config log log' h = h
   checks_none (hosted.Table f) config log log' h = h
   checks_none hosted.Memory config log log' h = h
+  checks_none hosted.Reserve config log log' h = h
 
-  pub hosts_none : (made : Made S) (seen : S → Seen) (how : Hosted) (config socket : List ℕ) (limits : Limits) (log log' : Log)
-      → Refuses is_new how config log log' → Hosts made seen is_new how config socket limits log log'
-  hosts_none made seen hosted.Done config socket limits log log' h = absurd h
-  hosts_none made seen hosted.Socket config socket limits log log' h = absurd h
-  hosts_none made seen hosted.Config config socket limits log log' h = h
-  hosts_none made seen hosted.Long config socket limits log log' h = h
-  hosts_none made seen (hosted.Table f) config socket limits log log' h = h
-  hosts_none made seen hosted.Memory config socket limits log log' h = inl h
+  pub hosts_none : (made : Made S) (status : S → List ℕ) (seen : S → Seen) (how : Hosted) (config socket : List ℕ) (watch : Option (List ℕ)) (limits : Limits) (log log' : Log)
+      → Refuses is_new reserve how config log log' → Hosts made status seen is_new reserve how config socket watch limits log log'
+  hosts_none made status seen hosted.Done config socket watch limits log log' h = absurd h
+  hosts_none made status seen hosted.Stopped config socket watch limits log log' h = absurd h
+  hosts_none made status seen hosted.Socket config socket watch limits log log' h = absurd h
+  hosts_none made status seen hosted.Config config socket watch limits log log' h = h
+  hosts_none made status seen hosted.Long config socket watch limits log log' h = h
+  hosts_none made status seen (hosted.Table f) config socket watch limits log log' h = h
+  hosts_none made status seen hosted.Memory config socket watch limits log log' h = inl h
+  hosts_none made status seen hosted.Reserve config socket watch limits log log' h = h
 
--- ---- a service and a socket
+-- ---- a service and its sockets
 
-module _ {S : Type 0} (made : Made S) (seen : S → Seen) (is_new : List Tenant → S → Type 0) where
-  -- the file gave a service, then a socket was made, and connections were served
-  pub served_all : (config socket : List ℕ) (limits : Limits) (how : Ending) (log start mid log' : Log) (before after : S)
-      → HasBegun is_new config log start before → socket ≢ [] → Logs start (Bound socket ∷ []) mid
-      → HasServedMany made seen limits how mid log' before after → HasServedAll made seen is_new config socket limits how log log'
-  served_all config socket limits how log start mid log' before after begun path asked hosted = record {
+module _ {S : Type 0} (made : Made S) (status : S → List ℕ) (seen : S → Seen) (is_new : List Tenant → S → Type 0) where
+  -- the file gave a service, then the sockets were made, and connections were served
+  pub served_all : (config socket : List ℕ) (watch : Option (List ℕ)) (limits : Limits) (how : Ending) (log start bound mid log' : Log) (before after : S)
+      → HasBegun is_new config log start before → socket ≢ [] → Logs start (Bound socket ∷ []) bound → Watches true watch bound mid
+      → HasServedMany made status seen limits how mid log' before after → HasServedAll made status seen is_new config socket watch limits how log log'
+  served_all config socket watch limits how log start bound mid log' before after begun path first watches hosted = record {
     before = before;
     after = after;
     start = start;
     mid = mid;
     begun = begun;
     path = path;
-    asked = asked;
+    status_path = watches.0;
+    asked = logs_then start bound mid (Asked (Bound socket) ∷ []) (map Asked (watched watch)) first watches.1;
     hosted = hosted;
   }

@@ -52,16 +52,20 @@ run_text ran.Write = Some (codes "judyd: write fault")
 
 abbrev pub host_status : Hosted → ℕ
 host_status host.Done = 0
+host_status host.Stopped = 0
 host_status host.Config = 4
 host_status host.Long = 3
 host_status (host.Table f) = 3
 host_status host.Memory = 4
+host_status host.Reserve = 4
 host_status host.Socket = 4
 
 abbrev pub host_text : Hosted → Option (List ℕ)
 host_text host.Done = None
+host_text host.Stopped = None
 host_text host.Config = Some (codes "judyd: config fault")
 host_text host.Long = Some (codes "judyd: table: Long")
 host_text (host.Table f) = Some (fault_text f)
 host_text host.Memory = Some (codes "judyd: memory")
+host_text host.Reserve = Some (codes "judyd: memory: no memory for --reserve")
 host_text host.Socket = Some (codes "judyd: socket fault")

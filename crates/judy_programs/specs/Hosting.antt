@@ -1,17 +1,19 @@
--- What `judyd serve` does, for any kind S of service: the step of a call (`made`), the visible
--- state (`seen`), and when the service is new (`is_new`).
+-- What `judyd serve` does, for any kind S of service: the step of a call (`made`), the text of its
+-- status (`status`), the visible state (`seen`), and when the service is new (`is_new`).
 --     Checks hosted ..        the table's file was checked; no socket was made
+--     HasNoReserve ..         there is a service, and not the memory that was to be taken for it
 --     HasServedAll how ..     there is a service and a socket, and connections were served at once
---     Hosts hosted ..         the whole: the table, the socket, connections
-use Rattle.std.specs.Prelude.{◌≡◌, ◌≢◌, ◌⊎◌, ℕ, List, [], ◌∷◌, Result, Ok, Err}
+--     Hosts hosted ..         the whole: the table, the sockets, connections
+use Rattle.std.specs.Prelude.{◌≡◌, ◌≢◌, ◌⊎◌, ℕ, Bool, true, false, List, [], ◌∷◌, Option, Some, None, Result, Ok, Err}
 use Rattle.judy_many.specs.Crowds.{HasServedMany}
-use Rattle.judy_many.specs.Nets.Step.{Bound, Opened, Shut, Unbound, Unopened}
+use Rattle.judy_many.specs.Nets.Step.{Bound, Opened, Shut, Unbound, Unopened, Unwatched, Watched}
 use Rattle.judy_many.specs.declared.serve.Ending.{Ending}
 use Rattle.judy_many.specs.declared.serve.Ending.TheVariants as ending
 use Rattle.judy_many.specs.declared.serve.Limits.{Limits}
 use Rattle.judy_protocol.specs.Services.{Made, Seen}
 use Rattle.judy_protocol.specs.Serving.{MaybeBytes}
 use Rattle.judy_table.specs.declared.tenant.Tenant.{Tenant}
+use Rattle.judy_many.specs.Nets.{Step}
 use Rattle.judy_programs.specs.Asking.{Log, Logs}
 use Rattle.judy_programs.specs.Opening.{HasOpened, IsShut}
 use Rattle.judy_programs.specs.declared.socket.Hosted.{Hosted}
@@ -34,57 +36,94 @@ module _ {S : Type 0} (is_new : List Tenant → S → Type 0) where
     pub shut : IsShut how left left'
     pub asked : Logs log (Opened config left ∷ Shut left' ∷ []) log'  -- and nothing else
 
-  -- there is no service: the file cannot be opened, or what was read of it gives none
+-- a service is new by how many megabytes were taken for its arrays; so many are wanted, if any are
+module _ {S : Type 0} (is_new : Option ℕ → List Tenant → S → Type 0) (reserve : Option ℕ) where
+  -- the file was opened once, read and closed, and its tenants got a new service. There was no memory
+  -- for the megabytes that are wanted. Nothing else was asked of the system
+  pub record HasNoReserve (config : List ℕ) (log log' : Log) : Type 0 where
+    pub megabytes : ℕ
+    pub wanted : reserve ≡ Some megabytes
+    pub before : S
+    pub begun : HasBegun (is_new None) config log log' before
+
+  -- there is no service: the file cannot be opened, or what was read of it gives none, or there is
+  -- no memory for the megabytes that are wanted
   abbrev pub Refuses : Hosted → List ℕ → Log → Log → Type 0
   Refuses hosted.Done config log log' = ⊥
+  Refuses hosted.Stopped config log log' = ⊥
   Refuses hosted.Socket config log log' = ⊥
-  Refuses hosted.Config config log log' = Logs log (Unopened config ∷ []) log' ⊎ HasNoService hosted.Config config log log'
-  Refuses hosted.Long config log log' = HasNoService hosted.Long config log log'
-  Refuses (hosted.Table f) config log log' = HasNoService (hosted.Table f) config log log'
-  Refuses hosted.Memory config log log' = HasNoService hosted.Memory config log log'
+  Refuses hosted.Config config log log' = Logs log (Unopened config ∷ []) log' ⊎ HasNoService (is_new None) hosted.Config config log log'
+  Refuses hosted.Long config log log' = HasNoService (is_new None) hosted.Long config log log'
+  Refuses (hosted.Table f) config log log' = HasNoService (is_new None) (hosted.Table f) config log log'
+  Refuses hosted.Memory config log log' = HasNoService (is_new None) hosted.Memory config log log'
+  Refuses hosted.Reserve config log log' = HasNoReserve config log log'
 
-  -- the service of the file, or why there is none
+  -- the service of the file, with the megabytes that are wanted, or why there is none
   abbrev pub Begins : Result S Hosted → List ℕ → Log → Log → Type 0
-  Begins (Ok before) config log log' = HasBegun config log log' before
+  Begins (Ok before) config log log' = HasBegun (is_new reserve) config log log' before
   Begins (Err how) config log log' = Refuses how config log log'
 
-  -- the file has a table and there was memory for its service; otherwise the result is the fault
-  -- that the start of a server reports
+  -- the file has a table, and there was memory for its service and for the megabytes that are wanted;
+  -- otherwise the result is the fault that the start of a server reports
   abbrev pub Checks : Hosted → List ℕ → Log → Log → Type 0
-  Checks hosted.Done config log log' = (before : S) × HasBegun config log log' before
+  Checks hosted.Done config log log' = (before : S) × HasBegun (is_new reserve) config log log' before
   Checks hosted.Socket config log log' = ⊥
+  Checks hosted.Stopped config log log' = ⊥
   Checks hosted.Config config log log' = Refuses hosted.Config config log log'
   Checks hosted.Long config log log' = Refuses hosted.Long config log log'
   Checks (hosted.Table f) config log log' = Refuses (hosted.Table f) config log log'
   Checks hosted.Memory config log log' = Refuses hosted.Memory config log log'
+  Checks hosted.Reserve config log log' = Refuses hosted.Reserve config log log'
+
+-- ---- the status socket
+
+-- it is made at its path, if one is wanted
+abbrev pub watched : Option (List ℕ) → List Step
+watched None = []
+watched (Some path) = Watched path ∷ []
+
+-- it was made at its path, which is not empty, if one is wanted; or it cannot be made there
+abbrev pub Watches : Bool → Option (List ℕ) → Log → Log → Type 0
+Watches true status log log' = (status ≢ Some []) × Logs log (watched status) log'
+Watches false None log log' = ⊥
+Watches false (Some path) log log' = ((path ≡ []) × Logs log [] log') ⊎ ((path ≢ []) × Logs log (Unwatched path ∷ []) log')
 
 -- ---- the connections
 
-module _ {S : Type 0} (made : Made S) (seen : S → Seen) (is_new : List Tenant → S → Type 0) where
-  -- The file gave a service, then a socket was made, and then the connections that came to it were
-  -- served, many at once. One log has all acts, from the opening of the file to the last close.
-  pub record HasServedAll (config socket : List ℕ) (limits : Limits) (how : Ending) (log log' : Log) : Type 0 where
+module _ {S : Type 0} (made : Made S) (status : S → List ℕ) (seen : S → Seen) (is_new : List Tenant → S → Type 0) where
+  -- The file gave a service, then a socket was made, and the status socket if one is wanted, and then
+  -- the connections that came were served, many at once. One log has all acts, from the opening of
+  -- the file to the last close.
+  pub record HasServedAll (config socket : List ℕ) (watch : Option (List ℕ)) (limits : Limits) (how : Ending) (log log' : Log) : Type 0 where
     pub before : S
     pub after : S
     pub start : Log
     pub mid : Log
     pub begun : HasBegun is_new config log start before
     pub path : socket ≢ []
-    pub asked : Logs start (Bound socket ∷ []) mid
-    pub hosted : HasServedMany made seen limits how mid log' before after
+    pub status_path : watch ≢ Some []
+    pub asked : Logs start (Bound socket ∷ watched watch) mid
+    pub hosted : HasServedMany made status seen limits how mid log' before after
 
-  -- there is a service, and no socket
-  pub record HasNoSocket (config socket : List ℕ) (log log' : Log) : Type 0 where
+  -- there is a service, and a socket is missing
+  pub record HasNoSocket (config socket : List ℕ) (watch : Option (List ℕ)) (log log' : Log) : Type 0 where
     pub before : S
     pub start : Log
     pub begun : HasBegun is_new config log start before
     pub asked : ((socket ≡ []) × Logs start [] log') ⊎ ((socket ≢ []) × Logs start (Unbound socket ∷ []) log')
+        ⊎ ((bound : Log) × (socket ≢ []) × Logs start (Bound socket ∷ []) bound × Watches false watch bound log')
 
-  -- the whole, by how it ended
-  abbrev pub Hosts : Hosted → List ℕ → List ℕ → Limits → Log → Log → Type 0
-  Hosts hosted.Done config socket limits log log' = HasServedAll config socket limits ending.Done log log'
-  Hosts hosted.Socket config socket limits log log' = HasNoSocket config socket log log' ⊎ HasServedAll config socket limits ending.Socket log log'
-  Hosts hosted.Config config socket limits log log' = Refuses is_new hosted.Config config log log'
-  Hosts hosted.Long config socket limits log log' = Refuses is_new hosted.Long config log log'
-  Hosts (hosted.Table f) config socket limits log log' = Refuses is_new (hosted.Table f) config log log'
-  Hosts hosted.Memory config socket limits log log' = Refuses is_new hosted.Memory config log log' ⊎ HasServedAll config socket limits ending.Memory log log'
+-- ---- the whole, by how it ended
+
+module _ {S : Type 0} (made : Made S) (status : S → List ℕ) (seen : S → Seen) (is_new : Option ℕ → List Tenant → S → Type 0) (reserve : Option ℕ) where
+  abbrev pub Hosts : Hosted → List ℕ → List ℕ → Option (List ℕ) → Limits → Log → Log → Type 0
+  Hosts hosted.Done config socket watch limits log log' = HasServedAll made status seen (is_new reserve) config socket watch limits ending.Done log log'
+  Hosts hosted.Stopped config socket watch limits log log' = HasServedAll made status seen (is_new reserve) config socket watch limits ending.Stopped log log'
+  Hosts hosted.Socket config socket watch limits log log' = HasNoSocket made status seen (is_new reserve) config socket watch log log'
+      ⊎ HasServedAll made status seen (is_new reserve) config socket watch limits ending.Socket log log'
+  Hosts hosted.Config config socket watch limits log log' = Refuses is_new reserve hosted.Config config log log'
+  Hosts hosted.Long config socket watch limits log log' = Refuses is_new reserve hosted.Long config log log'
+  Hosts (hosted.Table f) config socket watch limits log log' = Refuses is_new reserve (hosted.Table f) config log log'
+  Hosts hosted.Memory config socket watch limits log log' = Refuses is_new reserve hosted.Memory config log log'
+      ⊎ HasServedAll made status seen (is_new reserve) config socket watch limits ending.Memory log log'
+  Hosts hosted.Reserve config socket watch limits log log' = Refuses is_new reserve hosted.Reserve config log log'

@@ -36,7 +36,9 @@ IsWholeText left left' text = Consumes left left' text × IsAtEnd left' × (leng
 -- and there was no memory
 abbrev pub IsShut : Hosted → Option (List ℕ) → Option (List ℕ) → Type 0
 IsShut hosted.Done left left' = ⊥
+IsShut hosted.Stopped left left' = ⊥
 IsShut hosted.Socket left left' = ⊥
+IsShut hosted.Reserve left left' = ⊥
 IsShut hosted.Config left left' = (text : List ℕ) × Consumes left left' text × (length text ≤ table_limit)
 IsShut hosted.Long left left' = (text : List ℕ) × Consumes left left' text × (table_limit < length text)
 IsShut (hosted.Table f) left left' = (text : List ℕ) × IsWholeText left left' text × IsUnopened (why.Table f) text
@@ -46,18 +48,22 @@ IsShut hosted.Memory left left' = (text : List ℕ) × IsWholeText left left' te
 -- counts once, and nothing else does
 abbrev pub shut_ends : Hosted → ℕ → ℕ
 shut_ends hosted.Done count = count
+shut_ends hosted.Stopped count = count
 shut_ends hosted.Config count = count
 shut_ends hosted.Long count = count
 shut_ends (hosted.Table f) count = counted count
 shut_ends hosted.Memory count = counted count
+shut_ends hosted.Reserve count = count
 shut_ends hosted.Socket count = count
 
 abbrev pub shut_faults : Hosted → ℕ → ℕ
 shut_faults hosted.Done count = count
+shut_faults hosted.Stopped count = count
 shut_faults hosted.Config count = counted count
 shut_faults hosted.Long count = count
 shut_faults (hosted.Table f) count = count
 shut_faults hosted.Memory count = count
+shut_faults hosted.Reserve count = count
 shut_faults hosted.Socket count = count
 
 abbrev pub open_ends : {S : Type 0} → Result S Hosted → ℕ → ℕ

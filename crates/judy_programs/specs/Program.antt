@@ -14,7 +14,7 @@ use Rattle.std.specs.Io.KnownBytes.{Appends, Consumes, IsAtEnd, prepend_known}
 use Rattle.judy_model.specs.Replies.{line}
 use Rattle.judy_stream.specs.Streams.{IsFlushed, counted}
 use Rattle.judy_protocol.specs.Services.{Made, Seen}
-use Rattle.judy_protocol.specs.Sending.{IsAnswer}
+use Rattle.judy_protocol.specs.Sending.{AreAnswers}
 use Rattle.judy_protocol.specs.Serving.{MaybeBytes, Ends, IsPrompt, Wire, ends_by, read_faults_by, reads_limit, write_faults_by}
 use Rattle.judy_protocol.specs.declared.connection.End.{End}
 use Rattle.judy_protocol.specs.declared.connection.End.TheVariants as ends
@@ -32,9 +32,9 @@ use Rattle.judy_programs.specs.declared.program.Ran.TheVariants as ran
 abbrev pub words_line : ℕ → List ℕ
 words_line n = line (codes "WORDS " ++ decimal n)
 
--- what `judyd run` sends: the answer to a line, or the line with the words
+-- what `judyd run` sends: the answers to lines that follow one another, or the line with the words
 abbrev pub IsSent : List ℕ → Type 0
-IsSent text = IsAnswer text ⊎ ((n : ℕ) × text ≡ words_line n)
+IsSent text = AreAnswers text ⊎ ((n : ℕ) × text ≡ words_line n)
 
 -- whether the line with the words is written: if it is wanted, after a script that was served to
 -- its end

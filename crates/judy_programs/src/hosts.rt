@@ -1,6 +1,6 @@
 //! What `judyd serve` asks of the system: a secret, a file, a socket, and many connections.
 ghost use Rattle.std.specs.Prelude.{[], ◌∷◌, MatchOption, MatchBool};
-ghost use Rattle.judy_many.specs.Nets.Step.{Bound, Drawn, Opened, Shut, Unbound, Undrawn, Unopened};
+ghost use Rattle.judy_many.specs.Nets.Step.{Bound, Drawn, Opened, Shut, Unbound, Undrawn, Unopened, Unwatched, Watched};
 ghost use Rattle.judy_programs.specs.Asking.{Logs};
 
 use judy_many::Network;
@@ -35,4 +35,11 @@ pub trait Hosts: Network {
         ensures { MatchBool result
             (Logs (Self.log self.old) (Bound path.now ∷ []) (Self.log self.new))
             (Logs (Self.log self.old) (Unbound path.now ∷ []) (Self.log self.new)) };
+
+    /// Makes the status socket at a path, after the other. Questions come to it from then on. False
+    /// if it cannot be made.
+    fn watch(&mut self, path: &str) -> bool
+        ensures { MatchBool result
+            (Logs (Self.log self.old) (Watched path.now ∷ []) (Self.log self.new))
+            (Logs (Self.log self.old) (Unwatched path.now ∷ []) (Self.log self.new)) };
 }

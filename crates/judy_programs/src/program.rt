@@ -1,5 +1,5 @@
 //! The whole of `judyd run`, over any source and sink, and for any kind of service.
-ghost use Rattle.std.specs.Prelude.{◌≡◌, ◌≤◌, ℕ, true, length};
+ghost use Rattle.std.specs.Prelude.{◌≡◌, ◌≤◌, ℕ, None, true, length};
 ghost use Rattle.std.specs.Io.KnownBytes.{prepend_known};
 ghost use Rattle.judy_protocol.specs.Sending.{MaySend};
 ghost use Rattle.judy_protocol.specs.Serving.{IsPrompt, pull_limit, wire, with_first};
@@ -115,10 +115,10 @@ pub fn run_with<S: Opens + Drop, R: Source, W: Sink>(
     requires table { (s : R) (room : ℕ) → room ≤ pull_limit → ReadsOn (R.left r.old) (R.left s)
         → R.can_pull s room }
     requires prompt { (s : R) (k : W) (room : ℕ) → room ≤ pull_limit
-        → ServesSoFar S.made S.seen S.words_in (S.is_new secret.now) (R.left r.old) (R.left s)
+        → ServesSoFar S.made S.seen S.words_in (S.is_new secret.now None) (R.left r.old) (R.left s)
         (W.taken w.old) (W.taken k) (W.pending w.old) (W.pending k) → R.can_pull s room }
     requires answers { MaySend W.taken W.pending IsSent w.old W.can_push W.can_flush }
-    ensures runs { HasRun S.made S.seen S.words_in (S.is_new secret.now) words result
+    ensures runs { HasRun S.made S.seen S.words_in (S.is_new secret.now None) words result
         (wire R.left R.gave R.ends R.faults W.taken W.pending W.faults r.old w.old)
         (wire R.left R.gave R.ends R.faults W.taken W.pending W.faults r.new w.new) }
     ensures quiet { is_refused result ≡ true → w.new ≡ w.old }

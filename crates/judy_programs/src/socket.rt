@@ -1,14 +1,15 @@
 //! The whole of `judyd serve`: the table, the socket, and many connections at once.
-ghost use Rattle.std.specs.Prelude.{◌≡◌, ◌≤◌, ℕ, IfErr, IfOk};
+ghost use Rattle.std.specs.Prelude.{◌≡◌, ◌≤◌, ℕ, List, None, IfErr, IfOk, IsFalse, IsSome, IsTrue, option_map};
 ghost use Rattle.judy_protocol.specs.Serving.{pull_limit};
-ghost use Rattle.judy_programs.specs.Hosting.{Begins, Checks, Hosts as IsHosted};
+ghost use Rattle.judy_programs.specs.Hosting.{Begins, Checks, Hosts as IsHosted, Watches};
 ghost use Rattle.judy_programs.specs.Opening.{HasOpened, IsShut, open_ends, open_faults};
+ghost use Rattle.judy_table.specs.declared.tenant.Tenant.{Tenant};
 
 use crate::config::{FILE_LIMIT, FileRead, read_file};
 use crate::hosts::Hosts;
 use crate::opens::{Opens, Unopened};
 use arrayvec::ArrayVec;
-use judy_many::{Ending, Limits, serve_many};
+use judy_many::{Ending, Limits, Shows, serve_many};
 use judy_stream::Source;
 use judy_table::TableFault;
 use std::alloc::Global;
@@ -26,15 +27,19 @@ pub enum Hosted {
     Table(TableFault),
     /// Out of memory for the service, or for the table of clients.
     Memory,
-    /// The socket cannot be made, or it fails.
+    /// Out of memory for what was to be taken for the arrays before the socket is made.
+    Reserve,
+    /// A socket cannot be made, or it fails.
     Socket,
+    /// A stop was asked for on the status socket.
+    Stopped,
 }
 
 /// The service of the table that a source has.
 fn open_file<S: Opens, R: Source>(alloc: Global, secret: &[u8], source: &mut R) -> Result<S, Hosted>
     requires ready { (s : R) (room : ℕ) → room ≤ pull_limit → R.can_pull s room }
     ensures opened { IfOk result
-        (λ s. HasOpened (S.is_new secret.now) (R.left source.old) (R.left source.new) s) }
+        (λ s. HasOpened (S.is_new secret.now None) (R.left source.old) (R.left source.new) s) }
     ensures refused { IfErr result (λ how. IsShut how (R.left source.old) (R.left source.new)) }
     ensures ends { R.ends source.new ≡ open_ends result (R.ends source.old) }
     ensures faults { R.faults source.new ≡ open_faults result (R.faults source.old) }
@@ -51,61 +56,102 @@ fn open_file<S: Opens, R: Source>(alloc: Global, secret: &[u8], source: &mut R) 
     }
 }
 
-/// The service of the table in the file `config`. The file is opened once, read, and closed.
-pub fn begin_on<S: Opens, H: Hosts>(
+/// Takes memory for the arrays of a new service, if so many megabytes are wanted. False: there is
+/// not that much.
+fn take_reserve<S: Opens>(alloc: Global, service: &mut S, reserve: Option<u32>) -> bool
+    ensures taken { IsTrue result → (secret : List ℕ) (tenants : List Tenant)
+        → S.is_new secret None tenants service.old → S.is_new secret reserve tenants service.new }
+    ensures wanted { IsFalse result → IsSome reserve }
+{
+    match reserve {
+        Some(megabytes) => service.reserve(alloc, megabytes),
+        None => true,
+    }
+}
+
+/// The service of the table in the file `config`. The file is opened once, read, and closed. Then
+/// this many megabytes are taken for the arrays.
+pub fn begin_on<S: Opens + Drop, H: Hosts>(
     alloc: Global,
     secret: &[u8],
     system: &mut H,
     config: &str,
+    reserve: Option<u32>,
 ) -> Result<S, Hosted>
     requires files { (f : H.File) (room : ℕ) → room ≤ pull_limit → H.File.can_pull f room }
-    ensures { Begins (S.is_new secret.now) result config.now (H.log system.old) (H.log system.new) }
+    ensures { Begins (S.is_new secret.now) reserve result config.now
+        (H.log system.old) (H.log system.new) }
 {
     let Some(mut source) = system.open(config) else {
         return Err(Hosted::Config);
     };
     let opened: Result<S, Hosted> = open_file(alloc, secret, &mut source);
     system.shut(source);
-    opened
+    let mut service = match opened {
+        Ok(service) => service,
+        Err(hosted) => return Err(hosted),
+    };
+    if take_reserve(alloc, &mut service, reserve) {
+        return Ok(service);
+    }
+    Err(Hosted::Reserve)
 }
 
-/// Checks that the file `config` has a table and that there is memory for its service. The result
-/// is then `Done`. Otherwise it is the fault that `host_on` ends with.
+/// Checks that the file `config` has a table, and that there is memory for its service and for this
+/// many megabytes. The result is then `Done`. Otherwise it is the fault that `host_on` ends with.
 pub fn check_on<S: Opens + Drop, H: Hosts>(
     alloc: Global,
     secret: &[u8],
     system: &mut H,
     config: &str,
+    reserve: Option<u32>,
 ) -> Hosted
     requires files { (f : H.File) (room : ℕ) → room ≤ pull_limit → H.File.can_pull f room }
-    ensures { Checks (S.is_new secret.now) result config.now (H.log system.old) (H.log system.new) }
+    ensures { Checks (S.is_new secret.now) reserve result config.now
+        (H.log system.old) (H.log system.new) }
 {
-    let begun: Result<S, Hosted> = begin_on(alloc, secret, system, config);
-    match begun {
+    let looked: Result<S, Hosted> = begin_on(alloc, secret, system, config, reserve);
+    match looked {
         Ok(_service) => Hosted::Done,
         Err(hosted) => hosted,
     }
 }
 
+/// Makes the status socket, if one is wanted. False if it cannot be made.
+fn watch_on<H: Hosts>(system: &mut H, status: Option<&str>) -> bool
+    ensures { Watches result (option_map (λ s. s.now) status.entry) (H.log system.old) (H.log system.new) }
+{
+    let Some(path) = status else {
+        return true;
+    };
+    if path.is_empty() {
+        return false;
+    }
+    system.watch(path)
+}
+
 /// Serves the tenants of the table in the file `config`. It makes a socket at the path `socket` and
 /// serves the connections to it, many at once, within these limits. All of them share one service.
+/// Questions to the socket at the path `status` are answered, if there is one.
 ///
 /// It checks for faults in this order: opening the file, reading it, its length, the table, memory
-/// for the service, the socket, memory for the table of clients, and the socket again. No socket can
-/// be made at an empty path.
-pub fn host_on<S: Opens + Drop, H: Hosts>(
+/// for the service, the memory to reserve, the socket, the status socket, memory for the table of
+/// clients, and the sockets again. No socket can be made at an empty path.
+pub fn host_on<S: Opens + Shows + Drop, H: Hosts>(
     alloc: Global,
     secret: &[u8],
     system: &mut H,
     config: &str,
     socket: &str,
+    status: Option<&str>,
+    reserve: Option<u32>,
     limits: Limits,
 ) -> Hosted
     requires files { (f : H.File) (room : ℕ) → room ≤ pull_limit → H.File.can_pull f room }
-    ensures { IsHosted S.made S.seen (S.is_new secret.now) result config.now socket.now limits
-        (H.log system.old) (H.log system.new) }
+    ensures { IsHosted S.made S.status S.seen (S.is_new secret.now) reserve result config.now socket.now
+        (option_map (λ s. s.now) status.entry) limits (H.log system.old) (H.log system.new) }
 {
-    let begun: Result<S, Hosted> = begin_on(alloc, secret, system, config);
+    let begun: Result<S, Hosted> = begin_on(alloc, secret, system, config, reserve);
     let mut service = match begun {
         Ok(service) => service,
         Err(hosted) => return hosted,
@@ -117,9 +163,13 @@ pub fn host_on<S: Opens + Drop, H: Hosts>(
     if !system.bind(alloc, socket) {
         return Hosted::Socket;
     }
+    if !watch_on(system, status) {
+        return Hosted::Socket;
+    }
     match serve_many(alloc, system, &mut service, limits) {
         Ending::Done => Hosted::Done,
         Ending::Memory => Hosted::Memory,
+        Ending::Stopped => Hosted::Stopped,
         Ending::Socket => Hosted::Socket,
     }
 }

@@ -60,10 +60,12 @@ pub fn finish_hosted(hosted: Hosted) -> (u8, Option<&'static str>)
 {
     match hosted {
         Hosted::Done => (0, None),
+        Hosted::Stopped => (0, None),
         Hosted::Config => (4, Some("judyd: config fault")),
         Hosted::Long => (3, Some("judyd: table: Long")),
         Hosted::Table(fault) => (3, Some(table_text(fault))),
         Hosted::Memory => (4, Some("judyd: memory")),
+        Hosted::Reserve => (4, Some("judyd: memory: no memory for --reserve")),
         Hosted::Socket => (4, Some("judyd: socket fault")),
     }
 }

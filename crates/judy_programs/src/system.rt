@@ -2,7 +2,7 @@
 ghost use Rattle.std.specs.Prelude.{None};
 
 use crate::hosts::Hosts;
-use judy_many::{Accept, Connection, Got, How, Network, Put, Queue, Sockets};
+use judy_many::{Accept, Connection, Got, How, Network, Put, Question, Queue, Sockets};
 use judy_stream::Reads;
 use std::alloc::Global;
 use std::fs::{self, Files};
@@ -17,6 +17,8 @@ pub enum Failed {
     File(io::Error),
     /// The socket cannot be made, or it failed for good.
     Socket(io::Error),
+    /// The status socket cannot be made.
+    Status(io::Error),
 }
 
 /// The clients that were not served. The counts saturate.
@@ -36,6 +38,7 @@ pub struct System<'a, F> {
     sockets: Option<Sockets<'a, F>>,
     failed: Option<Failed>,
     unserved: Unserved,
+    watched: bool,
 }
 
 /// Random bytes that nobody can guess, read from this file of the system. None if it gives too few.
@@ -61,7 +64,22 @@ impl<'a, F: Files + Net + Clock> System<'a, F> {
                 accepts: 0,
                 memory: 0,
             },
+            watched: false,
         }
+    }
+
+    /// Removes the sockets at these paths, those that were made, and closes them.
+    pub fn leave(&mut self, socket: &str, status: Option<&str>) {
+        if self.sockets.is_none() {
+            return;
+        }
+        let _ = fs::remove_file(self.rt, socket);
+        if let Some(path) = status
+            && self.watched
+        {
+            let _ = fs::remove_file(self.rt, path);
+        }
+        self.sockets = None;
     }
 
     /// What the system refused last, and why, if it gave a reason.
@@ -132,6 +150,19 @@ impl<'a, F: Files + Net + Clock> Network for System<'a, F> {
         let sockets = self.sockets.as_mut()?;
         sockets.seconds()
     }
+
+    fn ask(&mut self) -> Question {
+        let Some(sockets) = &mut self.sockets else {
+            return Question::Nothing;
+        };
+        sockets.ask()
+    }
+
+    fn report(&mut self, text: &[u8]) {
+        if let Some(sockets) = &mut self.sockets {
+            sockets.report(text);
+        }
+    }
 }
 
 impl<'a, F: Files + Net + Clock> Hosts for System<'a, F> {
@@ -161,6 +192,22 @@ impl<'a, F: Files + Net + Clock> Hosts for System<'a, F> {
             }
             Err(e) => {
                 self.failed = Some(Failed::Socket(e));
+                false
+            }
+        }
+    }
+
+    fn watch(&mut self, path: &str) -> bool {
+        let Some(sockets) = &mut self.sockets else {
+            return false;
+        };
+        match sockets.watch(path) {
+            Ok(()) => {
+                self.watched = true;
+                true
+            }
+            Err(e) => {
+                self.failed = Some(Failed::Status(e));
                 false
             }
         }

@@ -1,24 +1,25 @@
 -- What the serving of a connection did, in the terms of its specification.
-use Rattle.std.proofs.Common.{◌≡◌, ℕ, ◌<◌, true, false, ◌||◌, List, [], ◌∷◌, ◌++◌, length, Option, None, sym, ◌∙◌, ap, subst, refl, arith}
+use Rattle.std.proofs.Common.{◌≡◌, ℕ, ◌<◌, ◌≤◌, true, false, List, [], ◌∷◌, ◌++◌, length, Option, None, sym, ◌∙◌, ap, subst, refl, arith, append_assoc, append-nil}
 use Rattle.std.specs.Prelude.{zip}
 use Rattle.std.specs.Io.KnownBytes.{Appends, Consumes}
-use Rattle.std.proofs.lemmas.List.Folds.{list_any-append}
+use Rattle.std.proofs.lemmas.List.{length-append}
 use Rattle.judy_model.specs.declared.quotas.Quota.{Quota}
 use Rattle.judy_model.specs.declared.replies.Reply.{Reply}
 use Rattle.judy_model.specs.declared.replies.Reply.TheVariants.{Memory}
-use Rattle.judy_model.specs.declared.requests.Line.TheVariants as request
 use Rattle.judy_model.specs.Service.{Quotas, States, AreServed, ServingGoesOn, ServingIsStepwise}
 use Rattle.judy_model.specs.Solo.{IsSolo, SoloIsDetermined}
 use Rattle.judy_model.specs.Speakers.{Event}
-use Rattle.judy_model.specs.Stream.{Heard, is_quit, served, through_quit, events_from, answer_from}
-use Rattle.judy_model.specs.Stream.Heard.{TooLong, Unclear, Asked}
-use Rattle.judy_model.proofs.lemmas.StreamLemmas.{served-all, served-after_quit, through_quit-none}
+use Rattle.judy_model.specs.Stream.{Heard, served, events_from, answer_from}
+use Rattle.judy_model.proofs.lemmas.StreamLemmas.{served-all, served-after_quit}
 use Rattle.judy_model.specs.Tenant.{State}
 use Rattle.judy_model.specs.Worlds.{served-worlds}
 use Rattle.judy_protocol.specs.Services.{Seen, IsCalled, Made, AreMade}
-use Rattle.judy_protocol.specs.Serving.{heard_in, asks_to_quit, AreRun, AllOpen, AllQuit, PartRun}
-use Rattle.judy_protocol.specs.Talks.{Talk, Told, Stopped}
+use Rattle.judy_protocol.specs.Serving.{answers_limit, heard_in, asks_to_quit, AreRun, AllOpen, AllQuit, PartRun}
+use Rattle.judy_protocol.specs.Talks.{Talk, Gathers, Answered, Told, Stops}
+use Rattle.judy_protocol.specs.declared.connection.Stop.{Stop}
 use Rattle.judy_protocol.specs.declared.connection.Stop.TheVariants as stop
+use Rattle.judy_protocol.proofs.KnownBytes.{Appends-append}
+use Rattle.judy_protocol.proofs.Talking.{all_answered, all_quits, all_served, all_turns, front_text}
 
 -- an empty list has no item
 no_item : {A : Type 0} (before after : List A) (x : A) → [] ≡ before ++ x ∷ after → ⊥
@@ -31,14 +32,6 @@ no_calls quotas states = record { count = refl; solo = λ t. idle (quotas t) (st
   where
     idle : (quota : Quota) (s : State) → IsSolo quota s [] s
     idle quota s = record { replies = refl; state = refl; refused = λ before after a e. absurd (no_item before after (a, Memory) e) }
-
--- one line is served, whatever it asks for
-one_line : (h : Heard) → through_quit (h ∷ []) ≡ h ∷ []
-one_line TooLong = refl
-one_line Unclear = refl
-one_line (Asked (request.Auth name token)) = refl
-one_line (Asked request.Quit) = refl
-one_line (Asked (request.Call call)) = refl
 
 module _ {S : Type 0} (made : Made S) (seen : S → Seen) (apart : (before after : S) (event : Event) (reply : Reply) → made before
     event reply after → IsCalled (seen before) event reply (seen after))
@@ -79,65 +72,85 @@ module _ {S : Type 0} (made : Made S) (seen : S → Seen) (apart : (before after
   all_open first before stream now left left' read told =
       let all : served stream ≡ heard_in stream = served-all stream told.goes_on in
       let a = told.answered in
+      let t = a.turns in
       record {
         script = stream;
         run = record {
-          replies = a.replies;
+          replies = t.replies;
           read = read;
-          run = subst (λ ls. AreRun made seen ls a.replies first now.service) (sym all) (are_run (heard_in stream) a.replies first now.service a.count a.run);
-          written = subst (λ ls. Appends before now.taken (answer_from (seen first).logins None ls a.replies)) (sym all) a.written;
+          run = subst (λ ls. AreRun made seen ls t.replies first now.service) (sym all) (are_run (heard_in stream) t.replies first now.service t.count t.run);
+          written = subst (λ v. Appends before now.taken v)
+              (t.text_is ∙ ap (λ ls. answer_from (seen first).logins None ls t.replies) (sym all)) a.written;
         };
         goes_on = told.goes_on;
       }
 
-  -- a connection that a line ended
-  pub all_quit : (first : S) (before : Option (List ℕ)) (stream unheard : List ℕ) (after : S) (taken left left' : Option (List ℕ))
-      → Consumes left left' stream → length unheard < 4096
-      → Stopped made (seen first).logins stop.Quit first before stream unheard after taken → AllQuit made seen left left' first after before taken
-  all_quit first before stream unheard after taken left left' read few s =
-      let quits : asks_to_quit (heard_in s.ran) ≡ true = ap asks_to_quit s.lines ∙ list_any-append is_quit s.front (s.last ∷ [])
-      ∙ ap (λ b. b || (is_quit s.last || false)) s.goes_on ∙ ap (λ b. b || false) s.by.0 in
-      let all : served (s.ran ++ unheard) ≡ heard_in s.ran
-      = served-after_quit s.ran unheard quits ∙ ap through_quit s.lines ∙ through_quit-none s.front (s.last ∷ []) s.goes_on
-      ∙ ap (λ v. s.front ++ v) (one_line s.last) ∙ sym s.lines in
-      let back : s.front ++ s.last ∷ [] ≡ served (s.ran ++ unheard) = sym (all ∙ s.lines) in
-      record {
-        ran = s.ran;
-        unheard = unheard;
-        run = record {
-          replies = s.replies;
-          read = subst (Consumes left left') s.cut read;
-          run = subst (λ ls. AreRun made seen ls s.replies first after) back (are_run (s.front ++ s.last ∷ []) s.replies first after s.count s.run);
-          written = subst (λ ls. Appends before taken (answer_from (seen first).logins None ls s.replies)) back s.by.1;
-        };
-        ended = s.ended;  -- by QUIT
-        last = all;
-        quits = quits;
-        few = few;  -- after QUIT
-      }
+  module _ (first : S) (before : Option (List ℕ)) (stream bytes : List ℕ) (from : Talk S) (after : S) (taken left left' : Option (List ℕ))
+      (read : Consumes left left' (stream ++ bytes)) (short : length bytes ≤ 4096) (told : Told made (seen first).logins first before stream from) where
+    -- all bytes in their parts
+    parted : (how : Stop) (s : Stops made (seen first).logins how bytes from after taken) → stream ++ bytes ≡ ((stream ++ s.kept) ++ s.cut) ++ s.unheard
+    parted how s =
+        ap (λ v. stream ++ v) (sym s.parts) ∙ sym (append_assoc stream s.kept (s.cut ++ s.unheard))
+        ∙ sym (append_assoc (stream ++ s.kept) s.cut s.unheard)
 
-  -- a connection that a failed write ended
-  pub part_run : (first : S) (before : Option (List ℕ)) (stream unheard : List ℕ) (after : S) (taken left left' : Option (List ℕ))
-      → Consumes left left' stream → length unheard < 4096
-      → Stopped made (seen first).logins stop.WriteFault first before stream unheard after taken → PartRun made seen left left' first after before taken
-  part_run first before stream unheard after taken left left' read few s =
-      let (sent, missing, begun, part, whole, written) = s.by in
-      record {
-        ran = s.ran;
-        unheard = unheard;
-        front = s.front;
-        last = s.last;
-        replies = s.replies;
-        sent = sent;
-        missing = missing;
-        begun = begun;
-        read = subst (Consumes left left') s.cut read;
-        few = few;  -- after the failed write
-        ended = s.ended;  -- by the failed write
-        lines = s.lines;
-        goes_on = s.goes_on;  -- before the last line
-        run = subst (λ ls. AreRun made seen ls s.replies first after) (sym s.lines) (are_run (s.front ++ s.last ∷ []) s.replies first after s.count s.run);
-        written = written;
-        part = part ∙ ap (λ ls. answer_from (seen first).logins None ls s.replies) (sym s.lines);
-        whole = whole;  -- all answers but the last
-      }
+    -- a connection that a line ended
+    pub all_quit : Stops made (seen first).logins stop.Quit bytes from after taken → AllQuit made seen left left' first after before taken
+    all_quit s =
+        let login = (seen first).logins in
+        let kept = stream ++ s.kept in
+        let ran = kept ++ s.cut in
+        let front : Told made login first before kept s.mid = s.hears first before stream told in
+        let g = subst (λ q. Gathers made login s.cut q s.mid.held s.held s.mid.who s.who s.mid.service after s.text) s.by.0 s.gathers in
+        let whole : s.sent ≡ s.text = sym (append-nil s.sent) ∙ ap (λ v. s.sent ++ v) (sym s.by.1) ∙ s.split in
+        let a : Answered made login first before (heard_in ran) s.who after taken
+        = all_answered made login first before kept s.cut true s.held s.who after s.text s.mid front g taken (subst (Appends s.mid.taken taken) whole s.written) in
+        let t = a.turns in
+        let quits : asks_to_quit (heard_in ran) ≡ true = all_quits made login first before kept s.cut true s.held s.who after s.text s.mid front g in
+        let all : served (ran ++ s.unheard) ≡ heard_in ran
+        = served-after_quit ran s.unheard quits ∙ all_served made login first before kept s.cut true s.held s.who after s.text s.mid front g in
+        record {
+          ran = ran;
+          unheard = s.unheard;
+          run = record {
+            replies = t.replies;
+            read = subst (Consumes left left') (parted stop.Quit s) read;
+            run = subst (λ ls. AreRun made seen ls t.replies first after) (sym all) (are_run (heard_in ran) t.replies first after t.count t.run);
+            written = subst (λ v. Appends before taken v) (t.text_is ∙ ap (λ ls. answer_from login None ls t.replies) (sym all)) a.written;
+          };
+          ended = g.complete.ended kept;  -- by QUIT
+          last = all;
+          quits = quits;
+          few = omega (arith, short, s.few);  -- after QUIT
+        }
+
+    -- a connection that a failed write ended
+    pub part_run : Stops made (seen first).logins stop.WriteFault bytes from after taken → PartRun made seen left left' first after before taken
+    part_run s =
+        let login = (seen first).logins in
+        let kept = stream ++ s.kept in
+        let ran = kept ++ s.cut in
+        let front : Told made login first before kept s.mid = s.hears first before stream told in
+        let t = all_turns made login first before kept s.cut s.quit s.held s.who after s.text s.mid front s.gathers in
+        let a = front.answered in
+        let kept_whole = ap (λ v. v ++ s.sent)
+        (front_text made login first before kept s.cut s.quit s.held s.who after s.text s.mid front s.gathers) in
+        record {
+          kept = kept;
+          cut = s.cut;
+          unheard = s.unheard;
+          replies = t.replies;
+          sent = a.text ++ s.sent;
+          begun = s.sent;
+          missing = s.missing;
+          read = subst (Consumes left left') (parted stop.WriteFault s) read;
+          once = omega (arith, short, ap length s.parts, length-append s.kept (s.cut ++ s.unheard));  -- of the last read
+          few = omega (arith, short, s.few);  -- after the failed write
+          ended = s.gathers.complete.ended kept;  -- by the failed write
+          goes_on = front.goes_on;  -- before the last text
+          last = all_served made login first before kept s.cut s.quit s.held s.who after s.text s.mid front s.gathers;  -- no line after QUIT
+          run = are_run (heard_in ran) t.replies first after t.count t.run;
+          written = Appends-append before s.mid.taken taken a.text s.sent a.written s.written;
+          whole = kept_whole;  -- all answers before the last text
+          part = append_assoc a.text s.sent s.missing ∙ ap (λ v. a.text ++ v) s.split ∙ t.text_is;
+          text = subst (λ v. length v ≤ answers_limit) (sym s.split) s.short;  -- of the last text
+        }

@@ -1,21 +1,23 @@
--- What may be pushed to a sink, and when it may be flushed: one answer at a time, after a push the
--- rest of it, and one flush after its last byte.
-use Rattle.std.specs.Prelude.{◌≡◌, ◌<◌, ℕ, Bool, true, List, [], ◌∷◌, ◌++◌, length, Option}
+-- What may be pushed to a sink, and when it may be flushed: one text at a time, which is the answers
+-- to lines that follow one another, after a push the rest of it, and one flush after its last byte.
+use Rattle.std.specs.Prelude.{◌≡◌, ◌<◌, ◌≤◌, ℕ, Bool, true, List, [], ◌++◌, length, Option}
 use Rattle.std.specs.Io.KnownBytes.{Appends}
 use Rattle.judy_stream.specs.Streams.{IsFlushed}
 use Rattle.judy_model.specs.declared.replies.Reply.{Reply}
 use Rattle.judy_model.specs.Speakers.{Speaker}
-use Rattle.judy_model.specs.Stream.{Heard, Login, event_of, answer_from}
-use Rattle.judy_protocol.specs.Serving.{MaybeBytes}
+use Rattle.judy_model.specs.Stream.{Heard, Login, events_from, answer_from}
+use Rattle.judy_protocol.specs.Serving.{MaybeBytes, answers_limit}
 
--- the bytes are the answer to one line
-pub record IsAnswer (bytes : List ℕ) : Type 0 where
+-- the bytes are the answers to one line or more, one after another, and at most 16,384
+pub record AreAnswers (bytes : List ℕ) : Type 0 where
   pub login : Login
   pub who : Option Speaker
-  pub line : Heard
+  pub lines : List Heard
   pub replies : List Reply
-  pub count : length replies ≡ length (event_of line who)
-  pub is : bytes ≡ answer_from login who (line ∷ []) replies
+  pub some : 0 < length lines
+  pub count : length replies ≡ length (events_from login who lines)
+  pub is : bytes ≡ answer_from login who lines replies
+  pub short : length bytes ≤ answers_limit
 
 module _ {W : Type 0} (taken : W → MaybeBytes) (pending : W → Bool) (IsText : List ℕ → Type 0) (first : W) where
   -- From the state `before` on, the sink took the front of one text, and `rest` is what is left. In

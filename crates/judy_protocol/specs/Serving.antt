@@ -33,6 +33,10 @@ MaybeBytes = Option (List ℕ)
 abbrev pub pull_limit : ℕ
 pull_limit = 4096
 
+-- the most bytes of the answers that are written as one text
+abbrev pub answers_limit : ℕ
+answers_limit = 16384
+
 -- the most reads of one connection that give bytes
 abbrev pub reads_limit : ℕ
 reads_limit = 2 ^ 32
@@ -130,28 +134,29 @@ module _ {S : Type 0} (made : Made S) (seen : S → Seen) where
     pub quits : asks_to_quit (heard_in ran) ≡ true
     pub few : length unheard < pull_limit  -- of the read that gave QUIT
 
-  -- The lines that the source gave were run, up to one whose answer was not written whole. `ran` is
-  -- the bytes of these lines with their line feeds, and fewer than 4,096 bytes were given after
-  -- them. What was sent is a part of the answers to these lines, and contains the answers to all
-  -- but the last.
+  -- The lines that the source gave were run, up to a text of answers whose write or flush failed. The
+  -- answers to the lines in `kept` were sent whole. The lines that `cut` completes were run too, and a
+  -- part of their answers was sent, which are one text. `cut` and the bytes after it are of one read.
+  -- No line was run after one that asks to quit.
   pub record PartRun (left left' : MaybeBytes) (before after : S) (taken taken' : MaybeBytes) : Type 0 where
-    pub ran : List ℕ
+    pub kept : List ℕ
+    pub cut : List ℕ
     pub unheard : List ℕ
-    pub front : List Heard
-    pub last : Heard
     pub replies : List Reply
     pub sent : List ℕ
-    pub missing : List ℕ
     pub begun : List ℕ
-    pub read : Consumes left left' (ran ++ unheard)
+    pub missing : List ℕ
+    pub read : Consumes left left' ((kept ++ cut) ++ unheard)
+    pub once : length (cut ++ unheard) ≤ pull_limit  -- the lines of the last text
     pub few : length unheard < pull_limit  -- of the last read
-    pub ended : rest_of ran ≡ []  -- whole lines up to the failed write
-    pub lines : heard_in ran ≡ front ++ last ∷ []
-    pub goes_on : asks_to_quit front ≡ false
-    pub run : AreRun (heard_in ran) replies before after
+    pub ended : rest_of (kept ++ cut) ≡ []  -- whole lines up to the failed write
+    pub goes_on : asks_to_quit (heard_in kept) ≡ false
+    pub last : served (kept ++ cut) ≡ heard_in (kept ++ cut)  -- none after QUIT
+    pub run : AreRun (heard_in (kept ++ cut)) replies before after
     pub written : Appends taken taken' sent
-    pub part : sent ++ missing ≡ answer_from (seen before).logins None (heard_in ran) replies
-    pub whole : sent ≡ answer_from (seen before).logins None front replies ++ begun
+    pub whole : sent ≡ answer_from (seen before).logins None (heard_in kept) replies ++ begun
+    pub part : sent ++ missing ≡ answer_from (seen before).logins None (heard_in (kept ++ cut)) replies
+    pub text : length (begun ++ missing) ≤ answers_limit  -- the last text
 
   -- what the serving did, by how it ended
   abbrev pub Ends : End → MaybeBytes → MaybeBytes → S → S → MaybeBytes → MaybeBytes → Type 0

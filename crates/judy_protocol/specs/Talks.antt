@@ -1,6 +1,6 @@
 -- A connection so far: what was heard and answered, who the speaker is, and what has come of the
 -- next line.
-use Rattle.std.specs.Prelude.{◌≡◌, ℕ, ◌<◌, true, false, not, List, [], ◌∷◌, ◌++◌, zip, length, IsTrue, ◌==◌, Option, Some, None, option_map, Result, Ok, Err}
+use Rattle.std.specs.Prelude.{◌≡◌, ℕ, ◌<◌, ◌≤◌, Bool, true, false, not, List, [], ◌∷◌, ◌++◌, zip, length, IsTrue, ◌==◌, Option, Some, None, option_map, Result, Ok, Err}
 use Rattle.std.specs.List.{list_all}
 use Rattle.std.specs.Io.KnownBytes.{Appends}
 use Rattle.judy_stream.specs.Streams.{counted}
@@ -8,10 +8,10 @@ use Rattle.judy_model.specs.declared.replies.Reply.{Reply}
 use Rattle.judy_model.specs.declared.requests.Line.{Line}
 use Rattle.judy_model.specs.declared.requests.TheConstants.{LINE_LIMIT}
 use Rattle.judy_model.specs.Speakers.{Speaker}
-use Rattle.judy_model.specs.Stream.{Heard, Login, rest_of, is_quit, speaker_after, speaker_of, event_of, events_from, answer_from}
+use Rattle.judy_model.specs.Stream.{Heard, Login, rest_of, through_quit, speaker_after, speaker_of, event_of, events_from, answer_from}
 use Rattle.judy_model.specs.Stream.Heard.{TooLong, Unclear, Asked}
 use Rattle.judy_protocol.specs.Services.{Made, AreMade}
-use Rattle.judy_protocol.specs.Serving.{MaybeBytes, heard_in, asks_to_quit}
+use Rattle.judy_protocol.specs.Serving.{MaybeBytes, answers_limit, heard_in, asks_to_quit}
 use Rattle.judy_protocol.specs.declared.connection.Stop.{Stop}
 use Rattle.judy_protocol.specs.declared.connection.Stop.TheVariants as stop
 use Rattle.judy_protocol.specs.declared.held.Held.{Held}
@@ -36,6 +36,13 @@ as_heard (Ok request) = Asked request
 as_heard (Err refusal.Long) = TooLong
 as_heard (Err refusal.Syntax) = Unclear
 
+-- After any stream whose rest is held, these bytes complete these lines, and end with the last of
+-- them. Nothing is held then.
+pub record Completes (held : Held) (bytes : List ℕ) (lines : List Heard) (held' : Held) : Type 0 where
+  pub heard : (stream : List ℕ) → Holds (rest_of stream) held → heard_in (stream ++ bytes) ≡ heard_in stream ++ lines
+  pub ended : (stream : List ℕ) → rest_of (stream ++ bytes) ≡ []
+  pub empty : Holds [] held'
+
 -- a connection at one time: what has come of the next line, the speaker, the service, and what was
 -- written
 pub record Talk (S : Type 0) : Type 0 where
@@ -56,14 +63,30 @@ module _ {S : Type 0} (made : Made S) (login : Login) where
     pub run : AreMade made before (zip (event_of line who) replies) after
     pub text_is : text ≡ answer_from login who (line ∷ []) replies
 
+  -- lines were run, one after another, and this text is their answers
+  pub record Turns (lines : List Heard) (who who' : Option Speaker) (before after : S) (text : List ℕ) : Type 0 where
+    pub replies : List Reply
+    pub speaks : who' ≡ speaker_of login who lines
+    pub count : length replies ≡ length (events_from login who lines)
+    pub run : AreMade made before (zip (events_from login who lines) replies) after
+    pub text_is : text ≡ answer_from login who lines replies
+
+  -- Lines were run, and their answers were gathered: these bytes complete them, and end with the last
+  -- of them. Only the last may have asked to quit.
+  pub record Gathers (bytes : List ℕ) (quit : Bool) (held held' : Held) (who who' : Option Speaker) (before after : S) (text : List ℕ) : Type 0 where
+    pub lines : List Heard
+    pub complete : Completes held bytes lines held'
+    pub turns : Turns lines who who' before after text
+    pub some : 0 < length lines
+    pub last : through_quit lines ≡ lines
+    pub quits : asks_to_quit lines ≡ quit
+
   -- The lines were run, starting from the service `first`, and answered after the bytes `before`.
   -- Now `who` is the speaker, `now` is the service, and `taken` was written.
   pub record Answered (first : S) (before : MaybeBytes) (lines : List Heard) (who : Option Speaker) (now : S) (taken : MaybeBytes) : Type 0 where
-    pub replies : List Reply
-    pub speaks : who ≡ speaker_of login None lines
-    pub count : length replies ≡ length (events_from login None lines)
-    pub run : AreMade made first (zip (events_from login None lines) replies) now
-    pub written : Appends before taken (answer_from login None lines replies)
+    pub text : List ℕ
+    pub turns : Turns lines None who first now text
+    pub written : Appends before taken text
 
   -- the lines of the stream were answered, none asked to quit, and its rest is held
   pub record Told (first : S) (before : MaybeBytes) (stream : List ℕ) (now : Talk S) : Type 0 where
@@ -75,34 +98,33 @@ module _ {S : Type 0} (made : Made S) (login : Login) where
   abbrev pub Hears : List ℕ → Talk S → Talk S → Type 0
   Hears bytes from to = (first : S) (before : MaybeBytes) (stream : List ℕ) → Told first before stream from → Told first before (stream ++ bytes) to
 
-  -- how the answer to the last line was written: whole, and it asked to quit, or only in part
-  abbrev pub StopsBy : Stop → List Heard → Heard → List Reply → MaybeBytes → MaybeBytes → Type 0
-  StopsBy stop.Quit front last replies before taken =
-      (is_quit last ≡ true) × Appends before taken (answer_from login None (front ++ last ∷ []) replies)
-  StopsBy stop.WriteFault front last replies before taken = (sent : List ℕ) × (missing : List ℕ) × (begun : List ℕ)
-      × (sent ++ missing ≡ answer_from login None (front ++ last ∷ []) replies)
-      × (sent ≡ answer_from login None front replies ++ begun)
-      × Appends before taken sent
+  -- why the connection stops: a line asked to quit, and all answers were written, or a write failed
+  abbrev pub StopsBy : Stop → Bool → List ℕ → Type 0
+  StopsBy stop.Quit quit missing = (quit ≡ true) × (missing ≡ [])
+  StopsBy stop.WriteFault quit missing = Unit {0}
 
-  -- the stream was heard and answered up to a line at which the connection stopped; the bytes after
-  -- it had no effect
-  pub record Stopped (how : Stop) (first : S) (before : MaybeBytes) (stream unheard : List ℕ) (after : S) (taken : MaybeBytes) : Type 0 where
-    pub ran : List ℕ
-    pub front : List Heard
-    pub last : Heard
-    pub replies : List Reply
-    pub cut : stream ≡ ran ++ unheard
-    pub ended : rest_of ran ≡ []
-    pub lines : heard_in ran ≡ front ++ last ∷ []
-    pub goes_on : asks_to_quit front ≡ false
-    pub count : length replies ≡ length (events_from login None (front ++ last ∷ []))
-    pub run : AreMade made first (zip (events_from login None (front ++ last ∷ [])) replies) after
-    pub by : StopsBy how front last replies before taken
-
-  -- the bytes were heard up to a line at which the connection stopped
-  abbrev pub Stops : Stop → List ℕ → List ℕ → Talk S → S → MaybeBytes → Type 0
-  Stops how bytes unheard from after taken = (first : S) (before : MaybeBytes) (stream : List ℕ)
-      → Told first before stream from → Stopped how first before (stream ++ bytes) unheard after taken
+  -- The bytes were heard up to a line at which the connection stopped. The lines of `kept` were run
+  -- and answered. Then those of `cut` were run, and `sent` was written of their answers. The bytes
+  -- after them had no effect.
+  pub record Stops (how : Stop) (bytes : List ℕ) (from : Talk S) (after : S) (taken : MaybeBytes) : Type 0 where
+    pub kept : List ℕ
+    pub cut : List ℕ
+    pub unheard : List ℕ
+    pub mid : Talk S
+    pub quit : Bool
+    pub held : Held
+    pub who : Option Speaker
+    pub text : List ℕ
+    pub sent : List ℕ
+    pub missing : List ℕ
+    pub parts : kept ++ (cut ++ unheard) ≡ bytes
+    pub few : length unheard < length bytes
+    pub hears : Hears kept from mid
+    pub gathers : Gathers cut quit mid.held held mid.who who mid.service after text
+    pub short : length text ≤ answers_limit
+    pub split : sent ++ missing ≡ text
+    pub written : Appends mid.taken taken sent
+    pub by : StopsBy how quit missing
 
 -- the count of failed writes, by where the connection stops: a failed write counts once
 abbrev pub stop_faults : Option Stop → ℕ → ℕ

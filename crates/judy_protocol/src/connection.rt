@@ -1,17 +1,16 @@
 //! Serves one connection.
-ghost use Rattle.std.specs.Prelude.{◌≡◌, ◌≢◌, ◌<◌, ◌≤◌, ◌++◌, ℕ, List, [], ◌∷◌, Some, length, MatchOption, option_map};
+ghost use Rattle.std.specs.Prelude.{◌≡◌, ◌≢◌, ◌≤◌, ℕ, Some, length, MatchOption, option_map};
 ghost use Rattle.std.specs.Io.KnownBytes.{prepend_known};
 ghost use Rattle.judy_stream.specs.Streams.{IsFlushed};
-ghost use Rattle.judy_protocol.specs.Sending.{IsAnswer, MaySend};
+ghost use Rattle.judy_protocol.specs.Sending.{AreAnswers, MaySend};
 ghost use Rattle.judy_protocol.specs.Services.{HasLoggedIn};
 ghost use Rattle.judy_protocol.specs.Serving.{IsPrompt, Serves, pull_limit, reads_limit, wire, with_first};
-ghost use Rattle.judy_protocol.specs.Talks.{HasNoLf, Hears, Stops, stop_faults, talk};
+ghost use Rattle.judy_protocol.specs.Talks.{Hears, Stops, stop_faults, talk};
 
+use crate::gathering::{Rooms, gather};
 use crate::held::{Held, cut_line};
-use crate::replies::REPLY_LIMIT;
 use crate::sending::send;
 use crate::service::Served;
-use crate::turns::{asks_to_quit, hear, run};
 use arrayvec::ArrayVec;
 use judy_model::KEY_LIMIT;
 use judy_model::laws::{one_call_is_a_run, served_runs_go_on, tenants_are_answered_equally};
@@ -39,80 +38,18 @@ pub enum End {
     Limit,
 }
 
-/// Why a connection stops at a line.
+/// Why a connection stops within the bytes of a pull.
 #[derive(Clone, Copy, Debug, PartialEq, Eq)]
 pub enum Stop {
-    /// The line asked to quit, and was answered.
+    /// A line asked to quit, and all answers were written.
     Quit,
-    /// The answer to the line was not written whole.
+    /// The answers to the last lines were not written whole, or not flushed.
     WriteFault,
 }
 
-/// Buffers for a line's key, for a key that a call finds, and for the answer to a line.
-#[derive(Drop)]
-struct Rooms {
-    key: [u8; KEY_LIMIT],
-    found: ArrayVec<u8, KEY_LIMIT>,
-    reply: ArrayVec<u8, REPLY_LIMIT>,
-}
-
-impl Rooms {
-    fn new() -> Rooms {
-        Rooms {
-            key: [0u8; KEY_LIMIT],
-            found: ArrayVec::new(),
-            reply: ArrayVec::new(),
-        }
-    }
-}
-
-/// Runs the line that is held and ends with the chunk, and writes its answer. Returns why the
-/// connection stops at this line, if it does.
-fn answer<S: Served, W: Sink>(
-    alloc: Global,
-    held: &mut Held,
-    speaker: &mut Option<S::Speaker>,
-    service: &mut S,
-    sink: &mut W,
-    rooms: &mut Rooms,
-    chunk: &[u8],
-) -> Option<Stop>
-    requires line { HasNoLf chunk.now }
-    requires known { HasLoggedIn (S.seen service.old).logins (option_map S.who speaker.old) }
-    requires answers { MaySend W.taken W.pending IsAnswer sink.old W.can_push W.can_flush }
-    ensures heard { MatchOption result
-        (Hears S.made (S.seen service.old).logins (chunk.now ++ 10 ∷ [])
-        (talk S.who held.old speaker.old service.old (W.taken sink.old))
-        (talk S.who held.new speaker.new service.new (W.taken sink.new)))
-        (λ how. Stops S.made (S.seen service.old).logins how (chunk.now ++ 10 ∷ []) []
-        (talk S.who held.old speaker.old service.old (W.taken sink.old)) service.new
-        (W.taken sink.new)) }
-    ensures logins { (S.seen service.new).logins ≡ (S.seen service.old).logins }
-    ensures known { HasLoggedIn (S.seen service.new).logins (option_map S.who speaker.new) }
-    ensures flushed { result ≢ Some Stop.WriteFault
-        → IsFlushed (W.pending sink.old) (W.pending sink.new) }
-    ensures faults { W.faults sink.new ≡ stop_faults result (W.faults sink.old) }
-{
-    let asked = hear(held, chunk, &mut rooms.key);
-    run(
-        alloc,
-        service,
-        speaker,
-        &asked,
-        &mut rooms.found,
-        &mut rooms.reply,
-    );
-    if !send(sink, rooms.reply.as_slice()) {
-        return Some(Stop::WriteFault);
-    }
-    if asks_to_quit(&asked) {
-        return Some(Stop::Quit);
-    }
-    None
-}
-
-/// Runs the lines that the bytes of one pull complete, up to a line at which the connection stops.
-/// Holds what comes after the last line feed. Returns why the connection stops, if it does.
+/// Runs the lines that the bytes of one pull complete, up to a line that asks to quit. Writes their
+/// answers, as many at once as the buffer holds, and holds what comes after the last line feed.
+/// Returns why the connection stops, if it does.
 fn feed<S: Served, W: Sink>(
     alloc: Global,
     held: &mut Held,
@@ -124,13 +61,12 @@ fn feed<S: Served, W: Sink>(
 ) -> Option<Stop>
     requires short { length pulled.now ≤ pull_limit }
     requires known { HasLoggedIn (S.seen service.old).logins (option_map S.who speaker.old) }
-    requires answers { MaySend W.taken W.pending IsAnswer sink.old W.can_push W.can_flush }
+    requires answers { MaySend W.taken W.pending AreAnswers sink.old W.can_push W.can_flush }
     ensures heard { MatchOption result
         (Hears S.made (S.seen service.old).logins pulled.now
         (talk S.who held.old speaker.old service.old (W.taken sink.old))
         (talk S.who held.new speaker.new service.new (W.taken sink.new)))
-        (λ how. (unheard : List ℕ) × (length unheard < pull_limit)
-        × Stops S.made (S.seen service.old).logins how pulled.now unheard
+        (λ how. Stops S.made (S.seen service.old).logins how pulled.now
         (talk S.who held.old speaker.old service.old (W.taken sink.old)) service.new
         (W.taken sink.new)) }
     ensures logins { (S.seen service.new).logins ≡ (S.seen service.old).logins }
@@ -141,18 +77,23 @@ fn feed<S: Served, W: Sink>(
 {
     let mut rest = pulled;
     while let Some((chunk, after)) = cut_line(rest) {
-        if let Some(stop) = answer(alloc, held, speaker, service, sink, rooms, chunk) {
-            return Some(stop);
+        let gathered = gather(alloc, held, speaker, service, rooms, chunk, after);
+        if !send(sink, rooms.answers.as_slice()) {
+            return Some(Stop::WriteFault);
         }
-        rest = after;
+        if gathered.quit {
+            return Some(Stop::Quit);
+        }
+        rest = gathered.rest;
     }
     held.hold(rest);
     None
 }
 
 /// Serves the lines of a stream: first the bytes in `first`, which were read before, then those of
-/// the source. It writes the answer to each line before it looks at the next. It ends when a line
-/// asks to quit, the source ends, a read or a write fails, or `limit` reads gave bytes.
+/// the source. It writes and flushes the answers to all lines of a read before the next read. It
+/// ends when a line asks to quit, the source ends, a read or a write fails, or `limit` reads gave
+/// bytes.
 ///
 /// The source may be pulled once all lines that came so far have their answers, written and
 /// flushed, and none of them asked to quit.
@@ -170,7 +111,7 @@ pub fn serve_after<S: Served, R: Source, W: Sink>(
         → IsPrompt S.made S.seen (prepend_known first.now (R.left source.old))
         (R.left s) service.old
         (W.taken sink.old) (W.taken k) (W.pending sink.old) (W.pending k) → R.can_pull s room }
-    requires answers { MaySend W.taken W.pending IsAnswer sink.old W.can_push W.can_flush }
+    requires answers { MaySend W.taken W.pending AreAnswers sink.old W.can_push W.can_flush }
     ensures { Serves S.made S.seen result limit service.old service.new
         (with_first first.now
         (wire R.left R.gave R.ends R.faults W.taken W.pending W.faults source.old sink.old))
@@ -181,7 +122,12 @@ pub fn serve_after<S: Served, R: Source, W: Sink>(
     served_runs_go_on();
     tenants_are_answered_equally();
     let mut held = Held::new();
-    let mut rooms = Rooms::new();
+    let mut rooms = Rooms {
+        key: [0u8; KEY_LIMIT],
+        found: ArrayVec::new(),
+        reply: ArrayVec::new(),
+        answers: ArrayVec::new(),
+    };
     let mut speaker: Option<S::Speaker> = None;
     match feed(
         alloc,
@@ -221,9 +167,9 @@ pub fn serve_after<S: Served, R: Source, W: Sink>(
     End::Limit
 }
 
-/// Serves the lines of the source. It writes the answer to each line before it looks at the next.
-/// It ends when a line asks to quit, the source ends, a read or a write fails, or `limit` reads
-/// gave bytes.
+/// Serves the lines of the source. It writes and flushes the answers to all lines of a read before
+/// the next read. It ends when a line asks to quit, the source ends, a read or a write fails, or
+/// `limit` reads gave bytes.
 ///
 /// The source may be pulled once all lines that it gave have their answers, written and flushed,
 /// and none of them asked to quit.
@@ -238,7 +184,7 @@ pub fn serve_up_to<S: Served, R: Source, W: Sink>(
     requires prompt { (s : R) (k : W) (room : ℕ) → room ≤ pull_limit
         → IsPrompt S.made S.seen (R.left source.old) (R.left s) service.old
         (W.taken sink.old) (W.taken k) (W.pending sink.old) (W.pending k) → R.can_pull s room }
-    requires answers { MaySend W.taken W.pending IsAnswer sink.old W.can_push W.can_flush }
+    requires answers { MaySend W.taken W.pending AreAnswers sink.old W.can_push W.can_flush }
     ensures { Serves S.made S.seen result limit service.old service.new
         (wire R.left R.gave R.ends R.faults W.taken W.pending W.faults source.old sink.old)
         (wire R.left R.gave R.ends R.faults W.taken W.pending W.faults source.new sink.new) }
@@ -256,7 +202,7 @@ pub fn serve<S: Served, R: Source, W: Sink>(
     requires prompt { (s : R) (k : W) (room : ℕ) → room ≤ pull_limit
         → IsPrompt S.made S.seen (R.left source.old) (R.left s) service.old
         (W.taken sink.old) (W.taken k) (W.pending sink.old) (W.pending k) → R.can_pull s room }
-    requires answers { MaySend W.taken W.pending IsAnswer sink.old W.can_push W.can_flush }
+    requires answers { MaySend W.taken W.pending AreAnswers sink.old W.can_push W.can_flush }
     ensures { Serves S.made S.seen result reads_limit service.old service.new
         (wire R.left R.gave R.ends R.faults W.taken W.pending W.faults source.old sink.old)
         (wire R.left R.gave R.ends R.faults W.taken W.pending W.faults source.new sink.new) }

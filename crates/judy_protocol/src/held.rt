@@ -58,6 +58,7 @@ impl Held {
 }
 
 /// The bytes before the first LF, and those after it.
+#[inline(always)]
 pub fn cut_line(bytes: &[u8]) -> Option<(&[u8], &[u8])>
     ensures { MatchOption result (HasNoLf bytes.now)
         (λ cut. HasNoLf cut.0.now × (bytes.now ≡ cut.0.now ++ 10 ∷ cut.1.now)) }

@@ -9,6 +9,7 @@
 mod commands;
 mod connection;
 mod fields;
+mod gathering;
 mod held;
 mod numbers;
 mod replies;
@@ -18,6 +19,7 @@ mod service;
 mod turns;
 
 pub use connection::{End, PULL_LIMIT, READS_LIMIT, serve, serve_after, serve_up_to};
+pub use gathering::ANSWERS_LIMIT;
 pub use held::{Held, cut_line};
 pub use judy_model::Line;
 pub use replies::{REPLY_LIMIT, write_reply};

@@ -25,6 +25,7 @@ pub enum Refusal {
 }
 
 /// What a line asks for.
+#[inline(always)]
 fn hear_line<'a>(line: &[u8], room: &'a mut [u8; KEY_LIMIT]) -> Result<Line<'a>, Refusal>
     ensures heard { as_heard result ≡ heard line.now }
     ensures asked { (call : CallLem) → as_heard result ≡ Asked (request.Call call) → IsAsked call }
@@ -50,6 +51,7 @@ fn hear_held<'a>(held: &Held, room: &'a mut [u8; KEY_LIMIT]) -> Result<Line<'a>,
 }
 
 /// What the line that is held and ends with the chunk asks for. Nothing is held afterwards.
+#[inline(always)]
 pub fn hear<'a>(
     held: &mut Held,
     chunk: &[u8],

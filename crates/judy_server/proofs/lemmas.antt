@@ -2,3 +2,4 @@
 pub mod Calls
 pub mod Space
 pub mod Starts
+pub mod Reserves

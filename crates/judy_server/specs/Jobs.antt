@@ -1,5 +1,5 @@
 -- What the program does, by what its command line asks for.
-use Rattle.std.specs.Prelude.{◌≡◌, ◌⊎◌, ℕ, Bool, true, false, List, [], ◌∷◌, Option, Some, codes}
+use Rattle.std.specs.Prelude.{◌≡◌, ◌⊎◌, ℕ, Bool, true, false, List, [], ◌∷◌, Option, Some, None, codes, is_some}
 use Rattle.judy_command.specs.declared.words.Job.{Job}
 use Rattle.judy_command.specs.declared.words.Job.TheVariants as job
 use Rattle.judy_protocol.specs.Serving.{Wire}
@@ -12,24 +12,27 @@ use Rattle.judy_programs.specs.Finish.{host_status, host_text, run_status, run_t
 use Rattle.judy_programs.specs.declared.program.Ran.{Ran}
 use Rattle.judy_programs.specs.declared.socket.Hosted.{Hosted}
 use Rattle.judy_server.specs.Served.{IsServedStep, IsNewService, seen_of, held_words}
+use Rattle.judy_server.specs.Status.{status_of}
 
--- the limits of the command line
-abbrev pub limits_of : ℕ → ℕ → Option ℕ → Option ℕ → Limits
-limits_of clients connections idle turn = record { clients = clients; connections = connections; idle = idle; turn = turn }
+-- the limits of the command line; there are questions if a status socket was asked for
+abbrev pub limits_of : ℕ → ℕ → Option ℕ → Option ℕ → Option (List ℕ) → Limits
+limits_of clients connections idle turn watch = record { clients = clients; connections = connections; idle = idle; turn = turn; status = is_some watch }
 
--- Connections were served, or the file was only checked.
-abbrev pub ServesBy : Bool → List ℕ → Hosted → List ℕ → List ℕ → Limits → Log → Log → Type 0
-ServesBy false secret hosted config socket limits log log' = Hosts IsServedStep seen_of (IsNewService secret) hosted config socket limits log log'
-ServesBy true secret hosted config socket limits log log' = Checks (IsNewService secret) hosted config log log'
+-- Connections were served, or the file was only checked. First this many megabytes were taken for the
+-- arrays, if so many are wanted.
+abbrev pub ServesBy : Bool → List ℕ → Option ℕ → Hosted → List ℕ → List ℕ → Option (List ℕ) → Limits → Log → Log → Type 0
+ServesBy false secret reserve hosted config socket watch limits log log' =
+    Hosts IsServedStep status_of seen_of (IsNewService secret) reserve hosted config socket watch limits log log'
+ServesBy true secret reserve hosted config socket watch limits log log' = Checks (IsNewService secret) reserve hosted config log log'
 
 -- What the job did with a secret: its status and its line on standard error, if any, follow from how it ended for
 -- exactly this input. `from` and `to` are what the standard streams showed before and after.
 abbrev pub HasDone : List ℕ → Job → ℕ → Option (List ℕ) → Wire → Wire → Log → Log → Type 0
 HasDone secret (job.Run words) status text from to log log' = (ran : Ran)
-    × HasRun IsServedStep seen_of held_words (IsNewService secret) words ran from to
+    × HasRun IsServedStep seen_of held_words (IsNewService secret None) words ran from to
     × (status ≡ run_status ran) × (text ≡ run_text ran) × (log' ≡ log)
-HasDone secret (job.Serve config socket clients connections idle turn check) status text from to log log' = (hosted : Hosted)
-    × ServesBy check secret hosted config socket (limits_of clients connections idle turn) log log'
+HasDone secret (job.Serve config socket watch clients connections idle turn reserve check) status text from to log log' = (hosted : Hosted)
+    × ServesBy check secret reserve hosted config socket watch (limits_of clients connections idle turn watch) log log'
     × (status ≡ host_status hosted) × (text ≡ host_text hosted) × (to ≡ from)
 
 -- The system drew a secret, once, and the job was done with this secret.

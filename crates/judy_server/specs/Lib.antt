@@ -1,3 +1,4 @@
 pub mod Jobs
 pub mod Served
 pub mod Space
+pub mod Status

@@ -3,8 +3,9 @@
 --     IsServedStep old event reply new   a call: its tenant gets the reply that it would get alone,
 --                                        a refusal for memory has its cause, and all blocks have
 --                                        few words
---     IsNewService secret tenants held   a service of these tenants, none of whom has an entry
-use Rattle.std.specs.Prelude.{◌≡◌, ℕ, List}
+--     IsTaken reserve region room        so many megabytes were taken for the arrays, if any were
+--     IsNewService secret reserve tenants held   a service of these tenants, none of whom has an entry
+use Rattle.std.specs.Prelude.{◌≡◌, ◌≤◌, ◌*◌, ℕ, List, Option, Some, None}
 use Rattle.judy_model.specs.declared.replies.Reply.{Reply}
 use Rattle.judy_model.specs.Speakers.{Event}
 use Rattle.judy_model.specs.Tenant.{no_arrays}
@@ -36,16 +37,24 @@ pub record IsServedStep (old : Held) (event : Event) (reply : Reply) (new : Held
   -- hold
   pub sound : IsSoundService new
 
+-- nothing was taken from the machine, and there is room for 256 names; or this many megabytes were
+-- taken, of 131,072 words, and there is room for 64 names for each of them
+abbrev pub IsTaken : Option ℕ → ℕ → ℕ → Type 0
+IsTaken None region room = (region ≡ 0) × (room ≡ 256)
+IsTaken (Some megabytes) region room = (131072 * megabytes ≤ region) × (64 * megabytes ≤ room)
+
 -- no tenant has an entry, and nothing was refused
-pub record IsNewService (secret : List ℕ) (table : List Tenant) (held : Held) : Type 0 where
+pub record IsNewService (secret : List ℕ) (reserve : Option ℕ) (table : List Tenant) (held : Held) : Type 0 where
   pub tenants : held.tenants ≡ table
   pub states : (t : ℕ) → states_of held t ≡ no_arrays
   pub refusals : held.refusals ≡ 0
   pub unplaced : held.unplaced ≡ 0
-  -- no array has a name or a block, and the arena took nothing from the machine
+  -- no array has a name or a block
   pub names : held.names ≡ 0
   pub words : held.words ≡ 0
-  pub region : held.region ≡ 0
+  -- so much memory was taken from the machine
+  pub taken : IsTaken reserve held.region held.room
+  pub reserved : held.reserved ≡ held.region
   -- so the blocks have few words for what the arrays hold
   pub sound : IsSoundService held
   -- names are looked up by hashes that begin with the secret

@@ -1,16 +1,26 @@
 //! Does what the command line asks for, over any streams and any system.
-ghost use Rattle.std.specs.Prelude.{◌≤◌, ℕ, option_map};
+ghost use Rattle.std.specs.Prelude.{◌≡◌, ◌≤◌, ℕ, option_map};
 ghost use Rattle.judy_protocol.specs.Sending.{MaySend};
 ghost use Rattle.judy_protocol.specs.Serving.{pull_limit, wire};
 ghost use Rattle.judy_server.specs.Jobs.{Does, HasDone};
 ghost use Rattle.judy_programs.specs.Program.{IsSent};
 
 use crate::server::{Chosen, Server, run};
-use judy_command::Job;
+use judy_command::{Job, Word};
 use judy_many::Limits;
 use judy_programs::{Hosts, check_on, finish, finish_hosted, host_on};
 use judy_stream::{Sink, Source};
 use std::alloc::Global;
+
+/// The text of a word, if there is one.
+fn text_of(word: &Option<Word>) -> Option<&str>
+    ensures { option_map (λ s. s.now) result ≡ word.now }
+{
+    match word {
+        Some(word) => Some(word.0.as_str()),
+        None => None,
+    }
+}
 
 /// Does what the command line asks for, with this secret. Returns the status of the program, and its
 /// line on standard error, if any.
@@ -35,15 +45,17 @@ fn do_job_with<K: Chosen, R: Source, W: Sink, H: Hosts>(
         Job::Serve {
             config,
             socket,
+            status,
             clients,
             connections,
             idle,
             turn,
+            reserve,
             check,
         } => {
             let file = config.0.as_str();
             if *check {
-                let looked = check_on::<Server<K>, H>(alloc, secret, system, file);
+                let looked = check_on::<Server<K>, H>(alloc, secret, system, file, *reserve);
                 return finish_hosted(looked);
             }
             let limits = Limits {
@@ -51,9 +63,13 @@ fn do_job_with<K: Chosen, R: Source, W: Sink, H: Hosts>(
                 connections: *connections,
                 idle: *idle,
                 turn: *turn,
+                status: status.is_some(),
             };
             let path = socket.0.as_str();
-            let hosted = host_on::<Server<K>, H>(alloc, secret, system, file, path, limits);
+            let watch = text_of(status);
+            let hosted = host_on::<Server<K>, H>(
+                alloc, secret, system, file, path, watch, *reserve, limits,
+            );
             finish_hosted(hosted)
         }
     }

@@ -4,6 +4,7 @@
 
 mod jobs;
 mod server;
+mod status;
 
 pub use jobs::do_job_on;
 pub use server::{Chosen, Server, run};

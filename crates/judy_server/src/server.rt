@@ -1,21 +1,31 @@
 //! The tenants of a table, as a connection and a program see them.
-ghost use Rattle.std.specs.Prelude.{◌≡◌, ◌≤◌, ℕ, true};
+ghost use Rattle.std.specs.Prelude.{◌≡◌, ◌≤◌, ℕ, None, true};
 ghost use Rattle.judy_table.specs.Shown.{seen};
 ghost use Rattle.judy_protocol.specs.Sending.{MaySend};
 ghost use Rattle.judy_protocol.specs.Serving.{pull_limit, wire};
 ghost use Rattle.judy_programs.specs.Program.{HasRun, IsSent, ServesSoFar, is_refused};
 ghost use Rattle.judy_server.specs.Served.{IsServedStep, IsNewService, seen_of, held_words};
 ghost use Rattle.judy_programs.specs.Tables.{ReadsOn};
+ghost use Rattle.judy_server.specs.Status.{status_of};
 
+use crate::status::add_status;
 use arrayvec::ArrayVec;
+use judy_many::Shows;
 use judy_model::{Call, KEY_LIMIT, Reply};
 use judy_programs::{Opens, Ran, Unopened, run_with};
 use judy_protocol::Served;
 use judy_stream::{Sink, Source};
 use judy_table::{Speaker, Table};
 use judy_tenants::{KeyHash, Service, Sha256Hash};
-use std::alloc::Global;
+use std::alloc::{AllocError, Global};
 use std::marker::Model;
+
+/// How many words a megabyte has.
+const MEGABYTE: u64 = 131_072;
+
+/// For how many names there is room in a megabyte that is taken beforehand: one for each 2,048 words.
+/// Each array with entries has at least one piece, and memory for all pieces is 2,048 words for each.
+const NAMES: usize = 64;
 
 /// A hash of byte keys that can be made from nothing.
 pub trait Chosen: KeyHash {
@@ -69,6 +79,14 @@ impl<H: Chosen> Served for Server<H> {
     ghost apart = { λ before after event reply made. made.called };
 }
 
+impl<H: Chosen> Shows for Server<H> {
+    ghost status = { status_of };
+
+    fn show(&self, text: &mut Vec<u8>) -> Result<(), AllocError> {
+        add_status(text, &self.service)
+    }
+}
+
 impl<H: Chosen> Opens for Server<H> {
     ghost is_new = { IsNewService };
 
@@ -83,6 +101,12 @@ impl<H: Chosen> Opens for Server<H> {
             Ok(service) => Ok(Server { service }),
             Err(_) => Err(Unopened::Memory),
         }
+    }
+
+    fn reserve(&mut self, alloc: Global, megabytes: u32) -> bool {
+        let words = megabytes as u64 * MEGABYTE;
+        let names = megabytes as usize * NAMES;
+        self.service.reserve(alloc, words, names).is_ok()
     }
 
     fn live_words(&self) -> u64 {
@@ -107,10 +131,10 @@ pub fn run<H: Chosen, R: Source, W: Sink>(
     requires table { (s : R) (room : ℕ) → room ≤ pull_limit → ReadsOn (R.left r.old) (R.left s)
         → R.can_pull s room }
     requires prompt { (s : R) (k : W) (room : ℕ) → room ≤ pull_limit
-        → ServesSoFar IsServedStep seen_of held_words (IsNewService secret.now) (R.left r.old) (R.left s)
+        → ServesSoFar IsServedStep seen_of held_words (IsNewService secret.now None) (R.left r.old) (R.left s)
         (W.taken w.old) (W.taken k) (W.pending w.old) (W.pending k) → R.can_pull s room }
     requires answers { MaySend W.taken W.pending IsSent w.old W.can_push W.can_flush }
-    ensures runs { HasRun IsServedStep seen_of held_words (IsNewService secret.now) words result
+    ensures runs { HasRun IsServedStep seen_of held_words (IsNewService secret.now None) words result
         (wire R.left R.gave R.ends R.faults W.taken W.pending W.faults r.old w.old)
         (wire R.left R.gave R.ends R.faults W.taken W.pending W.faults r.new w.new) }
     ensures quiet { is_refused result ≡ true → w.new ≡ w.old }

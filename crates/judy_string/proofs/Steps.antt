@@ -53,8 +53,8 @@ module _ (r : ℕ) (a : Blocks) (w : ℕ) (s : List ℕ) (rest : IsRest r s) (no
 
     -- the suffix goes
     pub suffix-lost : (b c : ArenaState) (v : ℕ) → b.blocks ≡ a → value_of string_order (suffix_entry a w ∷ []) s ≡ Some v
-        → c.blocks ≡ without a (number_of w) → c.refusals ≡ b.refusals → HasLost (suc r) b c w s 0
-    suffix-lost b c v same at gone quiet =
+        → c.blocks ≡ without a (number_of w) → HasLost (suc r) b c w s 0
+    suffix-lost b c v same at gone =
         let z = zero-array r c.blocks in
         let one = suffix-content r a w yes_ in
         subst (λ l. HasLost (suc r) (record b { blocks = l }) c w s 0) (sym same) (record {
@@ -67,7 +67,6 @@ module _ (r : ℕ) (a : Blocks) (w : ℕ) (s : List ℕ) (rest : IsRest r s) (no
                 (subst (λ b. Frame a b (number_of w ∷ []) []) (sym gone) (frame-release a (number_of w))));
           };
           kind = λ no. absurd (not_true (sym no ∙ yes_));
-          quiet = quiet;
         })
 
   -- ---- a word array

@@ -59,7 +59,6 @@ pub record HasLost (m : ℕ) (a c : ArenaState) (w : ℕ) (s : List ℕ) (x : �
   pub changed : IsChanged m a.blocks c.blocks w x (without_key string_order (nested_content_at m a.blocks w) s)
   -- an array stays an array
   pub kind : is_suffix w ≡ false → is_suffix x ≡ false
-  pub quiet : c.refusals ≡ a.refusals
 
 -- what a removal returns and leaves: the node without the string, or None if the string was absent;
 -- then nothing changed

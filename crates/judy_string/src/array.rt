@@ -98,8 +98,6 @@ impl JudySL {
         ensures absent { OnErr result (IsFalse (has_string_key arena.old self.old key.now)) }
         ensures refused { OnErr result (IsRefused arena.old self.old arena.new self.new) }
         ensures quiet { OnOk result (arena.new.refusals ≡ arena.old.refusals) }
-        ensures rests { IsTrue (has_string_key arena.old self.old key.now)
-            → arena.new.region ≡ arena.old.region }
         ensures memory { Takes
             (if has_string_key arena.old self.old key.now then 0 else 380)
             arena.old arena.new }
@@ -117,8 +115,6 @@ impl JudySL {
         ensures array { StringBecomes arena.old self.old arena.new self.new }
         ensures content { StringSets arena.old self.old key.now value arena.new self.new }
         ensures word { self.new ≡ self.old }
-        ensures refusals { arena.new.refusals ≡ arena.old.refusals }
-        ensures region { arena.new.region ≡ arena.old.region }
         ensures memory { TakesNothing arena.old arena.new }
     {
         nodes::write(arena, self.root, key, value, ROOM);
@@ -144,8 +140,6 @@ impl JudySL {
         ensures content { StringLoses arena.old self.old key.now arena.new self.new }
         ensures step { StringAnswers arena.old self.old (str.Delete key.now) (reply.Int result)
             arena.new self.new }
-        ensures refusals { arena.new.refusals ≡ arena.old.refusals }
-        ensures region { arena.new.region ≡ arena.old.region }
         ensures memory { TakesNothing arena.old arena.new }
     {
         let Some(left) = nodes::remove(arena, self.root, key, ROOM) else {
@@ -165,8 +159,6 @@ impl JudySL {
         ensures content { string_in arena.new.blocks self.new ≡ [] }
         ensures step { StringAnswers arena.old self.old str.Free (reply.Count result) arena.new
             self.new }
-        ensures refusals { arena.new.refusals ≡ arena.old.refusals }
-        ensures region { arena.new.region ≡ arena.old.region }
         ensures memory { TakesNothing arena.old arena.new }
     {
         let count = nodes::clear(arena, self.root, ROOM);

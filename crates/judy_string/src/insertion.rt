@@ -1,6 +1,6 @@
 //! Insertion: the new nodes are built apart from the old ones, from the last word upwards, and
 //! attached last.
-ghost use Rattle.std.specs.Prelude.{◌≡◌, ◌≢◌, ◌+◌, ◌*◌, ◌≤◌, suc, IfOk, OnOk, OnErr, IsTrue, IsFalse, is_ok, is_some};
+ghost use Rattle.std.specs.Prelude.{◌≡◌, ◌≢◌, ◌+◌, ◌*◌, ◌≤◌, suc, IfOk, OnOk, OnErr, IsTrue, IsFalse, is_ok};
 ghost use Rattle.judy_arena.specs.Takes.{Takes};
 ghost use Rattle.judy_long.specs.LongArrays.{long_in, CountsRefusals};
 ghost use Rattle.judy_long.specs.Packing.{pack};
@@ -8,7 +8,6 @@ ghost use Rattle.judy_model.specs.Contents.{word_order, has_key};
 ghost use Rattle.judy_string.specs.Changes.{IsRest, IsHung, IsForkedArray, Enters, IsTurnedAway, blocks_entered};
 ghost use Rattle.judy_string.specs.Strings.{IsNestedAt};
 ghost use Rattle.judy_string.specs.Suffixes.{is_suffix};
-ghost use Rattle.judy_tree.specs.Answers.{shown};
 
 use crate::nodes::{clear, tail};
 use crate::words::Entered;
@@ -112,8 +111,6 @@ fn split(
     ensures done { IfOk result
         (λ e. Enters (suc room) arena.old arena.new node string.now given e) }
     ensures refused { OnErr result (IsTurnedAway (suc room) arena.old arena.new node string.now) }
-    ensures rests { IfOk result (λ e. IsTrue (is_some (shown e.inserted))
-        → arena.new.region ≡ arena.old.region) }
     ensures memory { Takes (blocks_entered (130 + 2 * room) result) arena.old arena.new }
 {
     if let Some(value) = suffix::get(arena, node, string) {
@@ -148,8 +145,6 @@ pub(crate) fn insert(
     ensures done { IfOk result
         (λ e. Enters (suc room) arena.old arena.new node string.now given e) }
     ensures refused { OnErr result (IsTurnedAway (suc room) arena.old arena.new node string.now) }
-    ensures rests { IfOk result (λ e. IsTrue (is_some (shown e.inserted))
-        → arena.new.region ≡ arena.old.region) }
     ensures memory { Takes (blocks_entered (130 + 2 * room) result) arena.old arena.new }
 {
     if suffix::is_suffix(node) {

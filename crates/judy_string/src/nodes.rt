@@ -54,8 +54,6 @@ pub(crate) fn write(arena: &mut Arena, node: Ref, string: &[u8], value: u64, roo
     requires there { IsTrue
         (has_key string_order (nested_content_at (suc room) arena.old.blocks node) string.now) }
     ensures changed { IsWritten (suc room) arena.old.blocks arena.new.blocks node string.now value }
-    ensures refusals { arena.new.refusals ≡ arena.old.refusals }
-    ensures region { arena.new.region ≡ arena.old.region }
     ensures memory { TakesNothing arena.old arena.new }
 {
     if suffix::is_suffix(node) {
@@ -78,7 +76,6 @@ pub(crate) fn remove(arena: &mut Arena, node: Ref, string: &[u8], room: usize) -
     requires rest { IsRest room string.now }
     requires node { IsNestedAt (suc room) arena.old.blocks node }
     ensures removal { RemovesString (suc room) arena.old arena.new node string.now result }
-    ensures region { arena.new.region ≡ arena.old.region }
     ensures memory { TakesNothing arena.old arena.new }
 {
     if suffix::is_suffix(node) {
@@ -114,8 +111,6 @@ pub(crate) fn clear(arena: &mut Arena, node: Ref, room: usize) -> u64
     ensures gone { Frame arena.old.blocks arena.new.blocks
         (nested_numbers_at (suc room) arena.old.blocks node) [] }
     ensures count { result ≡ length (nested_content_at (suc room) arena.old.blocks node) }
-    ensures refusals { arena.new.refusals ≡ arena.old.refusals }
-    ensures region { arena.new.region ≡ arena.old.region }
     ensures memory { TakesNothing arena.old arena.new }
 {
     if suffix::is_suffix(node) {
@@ -146,8 +141,6 @@ fn clear_entry(arena: &mut Arena, word: u64, value: u64, room: usize) -> u64
     ensures gone { Frame arena.old.blocks arena.new.blocks
         (numbers_under room arena.old.blocks (word, value)) [] }
     ensures count { result ≡ length (content_under room arena.old.blocks (word, value)) }
-    ensures refusals { arena.new.refusals ≡ arena.old.refusals }
-    ensures region { arena.new.region ≡ arena.old.region }
     ensures memory { TakesNothing arena.old arena.new }
 {
     if is_last(word) {

@@ -89,8 +89,6 @@ pub(crate) fn write(arena: &mut Arena, reference: Ref, value: u64)
     requires suffix { IsTrue (is_suffix reference) }
     requires live { 0 < length (words_of arena.old.blocks (number_of reference)) }
     ensures blocks { arena.new.blocks ≡ with_suffix_value arena.old.blocks reference value }
-    ensures refusals { arena.new.refusals ≡ arena.old.refusals }
-    ensures region { arena.new.region ≡ arena.old.region }
     ensures memory { TakesNothing arena.old arena.new }
 {
     if let Some(block) = reference.block() {
@@ -129,8 +127,6 @@ pub(crate) fn release(arena: &mut Arena, reference: Ref)
     requires suffix { IsTrue (is_suffix reference) }
     requires live { 0 < length (words_of arena.old.blocks (number_of reference)) }
     ensures blocks { arena.new.blocks ≡ without arena.old.blocks (number_of reference) }
-    ensures refusals { arena.new.refusals ≡ arena.old.refusals }
-    ensures region { arena.new.region ≡ arena.old.region }
     ensures memory { TakesNothing arena.old arena.new }
 {
     if let Some(block) = reference.block() {

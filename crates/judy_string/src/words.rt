@@ -45,8 +45,6 @@ pub(crate) fn enter(
         (IsFalse (has_key word_order (long_in arena.old.blocks array) word)) }
     ensures unchanged { OnErr result (arena.new.blocks ≡ arena.old.blocks) }
     ensures refusals { CountsRefusals arena.old arena.new (is_ok result) }
-    ensures rests { IsTrue (has_key word_order (long_in arena.old.blocks array) word)
-        → arena.new.region ≡ arena.old.region }
     ensures memory { Takes (if has_key word_order (long_in arena.old.blocks array) word then 0 else 64)
         arena.old arena.new }
     ensures few { length (long_in arena.old.blocks array) ≤ 30 → Takes 2 arena.old arena.new }
@@ -93,8 +91,6 @@ pub(crate) fn lead(arena: &mut Arena, array: Ref, word: u64, old: Ref, new: Ref)
     requires root { IsLongArray arena.old.blocks array }
     requires there { value_of word_order (long_in arena.old.blocks array) word ≡ Some old }
     ensures done { IsPut arena.old.blocks arena.new.blocks array word new array }
-    ensures refusals { arena.new.refusals ≡ arena.old.refusals }
-    ensures region { arena.new.region ≡ arena.old.region }
     ensures memory { TakesNothing arena.old arena.new }
 {
     if old.word() == new.word() {
@@ -108,8 +104,6 @@ pub(crate) fn lead(arena: &mut Arena, array: Ref, word: u64, old: Ref, new: Ref)
 pub(crate) fn take(arena: &mut Arena, array: Ref, word: u64) -> Ref
     requires { IsLongArray arena.old.blocks array }
     ensures done { IsTakenWord arena.old.blocks arena.new.blocks array word result }
-    ensures refusals { arena.new.refusals ≡ arena.old.refusals }
-    ensures region { arena.new.region ≡ arena.old.region }
     ensures memory { TakesNothing arena.old arena.new }
 {
     let mut words = JudyL::from_reference(array);
@@ -122,8 +116,6 @@ pub(crate) fn write(arena: &mut Arena, array: Ref, word: u64, value: u64)
     requires root { IsLongArray arena.old.blocks array }
     requires there { IsTrue (has_key word_order (long_in arena.old.blocks array) word) }
     ensures done { IsPut arena.old.blocks arena.new.blocks array word value array }
-    ensures refusals { arena.new.refusals ≡ arena.old.refusals }
-    ensures region { arena.new.region ≡ arena.old.region }
     ensures memory { TakesNothing arena.old arena.new }
 {
     let mut words = JudyL::from_reference(array);

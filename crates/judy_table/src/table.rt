@@ -130,6 +130,24 @@ impl Table {
         self.tenants.len()
     }
 
+    /// The tenant at a place.
+    pub fn tenant(&self, place: usize) -> TenantId
+        requires { place < length self.now }
+        ensures { result ≡ place }
+    {
+        // The invariant of a table is known once its field is read.
+        let _tenants = &self.tenants;
+        TenantId::at(place as u8)
+    }
+
+    /// A tenant's name.
+    pub fn name(&self, tenant: TenantId) -> &[u8]
+        requires { tenant < length self.now }
+        ensures { slice_get (map (λ t. t.name) self.now) tenant ≡ Some result.now }
+    {
+        self.tenants[tenant.place() as usize].name.as_bytes()
+    }
+
     /// The tenant of this name.
     pub fn find(&self, name: &[u8]) -> Option<TenantId>
         ensures { result ≡ place_of name.now self.now }

@@ -1,9 +1,12 @@
 -- One call of one tenant, answered or refused, as contracts see it.
-use Rattle.std.proofs.Common.{◌≡◌, ◌≢◌, ◌⊎◌, ◌≤◌, ◌<◌, ◌+◌, ◌&&◌, ℕ, Bool, true, false, not, inl, inr, List, map, length, ap}
+use Rattle.std.proofs.Common.{◌≡◌, ◌≢◌, ◌⊎◌, ◌≤◌, ◌<◌, ◌+◌, ◌&&◌, ℕ, Bool, true, false, cond, not, inl, inr, List, map, length, ap}
 use Rattle.std.proofs.Common.{sym, ◌∙◌, refl, subst, arith, Some, None}
 use Rattle.std.specs.Prelude.{MatchBool}
 use Rattle.std.specs.List.{slice_get}
 use Rattle.std.specs.FinMap.{get}
+use Rattle.judy_arena.specs.Blocks.{ArenaState}
+use Rattle.judy_arena.specs.Takes.{Takes}
+use Rattle.judy_arena.proofs.lemmas.TakeLaws.{takes-more}
 use Rattle.judy_model.specs.declared.calls.Call.{Call}
 use Rattle.judy_model.specs.declared.calls.Call.TheVariants as call
 use Rattle.judy_model.specs.declared.quotas.Quota.{Quota}
@@ -19,14 +22,14 @@ use Rattle.judy_directory.specs.Places.{at}
 use Rattle.judy_directory.specs.Kinds.{spot_of}
 use Rattle.judy_table.specs.declared.tenant.Tenant.{Tenant}
 use Rattle.judy_kinds.specs.Kinds.{IsPlaceOf, kind_of_key}
-use Rattle.judy_kinds.specs.Calls.{is_of_array, is_insertion, kind_of_call, name_of_call, asks_at, AnswersAt}
+use Rattle.judy_kinds.specs.Calls.{is_of_array, is_insertion, kind_of_call, name_of_call, asks_at, AnswersAt, blocks_of_kind, blocks_of_call}
 use Rattle.judy_kinds.specs.Laws.{InsertionsAloneAsk}
 use Rattle.judy_directory.specs.declared.spot.ArrayKind.{ArrayKind}
 use Rattle.judy_directory.specs.declared.spot.ArrayKind.TheVariants.{One, Long, Str, Bytes}
 use Rattle.judy_tenants.specs.declared.accounts.Account.{Account}
 use Rattle.judy_tenants.specs.declared.stock.Stock.{Stock}
 use Rattle.judy_tenants.specs.declared.stock.Answered.{Answered}
-use Rattle.judy_tenants.specs.Held.{Held, states_of, quotas_of, NamesNothing, IsQuiet, IsShortService, IsUnplaced, HasCause, is_refusal, Keeps}
+use Rattle.judy_tenants.specs.Held.{Held, states_of, quotas_of, NamesNothing, IsQuiet, IsShortService, IsUnplaced, HasCause, is_refusal, Keeps, blocks_of_event}
 use Rattle.judy_tenants.proofs.Steps.{HasWay}
 use Rattle.judy_tenants.specs.States.{state_in, sizes_in, key_of_call}
 use Rattle.judy_tenants.proofs.Owners.{kind_at-owner_byte}
@@ -80,7 +83,15 @@ pub record CanSettle (t : ℕ) (accounts : List Account) (answer : Answered) : T
 
 -- a service in which nothing changed is unchanged as a whole
 pub whole-keeps : (event : Event) (held : Held) (r : Reply) → Keeps event held r held
-whole-keeps event held r = record { tenants = refl; start = refl; refused = λ h. refl; counts = λ h. refl; rests = λ h. refl; others = λ u h. refl }
+whole-keeps event held r = record {
+  tenants = refl;
+  start = refl;
+  room = refl;
+  refused = λ h. refl;
+  counts = λ h. refl;
+  memory = record { words = omega arith; peak = omega arith; rises = omega arith; region = omega arith; kept = omega arith; reserved = refl; refused = inl refl };
+  others = λ u h. refl;
+}
 
 -- the key that the code builds is the call's key
 pub key-is : (tenant t : ℕ) (kind k : ArrayKind) (copied name n : List ℕ) (spot : List ℕ) → spot ≡ spot_of tenant kind copied
@@ -178,6 +189,28 @@ module _ {H : List ℕ → ℕ} {tenants : List Tenant} {old : Stock} {t : ℕ} 
         unlike : false ≡ true → ⊥
         unlike e = cc
 
+    -- the blocks that it takes by the array are at most those by the state
+    few-blocks : blocks_of_call old.arena.blocks (at old.directory.0 key).root c ≤ blocks_of_event (states_of (held_of tenants old) t) event
+    few-blocks = by (asks_for_new right (states_of (held_of tenants old) t) c) refl
+      where
+        few : (b : Bool) (n : ℕ) → cond {A = ℕ} b n 0 ≤ n
+        few true n = omega arith
+        few false n = omega arith
+
+        none : (b : Bool) (n : ℕ) → b ≡ false → cond {A = ℕ} b n 0 ≤ 0
+        none true n e = cc
+        none false n e = omega arith
+
+        by : (a : Bool) → asks_for_new right (states_of (held_of tenants old) t) c ≡ a
+            → blocks_of_call old.arena.blocks (at old.directory.0 key).root c ≤ cond {A = ℕ} a (blocks_of_kind (kind_of_call c)) 0
+        by true e = few (asks_at old.arena.blocks (at old.directory.0 key).root c) (blocks_of_kind (kind_of_call c))
+        by false e = none (asks_at old.arena.blocks (at old.directory.0 key).root c) (blocks_of_kind (kind_of_call c)) (not-asking e)
+
+    -- what the arena takes, as contracts see it
+    takes-are : (last : ArenaState) → Takes (blocks_of_call old.arena.blocks (at old.directory.0 key).root c) old.arena last
+        → Takes (blocks_of_event (states_of (held_of tenants old) t) event) old.arena last
+    takes-are last h = takes-more _ _ old.arena last few-blocks h
+
     -- the account has room exactly if the tenant has
     room-are : has_room_in account quota c ≡ has_room (quotas_of tenants t) was c
     room-are = room-is tenants old m.stocked t quota account m.quota_is m.entries m.pieces c
@@ -203,7 +236,8 @@ module _ {H : List ℕ → ℕ} {tenants : List Tenant} {old : Stock} {t : ℕ} 
           (way-of (asks_at old.arena.blocks (at old.directory.0 key).root c) (has_room_in account quota c) (sym e ∙ free)))
 
       -- it is refused for memory
-      module _ (new : Stock) (y : IsRefusedIn key c old new) where
+      module _ (new : Stock) (y : IsRefusedIn key c old new)
+          (takes : Takes (blocks_of_call old.arena.blocks (at old.directory.0 key).root c) old.arena new.arena) where
         asked : asks_at old.arena.blocks (at old.directory.0 (key_of_call t c)).root c ≡ true
         asked = sym asks-are ∙ y.asked
 
@@ -235,10 +269,11 @@ module _ {H : List ℕ → ℕ} {tenants : List Tenant} {old : Stock} {t : ℕ} 
         short-keeps : Keeps event (held_of tenants old) reply.Memory (held_of tenants new)
         short-keeps = record {
           tenants = refl;
-          start = y.start;
+          start = ap (λ f. f.start) y.footing;
+          room = ap (λ f. f.room) y.footing;
           refused = λ h. absurd (unlike h);
           counts = λ h. absurd (unlike (ap (λ d. asks_at old.arena.blocks (at old.directory.0 (key_of_call t c)).root d) (sym h) ∙ asked));
-          rests = λ h. absurd (unlike (sym (not-asking h) ∙ y.asked));
+          memory = takes-are new.arena takes;
           others = λ u h. seen-sizes tenants new short-stocked u ∙ refused-sizes m.stocked key c y u ∙ sym (seen-sizes tenants old m.stocked u);
         }
           where
@@ -322,10 +357,10 @@ module _ {H : List ℕ → ℕ} {tenants : List Tenant} {old : Stock} {t : ℕ} 
               (entries ∙ ap (λ l. entries_at l t + answer.after.entries) accounts-are) (sizes ∙ ap (λ l. account_pieces l t + answer.after.pieces) accounts-are)
               (λ u h. other_entries u h ∙ ap (λ l. entries_at l u) accounts-are) (λ u h. other_sizes u h ∙ ap (λ l. account_pieces l u) accounts-are)
 
-        -- the service as contracts see it; a call that asks for no new entry takes nothing
-        module _ (quiet : asks_at old.arena.blocks (at old.directory.0 key).root c ≡ false → new.arena.region ≡ old.arena.region)
+        -- the service as contracts see it
+        module _ (takes : Takes (blocks_of_call old.arena.blocks (at old.directory.0 key).root c) old.arena new.arena)
             (last : Stock) (n : IsStocked H tenants last) (arena : last.arena ≡ new.arena)
-            (places : last.directory.0 ≡ new.directory.0) (start : last.directory.1 ≡ new.directory.1)
+            (places : last.directory.0 ≡ new.directory.0) (footing : last.directory.1 ≡ new.directory.1)
             (unplaced : last.unplaced ≡ new.unplaced) where
           same-state : (u : ℕ) → state_in last.arena.blocks last.directory.0 u ≡ state_in new.arena.blocks new.directory.0 u
           same-state u = ap (λ a. state_in a.blocks last.directory.0 u) arena ∙ ap (λ d. state_in new.arena.blocks d u) places
@@ -351,13 +386,15 @@ module _ {H : List ℕ → ℕ} {tenants : List Tenant} {old : Stock} {t : ℕ} 
           answered-keeps : Keeps event (held_of tenants old) answer.reply (held_of tenants last)
           answered-keeps = record {
             tenants = refl;
-            start = start ∙ z.start;
+            start = ap (λ f. f.start) (footing ∙ z.footing);
+            room = ap (λ f. f.room) (footing ∙ z.footing);
             refused = λ h. absurd (not-refused m.full m.looks (quotas_of tenants t) was
                 (state_in new.arena.blocks new.directory.0 t) right c answer.reply m.allowed
                 (own-step m.laws m.stocked t c m.known answer x m.adds way)
                 (subst (λ b. HasWay b (has_room (quotas_of tenants t) was c)) (asks-in m.laws old.arena.blocks old.directory.0 t c) way) h);
             counts = λ h. absurd (subst (λ d. AnswersAt old.arena.blocks answer.before.root d answer.reply new.arena.blocks answer.after.root) h z.step);
-            rests = λ h. ap (λ a. a.region) arena ∙ quiet (not-asking h);
+            memory = takes-are last.arena
+                (subst (Takes (blocks_of_call old.arena.blocks (at old.directory.0 key).root c) old.arena) (sym arena) takes);
             others = λ u h. seen-sizes tenants last n u ∙ same-sizes u
                 ∙ other-sizes-rest m.laws m.stocked t c m.known answer x m.adds way u h ∙ sym (seen-sizes tenants old m.stocked u);
           }

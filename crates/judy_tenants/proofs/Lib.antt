@@ -3,6 +3,7 @@ mod Steps
 mod StateLaws
 mod Numbers
 mod Space
+mod Peaks
 mod Counts
 mod Names
 mod Words

@@ -3,6 +3,7 @@ use Rattle.std.proofs.Common.{◌≡◌, ◌≤◌, ℕ, List, ap, sym, ◌∙�
 use Rattle.std.proofs.lemmas.Bool.{ltb-true, ltb-false}
 use Rattle.std.proofs.lemmas.List.{get_or_past}
 use Rattle.std.proofs.lemmas.List.FromFn.{get_or-map-range_with_len, length-map-range_with_len}
+use Rattle.std.specs.FinMap.{len}
 use Rattle.judy_arena.specs.Blocks.{total_words}
 use Rattle.judy_arena.specs.Totals.{TotalsOver}
 use Rattle.judy_model.specs.declared.replies.Reply.{Reply}
@@ -66,13 +67,14 @@ seen-sum {H} laws small totals tenants stock s =
 
 -- all blocks have few words for the pieces that contracts see
 pub seen-space : {H : List ℕ → ℕ} → KindLaws H → PlacesAreSmall → TotalsOver → (tenants : List Tenant) (stock : Stock)
-    → IsStocked H tenants stock → HasServiceSpace (held_of tenants stock)
-seen-space {H} laws small totals tenants stock s =
+    → IsStocked H tenants stock → stock.arena.live ≡ total_words stock.arena.blocks → HasServiceSpace (held_of tenants stock)
+seen-space {H} laws small totals tenants stock s live =
     let compact : IsCompact (length tenants) stock.arena.blocks stock.directory.0 = space-in laws s.held s.owned
     (λ kind p. small H kind stock.arena.blocks p) totals in
     record {
-      most = subst (λ f. total_words stock.arena.blocks ≤ 16 * all_pieces (length tenants) f) (sym (seen-states tenants stock s)) compact.most;
-      least = compact.least;
+      most = subst (λ f. stock.arena.live ≤ 16 * all_pieces (length tenants) f) (sym (seen-states tenants stock s))
+          (subst (λ n. n ≤ 16 * all_pieces (length tenants) (state_in stock.arena.blocks stock.directory.0)) (sym live) compact.most);
+      least = subst (λ n. 4 * len stock.directory.0 ≤ n) (sym live) compact.least;
     }
 
 -- the number of names is the number of arrays that have entries

@@ -1,5 +1,5 @@
 -- What holds of a service at all times: the form, the quota and the words of each tenant.
-use Rattle.std.proofs.Common.{◌≡◌, ℕ, ◌+◌, ◌*◌, ◌≤◌, ◌<◌, Bool, true, false, cond, ◌&&◌, List, [], ◌∷◌, length, map, Option, Some}
+use Rattle.std.proofs.Common.{max, ◌≡◌, ℕ, ◌+◌, ◌*◌, ◌≤◌, ◌<◌, Bool, true, false, cond, ◌&&◌, List, [], ◌∷◌, length, map, Option, Some}
 use Rattle.std.proofs.Common.{None, is_some, ap, sym, ◌∙◌, refl, subst, arith}
 use Rattle.std.specs.Prelude.{unwrap_or, option_map, sum_by, IsTrue}
 use Rattle.std.specs.List.{list_all}
@@ -30,7 +30,7 @@ use Rattle.judy_table.specs.declared.tenant.Tenant.{Tenant}
 use Rattle.judy_kinds.specs.Kinds.{IsPlaceOf, numbers_of_array}
 use Rattle.judy_kinds.specs.Laws.{AreFewWords, IsSmall, PlacesAreSmall, IsInForm, ContentsAreInForm}
 use Rattle.judy_tenants.specs.declared.stock.Stock.{Stock}
-use Rattle.judy_tenants.specs.Held.{Held, states_of, sizes_of, quotas_of, words_named, summed_words, tenant_words, HasLeastOf, HasLeast, IsShare, IsSoundService}
+use Rattle.judy_tenants.specs.Held.{Held, states_of, sizes_of, quotas_of, words_for, words_named, summed_words, tenant_words, HasLeastOf, HasLeast, IsShare, IsSoundService}
 use Rattle.judy_tenants.specs.States.{state_in, words_at, sized, sizes_in, IsHeld}
 use Rattle.judy_tenants.specs.Growth.{KindLaws}
 use Rattle.judy_tenants.proofs.StateLaws.{KeyOf, content_at, size_at, arrays_at, arrays_at-state_in, place-in, named-in, entries-in}
@@ -238,16 +238,19 @@ module _ {H : List ℕ → ℕ} (laws : KindLaws H) (small : PlacesAreSmall) (to
     long = tight-longs laws stock.arena.blocks stock.directory.0 s.held t small;
   }
 
-  pub seen-sound : total_words stock.arena.blocks ≤ stock.arena.peak → stock.arena.region ≤ 128 * stock.arena.peak + 512 → IsSoundService held
-  seen-sound live region = record {
+  pub seen-sound : stock.arena.live ≡ total_words stock.arena.blocks → total_words stock.arena.blocks ≤ stock.arena.peak
+      → stock.arena.region ≤ max stock.arena.reserved (128 * stock.arena.peak + 512) → stock.arena.peak ≤ words_for tenants → IsSoundService held
+  seen-sound count live region peak = record {
     form = λ t. subst IsWellFormed (sym (seen-state tenants stock s t)) (form-in laws stock.arena.blocks stock.directory.0 s.held t formed);
     within = λ t. subst (IsWithin (quotas_of tenants t)) (sym (seen-state tenants stock s t)) (within-in t);
-    sum = seen-sum laws small totals tenants stock s;
-    space = seen-space laws small totals tenants stock s;
+    sum = count ∙ seen-sum laws small totals tenants stock s;
+    space = seen-space laws small totals tenants stock s count;
     shares = λ t. subst (IsShare (quotas_of tenants t) (states_of held t)) (sym (seen-sizes tenants stock s t))
         (subst (λ (z : State). IsShare (quotas_of tenants t) z (sizes_in stock.arena.blocks stock.directory.0 t))
         (sym (seen-state tenants stock s t)) (share-in t));
     names = seen-names laws tenants stock s;
-    live = live;
+    live = omega (arith, count, live);
     region = region;
+    peak = peak;
+    machine = omega (arith, region, peak);
   }

@@ -11,14 +11,20 @@
 --                                    quota
 --     all_words n sizes              the words of all arrays of the first n tenants
 --     HasLeast s z                   each array with entries has at least 4 words
+--     words_for tenants              the most words that are ever live at once, by the quotas
+--     blocks_of_event s event        the blocks that a call takes at most
+--     ServiceTakes n old new         a call takes at most n blocks
 --     IsSoundService held            what holds of a service at all times
 --     Keeps event old reply new      what is unchanged after a call
+--     IsReserved old new             memory was taken beforehand, and nothing else changed
+--     HasNoReserve words old new     the machine had not that much
 --     IsCallOf old event reply new   how one call changes a service
 use Rattle.std.specs.Prelude.{◌≡◌, ◌⊎◌, ◌+◌, ◌≤◌, ◌*◌, ℕ, zero, suc, Bool, true, false, List, [], length, map, get_or, count_by}
-use Rattle.std.specs.Prelude.{sum_by, unwrap_or, IsTrue, IsFalse, MatchBool, ◌≢◌}
+use Rattle.std.specs.Prelude.{sum_by, unwrap_or, IsTrue, MatchBool, ◌≢◌, if◌then◌else◌, max, ◌%◌, ◌<◌}
 use Rattle.std.specs.List.{range_with_len}
 use Rattle.std.specs.FinMap.{find}
 use Rattle.judy_arena.specs.Blocks.{count_up}
+use Rattle.judy_arena.specs.Takes.{Rise}
 use Rattle.judy_model.specs.declared.calls.Call.{Call}
 use Rattle.judy_model.specs.declared.calls.Call.TheVariants.{One, Long, Str, Bytes, Used}
 use Rattle.judy_model.specs.declared.quotas.Quota.{Quota}
@@ -31,6 +37,7 @@ use Rattle.judy_model.specs.Solo.{is_memory}
 use Rattle.judy_model.specs.Service.{Quotas, States, IsServed, all_pieces}
 use Rattle.judy_model.specs.Speakers.{Event}
 use Rattle.judy_kinds.specs.Laws.{AreFewWords}
+use Rattle.judy_kinds.specs.Calls.{kind_of_call, blocks_of_kind}
 use Rattle.judy_table.specs.declared.tenant.Tenant.{Tenant}
 
 -- the words in the blocks of each array of a tenant, by the array's name
@@ -64,8 +71,12 @@ pub record Held : Type 0 where
   pub region : ℕ
   -- the greatest number of words that were live at once
   pub peak : ℕ
+  -- words that the arena had taken from the machine when it last took some beforehand
+  pub reserved : ℕ
   -- the start of the hash of each name
   pub start : ℕ
+  -- names that are sure to get a place
+  pub room : ℕ
 
 -- the arrays of each tenant
 abbrev pub states_of : Held → States
@@ -103,6 +114,16 @@ no_quota = record { entries = 0; pieces = 0 }
 -- the quota of each tenant
 abbrev pub quotas_of : List Tenant → Quotas
 quotas_of tenants t = get_or (map (λ tenant. tenant.quota) tenants) t no_quota
+
+-- the pieces of the quotas of the first n tenants, added up
+abbrev pub all_quotas : ℕ → Quotas → ℕ
+all_quotas zero quotas = 0
+all_quotas (suc n) quotas = all_quotas n quotas + (quotas n).pieces
+
+-- the most words that are ever live at once: 16 for each piece of the tenants' quotas, and those of
+-- the 380 blocks that one call takes at most
+abbrev pub words_for : List Tenant → ℕ
+words_for tenants = 16 * all_quotas (length tenants) (quotas_of tenants) + 194560
 
 -- at most 16 words for each piece of all tenants, and at least 4 for each array
 pub record HasServiceSpace (held : Held) : Type 0 where
@@ -160,9 +181,13 @@ pub record IsSoundService (held : Held) : Type 0 where
   pub shares : (t : ℕ) → IsShare (quotas_of held.tenants t) (states_of held t) (sizes_of held t)
   -- the number of names is the number of arrays that have entries
   pub names : HasNames held
-  -- the words taken from the machine are bounded by the words that were live at once
+  -- the words taken from the machine are bounded by the words that were live at once, or are those
+  -- that were taken beforehand
   pub live : held.words ≤ held.peak
-  pub region : held.region ≤ 128 * held.peak + 512
+  pub region : held.region ≤ max held.reserved (128 * held.peak + 512)
+  -- and so by the quotas, for ever
+  pub peak : held.peak ≤ words_for held.tenants
+  pub machine : held.region ≤ max held.reserved (128 * words_for held.tenants + 512)
 
 -- the array that the call names has no entries
 abbrev pub NamesNothing : State → Call → Type 0
@@ -182,12 +207,12 @@ pub record IsShortService (old new : Held) : Type 0 where
   pub refusals : new.refusals ≡ count_up old.refusals
   pub unplaced : new.unplaced ≡ old.unplaced
 
--- the directory had no place for the name of an array without entries, and at least 256 arrays have
--- entries
+-- the directory had no place for the name of an array without entries, and as many arrays as it has
+-- room for have entries
 pub record IsUnplaced (event : Event) (old new : Held) : Type 0 where
   pub refusals : new.refusals ≡ old.refusals
   pub unplaced : new.unplaced ≡ count_up old.unplaced
-  pub many : 256 ≤ old.names
+  pub many : old.room ≤ old.names
   pub empty : NamesNothing (states_of old event.speaker.tenant) event.call
 
 -- the reply is `Memory` exactly if a request was refused
@@ -200,17 +225,42 @@ is_refusal reply.Full = true
 is_refusal reply.ReadOnly = true
 is_refusal _ = false
 
--- What a call leaves unchanged. Every call keeps the table, the start of the hashes, and the words
--- of each array of the other tenants. A call refused for its right or for the quota keeps the whole
+-- the blocks that a call takes at most: a number of its kind, and none unless it asks for a new entry
+abbrev pub blocks_of_event : State → Event → ℕ
+blocks_of_event s event = if asks_for_new event.speaker.right s event.call then blocks_of_kind (kind_of_call event.call) else 0
+
+-- a call that takes at most n blocks, of at most 512 words each
+abbrev pub ServiceTakes : ℕ → Held → Held → Type 0
+ServiceTakes n old new = Rise n old.refusals old.words old.peak old.region old.reserved new.refusals new.words new.peak new.region new.reserved
+
+-- What a call leaves unchanged. Every call keeps the table, the start of the hashes, the room for
+-- names, and the words of each array of the other tenants. A call refused for its right or for the quota keeps the whole
 -- service, and so does a call that asks for the counts. The words taken from the machine are part of
--- the service; a call that asks for no new entry takes none.
+-- the service; a call takes at most a run of 512 words for each of its blocks, and none if it asks for
+-- no new entry.
 pub record Keeps (event : Event) (old : Held) (reply : Reply) (new : Held) : Type 0 where
   pub tenants : new.tenants ≡ old.tenants
   pub start : new.start ≡ old.start
+  pub room : new.room ≡ old.room
   pub refused : IsTrue (is_refusal reply) → new ≡ old
   pub counts : event.call ≡ Used → new ≡ old
-  pub rests : IsFalse (asks_for_new event.speaker.right (states_of old event.speaker.tenant) event.call) → new.region ≡ old.region
+  pub memory : ServiceTakes (blocks_of_event (states_of old event.speaker.tenant) event) old new
   pub others : (t : ℕ) → t ≢ event.speaker.tenant → sizes_of new t ≡ sizes_of old t
+
+-- memory was taken beforehand: only the words taken from the machine, the room and the count of
+-- refused requests may change
+abbrev pub IsReserved : Held → Held → Type 0
+IsReserved old new = new ≡ record old { refusals = new.refusals; region = new.region; reserved = new.reserved; room = new.room }
+
+-- the machine had no memory for a chunk, before this many words were taken; or it had none for the
+-- room
+pub record HasNoChunk (words : ℕ) (old new : Held) : Type 0 where
+  pub refusals : new.refusals ≡ count_up old.refusals
+  pub whole : new.region % 65536 ≡ 0
+  pub short : new.region < words
+
+abbrev pub HasNoReserve : ℕ → Held → Held → Type 0
+HasNoReserve words old new = (HasNoChunk words old new ⊎ (new.refusals ≡ old.refusals)) × (new.room ≡ old.room)
 
 -- how one call changes a service
 pub record IsCallOf (old : Held) (event : Event) (reply : Reply) (new : Held) : Type 0 where

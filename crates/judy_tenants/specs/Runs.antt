@@ -3,8 +3,10 @@
 --     is_answerable tenants e       the service can answer it
 --     AreCallsOf old answered new   each call changes the service from its state after the call
 --                                   before
+--     AreForNames old answered new  so it is, and each `ERR MEMORY` is for a name without a place
+--     NoneForMemory answered            no call was refused for memory
 --     memories replies              how many replies are `ERR MEMORY`
-use Rattle.std.specs.Prelude.{◌≡◌, ◌+◌, ◌<◌, ◌-◌, ◌^◌, ℕ, Bool, cond, ◌&&◌, nat_lt, List, [], ◌∷◌, length}
+use Rattle.std.specs.Prelude.{◌≡◌, ◌+◌, ◌<◌, ◌-◌, ◌^◌, ℕ, Bool, cond, ◌&&◌, nat_lt, List, [], ◌∷◌, length, IsTrue, false}
 use Rattle.judy_model.specs.declared.replies.Reply.{Reply}
 use Rattle.judy_model.specs.Solo.{is_memory}
 use Rattle.judy_model.specs.Speakers.{Event as Told}
@@ -12,7 +14,7 @@ use Rattle.judy_kinds.specs.Calls.{has_string}
 use Rattle.judy_table.specs.declared.tenant.Tenant.{Tenant}
 use Rattle.judy_table.specs.Shown.{seen}
 use Rattle.judy_tenants.specs.declared.replay.Event.{Event}
-use Rattle.judy_tenants.specs.Held.{Held, IsCallOf}
+use Rattle.judy_tenants.specs.Held.{Held, IsCallOf, IsUnplaced}
 
 -- a call and its speaker, as definitions see them
 abbrev pub told_event : Event → Told
@@ -26,6 +28,18 @@ is_answerable tenants e = nat_lt e.speaker.tenant (length tenants) && has_string
 abbrev pub AreCallsOf : Held → List (Told × Reply) → Held → Type 0
 AreCallsOf old [] new = new ≡ old
 AreCallsOf old (p ∷ ps) new = (mid : Held) × IsCallOf old p.0 p.1 mid × AreCallsOf mid ps new
+
+-- each call changes the service from its state after the call before; each reply `ERR MEMORY` is for
+-- the name of an array without entries, which the directory had no place for
+abbrev pub AreForNames : Held → List (Told × Reply) → Held → Type 0
+AreForNames old [] new = new ≡ old
+AreForNames old (p ∷ ps) new =
+    (mid : Held) × IsCallOf old p.0 p.1 mid × (IsTrue (is_memory p.1) → IsUnplaced p.0 old mid) × AreForNames mid ps new
+
+-- no call was refused for memory
+abbrev pub NoneForMemory : List (Told × Reply) → Type 0
+NoneForMemory [] = Unit {0}
+NoneForMemory (p ∷ ps) = (is_memory p.1 ≡ false) × NoneForMemory ps
 
 -- how many replies are `ERR MEMORY`
 abbrev pub memories : List Reply → ℕ

@@ -4,9 +4,10 @@
 --     IsExchange H key call old new answer   a call of the array at the key was answered, and the
 --                                            directory has the array's new place
 --     IsRefusedIn key call old new           a call of the array at the key was refused for memory
-use Rattle.std.specs.Prelude.{◌≡◌, ◌⊎◌, ◌≤◌, ℕ, List, IsTrue, None, length}
+--     HasNoReserveIn words old new           the machine had not so much memory to take beforehand
+use Rattle.std.specs.Prelude.{◌≡◌, ◌⊎◌, ◌≤◌, ℕ, List, IsTrue, None, length, ◌%◌, ◌<◌}
 use Rattle.std.specs.FinMap as map
-use Rattle.judy_arena.specs.Blocks.{count_up, total_words}
+use Rattle.judy_arena.specs.Blocks.{count_up}
 use Rattle.judy_model.specs.declared.calls.Call.{Call}
 use Rattle.judy_directory.specs.Places.{at, with_place}
 use Rattle.judy_table.specs.declared.tenant.Tenant.{Tenant}
@@ -26,10 +27,12 @@ held_of tenants stock = record {
   refusals = stock.arena.refusals;
   unplaced = stock.unplaced;
   names = map.len stock.directory.0;
-  words = total_words stock.arena.blocks;
+  words = stock.arena.live;
   region = stock.arena.region;
   peak = stock.arena.peak;
-  start = stock.directory.1;
+  reserved = stock.arena.reserved;
+  start = stock.directory.1.start;
+  room = stock.directory.1.room;
 }
 
 -- the invariant of a service; H is the hash of the JudyHS arrays
@@ -40,7 +43,7 @@ IsStocked H tenants stock = IsServer H stock.arena.blocks stock.directory.0 stoc
 pub record IsExchange (H : List ℕ → ℕ) (key : List ℕ) (call : Call) (old new : Stock) (answer : Answered) : Type 0 where
   pub before : answer.before ≡ at old.directory.0 key
   pub places : new.directory.0 ≡ with_place old.directory.0 key answer.after
-  pub start : new.directory.1 ≡ old.directory.1
+  pub footing : new.directory.1 ≡ old.directory.1
   pub array : ArrayBecomes H (kind_of_call call) old.arena answer.before new.arena answer.after
   pub step : AnswersAt old.arena.blocks answer.before.root call answer.reply new.arena.blocks answer.after.root
   pub refusals : new.arena.refusals ≡ old.arena.refusals
@@ -52,19 +55,30 @@ pub record IsShortIn (old new : Stock) : Type 0 where
   pub refusals : new.arena.refusals ≡ count_up old.arena.refusals
   pub unplaced : new.unplaced ≡ old.unplaced
 
--- the directory had no memory for the name of the array, which has no place, and at least 256
--- arrays have one
+-- the directory had no memory for the name of the array, which has no place, and as many arrays as
+-- it has room for have one
 pub record IsUnplacedIn (key : List ℕ) (old new : Stock) : Type 0 where
   pub refusals : new.arena.refusals ≡ old.arena.refusals
   pub unplaced : new.unplaced ≡ count_up old.unplaced
-  pub many : 256 ≤ map.len old.directory.0
+  pub many : old.directory.1.room ≤ map.len old.directory.0
   pub absent : map.get old.directory.0 key ≡ None
 
 -- a call of the array at the key asked for a new entry and was refused for memory
 pub record IsRefusedIn (key : List ℕ) (call : Call) (old new : Stock) : Type 0 where
   pub blocks : new.arena.blocks ≡ old.arena.blocks
   pub places : new.directory.0 ≡ old.directory.0
-  pub start : new.directory.1 ≡ old.directory.1
+  pub footing : new.directory.1 ≡ old.directory.1
   pub accounts : new.accounts.items ≡ old.accounts.items
   pub asked : IsTrue (asks_at old.arena.blocks (at old.directory.0 key).root call)
   pub cause : IsShortIn old new ⊎ IsUnplacedIn key old new
+
+-- the machine had no memory for a chunk, before this many words were taken; or it had none for the
+-- room
+pub record HasNoChunkIn (words : ℕ) (old new : Stock) : Type 0 where
+  pub refusals : new.arena.refusals ≡ count_up old.arena.refusals
+  pub whole : new.arena.region % 65536 ≡ 0
+  pub short : new.arena.region < words
+
+abbrev pub HasNoReserveIn : ℕ → Stock → Stock → Type 0
+HasNoReserveIn words old new =
+    (HasNoChunkIn words old new ⊎ (new.arena.refusals ≡ old.arena.refusals)) × (new.directory.1.room ≡ old.directory.1.room)

@@ -1,5 +1,5 @@
 //! Many tenants, their arrays and their quotas.
-ghost use Rattle.std.specs.Prelude.{◌≡◌, ◌<◌, ◌≤◌, ℕ, IfOk, IsTrue, nat_lt, length, map, slice_get, option_map};
+ghost use Rattle.std.specs.Prelude.{◌≡◌, ◌<◌, ◌≤◌, ℕ, IfOk, IsTrue, nat_lt, length, map, slice_get, option_map, OnOk, OnErr, max, ◌+◌};
 ghost use Rattle.judy_model.specs.Tenant.{used, pieces, no_arrays};
 ghost use Rattle.judy_model.specs.Service.{IsServed};
 ghost use Rattle.judy_model.specs.Solo.{is_memory};
@@ -7,12 +7,12 @@ ghost use Rattle.judy_directory.specs.Secrets.{start_of};
 ghost use Rattle.judy_kinds.specs.Calls.{has_string};
 ghost use Rattle.judy_table.specs.Shown.{seen};
 ghost use Rattle.judy_table.specs.Tenants.{login_of, place_of};
-ghost use Rattle.judy_tenants.specs.Held.{states_of, quotas_of, HasCause, HasServiceSpace, HasNames, IsSoundService, Keeps};
+ghost use Rattle.judy_tenants.specs.Held.{states_of, quotas_of, HasCause, HasNoReserve, HasServiceSpace, HasNames, IsReserved, IsSoundService, Keeps};
 
 use crate::accounts::{account_of, no_accounts};
 use crate::laws;
 use crate::serving::serve;
-use crate::stock::Stock;
+use crate::stock::{Stock, prepare};
 use arrayvec::ArrayVec;
 use judy_arena::{Arena, NoMemory};
 use judy_bytes::KeyHash;
@@ -31,14 +31,16 @@ pub struct Service<H: KeyHash> {
 }
 
 impl<H: KeyHash> Model for Service<H> {
-    ghost use Rattle.judy_tenants.specs.Held.{Held};
+    ghost use Rattle.std.specs.Prelude.{◌≤◌};
+    ghost use Rattle.judy_tenants.specs.Held.{Held, words_for};
     ghost use Rattle.judy_tenants.specs.Stocks.{held_of, IsStocked};
 
     ghost Value = { Held };
 
     ghost view = { λ s. held_of s.table s.stock };
 
-    ghost invariant = { λ s. IsStocked H.hashed s.table s.stock };
+    ghost invariant = { λ s. IsStocked H.hashed s.table s.stock
+        × (s.stock.arena.peak ≤ words_for s.table) };
 }
 
 impl<H: KeyHash> Service<H> {
@@ -53,11 +55,12 @@ impl<H: KeyHash> Service<H> {
         ensures names { IfOk result (λ s. s.names ≡ 0) }
         ensures words { IfOk result (λ s. s.words ≡ 0) }
         ensures region { IfOk result (λ s. s.region ≡ 0) }
+        ensures reserved { IfOk result (λ s. s.reserved ≡ 0) }
+        ensures room { IfOk result (λ s. s.room ≡ 256) }
         ensures secret { IfOk result (λ s. s.start ≡ start_of secret.now) }
         ensures sound { IfOk result (λ s. IsSoundService s) }
     {
         laws::kinds_are_lawful();
-        judy_arena::laws::sizes_add_up();
         let directory = Directory::new(alloc, secret)?;
         let Ok(accounts) = no_accounts(alloc, table.len()) else {
             return Err(NoMemory);
@@ -73,11 +76,55 @@ impl<H: KeyHash> Service<H> {
         Ok(service)
     }
 
+    /// Takes memory from the machine until this many words are taken, and makes room for this many
+    /// names. No array changes.
+    ///
+    /// Err: out of memory. What was taken until then stays.
+    pub fn reserve(&mut self, alloc: Global, words: u64, names: usize) -> Result<(), NoMemory>
+        ensures same { IsReserved self.old self.new }
+        ensures region { OnOk result (words ≤ self.new.region) }
+        ensures room { OnOk result (names ≤ self.new.room) }
+        ensures refusals { OnOk result (self.new.refusals ≡ self.old.refusals) }
+        ensures cause { OnErr result (HasNoReserve words self.old self.new) }
+        ensures kept { self.old.region ≤ self.new.region }
+        ensures most { self.new.region ≤ max self.old.region (words + 511) }
+        ensures names { self.old.room ≤ self.new.room }
+        ensures reserved { self.new.reserved ≡ max self.old.reserved self.new.region }
+        ensures sound { IsSoundService self.new }
+    {
+        let done = prepare(alloc, &mut self.stock, words, names);
+        self.is_at_all_times();
+        done
+    }
+
     /// The tenant and the right for this name and token. None if no tenant has both.
     pub fn login(&self, name: &[u8], token: &[u8]) -> Option<Speaker>
         ensures { option_map seen result ≡ login_of name.now token.now self.now.tenants }
     {
         self.table.login(name, token)
+    }
+
+    /// How many tenants there are: 1 to 64.
+    pub fn tenants(&self) -> usize
+        ensures { result ≡ length self.now.tenants }
+    {
+        self.table.len()
+    }
+
+    /// The tenant at a place of the table.
+    pub fn tenant(&self, place: usize) -> TenantId
+        requires { place < length self.now.tenants }
+        ensures { result ≡ place }
+    {
+        self.table.tenant(place)
+    }
+
+    /// A tenant's name.
+    pub fn name(&self, tenant: TenantId) -> &[u8]
+        requires { tenant < length self.now.tenants }
+        ensures { slice_get (map (λ t. t.name) self.now.tenants) tenant ≡ Some result.now }
+    {
+        self.table.name(tenant)
     }
 
     /// The tenant with this name.
@@ -133,7 +180,8 @@ impl<H: KeyHash> Service<H> {
     ///
     /// The order of refusals is `ReadOnly`, `Full`, `Memory`. After each of them every array is
     /// unchanged. `Memory` has one of two causes: the arena refused a block, or the directory had
-    /// no place for the name of an array without entries while at least 256 arrays have entries.
+    /// no place for the name of an array without entries while as many arrays as it has room for have
+    /// entries.
     pub fn call<'a>(
         &mut self,
         alloc: Global,
@@ -173,6 +221,7 @@ impl<H: KeyHash> Service<H> {
         ensures names { HasNames self.now }
     {
         self.is_at_all_times();
+        self.stock.arena.the_region_is_bounded();
         self.stock.arena.live_words()
     }
 
@@ -196,6 +245,27 @@ impl<H: KeyHash> Service<H> {
         ensures { result ≡ self.now.refusals }
     {
         self.stock.arena.refusals()
+    }
+
+    /// The words that the arena took from the machine.
+    pub fn machine_words(&self) -> u64
+        ensures { result ≡ self.now.region }
+    {
+        self.stock.arena.region()
+    }
+
+    /// The greatest number of words that were live at once.
+    pub fn peak_words(&self) -> u64
+        ensures { result ≡ self.now.peak }
+    {
+        self.stock.arena.peak()
+    }
+
+    /// How many arrays have entries.
+    pub fn arrays(&self) -> u64
+        ensures { result ≡ self.now.names }
+    {
+        self.stock.directory.count() as u64
     }
 
     /// How many new names the directory had no memory for. The counter saturates.

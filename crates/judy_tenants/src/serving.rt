@@ -4,7 +4,7 @@ ghost use Rattle.judy_model.specs.Service.{IsServed};
 ghost use Rattle.judy_model.specs.Solo.{is_memory};
 ghost use Rattle.judy_kinds.specs.Calls.{has_string};
 ghost use Rattle.judy_table.specs.Shown.{seen};
-ghost use Rattle.judy_tenants.specs.Held.{states_of, quotas_of, HasCause, Keeps};
+ghost use Rattle.judy_tenants.specs.Held.{states_of, quotas_of, words_for, HasCause, Keeps};
 ghost use Rattle.judy_tenants.specs.Stocks.{held_of, IsStocked};
 
 use crate::accounts::{account_of, settle};
@@ -29,9 +29,11 @@ pub fn serve<'a, H: KeyHash>(
     found: &'a mut ArrayVec<u8, KEY_LIMIT>,
 ) -> Reply<'a>
     requires stocked { IsStocked H.hashed table.now stock.old }
+    requires peak { stock.old.arena.peak ≤ words_for table.now }
     requires known { speaker.tenant < length table.now }
     requires string { IsTrue (has_string call.now) }
     ensures stocked { IsStocked H.hashed table.now stock.new }
+    ensures peak { stock.new.arena.peak ≤ words_for table.now }
     ensures served { IsServed (quotas_of table.now) (states_of (held_of table.now stock.old))
         (record { speaker = seen speaker; call = call.now }) result
         (states_of (held_of table.now stock.new)) }
@@ -43,9 +45,12 @@ pub fn serve<'a, H: KeyHash>(
     laws::kinds_are_lawful();
     laws::calls_add_one();
     judy_kinds::laws::insertions_alone_ask();
+    judy_kinds::laws::places_are_small();
+    judy_arena::laws::sizes_add_up_over_the_numbers();
     judy_model::laws::a_tenant_alone_has_memory();
     judy_model::laws::full_is_for_new_entries();
     judy_model::laws::looks_keep_all();
+    stock.arena.the_region_is_bounded();
     if call.is_read_only(speaker.right) {
         return Reply::ReadOnly;
     }

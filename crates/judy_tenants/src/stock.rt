@@ -1,11 +1,12 @@
 //! The arrays of all tenants in one arena, with each tenant's counts.
-ghost use Rattle.std.specs.Prelude.{◌≡◌, ◌<◌, ◌≤◌, ◌^◌, ◌&&◌, IfOk, OnOk, OnErr, IsTrue, IsFalse, not};
+ghost use Rattle.std.specs.Prelude.{◌≡◌, ◌<◌, ◌≤◌, ◌^◌, ◌&&◌, IfOk, OnOk, OnErr, IsTrue, IsFalse, not, max, ◌+◌};
+ghost use Rattle.judy_arena.specs.Takes.{Takes};
 ghost use Rattle.judy_directory.specs.Places.{at};
 ghost use Rattle.judy_kinds.specs.Kinds.{kind_of_key, IsPlaceOf};
-ghost use Rattle.judy_kinds.specs.Calls.{is_of_array, kind_of_call, is_insertion, has_string, asks_at};
+ghost use Rattle.judy_kinds.specs.Calls.{is_of_array, kind_of_call, is_insertion, has_string, asks_at, blocks_of_call};
 ghost use Rattle.judy_tenants.specs.Accounts.{has_room_in};
 ghost use Rattle.judy_tenants.specs.States.{IsHeld};
-ghost use Rattle.judy_tenants.specs.Stocks.{IsExchange, IsRefusedIn};
+ghost use Rattle.judy_tenants.specs.Stocks.{HasNoReserveIn, IsExchange, IsRefusedIn};
 
 use crate::accounts::{Account, has_room};
 use arrayvec::ArrayVec;
@@ -32,6 +33,31 @@ pub struct Answered<'a> {
     pub reply: Reply<'a>,
     pub before: Place,
     pub after: Place,
+}
+
+/// Takes memory for so many words, and for so many names. No array changes.
+///
+/// Err: the machine had no memory for a chunk, or for the room.
+pub fn prepare(alloc: Global, stock: &mut Stock, words: u64, names: usize) -> Result<(), NoMemory>
+    ensures blocks { stock.new.arena.blocks ≡ stock.old.arena.blocks }
+    ensures live { stock.new.arena.live ≡ stock.old.arena.live }
+    ensures peak { stock.new.arena.peak ≡ stock.old.arena.peak }
+    ensures places { stock.new.directory.0 ≡ stock.old.directory.0 }
+    ensures start { stock.new.directory.1.start ≡ stock.old.directory.1.start }
+    ensures accounts { stock.new.accounts ≡ stock.old.accounts }
+    ensures unplaced { stock.new.unplaced ≡ stock.old.unplaced }
+    ensures region { OnOk result (words ≤ stock.new.arena.region) }
+    ensures room { OnOk result (names ≤ stock.new.directory.1.room) }
+    ensures refusals { OnOk result (stock.new.arena.refusals ≡ stock.old.arena.refusals) }
+    ensures cause { OnErr result (HasNoReserveIn words stock.old stock.new) }
+    ensures kept { stock.old.arena.region ≤ stock.new.arena.region }
+    ensures most { stock.new.arena.region ≤ max stock.old.arena.region (words + 511) }
+    ensures names { stock.old.directory.1.room ≤ stock.new.directory.1.room }
+    ensures reserved { stock.new.arena.reserved
+        ≡ max stock.old.arena.reserved stock.new.arena.region }
+{
+    stock.arena.prepare(alloc, words)?;
+    stock.directory.reserve(names)
 }
 
 /// The place at a key.
@@ -92,9 +118,8 @@ pub fn exchange<'a, H: KeyHash>(
     ensures ok { IfOk result
         (λ answer. IsExchange H.hashed spot.now call.now stock.old stock.new answer) }
     ensures refused { OnErr result (IsRefusedIn spot.now call.now stock.old stock.new) }
-    ensures region { IsFalse (asks_at stock.old.arena.blocks
-        (at stock.old.directory.0 spot.now).root call.now)
-        → stock.new.arena.region ≡ stock.old.arena.region }
+    ensures memory { Takes (blocks_of_call stock.old.arena.blocks
+        (at stock.old.directory.0 spot.now).root call.now) stock.old.arena stock.new.arena }
 {
     if is_insertion(call) {
         return enter(alloc, stock, hash, spot, call, found);
@@ -120,7 +145,8 @@ fn look_up<'a, H: KeyHash>(
     ensures ok { IfOk result
         (λ answer. IsExchange H.hashed spot.now call.now stock.old stock.new answer) }
     ensures refused { OnErr result (IsRefusedIn spot.now call.now stock.old stock.new) }
-    ensures region { stock.new.arena.region ≡ stock.old.arena.region }
+    ensures memory { Takes (blocks_of_call stock.old.arena.blocks
+        (at stock.old.directory.0 spot.now).root call.now) stock.old.arena stock.new.arena }
 {
     judy_kinds::laws::only_nothing_is_empty();
     judy_kinds::laws::insertions_alone_ask();
@@ -160,9 +186,8 @@ fn enter<'a, H: KeyHash>(
     ensures ok { IfOk result
         (λ answer. IsExchange H.hashed spot.now call.now stock.old stock.new answer) }
     ensures refused { OnErr result (IsRefusedIn spot.now call.now stock.old stock.new) }
-    ensures region { IsFalse (asks_at stock.old.arena.blocks
-        (at stock.old.directory.0 spot.now).root call.now)
-        → stock.new.arena.region ≡ stock.old.arena.region }
+    ensures memory { Takes (blocks_of_call stock.old.arena.blocks
+        (at stock.old.directory.0 spot.now).root call.now) stock.old.arena stock.new.arena }
 {
     let Ok(before) = stock.directory.place(spot) else {
         stock.unplaced = stock.unplaced.saturating_add(1);

@@ -70,8 +70,6 @@ impl<const VALUES: bool> Root<VALUES> {
         ensures refused { OnErr result
             (IsRefused arena.old self.old.reference arena.new self.new.reference) }
         ensures quiet { OnOk result (arena.new.refusals ≡ arena.old.refusals) }
-        ensures rests { IsTrue (has_found VALUES arena.old self.old.reference key)
-            → arena.new.region ≡ arena.old.region }
         ensures memory { Takes
             (if has_found VALUES arena.old self.old.reference key then 0 else 64)
             arena.old arena.new }
@@ -104,8 +102,6 @@ impl<const VALUES: bool> Root<VALUES> {
         ensures refused { OnErr result
             (IsRefused arena.old self.old.reference arena.new self.new.reference) }
         ensures quiet { OnOk result (arena.new.refusals ≡ arena.old.refusals) }
-        ensures rests { IsTrue (has_found VALUES arena.old self.old.reference key)
-            → arena.new.region ≡ arena.old.region }
         ensures memory { Takes
             (if has_found VALUES arena.old self.old.reference key then 0 else 64)
             arena.old arena.new }
@@ -131,8 +127,6 @@ impl<const VALUES: bool> Root<VALUES> {
         ensures array { Writes VALUES arena.old self.old.reference key value
             arena.new self.new.reference }
         ensures word { self.new.reference ≡ self.old.reference }
-        ensures refusals { arena.new.refusals ≡ arena.old.refusals }
-        ensures region { arena.new.region ≡ arena.old.region }
         ensures memory { TakesNothing arena.old arena.new }
     {
         node::write(arena, self.reference, key, value);
@@ -144,8 +138,6 @@ impl<const VALUES: bool> Root<VALUES> {
         ensures array { RootRemoves VALUES arena.old self.old.reference key arena.new
             self.new.reference }
         ensures there { result ≡ found VALUES arena.old self.old.reference key }
-        ensures refusals { arena.new.refusals ≡ arena.old.refusals }
-        ensures region { arena.new.region ≡ arena.old.region }
         ensures memory { TakesNothing arena.old arena.new }
         ensures space { HasRootSpace VALUES arena.new.blocks self.new.reference }
     {
@@ -168,8 +160,6 @@ impl<const VALUES: bool> Root<VALUES> {
         ensures array { RootBecomes VALUES arena.old self.old.reference
             arena.new self.new.reference [] }
         ensures count { result ≡ length (entries VALUES arena.old.blocks self.old.reference) }
-        ensures refusals { arena.new.refusals ≡ arena.old.refusals }
-        ensures region { arena.new.region ≡ arena.old.region }
         ensures memory { TakesNothing arena.old arena.new }
         ensures space { HasRootSpace VALUES arena.new.blocks self.new.reference }
     {

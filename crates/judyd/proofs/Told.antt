@@ -43,30 +43,34 @@ run-told ran.Write h = (codes "judyd: write fault", refl)
 
 host-silent : (how : Hosted) → host_status how ≡ 0 → host_text how ≡ None
 host-silent host.Done e = refl
+host-silent host.Stopped e = refl
 host-silent host.Config e = absurd (omega (arith, e))
 host-silent host.Long e = absurd (omega (arith, e))
 host-silent (host.Table f) e = absurd (omega (arith, e))
 host-silent host.Memory e = absurd (omega (arith, e))
+host-silent host.Reserve e = absurd (omega (arith, e))
 host-silent host.Socket e = absurd (omega (arith, e))
 
 host-told : (how : Hosted) → host_status how ≢ 0 → (line : List ℕ) × host_text how ≡ Some line
 host-told host.Done h = absurd (h refl)
+host-told host.Stopped h = absurd (h refl)
 host-told host.Config h = (codes "judyd: config fault", refl)
 host-told host.Long h = (codes "judyd: table: Long", refl)
 host-told (host.Table f) h = (fault_text f, refl)
 host-told host.Memory h = (codes "judyd: memory", refl)
+host-told host.Reserve h = (codes "judyd: memory: no memory for --reserve", refl)
 host-told host.Socket h = (codes "judyd: socket fault", refl)
 
 -- ---- by what the program tells
 
 pub well-is-silent : (j : Job) (status : ℕ) (text : Option (List ℕ)) → IsFinished j status text → status ≡ 0 → text ≡ None
 well-is-silent (job.Run words) status text (inl (how, is, told)) e = told ∙ run-silent how (sym is ∙ e)
-well-is-silent (job.Serve config socket clients connections idle turn check) status text (inl (how, is, told)) e = told ∙ host-silent how (sym is ∙ e)
+well-is-silent (job.Serve config socket watch clients connections idle turn reserve check) status text (inl (how, is, told)) e = told ∙ host-silent how (sym is ∙ e)
 well-is-silent j status text (inr (four, line)) e = absurd (omega (arith, four, e))
 
 pub faults-are-told : (j : Job) (status : ℕ) (text : Option (List ℕ)) → IsFinished j status text → status ≢ 0 → (line : List ℕ) × text ≡ Some line
 faults-are-told (job.Run words) status text (inl (how, is, told)) h =
     let (line, by) = run-told how (λ e. h (is ∙ e)) in (line, told ∙ by)
-faults-are-told (job.Serve config socket clients connections idle turn check) status text (inl (how, is, told)) h =
+faults-are-told (job.Serve config socket watch clients connections idle turn reserve check) status text (inl (how, is, told)) h =
     let (line, by) = host-told how (λ e. h (is ∙ e)) in (line, told ∙ by)
 faults-are-told j status text (inr (four, line)) h = (codes "judyd: random fault", line)

@@ -18,7 +18,7 @@ refusal_status refusal.Memory = 4
 -- the status, and the line on standard error, if any, are those of a way in which the job can end
 abbrev pub HasEnded : Job → ℕ → Option (List ℕ) → Type 0
 HasEnded (job.Run words) status text = (ran : Ran) × (status ≡ run_status ran) × (text ≡ run_text ran)
-HasEnded (job.Serve config socket clients connections idle turn check) status text =
+HasEnded (job.Serve config socket watch clients connections idle turn reserve check) status text =
     (hosted : Hosted) × (status ≡ host_status hosted) × (text ≡ host_text hosted)
 
 -- or the system gave no secret

@@ -62,7 +62,13 @@ fn do_job(
 
 /// Prints the path of what the system refused, and the reason.
 fn tell_reason(rt: &HostRuntime, job: &Job, failed: Failed) {
-    let Job::Serve { config, socket, .. } = job else {
+    let Job::Serve {
+        config,
+        socket,
+        status,
+        ..
+    } = job
+    else {
         return;
     };
     match failed {
@@ -74,6 +80,23 @@ fn tell_reason(rt: &HostRuntime, job: &Job, failed: Failed) {
             let path = socket.0.as_str();
             let _ = eprintln!(rt; "judyd: {path}: {e}");
         }
+        Failed::Status(e) => {
+            if let Some(word) = status {
+                let path = word.0.as_str();
+                let _ = eprintln!(rt; "judyd: {path}: {e}");
+            }
+        }
+    }
+}
+
+/// Removes the sockets that were made.
+fn leave(job: &Job, system: &mut System<'_, HostRuntime>) {
+    let Job::Serve { socket, status, .. } = job else {
+        return;
+    };
+    match status {
+        Some(word) => system.leave(socket.0.as_str(), Some(word.0.as_str())),
+        None => system.leave(socket.0.as_str(), None),
     }
 }
 
@@ -122,6 +145,7 @@ fn obey(rt: &HostRuntime, asked: &Result<Job, Refusal>) -> u8
     };
     let mut system = System::new(rt);
     let (status, text) = do_job(rt, job, &mut system);
+    leave(job, &mut system);
     if let Some(text) = text {
         let _ = eprintln!(rt; "{text}");
     }

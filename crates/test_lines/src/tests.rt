@@ -2,6 +2,7 @@
 ghost use Rattle.std.specs.Prelude.{◌≤◌, ◌<◌, length};
 
 use crate::house::{House, Tenant};
+use crate::strict::reads_with_lines;
 use judy_protocol::{End, serve, serve_up_to};
 use judy_stream::{Page, Reads, Refusal, Tape, Writes};
 use std::alloc::Global;
@@ -103,36 +104,48 @@ fn every_write_fails(rt: HostRuntime) {
     }
 }
 
-// One flush fails, and all others succeed. A flush follows each reply, and nothing follows the
-// flush that failed.
+// One flush fails, and all others succeed. A flush follows the answers to the lines of each read, and
+// nothing follows the flush that failed. The reads have one byte each, or the whole script.
 #[test]
 fn every_flush_fails(rt: HostRuntime) {
-    for place in 1..REPLIES.len() {
-        let mut house = House::new(rt.alloc());
-        let mut tape = Tape::new(SCRIPT, &[], 5000, None);
-        let mut page: Page<512> = Page::new(512, Refusal::Fails, None, Some(place));
-        let end = serve(rt.alloc(), &mut house, &mut tape, &mut page);
-        if REPLIES[place - 1] == b'\n' {
-            assert_eq!(rt; end, End::WriteFault);
-            assert_eq!(rt; page.bytes(), &REPLIES[..place], "at {place}");
-        } else {
-            assert_eq!(rt; end, End::Quit);
-            assert_eq!(rt; page.bytes(), REPLIES);
+    for step in [1, 5000] {
+        for place in 1..=REPLIES.len() {
+            let mut house = House::new(rt.alloc());
+            let mut tape = Tape::new(SCRIPT, &[], step, None);
+            let mut page: Page<512> = Page::new(512, Refusal::Fails, None, Some(place));
+            let end = serve(rt.alloc(), &mut house, &mut tape, &mut page);
+            let of_line = step == 1 && REPLIES[place - 1] == b'\n';
+            if of_line || place == REPLIES.len() {
+                assert_eq!(rt; end, End::WriteFault);
+                assert_eq!(rt; page.bytes(), &REPLIES[..place], "at {place}");
+            } else {
+                assert_eq!(rt; end, End::Quit);
+                assert_eq!(rt; page.bytes(), REPLIES);
+            }
         }
     }
 }
 
+// The lines of the read whose answers are not written are run, up to its end, and no line of the next
+// read is.
 #[test]
-fn a_failed_write_runs_no_more_lines(rt: HostRuntime) {
-    let mut house = House::new(rt.alloc());
-    let mut tape = Tape::new(b"AUTH alice abc\nJ1S a 1\nJ1S a 2\n", &[], 5000, None);
-    let mut page: Page<512> = Page::new(4, Refusal::Fails, None, None);
-    assert_eq!(rt;
-        serve(rt.alloc(), &mut house, &mut tape, &mut page),
-        End::WriteFault
-    );
-    assert_eq!(rt; page.bytes(), b"OK\n1".as_slice());
-    assert_eq!(rt; house.used(Tenant::Alice), 1);
+fn a_failed_write_runs_no_line_of_the_next_read(rt: HostRuntime) {
+    for (cuts, used) in [([15, 23], 1), ([0, 23], 1), ([0, 31], 2)] {
+        let mut house = House::new(rt.alloc());
+        let mut tape = Tape::new(
+            b"AUTH alice abc\nJ1S a 1\nJ1S a 2\nJ1S a 3\n",
+            &cuts,
+            5000,
+            None,
+        );
+        let mut page: Page<512> = Page::new(4, Refusal::Fails, None, None);
+        assert_eq!(rt;
+            serve(rt.alloc(), &mut house, &mut tape, &mut page),
+            End::WriteFault
+        );
+        assert_eq!(rt; page.bytes(), b"OK\n1".as_slice());
+        assert_eq!(rt; house.used(Tenant::Alice), used);
+    }
 }
 
 #[test]
@@ -257,21 +270,33 @@ fn long_lines(rt: HostRuntime) -> Result<(), Fail> {
     Ok(())
 }
 
-// The state of a peer that sends each line only after it has received the whole reply to the line
-// before.
+// The state of a peer that sends more only after it has received the whole replies to all lines that
+// it sent.
 #[derive(Drop)]
 struct Talk {
-    // How many lines were sent whose reply the peer has not received.
-    owed: Cell<u8>,
+    // How many lines were sent whose replies the peer has not received.
+    owed: Cell<usize>,
     // How many replies were written and wait for a flush.
-    written: Cell<u8>,
-    flushes: Cell<u8>,
+    written: Cell<usize>,
+    flushes: Cell<u64>,
 }
 
-// The peer's lines. A read while a reply is missing would wait for ever, so it fails.
+impl Talk {
+    fn new() -> Talk {
+        Talk {
+            owed: Cell::new(0),
+            written: Cell::new(0),
+            flushes: Cell::new(0),
+        }
+    }
+}
+
+// The peer's bytes: whole lines one by one, or this many bytes at a time. A read while a reply is
+// missing would wait for ever, so it fails.
 #[derive(Drop)]
 struct Asks<'a> {
     rest: &'a [u8],
+    step: Option<usize>,
     talk: &'a Talk,
 }
 
@@ -280,22 +305,21 @@ impl<'a> Read for Asks<'a> {
         if self.talk.owed.get() != 0 {
             return Err(ErrorKind::TimedOut.into());
         }
-        let len = match self.rest.iter().position(|b| *b == b'\n') {
+        let line = match self.rest.iter().position(|b| *b == b'\n') {
             Some(at) => at + 1,
             None => self.rest.len(),
         };
+        let len = self.step.unwrap_or(line).min(self.rest.len());
         let n = len.min(buf.len());
-        let (line, rest) = self.rest.split_at(n);
-        buf[..n].copy_from_slice(line);
+        let (part, rest) = self.rest.split_at(n);
+        buf[..n].copy_from_slice(part);
         self.rest = rest;
-        if n > 0 {
-            self.talk.owed.set(1);
-        }
+        self.talk.owed.set(count_lines(part));
         Ok(n)
     }
 }
 
-// What the peer receives: a reply arrives when it is flushed.
+// What the peer receives: replies arrive when they are flushed.
 #[derive(Drop)]
 struct Hears<'a> {
     talk: &'a Talk,
@@ -303,11 +327,8 @@ struct Hears<'a> {
 
 impl<'a> Write for Hears<'a> {
     fn write(&mut self, buf: &[u8]) -> io::Result<usize> {
-        if buf.ends_with(b"\n") {
-            self.talk
-                .written
-                .set(self.talk.written.get().saturating_add(1));
-        }
+        let written = self.talk.written.get().saturating_add(count_lines(buf));
+        self.talk.written.set(written);
         Ok(buf.len())
     }
 
@@ -321,23 +342,28 @@ impl<'a> Write for Hears<'a> {
     }
 }
 
-#[test]
-fn each_reply_goes_out_before_the_next_read(rt: HostRuntime) {
-    let talk = Talk {
-        owed: Cell::new(0),
-        written: Cell::new(0),
-        flushes: Cell::new(0),
-    };
+// Serves such a peer, and returns how often it was flushed.
+fn flushes_of(rt: &impl Abort, alloc: Global, step: Option<usize>) -> u64 {
+    let talk = Talk::new();
     let mut source = Reads::new(Asks {
         rest: SCRIPT,
+        step,
         talk: &talk,
     });
     let mut sink = Writes::new(Hears { talk: &talk });
-    let mut house = House::new(rt.alloc());
-    assert_eq!(rt;
-        serve(rt.alloc(), &mut house, &mut source, &mut sink),
-        End::Quit
-    );
+    let mut house = House::new(alloc);
+    assert_eq!(rt; serve(alloc, &mut house, &mut source, &mut sink), End::Quit);
+    talk.flushes.get()
+}
+
+#[test]
+fn each_reply_goes_out_before_the_next_read(rt: HostRuntime) {
     // There is exactly one flush after each of the 18 replies.
-    assert_eq!(rt; talk.flushes.get(), 18);
+    assert_eq!(rt; flushes_of(&rt, rt.alloc(), None), 18);
+    // A read may end within a line: then the replies to the lines before it go out, with one flush.
+    let until_quit = first_lines(SCRIPT, 18);
+    for step in 1..SCRIPT.len() {
+        let flushes = flushes_of(&rt, rt.alloc(), Some(step));
+        assert_eq!(rt; flushes, reads_with_lines(until_quit, step), "{step}");
+    }
 }

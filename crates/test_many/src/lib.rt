@@ -6,6 +6,8 @@ mod clocks;
 #[cfg(test)]
 mod faults;
 #[cfg(test)]
+mod questions;
+#[cfg(test)]
 mod rounds;
 mod stage;
 #[cfg(test)]

@@ -2,7 +2,7 @@
 ghost use Rattle.std.specs.Prelude.{None};
 
 use arrayvec::ArrayVec;
-use judy_many::{Accept, Got, How, Network, Put, Queue};
+use judy_many::{Accept, Got, How, Network, Put, Question, Queue};
 use judy_stream::{Page, Pull, Push, Sink, Source, Tape};
 
 /// The most bytes that a connection takes.
@@ -10,6 +10,9 @@ pub const PAGE_LIMIT: usize = 65536;
 
 /// The most bytes of the list of what was asked.
 pub const ASKED_LIMIT: usize = 65536;
+
+/// The most bytes that are reported.
+pub const REPORTED_LIMIT: usize = 16384;
 
 /// After this many waits the system fails, so that each test ends.
 const WAITS_LIMIT: usize = 20_000;
@@ -53,7 +56,7 @@ pub struct Seat {
 /// What was asked is kept as text: `|` a wait without limit, `:` one of at most a second, `.` one
 /// that does not wait; `x` an accept that failed; and with the number of the connection `a` accepted,
 /// `r` read, `w` written, `c` closed, and why (`Q` quit, `E` end, `F` fault, `I` idle, `O` too long,
-/// `M` memory).
+/// `M` memory). `?` is a question for the status, `!` one that the server ends, and `=` a report.
 #[derive(Drop)]
 pub struct Stage<'a> {
     /// The connections.
@@ -64,11 +67,16 @@ pub struct Stage<'a> {
     pub offers: &'a [Offer],
     /// The answers of the clock.
     pub times: &'a [Option<u64>],
+    /// The questions on the status socket, one a round.
+    pub questions: &'a [Question],
+    /// What was reported, one text after another.
+    pub reported: ArrayVec<u8, REPORTED_LIMIT>,
     asked: ArrayVec<u8, ASKED_LIMIT>,
     waits: usize,
     offered: usize,
     told: usize,
     come: usize,
+    questioned: usize,
 }
 
 impl<'a> Stage<'a> {
@@ -79,11 +87,14 @@ impl<'a> Stage<'a> {
             order: &[],
             offers: &[],
             times: &[],
+            questions: &[],
+            reported: ArrayVec::new(),
             asked: ArrayVec::new(),
             waits: 0,
             offered: 0,
             told: 0,
             come: 0,
+            questioned: 0,
         }
     }
 
@@ -231,5 +242,25 @@ impl<'a> Network for Stage<'a> {
         let n = self.told.min(self.times.len() - 1);
         self.told = n + 1;
         self.times[n]
+    }
+
+    fn ask(&mut self) -> Question {
+        let n = self.questioned;
+        if n >= self.questions.len() {
+            return Question::Nothing;
+        }
+        self.questioned = n + 1;
+        let question = self.questions[n];
+        match question {
+            Question::Nothing => {}
+            Question::Status => self.note(b'?'),
+            Question::Stop => self.note(b'!'),
+        }
+        question
+    }
+
+    fn report(&mut self, text: &[u8]) {
+        self.note(b'=');
+        let _fits = self.reported.try_extend_from_slice(text);
     }
 }

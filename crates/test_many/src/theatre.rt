@@ -47,6 +47,7 @@ pub fn limits(clients: u32, connections: u32) -> Limits {
         connections,
         idle: None,
         turn: None,
+        status: false,
     }
 }
 

@@ -15,19 +15,26 @@ fn answer(alloc: Global, line: &str) -> Result<String, AllocError> {
             Job::Serve {
                 config,
                 socket,
+                status,
                 clients,
                 connections,
                 idle,
                 turn,
+                reserve,
                 check,
             },
         ) => {
             let config = config.0;
             let socket = socket.0;
+            let status = match status {
+                Some(status) => status.0,
+                None => String::new(alloc),
+            };
             let idle = idle.unwrap_or(0);
             let turn = turn.unwrap_or(0);
+            let reserve = reserve.unwrap_or(0);
             format!(in alloc;
-                "serve {config} {socket} {clients} {connections} {idle} {turn} {check}"
+                "serve {config} {socket}{status} {clients} {connections} {idle} {turn} {reserve} {check}"
             )
         }
         Err(Refusal::Help(_)) => String::from_str(alloc, "help"),
@@ -64,19 +71,25 @@ fn command_lines(rt: HostRuntime) -> Result<(), Fail> {
         ("serve --config c --socket s --connections 0", "usage"),
         (
             "serve --config c --socket s",
-            "serve c s 64 4294967295 0 0 false",
+            "serve c s 64 4294967295 0 0 0 false",
         ),
         (
+            "serve --config c --socket s --status t",
+            "serve c st 64 4294967295 0 0 0 false",
+        ),
+        ("serve --config c --socket s --status", "usage"),
+        ("serve --config c --socket s --status t --status u", "usage"),
+        (
             "serve --socket s --config c",
-            "serve c s 64 4294967295 0 0 false",
+            "serve c s 64 4294967295 0 0 0 false",
         ),
         (
             "serve --config=c --socket=s --connections=1",
-            "serve c s 64 1 0 0 false",
+            "serve c s 64 1 0 0 0 false",
         ),
         (
             "serve --config c --socket s --connections 4294967295",
-            "serve c s 64 4294967295 0 0 false",
+            "serve c s 64 4294967295 0 0 0 false",
         ),
         (
             "serve --config c --socket s --connections 4294967296",
@@ -86,48 +99,61 @@ fn command_lines(rt: HostRuntime) -> Result<(), Fail> {
         ("serve --config c --socket s --connections=-1", "usage"),
         (
             "serve --config c --socket s --connections +7",
-            "serve c s 64 7 0 0 false",
+            "serve c s 64 7 0 0 0 false",
         ),
         (
             "serve --config c --socket s --connections 007",
-            "serve c s 64 7 0 0 false",
+            "serve c s 64 7 0 0 0 false",
         ),
         ("serve --config c --socket s --connections x", "usage"),
         ("serve --config c --socket s --connections", "usage"),
         ("serve --config c --config d --socket s", "usage"),
         (
             "serve --config= --socket s",
-            "serve  s 64 4294967295 0 0 false",
+            "serve  s 64 4294967295 0 0 0 false",
         ),
         ("serve --config --socket s", "usage"),
         ("serve --config -c --socket s", "usage"),
         (
             "serve --config - --socket s",
-            "serve - s 64 4294967295 0 0 false",
+            "serve - s 64 4294967295 0 0 0 false",
         ),
         ("serve --con c --socket s", "usage"),
         ("serve --config c --socket s x", "usage"),
         ("serve -- --config c --socket s", "usage"),
         (
             "serve --config c --socket s --check",
-            "serve c s 64 4294967295 0 0 true",
+            "serve c s 64 4294967295 0 0 0 true",
         ),
         (
             "serve --idle 30 --config c --turn 600 --socket s",
-            "serve c s 64 4294967295 30 600 false",
+            "serve c s 64 4294967295 30 600 0 false",
         ),
         (
             "serve --config c --socket s --idle=4294967295 --turn 1",
-            "serve c s 64 4294967295 4294967295 1 false",
+            "serve c s 64 4294967295 4294967295 1 0 false",
         ),
         (
             "serve --config c --socket s --clients 1",
-            "serve c s 1 4294967295 0 0 false",
+            "serve c s 1 4294967295 0 0 0 false",
         ),
         (
             "serve --config c --socket s --clients=1024 --connections 7",
-            "serve c s 1024 7 0 0 false",
+            "serve c s 1024 7 0 0 0 false",
         ),
+        (
+            "serve --config c --socket s --reserve 64",
+            "serve c s 64 4294967295 0 0 64 false",
+        ),
+        (
+            "serve --reserve=131072 --config c --socket s --check",
+            "serve c s 64 4294967295 0 0 131072 true",
+        ),
+        ("serve --config c --socket s --reserve 0", "usage"),
+        ("serve --config c --socket s --reserve 131073", "usage"),
+        ("serve --config c --socket s --reserve -1", "usage"),
+        ("serve --config c --socket s --reserve 64M", "usage"),
+        ("serve --config c --socket s --reserve", "usage"),
         ("serve --config c --socket s --clients 0", "usage"),
         ("serve --config c --socket s --clients 1025", "usage"),
         ("serve --config c --socket s --clients -1", "usage"),

@@ -3,7 +3,7 @@ ghost use Rattle.std.specs.Prelude.{None};
 
 use crate::rows::{TABLE, Tenants, input};
 use judy_command::Job;
-use judy_many::{Accept, Got, How, Limits, Network, Put, Queue};
+use judy_many::{Accept, Got, How, Limits, Network, Put, Question, Queue};
 use judy_programs::{Hosted, Hosts, check_on, host_on};
 use judy_server::do_job_on;
 use judy_stream::{Page, Pull, Push, Refusal, Sink, Source, Tape};
@@ -33,10 +33,12 @@ struct Play<'a> {
     secret: Option<[u8; 16]>,
     file: Option<&'a [u8]>,
     binds: bool,
+    watches: bool,
     drawn: usize,
     opened: usize,
     shut: usize,
     bound: usize,
+    watched: usize,
     accepted: usize,
     closed: usize,
     tapes: Vec<Tape<'a>>,
@@ -94,6 +96,15 @@ impl<'a> Network for Play<'a> {
     fn seconds(&mut self) -> Option<u64> {
         Some(0)
     }
+
+    fn ask(&mut self) -> Question {
+        if self.accepted < self.tapes.len() || self.closed < self.accepted {
+            return Question::Nothing;
+        }
+        Question::Stop
+    }
+
+    fn report(&mut self, _text: &[u8]) {}
 }
 
 impl<'a> Hosts for Play<'a> {
@@ -117,6 +128,11 @@ impl<'a> Hosts for Play<'a> {
     fn bind(&mut self, _alloc: Global, _path: &str) -> bool {
         self.bound = self.bound.saturating_add(1);
         self.binds
+    }
+
+    fn watch(&mut self, _path: &str) -> bool {
+        self.watched = self.watched.saturating_add(1);
+        self.watches
     }
 }
 
@@ -151,10 +167,12 @@ fn with_callers<'a>(rt: &HostRuntime, callers: &[Caller<'a>]) -> Result<Play<'a>
         secret: Some([7; 16]),
         file: Some(TABLE.as_bytes()),
         binds: true,
+        watches: true,
         drawn: 0,
         opened: 0,
         shut: 0,
         bound: 0,
+        watched: 0,
         accepted: 0,
         closed: 0,
         tapes,
@@ -169,6 +187,7 @@ fn limits(clients: u32, connections: u32) -> Limits {
         connections,
         idle: None,
         turn: None,
+        status: false,
     }
 }
 
@@ -177,7 +196,16 @@ fn limits(clients: u32, connections: u32) -> Limits {
 #[test]
 fn connections_in_order(rt: HostRuntime) -> Result<(), Fail> {
     let mut system = with_callers(&rt, &[SET, CUT, NOBODY, LOOK])?;
-    let hosted = host_on::<Tenants, _>(rt.alloc(), b"secret", &mut system, "c", "s", limits(1, 4));
+    let hosted = host_on::<Tenants, _>(
+        rt.alloc(),
+        b"secret",
+        &mut system,
+        "c",
+        "s",
+        None,
+        None,
+        limits(1, 4),
+    );
     assert_eq!(rt; hosted, Hosted::Done);
     assert_eq!(rt;
         (
@@ -205,7 +233,16 @@ fn connections_in_order(rt: HostRuntime) -> Result<(), Fail> {
 #[test]
 fn connections_at_once(rt: HostRuntime) -> Result<(), Fail> {
     let mut system = with_callers(&rt, &[SET, NOBODY, CUT])?;
-    let hosted = host_on::<Tenants, _>(rt.alloc(), b"secret", &mut system, "c", "s", limits(8, 3));
+    let hosted = host_on::<Tenants, _>(
+        rt.alloc(),
+        b"secret",
+        &mut system,
+        "c",
+        "s",
+        None,
+        Some(2),
+        limits(8, 3),
+    );
     assert_eq!(rt; hosted, Hosted::Done);
     assert_eq!(rt; (system.accepted, system.closed), (3, 3));
     let want: [&[u8]; 3] = [b"OK\n1\n", b"ERR AUTH\nOK\n0\nBYE\n", b"OK\n1\n"];
@@ -225,6 +262,8 @@ fn a_broken_listener(rt: HostRuntime) -> Result<(), Fail> {
         &mut system,
         "c",
         "s",
+        None,
+        None,
         limits(1, 70000),
     );
     assert_eq!(rt; hosted, Hosted::Socket);
@@ -232,17 +271,63 @@ fn a_broken_listener(rt: HostRuntime) -> Result<(), Fail> {
     Ok(())
 }
 
+// A stop after all connections were served, and a status socket that cannot be made: then no connection
+// is accepted.
+#[test]
+fn a_stop(rt: HostRuntime) -> Result<(), Fail> {
+    let mut system = with_callers(&rt, &[SET, LOOK])?;
+    let limits = Limits {
+        status: true,
+        ..limits(2, 2)
+    };
+    let more = Limits {
+        connections: 3,
+        ..limits
+    };
+    let status = Some("t");
+    let hosted = host_on::<Tenants, _>(
+        rt.alloc(),
+        b"s",
+        &mut system,
+        "c",
+        "s",
+        status,
+        None,
+        limits,
+    );
+    assert_eq!(rt; hosted, Hosted::Stopped);
+    assert_eq!(rt; (system.bound, system.watched, system.closed), (1, 1, 2));
+    let mut system = with_callers(&rt, &[SET])?;
+    system.watches = false;
+    let hosted = host_on::<Tenants, _>(rt.alloc(), b"s", &mut system, "c", "s", status, None, more);
+    assert_eq!(rt; hosted, Hosted::Socket);
+    assert_eq!(rt; (system.bound, system.watched, system.accepted), (1, 1, 0));
+    let hosted = host_on::<Tenants, _>(
+        rt.alloc(),
+        b"s",
+        &mut system,
+        "c",
+        "s",
+        Some(""),
+        None,
+        more,
+    );
+    assert_eq!(rt; hosted, Hosted::Socket);
+    assert_eq!(rt; (system.bound, system.watched, system.accepted), (2, 1, 0));
+    Ok(())
+}
+
 // A check of the table: no socket is made, and no connection is accepted.
 #[test]
 fn a_look_at_the_table(rt: HostRuntime) -> Result<(), Fail> {
     let mut system = with_callers(&rt, &[SET])?;
-    let hosted = check_on::<Tenants, _>(rt.alloc(), b"secret", &mut system, "c");
+    let hosted = check_on::<Tenants, _>(rt.alloc(), b"secret", &mut system, "c", Some(1));
     assert_eq!(rt; hosted, Hosted::Done);
     system.file = Some(b"alice = 1\n");
-    let hosted = check_on::<Tenants, _>(rt.alloc(), b"secret", &mut system, "c");
+    let hosted = check_on::<Tenants, _>(rt.alloc(), b"secret", &mut system, "c", None);
     assert_eq!(rt; hosted, Hosted::Table(TableFault::Shape));
     system.file = None;
-    let hosted = check_on::<Tenants, _>(rt.alloc(), b"secret", &mut system, "c");
+    let hosted = check_on::<Tenants, _>(rt.alloc(), b"secret", &mut system, "c", None);
     assert_eq!(rt; hosted, Hosted::Config);
     assert_eq!(rt;
         (system.opened, system.shut, system.bound, system.accepted),
@@ -257,15 +342,42 @@ fn a_look_at_the_table(rt: HostRuntime) -> Result<(), Fail> {
 fn faults_in_order(rt: HostRuntime) -> Result<(), Fail> {
     let mut system = with_callers(&rt, &[SET])?;
     system.file = None;
-    let hosted = host_on::<Tenants, _>(rt.alloc(), b"secret", &mut system, "c", "s", limits(1, 1));
+    let hosted = host_on::<Tenants, _>(
+        rt.alloc(),
+        b"secret",
+        &mut system,
+        "c",
+        "s",
+        None,
+        None,
+        limits(1, 1),
+    );
     assert_eq!(rt; hosted, Hosted::Config);
     assert_eq!(rt; (system.opened, system.bound, system.accepted), (1, 0, 0));
     let mut system = with_callers(&rt, &[SET])?;
-    let hosted = host_on::<Tenants, _>(rt.alloc(), b"secret", &mut system, "c", "", limits(1, 1));
+    let hosted = host_on::<Tenants, _>(
+        rt.alloc(),
+        b"secret",
+        &mut system,
+        "c",
+        "",
+        None,
+        None,
+        limits(1, 1),
+    );
     assert_eq!(rt; hosted, Hosted::Socket);
     assert_eq!(rt; (system.opened, system.bound, system.accepted), (1, 0, 0));
     system.binds = false;
-    let hosted = host_on::<Tenants, _>(rt.alloc(), b"secret", &mut system, "c", "s", limits(1, 1));
+    let hosted = host_on::<Tenants, _>(
+        rt.alloc(),
+        b"secret",
+        &mut system,
+        "c",
+        "s",
+        None,
+        None,
+        limits(1, 1),
+    );
     assert_eq!(rt; hosted, Hosted::Socket);
     assert_eq!(rt; (system.opened, system.bound, system.accepted), (2, 1, 0));
     Ok(())

@@ -68,6 +68,7 @@ fn limits(connections: u32, idle: Option<u32>, turn: Option<u32>) -> Limits {
         connections,
         idle,
         turn,
+        status: false,
     }
 }
 
@@ -169,24 +170,69 @@ fn faults_of_hosting(rt: HostRuntime) -> Result<(), Fail> {
     let _ = fs::remove_file(&rt, config);
     let mut system = System::new(&rt);
     let none = limits(0, None, None);
-    let hosted = host_on::<Tenants, _>(rt.alloc(), b"", &mut system, config, path, none);
+    let hosted = host_on::<Tenants, _>(
+        rt.alloc(),
+        b"",
+        &mut system,
+        config,
+        path,
+        None,
+        None,
+        none,
+    );
     assert_eq!(rt; hosted, Hosted::Config);
     let mut text = String::new(rt.alloc());
     for _ in 0..65536usize {
         text.push('#')?;
     }
     fs::write(&rt, config, text.as_str().as_bytes())?;
-    let hosted = host_on::<Tenants, _>(rt.alloc(), b"", &mut system, config, path, none);
+    let hosted = host_on::<Tenants, _>(
+        rt.alloc(),
+        b"",
+        &mut system,
+        config,
+        path,
+        None,
+        None,
+        none,
+    );
     assert_eq!(rt; hosted, Hosted::Table(TableFault::Count));
     text.push('#')?;
     fs::write(&rt, config, text.as_str().as_bytes())?;
-    let hosted = host_on::<Tenants, _>(rt.alloc(), b"", &mut system, config, path, none);
+    let hosted = host_on::<Tenants, _>(
+        rt.alloc(),
+        b"",
+        &mut system,
+        config,
+        path,
+        None,
+        None,
+        none,
+    );
     assert_eq!(rt; hosted, Hosted::Long);
     fs::write(&rt, config, TABLE.as_bytes())?;
-    let hosted = host_on::<Tenants, _>(rt.alloc(), b"", &mut system, config, path, none);
+    let hosted = host_on::<Tenants, _>(
+        rt.alloc(),
+        b"",
+        &mut system,
+        config,
+        path,
+        None,
+        None,
+        none,
+    );
     assert_eq!(rt; hosted, Hosted::Done);
     // The socket exists now.
-    let hosted = host_on::<Tenants, _>(rt.alloc(), b"", &mut system, config, path, none);
+    let hosted = host_on::<Tenants, _>(
+        rt.alloc(),
+        b"",
+        &mut system,
+        config,
+        path,
+        None,
+        None,
+        none,
+    );
     assert_eq!(rt; hosted, Hosted::Socket);
     fs::remove_file(&rt, path)?;
     fs::remove_file(&rt, config)?;

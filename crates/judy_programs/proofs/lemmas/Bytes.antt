@@ -66,9 +66,9 @@ replies-are (e ∷ es) (r ∷ rs) h = ap (λ v. r ∷ v) (replies-are es rs (ome
 -- of what it sent. Each alone makes the calls of a tenant. If the bytes read from them, the tenants'
 -- quotas and arrays at the start, the names and tokens, and the places of the refusals for memory are
 -- equal, then the bytes written to them are equal.
-pub hosted-bytes : {S T : Type 0} (made : Made S) (seen : S → Seen) (made' : Made T) (seen' : T → Seen)
+pub hosted-bytes : {S T : Type 0} (made : Made S) (status : S → List ℕ) (seen : S → Seen) (made' : Made T) (status' : T → List ℕ) (seen' : T → Seen)
     (limits limits' : Limits) (how how' : Ending) (log last log' last' : Log) (before after : S) (before' after' : T)
-    (h : HasServedMany made seen limits how log last before after) (k : HasServedMany made' seen' limits' how' log' last' before' after')
+    (h : HasServedMany made status seen limits how log last before after) (k : HasServedMany made' status' seen' limits' how' log' last' before' after')
     (t u n m : ℕ) → (seen' before').logins ≡ (seen before).logins
     → (seen' before').quotas u ≡ (seen before).quotas t → (seen' before').states u ≡ (seen before).states t
     → CallsBy t n h.story → CallsBy u m k.story
@@ -77,7 +77,7 @@ pub hosted-bytes : {S T : Type 0} (made : Made S) (seen : S → Seen) (made' : M
     → read_in (acts_in theirs) ≡ read_in (acts_in mine)
     → refusals (exchanges_of (turns_in theirs)) ≡ refusals (exchanges_of (turns_in mine))
     → wrote_in (acts_in theirs) ≡ wrote_in (acts_in mine)
-hosted-bytes made seen made' seen' limits limits' how how' log last log' last' before after before' after' h k t u n m
+hosted-bytes made status seen made' status' seen' limits limits' how how' log last log' last' before after before' after' h k t u n m
     logins quota state by by' well well' bytes marks =
     let mine = moments_of n h.story in
     let theirs = moments_of m k.story in
@@ -94,7 +94,7 @@ hosted-bytes made seen made' seen' limits limits' how how' log last log' last' b
     let attempts : attempts_of (exchanges_of (turns_in theirs)) ≡ attempts_of (exchanges_of (turns_in mine))
     = attempts-are (events_in (turns_in theirs)) (replies_in (turns_in theirs)) count' ∙ ap (map attempt_of) calls
     ∙ sym (attempts-are (events_in (turns_in mine)) (replies_in (turns_in mine)) count) in
-    let worlds = hosted-worlds made seen made' seen' limits limits' how how' log last log' last' before after before' after' h k t u quota state
+    let worlds = hosted-worlds made status seen made' status' seen' limits limits' how how' log last log' last' before after before' after' h k t u quota state
     (ap attempts_of by' ∙ attempts ∙ ap attempts_of (sym by)) (ap refusals by' ∙ marks ∙ ap refusals (sym by)) in
     let replies : replies_in (turns_in theirs) ≡ replies_in (turns_in mine)
     = sym (replies-are (events_in (turns_in theirs)) (replies_in (turns_in theirs)) count') ∙ ap replies_of (sym by' ∙ worlds.0 ∙ by)

@@ -1,11 +1,12 @@
 -- What a server asks of the system besides its connections, in the words of docs/PROMISES.md.
 --     served-on-socket    the file of the table was opened once, read and closed; then one socket was
---                         made, at the path that was asked for, which is not empty
+--                         made, at the path that was asked for, which is not empty, and the status
+--                         socket at its path, if one is wanted
 --     served-nobody       without a socket nothing else was asked: the path is empty, or the system
---                         cannot make the socket
+--                         cannot make the socket, or the status socket after it
 --     served-no-table     a file that gives no service was opened once, read and closed, and nothing
 --                         else was asked
-use Rattle.std.specs.Prelude.{◌≡◌, ◌≢◌, ◌⊎◌, ℕ, List, [], ◌∷◌}
+use Rattle.std.specs.Prelude.{◌≡◌, ◌≢◌, ◌⊎◌, ℕ, false, List, [], ◌∷◌, Option, Some, map}
 use Rattle.std.proofs.Common.{inl, inr}
 use Rattle.judy_many.specs.Crowds.{HasServedMany}
 use Rattle.judy_many.specs.Nets.Act.{Asked}
@@ -16,7 +17,7 @@ use Rattle.judy_protocol.specs.Services.{Made, Seen}
 use Rattle.judy_protocol.specs.Serving.{MaybeBytes}
 use Rattle.judy_table.specs.declared.tenant.Tenant.{Tenant}
 use Rattle.judy_programs.specs.Asking.{Log, Logs}
-use Rattle.judy_programs.specs.Hosting.{HasNoService, HasNoSocket, HasServedAll}
+use Rattle.judy_programs.specs.Hosting.{HasNoService, HasNoSocket, HasServedAll, Watches, watched}
 use Rattle.judy_programs.specs.Opening.{HasOpened, IsShut}
 use Rattle.judy_programs.specs.declared.socket.Hosted.{Hosted}
 use Rattle.judy_programs.proofs.Begins.{logs_then}
@@ -27,27 +28,33 @@ module _ {S : Type 0} (is_new : List Tenant → S → Type 0) where
       → (left : MaybeBytes) × (left' : MaybeBytes) × IsShut how left left' × Logs log (Opened config left ∷ Shut left' ∷ []) log'
   served-no-table how config log log' h = (h.left, h.left', h.shut, h.asked)
 
-  module _ (made : Made S) (seen : S → Seen) (config socket : List ℕ) (log log' : Log) where
+  module _ (made : Made S) (status : S → List ℕ) (seen : S → Seen) (config socket : List ℕ) (watch : Option (List ℕ)) (log log' : Log) where
     -- between the opening of the file and the first connection nothing else was asked
-    pub served-on-socket : (limits : Limits) (how : Ending) → (h : HasServedAll made seen is_new config socket limits how log log')
-        → (socket ≢ []) × Logs log (Opened config h.begun.left ∷ Shut h.begun.left' ∷ Bound socket ∷ []) h.mid
-        × HasOpened is_new h.begun.left h.begun.left' h.before × HasServedMany made seen limits how h.mid log' h.before h.after
+    pub served-on-socket : (limits : Limits) (how : Ending) → (h : HasServedAll made status seen is_new config socket watch limits how log log')
+        → (socket ≢ []) × (watch ≢ Some []) × Logs log (Opened config h.begun.left ∷ Shut h.begun.left' ∷ Bound socket ∷ watched watch) h.mid
+        × HasOpened is_new h.begun.left h.begun.left' h.before × HasServedMany made status seen limits how h.mid log' h.before h.after
     served-on-socket limits how h = (
       h.path,
-      logs_then log h.start h.mid (Asked (Opened config h.begun.left) ∷ Asked (Shut h.begun.left') ∷ []) (Asked (Bound socket) ∷ []) h.begun.asked h.asked,
+      h.status_path,
+      logs_then log h.start h.mid (Asked (Opened config h.begun.left) ∷ Asked (Shut h.begun.left') ∷ []) (Asked (Bound socket) ∷ map Asked (watched watch)) h.begun.asked h.asked,
       h.begun.opened,
       h.hosted,
     )
 
-    -- there is a service, and no socket
-    pub served-nobody : (h : HasNoSocket made seen is_new config socket log log')
+    -- there is a service, and a socket is missing
+    pub served-nobody : (h : HasNoSocket made status seen is_new config socket watch log log')
         → ((socket ≡ []) × Logs log (Opened config h.begun.left ∷ Shut h.begun.left' ∷ []) log')
         ⊎ ((socket ≢ []) × Logs log (Opened config h.begun.left ∷ Shut h.begun.left' ∷ Unbound socket ∷ []) log')
+        ⊎ ((bound : Log) × (socket ≢ []) × Logs log (Opened config h.begun.left ∷ Shut h.begun.left' ∷ Bound socket ∷ []) bound × Watches false watch bound log')
     served-nobody h = by h.asked
       where
         by : ((socket ≡ []) × Logs h.start [] log') ⊎ ((socket ≢ []) × Logs h.start (Unbound socket ∷ []) log')
+            ⊎ ((bound : Log) × (socket ≢ []) × Logs h.start (Bound socket ∷ []) bound × Watches false watch bound log')
             → ((socket ≡ []) × Logs log (Opened config h.begun.left ∷ Shut h.begun.left' ∷ []) log')
             ⊎ ((socket ≢ []) × Logs log (Opened config h.begun.left ∷ Shut h.begun.left' ∷ Unbound socket ∷ []) log')
+            ⊎ ((bound : Log) × (socket ≢ []) × Logs log (Opened config h.begun.left ∷ Shut h.begun.left' ∷ Bound socket ∷ []) bound × Watches false watch bound log')
         by (inl (e, a)) = inl (e, logs_then log h.start log' (Asked (Opened config h.begun.left) ∷ Asked (Shut h.begun.left') ∷ []) [] h.begun.asked a)
-        by (inr (e, a)) =
-            inr (e, logs_then log h.start log' (Asked (Opened config h.begun.left) ∷ Asked (Shut h.begun.left') ∷ []) (Asked (Unbound socket) ∷ []) h.begun.asked a)
+        by (inr (inl (e, a))) =
+            inr (inl (e, logs_then log h.start log' (Asked (Opened config h.begun.left) ∷ Asked (Shut h.begun.left') ∷ []) (Asked (Unbound socket) ∷ []) h.begun.asked a))
+        by (inr (inr (bound, e, a, w))) =
+            inr (inr (bound, e, logs_then log h.start bound (Asked (Opened config h.begun.left) ∷ Asked (Shut h.begun.left') ∷ []) (Asked (Bound socket) ∷ []) h.begun.asked a, w))

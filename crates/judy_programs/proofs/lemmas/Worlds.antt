@@ -1,7 +1,7 @@
 -- Two worlds: the replies that a tenant of one server and a tenant of another get over all their
 -- connections.
 --     hosted-worlds    equal quotas, arrays, calls and refusals of a tenant give it equal replies
-use Rattle.std.specs.Prelude.{◌≡◌, ℕ, zip}
+use Rattle.std.specs.Prelude.{◌≡◌, ℕ, List, zip}
 use Rattle.std.proofs.Common.{subst}
 use Rattle.judy_many.specs.Crowds.{HasServedMany, events_in}
 use Rattle.judy_many.specs.Stories.{turns_in}
@@ -16,15 +16,15 @@ use Rattle.judy_programs.specs.Asking.{Log}
 -- The services and their connections may differ. If a tenant of one and a tenant of the other have
 -- equal quotas, arrays and calls, and the same calls are refused for memory, then their replies and
 -- their final arrays are equal.
-pub hosted-worlds : {S T : Type 0} (made : Made S) (seen : S → Seen) (made' : Made T) (seen' : T → Seen)
+pub hosted-worlds : {S T : Type 0} (made : Made S) (status : S → List ℕ) (seen : S → Seen) (made' : Made T) (status' : T → List ℕ) (seen' : T → Seen)
     (limits limits' : Limits) (how how' : Ending) (log last log' last' : Log) (before after : S) (before' after' : T)
-    (h : HasServedMany made seen limits how log last before after) (k : HasServedMany made' seen' limits' how' log' last' before' after')
+    (h : HasServedMany made status seen limits how log last before after) (k : HasServedMany made' status' seen' limits' how' log' last' before' after')
     (t u : ℕ) → (seen' before').quotas u ≡ (seen before).quotas t → (seen' before').states u ≡ (seen before).states t
     → let mine = own t (zip (events_in (turns_in h.story)) (replies_in (turns_in h.story))) in
     let theirs = own u (zip (events_in (turns_in k.story)) (replies_in (turns_in k.story))) in
     attempts_of theirs ≡ attempts_of mine → refusals theirs ≡ refusals mine
     → (theirs ≡ mine) × ((seen' after').states u ≡ (seen after).states t)
-hosted-worlds made seen made' seen' limits limits' how how' log last log' last' before after before' after' h k t u quota state calls marks =
+hosted-worlds made status seen made' status' seen' limits limits' how how' log last log' last' before after before' after' h k t u quota state calls marks =
     let theirs = own u (zip (events_in (turns_in k.story)) (replies_in (turns_in k.story))) in
     let there = (seen' after').states u in
     h.worlds t theirs there

@@ -1,12 +1,12 @@
 -- What the end of a connection means, in the words of docs/PROMISES.md.
 --     quit-means     after `QUIT` no further byte has an effect
---     fault-means    at a failed write the front of the answers was sent, up to within the last
+--     fault-means    at a failed write the front of the answers was sent, up to within the last text
 --     open-means     at any other end all lines that came were answered, and none asked to quit
-use Rattle.std.specs.Prelude.{◌≡◌, ℕ, ◌<◌, Bool, true, false, List, [], ◌∷◌, ◌++◌, length, None}
+use Rattle.std.specs.Prelude.{◌≡◌, ℕ, ◌<◌, ◌≤◌, true, false, List, [], ◌++◌, length, None}
 use Rattle.std.specs.Io.KnownBytes.{Consumes, Appends}
 use Rattle.std.proofs.Common.{subst}
 use Rattle.judy_model.specs.declared.replies.Reply.{Reply}
-use Rattle.judy_model.specs.Stream.{Heard, rest_of, served, answer_from, answer}
+use Rattle.judy_model.specs.Stream.{rest_of, served, answer_from, answer}
 use Rattle.judy_protocol.specs.Services.{Made, Seen}
 use Rattle.judy_protocol.specs.Serving.{MaybeBytes, AreRun, AllQuit, AllOpen, PartRun, asks_to_quit, heard_in}
 
@@ -29,32 +29,37 @@ module _ {S : Type 0} (made : Made S) (seen : S → Seen) (left left' : MaybeByt
     subst (λ lines. Appends taken taken' (answer_from (seen before).logins None lines q.run.replies)) q.last q.run.written,
   )
 
-  -- A write failed. The lines up to the last one that was run end with a line feed, fewer than 4,096
-  -- bytes came after them, and none but the last may have asked to quit. What was sent is a front of
-  -- their answers, and has all answers but the last.
+  -- A write or a flush failed. The lines up to the last one that was run end with a line feed, fewer
+  -- than 4,096 bytes came after them, and none but the last of them may have asked to quit. What was
+  -- sent is a front of their answers. The lines whose answers were not sent whole were completed by the
+  -- last bytes that came, at most 4,096, and their answers have at most 16,384 bytes.
   pub fault-means : PartRun made seen left left' before after taken taken'
-      → (ran : List ℕ) × (unheard : List ℕ) × (front : List Heard) × (last : Heard) × (replies : List Reply) × (sent : List ℕ)
-      × Consumes left left' (ran ++ unheard) × (rest_of ran ≡ []) × (length unheard < 4096)
-      × (heard_in ran ≡ front ++ last ∷ []) × (asks_to_quit front ≡ false) × AreRun made seen (heard_in ran) replies before after
-      × Appends taken taken' sent
-      × ((missing : List ℕ) × (sent ++ missing ≡ answer_from (seen before).logins None (heard_in ran) replies))
-      × ((begun : List ℕ) × (sent ≡ answer_from (seen before).logins None front replies ++ begun))
+      → (kept : List ℕ) × (cut : List ℕ) × (unheard : List ℕ) × (replies : List Reply) × (sent : List ℕ) × (begun : List ℕ) × (missing : List ℕ)
+      × Consumes left left' ((kept ++ cut) ++ unheard) × (length (cut ++ unheard) ≤ 4096) × (length unheard < 4096)
+      × (rest_of (kept ++ cut) ≡ []) × (asks_to_quit (heard_in kept) ≡ false) × (served (kept ++ cut) ≡ heard_in (kept ++ cut))
+      × AreRun made seen (heard_in (kept ++ cut)) replies before after × Appends taken taken' sent
+      × (sent ≡ answer_from (seen before).logins None (heard_in kept) replies ++ begun)
+      × (sent ++ missing ≡ answer_from (seen before).logins None (heard_in (kept ++ cut)) replies)
+      × (length (begun ++ missing) ≤ 16384)
   fault-means p = (
-    p.ran,
+    p.kept,
+    p.cut,
     p.unheard,
-    p.front,
-    p.last,
     p.replies,
     p.sent,
+    p.begun,
+    p.missing,
     p.read,
-    p.ended,
+    p.once,
     p.few,
-    p.lines,
+    p.ended,
     p.goes_on,
+    p.last,
     p.run,
     p.written,
-    (p.missing, p.part),
-    (p.begun, p.whole),
+    p.whole,
+    p.part,
+    p.text,
   )
 
   -- All lines that came were run and answered, and none asked to quit.

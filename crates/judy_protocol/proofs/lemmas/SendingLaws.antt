@@ -1,64 +1,97 @@
--- What may be sent later, or of fewer texts, if more may be sent first; and that an answer is not
--- empty.
-use Rattle.std.proofs.Common.{arith, ◌≡◌, ◌<◌, ℕ, Bool, List, [], ◌∷◌, ◌++◌, length, Option, Some, None, ap, ◌∙◌, append-nil}
+-- What may be sent later, or of fewer texts, if more may be sent first; and that answers are not
+-- empty, and end with a line feed.
+use Rattle.std.proofs.Common.{arith, ◌≡◌, ◌<◌, ◌≤◌, ℕ, Bool, List, [], ◌∷◌, ◌++◌, length, Option, Some, None, ap, sym, ◌∙◌, subst, refl, append_assoc, append-nil}
 use Rattle.std.specs.Prelude.{codes}
 use Rattle.std.proofs.lemmas.List.{length-append}
 use Rattle.judy_stream.specs.Streams.{IsFlushed}
 use Rattle.judy_model.specs.declared.replies.Reply.{Reply}
 use Rattle.judy_model.specs.declared.requests.Line.TheVariants as request
-use Rattle.judy_model.specs.Replies.{line, reply_words}
+use Rattle.judy_model.specs.Replies.{line, reply_words, text as text_of}
 use Rattle.judy_model.specs.Speakers.{Speaker}
-use Rattle.judy_model.specs.Stream.{Heard, Login, event_of, welcome, answer_from}
+use Rattle.judy_model.specs.Stream.{Heard, Login, events_from, welcome, answer_from}
 use Rattle.judy_model.specs.Stream.Heard.{TooLong, Unclear, Asked}
 use Rattle.judy_protocol.specs.Services.{Made}
-use Rattle.judy_protocol.specs.Serving.{MaybeBytes}
-use Rattle.judy_protocol.specs.Talks.{Turn}
-use Rattle.judy_protocol.specs.Sending.{IsAnswer, MaySend}
+use Rattle.judy_protocol.specs.Serving.{MaybeBytes, answers_limit}
+use Rattle.judy_protocol.specs.Talks.{Gathers}
+use Rattle.judy_protocol.specs.Sending.{AreAnswers, MaySend}
+use Rattle.judy_protocol.specs.declared.held.Held.{Held}
 
 -- the bytes end with a line feed
 abbrev pub EndsLine : List ℕ → Type 0
 EndsLine bytes = (text : List ℕ) × bytes ≡ text ++ 10 ∷ []
 
-one_line : (text : List ℕ) → EndsLine (line text ++ [])
-one_line text = (text, append-nil (line text))
+one_line : (text : List ℕ) → EndsLine (line text)
+one_line text = (text, refl)
 
-welcome_line : (who : Option Speaker) → EndsLine (welcome who ++ [])
+welcome_line : (who : Option Speaker) → EndsLine (welcome who)
 welcome_line (Some speaker) = one_line (codes "OK")
 welcome_line None = one_line (codes "ERR AUTH")
 
-line_of : (login : Login) (who : Option Speaker) (heard : Heard) (replies : List Reply) → length replies ≡ length (event_of heard who)
-    → EndsLine (answer_from login who (heard ∷ []) replies)
-line_of login who TooLong replies count = one_line (codes "ERR LONG")
-line_of login who Unclear replies count = one_line (codes "ERR SYNTAX")
-line_of login who (Asked (request.Auth name token)) replies count = welcome_line (login name token)
-line_of login who (Asked request.Quit) replies count = one_line (codes "BYE")
-line_of login None (Asked (request.Call call)) replies count = one_line (codes "ERR AUTH")
-line_of login (Some speaker) (Asked (request.Call call)) [] count = absurd (omega (arith, count))
-line_of login (Some speaker) (Asked (request.Call call)) (reply ∷ replies) count = one_line (reply_words reply)
+-- bytes in front of a line, and lines after it
+further : (front next more : List ℕ) → EndsLine next → ((all : List ℕ) → EndsLine all → EndsLine (all ++ more)) → EndsLine (front ++ (next ++ more))
+further front next more (text, e) go =
+    let whole : front ++ next ≡ (front ++ text) ++ 10 ∷ [] = ap (λ v. front ++ v) e ∙ sym (append_assoc front text (10 ∷ [])) in
+    subst EndsLine (append_assoc front next more) (go (front ++ next) (front ++ text, whole))
 
--- an answer ends with a line feed, so it has a byte
-pub answer_line : (bytes : List ℕ) → IsAnswer bytes → EndsLine bytes
-answer_line bytes is = let l = line_of is.login is.who is.line is.replies is.count in (l.0, is.is ∙ l.1)
+module _ (login : Login) where
+  -- the answers to lines after bytes that end with a line feed
+  then_lines : (who : Option Speaker) (lines : List Heard) (replies : List Reply) → length replies ≡ length (events_from login who lines)
+      → (front : List ℕ) → EndsLine front → EndsLine (front ++ answer_from login who lines replies)
+  then_lines who [] replies count front ends = subst EndsLine (sym (append-nil front)) ends
+  then_lines who (TooLong ∷ rest) replies count front ends = further front (line (codes "ERR LONG")) _ (one_line (codes "ERR LONG")) (then_lines who rest replies count)
+  then_lines who (Unclear ∷ rest) replies count front ends = further front (line (codes "ERR SYNTAX")) _ (one_line (codes "ERR SYNTAX")) (then_lines who rest replies count)
+  then_lines who (Asked (request.Auth name token) ∷ rest) replies count front ends =
+      further front (welcome (login name token)) _ (welcome_line (login name token)) (then_lines (login name token) rest replies count)
+  then_lines who (Asked request.Quit ∷ rest) replies count front ends = further front (line (codes "BYE")) _ (one_line (codes "BYE")) (then_lines who rest replies count)
+  then_lines None (Asked (request.Call call) ∷ rest) replies count front ends =
+      further front (line (codes "ERR AUTH")) _ (one_line (codes "ERR AUTH")) (then_lines None rest replies count)
+  then_lines (Some speaker) (Asked (request.Call call) ∷ rest) [] count front ends = absurd (omega (arith, count))
+  then_lines (Some speaker) (Asked (request.Call call) ∷ rest) (reply ∷ replies) count front ends =
+      further front (text_of reply) _ (one_line (reply_words reply)) (then_lines (Some speaker) rest replies (omega (arith, count)))
 
-pub answer_some : (bytes : List ℕ) → IsAnswer bytes → 0 < length bytes
-answer_some bytes is = let l = answer_line bytes is in omega (arith, ap length l.1, length-append l.0 (10 ∷ []))
+  -- the answers to a line and to lines after it
+  lines_end : (who : Option Speaker) (lines : List Heard) (replies : List Reply) → length replies ≡ length (events_from login who lines)
+      → 0 < length lines → EndsLine (answer_from login who lines replies)
+  lines_end who [] replies count some = absurd (omega (arith, some))
+  lines_end who (TooLong ∷ rest) replies count some = then_lines who rest replies count _ (one_line (codes "ERR LONG"))
+  lines_end who (Unclear ∷ rest) replies count some = then_lines who rest replies count _ (one_line (codes "ERR SYNTAX"))
+  lines_end who (Asked (request.Auth name token) ∷ rest) replies count some =
+      then_lines (login name token) rest replies count _ (welcome_line (login name token))
+  lines_end who (Asked request.Quit ∷ rest) replies count some = then_lines who rest replies count _ (one_line (codes "BYE"))
+  lines_end None (Asked (request.Call call) ∷ rest) replies count some = then_lines None rest replies count _ (one_line (codes "ERR AUTH"))
+  lines_end (Some speaker) (Asked (request.Call call) ∷ rest) [] count some = absurd (omega (arith, count))
+  lines_end (Some speaker) (Asked (request.Call call) ∷ rest) (reply ∷ replies) count some =
+      then_lines (Some speaker) rest replies (omega (arith, count)) _ (one_line (reply_words reply))
 
--- what is left of an answer also ends with a line feed
+-- answers end with a line feed, so they have a byte
+pub answers_line : (bytes : List ℕ) → AreAnswers bytes → EndsLine bytes
+answers_line bytes are = let l = lines_end are.login are.who are.lines are.replies are.count are.some in (l.0, are.is ∙ l.1)
+
+pub answers_some : (bytes : List ℕ) → AreAnswers bytes → 0 < length bytes
+answers_some bytes are = let l = answers_line bytes are in omega (arith, ap length l.1, length-append l.0 (10 ∷ []))
+
+-- they are no more than the buffer holds
+pub answers_short : (bytes : List ℕ) → AreAnswers bytes → length bytes ≤ 16384
+answers_short bytes are = are.short
+
+-- what is left of answers also ends with a line feed
 pub rest_ends : (front rest text : List ℕ) → front ++ rest ≡ text ++ 10 ∷ [] → 0 < length rest → EndsLine rest
 rest_ends [] rest text e some = (text, e)
 rest_ends (x ∷ xs) rest [] e some = absurd (omega (arith, some, ap length e, length-append xs rest))
 rest_ends (x ∷ xs) rest (t ∷ ts) e some = let tails : xs ++ rest ≡ ts ++ 10 ∷ [] = cc in rest_ends xs rest ts tails some
 
--- the text written for a line is an answer
-pub turn_answer : {S : Type 0} (made : Made S) (login : Login) (line : Heard) (who who' : Option Speaker) (before after : S) (text : List ℕ)
-    → Turn made login line who who' before after text → IsAnswer text
-turn_answer made login line who who' before after text turn = record {
+-- the text that was gathered is the answers to its lines
+pub gathered_answers : {S : Type 0} (made : Made S) (login : Login) (bytes : List ℕ) (quit : Bool) (held held' : Held) (who who' : Option Speaker)
+    (before after : S) (text : List ℕ) → Gathers made login bytes quit held held' who who' before after text → length text ≤ answers_limit → AreAnswers text
+gathered_answers made login bytes quit held held' who who' before after text g short = record {
   login = login;
   who = who;
-  line = line;
-  replies = turn.replies;
-  count = turn.count;
-  is = turn.text_is;
+  lines = g.lines;
+  replies = g.turns.replies;
+  some = g.some;
+  count = g.turns.count;
+  is = g.turns.text_is;
+  short = short;  -- of the buffer
 }
 
 -- what may be sent from a state on may be sent from a later one in which no more bytes wait; the

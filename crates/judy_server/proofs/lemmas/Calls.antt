@@ -6,7 +6,7 @@
 --     table-stays      a call keeps the table
 --     moments-caused   each refusal for memory of a server's connections has a cause, which is
 --                      counted at its moment
-use Rattle.std.specs.Prelude.{◌≡◌, ◌⊎◌, ℕ, Bool, true, false, List, [], ◌∷◌, ◌++◌, Ok, MatchBool, zip}
+use Rattle.std.specs.Prelude.{None, ◌≡◌, ◌⊎◌, ℕ, Bool, true, false, List, [], ◌∷◌, ◌++◌, Ok, MatchBool, zip}
 use Rattle.std.proofs.Common.{ap, refl, subst}
 use Rattle.judy_many.specs.Sessions.{AreTurns, Turn}
 use Rattle.judy_model.specs.declared.replies.Reply.{Reply}
@@ -24,13 +24,13 @@ use Rattle.judy_server.specs.Served.{IsServedStep, IsNewService, seen_of, held_w
 
 -- where a script begins, no tenant has an entry
 pub begins-empty : (secret : List ℕ) (words : Bool) (how : Ran) (left left' taken taken' : MaybeBytes) (told told' : ℕ)
-    → (h : HasServed IsServedStep seen_of held_words (IsNewService secret) words how left left' taken taken' told told')
+    → (h : HasServed IsServedStep seen_of held_words (IsNewService secret None) words how left left' taken taken' told told')
     → (t : ℕ) → (seen_of h.before).states t ≡ no_arrays
 begins-empty secret words how left left' taken taken' told told' h = h.fresh.states
 
 -- and the quotas are those of the table that was read
 pub begins-by-table : (secret : List ℕ) (words : Bool) (how : Ran) (left left' taken taken' : MaybeBytes) (told told' : ℕ)
-    → (h : HasServed IsServedStep seen_of held_words (IsNewService secret) words how left left' taken taken' told told')
+    → (h : HasServed IsServedStep seen_of held_words (IsNewService secret None) words how left left' taken taken' told told')
     → (read_table h.text ≡ Ok h.tenants) × ((seen_of h.before).quotas ≡ quotas_of h.tenants)
 begins-by-table secret words how left left' taken taken' told told' h = (h.reads, ap quotas_of h.fresh.tenants)
 

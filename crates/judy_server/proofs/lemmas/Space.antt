@@ -4,9 +4,12 @@
 --     sound-turns    lines one after another keep it, whatever their connections
 --     sound-moments  so it holds at each moment between two lines
 --     sound-server   so it does at each moment of a server's story
+--     calls-are-bounded, run-is-bounded, server-is-bounded
+--                    at each of these times the words live at once so far, and those taken from the
+--                    machine, are bounded by the quotas of the table
 --     few-words      the n of `WORDS n` is at most 16 for each piece of all tenants at that time,
 --                    and at least 4 for each array that has entries
-use Rattle.std.specs.Prelude.{◌≡◌, ℕ, Bool, true, List, [], ◌∷◌, ◌++◌, length}
+use Rattle.std.specs.Prelude.{None, Option, ◌≡◌, ◌≤◌, ◌+◌, ◌*◌, ℕ, Bool, true, List, [], ◌∷◌, ◌++◌, length, max}
 use Rattle.std.proofs.Common.{◌∙◌, ap, append_assoc, arith, refl, subst, sym}
 use Rattle.judy_many.specs.Sessions.{AreTurns, Turn}
 use Rattle.judy_many.specs.Stories.{Story, turns_by, turns_in}
@@ -24,17 +27,18 @@ use Rattle.judy_programs.specs.Hosting.{HasServedAll}
 use Rattle.judy_programs.specs.Program.{HasServed, tells_words}
 use Rattle.judy_programs.specs.declared.program.Ran.TheVariants as ran
 use Rattle.judy_programs.proofs.lemmas.Words.{told-words}
-use Rattle.judy_tenants.specs.Held.{Held, IsSoundService, all_arrays, states_of}
+use Rattle.judy_tenants.specs.Held.{Held, IsSoundService, all_arrays, states_of, words_for}
 use Rattle.judy_server.specs.Served.{IsServedStep, IsNewService, seen_of, held_words}
-use Rattle.judy_server.specs.Space.{IsSoundOf, TellsFew}
+use Rattle.judy_server.specs.Space.{IsSoundOf, IsBoundedBy, TellsFew}
+use Rattle.judy_server.specs.Status.{status_of}
 
 -- calls one after another keep the invariant of a service
 pub sound-calls : (before after : Held) (answered : List (Event × Reply)) → IsSoundService before
     → AreMade IsServedStep before answered after → IsSoundOf before after
-sound-calls before after [] h same = record { sound = subst IsSoundService (sym same) h; tenants = ap (λ (s : Held). s.tenants) same }
+sound-calls before after [] h same = record { sound = subst IsSoundService (sym same) h; tenants = ap (λ (s : Held). s.tenants) same; reserved = ap (λ (s : Held). s.reserved) same }
 sound-calls before after (p ∷ ps) h (mid, made, rest) =
     let later : IsSoundOf mid after = sound-calls mid after ps made.sound rest in
-    record { sound = later.sound; tenants = later.tenants ∙ made.keeps.tenants }
+    record { sound = later.sound; tenants = later.tenants ∙ made.keeps.tenants; reserved = later.reserved ∙ made.keeps.memory.reserved }
 
 -- a connection keeps it, however it ends
 pub sound-end : (end : End) (left left' : MaybeBytes) (before after : Held) (taken taken' : MaybeBytes) → IsSoundService before
@@ -48,37 +52,75 @@ sound-end ends.WriteFault left left' before after taken taken' s h = sound-calls
 -- lines one after another keep it, whatever their connections
 pub sound-turns : (turns : List Turn) (before after : Held) → IsSoundService before → AreTurns IsServedStep before turns after
     → IsSoundOf before after
-sound-turns [] before after s same = record { sound = subst IsSoundService (sym same) s; tenants = ap (λ (h : Held). h.tenants) same }
+sound-turns [] before after s same = record { sound = subst IsSoundService (sym same) s; tenants = ap (λ (h : Held). h.tenants) same; reserved = ap (λ (h : Held). h.reserved) same }
 sound-turns (t ∷ turns) before after s (mid, one, rest) =
     let first : IsSoundOf before mid = sound-calls before mid _ s one.1 in
     let more : IsSoundOf mid after = sound-turns turns mid after first.sound rest in
-    record { sound = more.sound; tenants = more.tenants ∙ first.tenants }
+    record { sound = more.sound; tenants = more.tenants ∙ first.tenants; reserved = more.reserved ∙ first.reserved }
 
 -- at each moment, after some of the lines and before the others, the service is sound
 pub sound-moments : (done turns : List Turn) (before after : Held) → IsSoundService before → AreTurns IsServedStep before (done ++ turns) after
     → (mid : Held) × AreTurns IsServedStep before done mid × IsSoundOf before mid × AreTurns IsServedStep mid turns after
-sound-moments [] turns before after s run = (before, refl, record { sound = s; tenants = refl }, run)
+sound-moments [] turns before after s run = (before, refl, record { sound = s; tenants = refl; reserved = refl }, run)
 sound-moments (t ∷ done) turns before after s (mid, one, rest) =
     let first : IsSoundOf before mid = sound-calls before mid _ s one.1 in
     let (now, did, more, left) = sound-moments done turns mid after first.sound rest in
-    (now, (mid, one, did), record { sound = more.sound; tenants = more.tenants ∙ first.tenants }, left)
+    (now, (mid, one, did), record { sound = more.sound; tenants = more.tenants ∙ first.tenants; reserved = more.reserved ∙ first.reserved }, left)
 
 turns_in-append : (p q : Story) → turns_in (p ++ q) ≡ turns_in p ++ turns_in q
 turns_in-append [] q = refl
 turns_in-append (m ∷ p) q = ap (λ ts. turns_by m ++ ts) (turns_in-append p q) ∙ sym (append_assoc (turns_by m) (turns_in p) (turns_in q))
 
 -- at each moment of a server's story its service is sound, and has the tenants of the table
-pub sound-server : (secret config socket : List ℕ) (limits : Limits) (how : Ending) (log log' : Log)
-    → (h : HasServedAll IsServedStep seen_of (IsNewService secret) config socket limits how log log')
+pub sound-server : (secret config socket : List ℕ) (watch : Option (List ℕ)) (reserve : Option ℕ) (limits : Limits) (how : Ending) (log log' : Log)
+    → (h : HasServedAll IsServedStep status_of seen_of (IsNewService secret reserve) config socket watch limits how log log')
     → (p q : Story) → h.hosted.story ≡ p ++ q
     → (mid : Held) × AreTurns IsServedStep h.before (turns_in p) mid × IsSoundOf h.before mid × AreTurns IsServedStep mid (turns_in q) h.after
-sound-server secret config socket limits how log log' h p q e =
+sound-server secret config socket watch reserve limits how log log' h p q e =
     sound-moments (turns_in p) (turns_in q) h.before h.after h.begun.opened.fresh.sound
     (subst (λ ts. AreTurns IsServedStep h.before ts h.after) (ap turns_in e ∙ turns_in-append p q) h.hosted.run)
 
+-- a sound service is bounded by the quotas of its table, or by what was taken beforehand
+bounded : (before after : Held) → IsSoundOf before after → IsBoundedBy before.tenants before.reserved after
+bounded before after s = record {
+  peak = subst (λ ts. after.peak ≤ words_for ts) s.tenants s.sound.peak;
+  region = subst (λ ts. after.region ≤ max before.reserved (128 * words_for ts + 512)) s.tenants
+      (subst (λ n. after.region ≤ max n (128 * words_for after.tenants + 512)) s.reserved s.sound.machine);
+}
+
+-- at each moment, after some calls and before the others, the memory is bounded by the quotas
+pub calls-are-bounded : (done rest : List (Event × Reply)) (before after : Held) → IsSoundService before → AreMade IsServedStep before (done ++ rest) after
+    → (mid : Held) × AreMade IsServedStep before done mid × IsBoundedBy before.tenants before.reserved mid × AreMade IsServedStep mid rest after
+calls-are-bounded [] rest before after s run = (before, refl, bounded before before (record { sound = s; tenants = refl; reserved = refl }), run)
+calls-are-bounded (p ∷ done) rest before after s (mid, made, run) =
+    let (now, did, bound, left) = calls-are-bounded done rest mid after made.sound run in (
+      now,
+      (mid, made, did),
+      subst (λ n. IsBoundedBy before.tenants n now) made.keeps.memory.reserved
+          (subst (λ ts. IsBoundedBy ts mid.reserved now) made.keeps.tenants bound),
+      left,
+    )
+
+-- so it is where a script ends, however it ends; both numbers never fall, so they were no greater before
+pub run-is-bounded : (secret : List ℕ) (words : Bool) (end : End) (left left' taken taken' : MaybeBytes) (told told' : ℕ)
+    → (h : HasServed IsServedStep seen_of held_words (IsNewService secret None) words (ran.Served end) left left' taken taken' told told')
+    → IsBoundedBy h.tenants 0 h.after
+run-is-bounded secret words end left left' taken taken' told told' h =
+    subst (λ n. IsBoundedBy h.tenants n h.after) (h.fresh.reserved ∙ h.fresh.taken.0) (subst (λ ts. IsBoundedBy ts h.before.reserved h.after) h.fresh.tenants
+    (bounded h.before h.after (sound-end end _ _ h.before h.after _ _ h.fresh.sound h.run.script.served)))
+
+-- and at each moment of a server's story, but for what was taken at its start
+pub server-is-bounded : (secret config socket : List ℕ) (watch : Option (List ℕ)) (reserve : Option ℕ) (limits : Limits) (how : Ending) (log log' : Log)
+    → (h : HasServedAll IsServedStep status_of seen_of (IsNewService secret reserve) config socket watch limits how log log')
+    → (p q : Story) → h.hosted.story ≡ p ++ q
+    → (mid : Held) × AreTurns IsServedStep h.before (turns_in p) mid × IsBoundedBy h.before.tenants h.before.region mid × AreTurns IsServedStep mid (turns_in q) h.after
+server-is-bounded secret config socket watch reserve limits how log log' h p q e =
+    let (mid, did, sound, left) = sound-server secret config socket watch reserve limits how log log' h p q e in
+    (mid, did, subst (λ n. IsBoundedBy h.before.tenants n mid) h.begun.opened.fresh.reserved (bounded h.before mid sound), left)
+
 -- if a script was served to its end and the words are wanted, the words that are reported are few
 pub few-words : (secret : List ℕ) (words : Bool) (end : End) (left left' taken taken' : MaybeBytes) (told told' : ℕ) → tells_words words end ≡ true
-    → (h : HasServed IsServedStep seen_of held_words (IsNewService secret) words (ran.Served end) left left' taken taken' told told')
+    → (h : HasServed IsServedStep seen_of held_words (IsNewService secret None) words (ran.Served end) left left' taken taken' told told')
     → TellsFew (length h.tenants) h.after h.run.between taken'
 few-words secret words end left left' taken taken' told told' tells h =
     let s : IsSoundOf h.before h.after = sound-end end _ _ h.before h.after _ _ h.fresh.sound h.run.script.served in
@@ -89,7 +131,7 @@ few-words secret words end left left' taken taken' told told' tells h =
     = ap (λ m. all_arrays m (states_of h.after)) many in
     record {
       n = held_words h.after;
-      line = told-words IsServedStep seen_of held_words (IsNewService secret) words end left left' taken taken' told told' tells h;
+      line = told-words IsServedStep seen_of held_words (IsNewService secret None) words end left left' taken taken' told told' tells h;
       most = omega (arith, s.sound.space.most, pieces);
       least = omega (arith, s.sound.space.least, s.sound.names, arrays);
     }

@@ -23,10 +23,10 @@ pub run-asks-nothing : (secret : List ℕ) (words : Bool) (status : ℕ) (text :
 run-asks-nothing secret words status text from to log log' (how, has_run, is, told, same) = same
 
 -- `serve` neither reads standard input nor writes standard output
-pub serve-says-nothing : (secret config socket : List ℕ) (clients connections : ℕ) (idle turn : Option ℕ) (check : Bool)
+pub serve-says-nothing : (secret config socket : List ℕ) (watch : Option (List ℕ)) (clients connections : ℕ) (idle turn reserve : Option ℕ) (check : Bool)
     (status : ℕ) (text : Option (List ℕ)) (from to : Wire) (log log' : Log)
-    → HasDone secret (job.Serve config socket clients connections idle turn check) status text from to log log' → to ≡ from
-serve-says-nothing secret config socket clients connections idle turn check status text from to log log' (hosted, serves, is, told, same) = same
+    → HasDone secret (job.Serve config socket watch clients connections idle turn reserve check) status text from to log log' → to ≡ from
+serve-says-nothing secret config socket watch clients connections idle turn reserve check status text from to log log' (hosted, serves, is, told, same) = same
 
 -- the first that is asked of the system is a secret, and the job is done with it
 pub drawn-once : (asked : Job) (status : ℕ) (text : Option (List ℕ)) (from to : Wire) (log log' : Log)

@@ -10,8 +10,10 @@
 --     words-are-few     a tenant's words are bounded by its quota, those of a Judy1 or JudyL by its
 --                       entries
 --     words-are-some    an array with entries has at least 4 words
-use Rattle.std.proofs.Common.{◌≡◌, ◌≢◌, ◌⊎◌, inl, inr, ℕ, zero, suc, ◌+◌, ◌*◌, ◌<◌, ◌≤◌, Bool, true, false, List, [], ◌∷◌, length, ap, sym, ◌∙◌, subst, refl, arith}
-use Rattle.std.specs.Prelude.{MatchBool}
+--     memory-is-bounded the words ever live at once, and those taken from the machine, are bounded by
+--                       the tenants' quotas, for ever
+use Rattle.std.proofs.Common.{◌≡◌, ◌≢◌, ◌⊎◌, inl, inr, ℕ, zero, suc, ◌+◌, ◌*◌, ◌<◌, ◌≤◌, Bool, true, false, cond, List, [], ◌∷◌, length, ap, sym, ◌∙◌, subst, refl, arith}
+use Rattle.std.specs.Prelude.{max, MatchBool}
 use Rattle.judy_arena.specs.Blocks.{count_up}
 use Rattle.judy_model.specs.declared.calls.OneCall.{OneCall}
 use Rattle.judy_model.specs.declared.calls.LongCall.{LongCall}
@@ -27,7 +29,8 @@ use Rattle.judy_model.specs.WellFormed.{has_entries}
 use Rattle.judy_model.specs.Solo.{is_memory, IsAnswered, MayLackMemory}
 use Rattle.judy_model.specs.Speakers.{Event, Speaker}
 use Rattle.judy_kinds.specs.Laws.{AreFewWords}
-use Rattle.judy_tenants.specs.Held.{Held, Sizes, states_of, sizes_of, quotas_of, tenant_words, words_named, all_words, all_arrays}
+use Rattle.judy_kinds.specs.Calls.{kind_of_call, blocks_of_kind}
+use Rattle.judy_tenants.specs.Held.{Held, ServiceTakes, all_quotas, words_for, Sizes, states_of, sizes_of, quotas_of, tenant_words, words_named, all_words, all_arrays}
 use Rattle.judy_tenants.specs.Held.{IsQuiet, IsShortService, IsUnplaced, IsSoundService, IsCallOf, is_refusal}
 
 -- ---- one call
@@ -46,6 +49,14 @@ module _ (old : Held) (event : Event) (r : Reply) (new : Held) (call_of : IsCall
       unlike e = cc
   asked quota s last a given false h nothing = refl
 
+  -- with no block nothing comes from the machine
+  still : (b : Bool) → b ≡ false → ServiceTakes (cond {A = ℕ} b (blocks_of_kind (kind_of_call event.call)) 0) old new → new.region ≡ old.region
+  still true e t = absurd (unlike e)
+    where
+      unlike : true ≡ false → ⊥
+      unlike h = cc
+  still false e t = let most = t.region in let kept = t.kept in omega (arith, most, kept)
+
   -- a call that asks for no new entry is not refused for memory, takes no words from the machine, and
   -- nothing is refused to it
   pub overwrites-rest : asks_for_new event.speaker.right mine event.call ≡ false → (is_memory r ≡ false) × (new.region ≡ old.region) × IsQuiet old new
@@ -53,7 +64,7 @@ module _ (old : Held) (event : Event) (r : Reply) (new : Held) (call_of : IsCall
       let served : is_memory r ≡ false = asked (quotas_of old.tenants event.speaker.tenant) mine (states_of new event.speaker.tenant)
       (record { right = event.speaker.right; call = event.call }) r (is_memory r) call_of.served.answered nothing in (
         served,
-        call_of.keeps.rests nothing,
+        still (asks_for_new event.speaker.right mine event.call) nothing call_of.keeps.memory,
         subst (λ b. MatchBool b (IsShortService old new ⊎ IsUnplaced event old new) (IsQuiet old new)) served call_of.cause,
       )
 
@@ -69,27 +80,28 @@ module _ (old : Held) (event : Event) (r : Reply) (new : Held) (call_of : IsCall
   pub counts-keep : event.call ≡ call.Used → ((t : ℕ) → states_of new t ≡ states_of old t) × (new.region ≡ old.region) × (new ≡ old)
   counts-keep h = let same = call_of.keeps.counts h in (λ t. ap (λ (s : Held). states_of s t) same, ap (λ (s : Held). s.region) same, same)
 
-  -- names are looked up by the same hashes, and by the same table
-  pub start-stays : (new.start ≡ old.start) × (new.tenants ≡ old.tenants)
-  start-stays = (call_of.keeps.start, call_of.keeps.tenants)
+  -- names are looked up by the same hashes, and by the same table, and there is room for as many
+  pub start-stays : (new.start ≡ old.start) × (new.tenants ≡ old.tenants) × (new.room ≡ old.room)
+  start-stays = (call_of.keeps.start, call_of.keeps.tenants, call_of.keeps.room)
 
   -- the other tenants keep their arrays, and the words of each
   pub others-rest : (t : ℕ) → t ≢ event.speaker.tenant → (states_of new t ≡ states_of old t) × (sizes_of new t ≡ sizes_of old t)
   others-rest t h = (call_of.served.others t h, call_of.keeps.others t h)
 
 -- the reasons for `ERR MEMORY`: the arena refused a block, which is counted; or the directory had no
--- place for a new name, which is counted, while at least 256 arrays of all tenants had entries
+-- place for a new name, which is counted, while as many arrays of all tenants had entries as it has
+-- room for
 pub memory-means : (old : Held) (event : Event) (r : Reply) (new : Held) → IsSoundService old → IsCallOf old event r new → is_memory r ≡ true
     → ((new.refusals ≡ count_up old.refusals) × (new.unplaced ≡ old.unplaced))
-    ⊎ ((new.refusals ≡ old.refusals) × (new.unplaced ≡ count_up old.unplaced) × (256 ≤ all_arrays (length old.tenants) (states_of old)))
+    ⊎ ((new.refusals ≡ old.refusals) × (new.unplaced ≡ count_up old.unplaced) × (old.room ≤ all_arrays (length old.tenants) (states_of old)))
 memory-means old event r new sound h e =
     by (subst (λ b. MatchBool b (IsShortService old new ⊎ IsUnplaced event old new) (IsQuiet old new)) e h.cause)
   where
     by : IsShortService old new ⊎ IsUnplaced event old new
         → ((new.refusals ≡ count_up old.refusals) × (new.unplaced ≡ old.unplaced))
-        ⊎ ((new.refusals ≡ old.refusals) × (new.unplaced ≡ count_up old.unplaced) × (256 ≤ all_arrays (length old.tenants) (states_of old)))
+        ⊎ ((new.refusals ≡ old.refusals) × (new.unplaced ≡ count_up old.unplaced) × (old.room ≤ all_arrays (length old.tenants) (states_of old)))
     by (inl s) = inl (s.refusals, s.unplaced)
-    by (inr u) = inr (u.refusals, u.unplaced, subst (λ n. 256 ≤ n) sound.names u.many)
+    by (inr u) = inr (u.refusals, u.unplaced, subst (λ n. old.room ≤ n) sound.names u.many)
 
 -- in the second case the array that the call names had no entries; so a name that has an array is
 -- never refused for its place
@@ -146,5 +158,11 @@ module _ (held : Held) (sound : IsSoundService held) (t : ℕ) where
 -- all words are those of the tenants' arrays, and those taken from the machine are bounded by the
 -- most that were live at once
 pub words-add-up : (held : Held) → IsSoundService held
-    → (held.words ≡ all_words (length held.tenants) (sizes_of held)) × (held.words ≤ held.peak) × (held.region ≤ 128 * held.peak + 512)
+    → (held.words ≡ all_words (length held.tenants) (sizes_of held)) × (held.words ≤ held.peak) × (held.region ≤ max held.reserved (128 * held.peak + 512))
 words-add-up held sound = (sound.sum, sound.live, sound.region)
+
+-- the words ever live at once are bounded by the tenants' quotas, and so are the words taken from the
+-- machine: for ever, whatever was called
+pub memory-is-bounded : (held : Held) → IsSoundService held
+    → (held.peak ≤ 16 * all_quotas (length held.tenants) (quotas_of held.tenants) + 194560) × (held.region ≤ max held.reserved (128 * words_for held.tenants + 512))
+memory-is-bounded held sound = (sound.peak, sound.machine)

@@ -2,6 +2,7 @@ use Rattle.std.proofs.Common.{◌≡◌, true, ap, subst, refl, arith}
 use Rattle.judy_model.specs.Tenant.{string_step}
 use Rattle.judy_string.specs.StringArrays.{string_in, string_numbers}
 use Rattle.judy_arena.proofs.lemmas.FrameLaws.{frame-same}
+use Rattle.judy_arena.proofs.lemmas.TakeLaws.{same-takes}
 use Rattle.judy_kinds.proofs.string.answer.Goals as goal
 
 pub returns-in_default : goal.returns-in_default
@@ -15,7 +16,7 @@ returns-in_default c = record {
   step = subst (λ w. string_step true (string_in c.args.arena.now.blocks w) c.args.call.now ≡ (c.look.result, string_in c.args.arena.now.blocks w))
       (ap (λ p. p.root) c.place.view_is) c.look.ensures;
   quiet = refl;
-  region = λ no. refl;
+  memory = same-takes _ c.args.arena.now;
   asked = tt;
   refused = tt;
 }

@@ -9,9 +9,9 @@ use Rattle.judy_many.proofs.Known.{known-change}
 use Rattle.judy_many.proofs.rounds.tell_to.Goals as goal
 
 pub returns-clause-crowd : goal.returns-clause-crowd
-returns-clause-crowd g c = λ login limits first now start waits h.
+returns-clause-crowd g c = λ login limits first now status start waits h.
     let (more, log, none, did) = c.tell_at-left.ensures.did in
-    crowd_turn (λ b. view_of g.S.Served.who g.N.Network.number b.value) g.S.Served.made login limits first start Writes (IsBefore c.args.clients.now.queue c.args.place) (IsBefore c.args.clients.now.queue (c.args.place + 1)) waits _ _ c.args.clients.now.slots.items c.args.clients.now.accepted
+    crowd_turn (λ b. view_of g.S.Served.who g.N.Network.number b.value) g.S.Served.made status login limits first start Writes (IsBefore c.args.clients.now.queue c.args.place) (IsBefore c.args.clients.now.queue (c.args.place + 1)) waits _ _ c.args.clients.now.slots.items c.args.clients.now.accepted
     now now c.slot_at-at.result c.index_mut.result.now c.tell_at-left.new.slot more
     (before_more c.args.clients.now.queue c.args.place) (λ k. before_not c.args.clients.now.queue c.args.place c.requires.apart c.requires.within (subst (IsBefore c.args.clients.now.queue c.args.place) c.slot_at-at.ensures k)) (before_this c.args.clients.now.queue c.args.place _ c.slot_at-at.ensures)
     h (omega arith) c.index_mut.ensures.value log (subst (λ t. AreTurns g.S.Served.made now t now) (sym none) refl) (did login limits)

@@ -9,7 +9,7 @@ use Rattle.judy_many.proofs.serve.serve_many.Given as goal
 
 abbrev pub invariant-loop-round : goal.invariant-loop-round
 invariant-loop-round g l = record {
-  crowd : Crowd (λ b. view_of g.S.Served.who g.N.Network.number b.value) g.S.Served.made (g.S.Served.seen l.fn.service).logins l.fn.limits l.fn.service (g.N.Network.log l.fn.network) Sweeps nobody l._round (g.N.Network.log l.network) l.clients.slots.items l.clients.accepted l.service;
+  crowd : Crowd (λ b. view_of g.S.Served.who g.N.Network.number b.value) g.S.Served.made g.S.Shows.status (g.S.Served.seen l.fn.service).logins l.fn.limits l.fn.service (g.N.Network.log l.fn.network) Sweeps nobody l._round (g.N.Network.log l.network) l.clients.slots.items l.clients.accepted l.service;
   logins : (g.S.Served.seen l.service).logins ≡ (g.S.Served.seen l.fn.service).logins;
   known : AreKnown (λ b. option_map g.S.Served.who b.value.session.speaker) (g.S.Served.seen l.service).logins l.clients.slots.items;
 }

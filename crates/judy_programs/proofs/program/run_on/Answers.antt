@@ -1,5 +1,5 @@
 use Rattle.std.proofs.Common.{◌≡◌, inl, inr, Bool, true, false, sym, ◌∙◌}
-use Rattle.judy_protocol.specs.Sending.{IsAnswer}
+use Rattle.judy_protocol.specs.Sending.{AreAnswers}
 use Rattle.judy_protocol.specs.declared.connection.End.{End}
 use Rattle.judy_protocol.specs.declared.connection.End.TheVariants as ends
 use Rattle.judy_protocol.proofs.lemmas.SendingLaws.{MaySend-later}
@@ -16,7 +16,7 @@ told_well true ends.Limit e w = cc
 told_well false end e w = cc
 
 pub serve_after-end-requires-clause-answers : goal.serve_after-end-requires-clause-answers
-serve_after-end-requires-clause-answers g c = MaySend-later _ _ IsSent IsAnswer c.args.w.now c.args.w.now _ _ (λ text is. inl is)
+serve_after-end-requires-clause-answers g c = MaySend-later _ _ IsSent AreAnswers c.args.w.now c.args.w.now _ _ (λ text is. inl is)
     (λ waits. waits) c.requires.answers
 
 pub send-requires-clause-answers : goal.send-requires-clause-answers

@@ -1,4 +1,5 @@
-use Rattle.std.proofs.Common.{arith, [], ◌++◌, refl, ◌∙◌, ap, take, ◌≡◌, ℕ, List, Option, Some, None}
+use Rattle.std.proofs.Common.{arith, [], ◌++◌, refl, ◌∙◌, ap, take, ◌≡◌, ◌≤◌, ℕ, List, length, Option, Some, None}
+use Rattle.std.proofs.lemmas.List.{length-take-le}
 use Rattle.judy_stream.specs.Streams.{counted}
 use Rattle.judy_model.specs.Speakers.{Speaker}
 use Rattle.judy_model.specs.Stream.{Login}
@@ -7,8 +8,9 @@ use Rattle.judy_protocol.specs.Talks.{Holds, Told, talk}
 use Rattle.judy_protocol.specs.declared.connection.Stop.TheVariants as stop
 use Rattle.judy_protocol.specs.declared.held.Held.{Held}
 use Rattle.judy_protocol.proofs.KnownBytes.{Appends-nil, Consumes-append, Consumes-keeps, Consumes-prepend}
+use Rattle.judy_protocol.proofs.Talking.{Turns-none}
 use Rattle.judy_protocol.proofs.Ending.{all_open, all_quit, part_run}
-use Rattle.judy_protocol.specs.Sending.{IsAnswer}
+use Rattle.judy_protocol.specs.Sending.{AreAnswers}
 use Rattle.judy_protocol.proofs.lemmas.SendingLaws.{MaySend-later}
 use Rattle.judy_protocol.proofs.connection.serve_after.Goals as goal
 
@@ -16,13 +18,17 @@ use Rattle.judy_protocol.proofs.connection.serve_after.Goals as goal
 unlike : Some stop.Quit ≡ Some stop.WriteFault → ⊥
 unlike e = cc
 
+-- the bytes of a pull
+pull_fits : (n room : ℕ) (buffer : List ℕ) → n ≤ length buffer → length buffer ≡ room → room ≤ 4096 → length (take n buffer) ≤ 4096
+pull_fits n room buffer fits full short = omega (arith, fits, full, short, length-take-le n buffer fits)
+
 -- nothing was heard yet
 begun : {S P : Type 0} (made : Made S) (login : Login) (who : P → Speaker) (held : Held) (first : S) (taken : Option (List ℕ)) → Holds [] held
     → Told made login first taken [] (talk who held None first taken)
 begun made login who held first taken empty = record {
   holds = empty;
   goes_on = refl;
-  answered = record { replies = []; speaks = refl; count = refl; run = refl; written = Appends-nil taken };
+  answered = record { text = []; turns = Turns-none made login None first; written = Appends-nil taken };
 }
 
 pub loop-pulls-init : goal.loop-pulls-init
@@ -46,15 +52,13 @@ loop-pulls-init g c = record {
 
 pub returns-in-Some-Quit : goal.returns-in-Some-Quit
 returns-in-Some-Quit g c =
-    let k = c.in-Some-Quit.ensures.heard in
-    let stops = rw c.in-Some-Quit.field-0-is at k.2 in
+    let stops = rw c.in-Some-Quit.field-0-is at c.in-Some-Quit.ensures.heard in
     record {
       served = all_quit g.S.Served.made g.S.Served.seen g.met.S.Served.apart c.served_runs_go_on.ensures c.one_call_is_a_run.ensures
-          c.tenants_are_answered_equally.ensures _ _ c.args.first.now k.0 _ _ _ _
-          (Consumes-prepend c.args.first.now (g.R.Source.left c.args.source.now)) k.1
-          (stops c.args.service.now (g.W.Sink.taken c.args.sink.now) []
+          c.tenants_are_answered_equally.ensures _ _ [] c.args.first.now _ _ _ _ _
+          (Consumes-prepend c.args.first.now (g.R.Source.left c.args.source.now)) c.requires.short
           (begun g.S.Served.made (g.S.Served.seen c.args.service.now).logins g.S.Served.who _ c.args.service.now
-          (g.W.Sink.taken c.args.sink.now) c.new-held.ensures));
+          (g.W.Sink.taken c.args.sink.now) c.new-held.ensures) stops;
       end = λ e. cc;
       flushed = λ h. (rw c.in-Some-Quit.field-0-is at c.in-Some-Quit.ensures.flushed) unlike;
       ends = refl;
@@ -66,15 +70,13 @@ returns-in-Some-Quit g c =
 
 pub returns-in-Some-WriteFault : goal.returns-in-Some-WriteFault
 returns-in-Some-WriteFault g c =
-    let k = c.in-Some-WriteFault.ensures.heard in
-    let stops = rw c.in-Some-WriteFault.field-0-is at k.2 in
+    let stops = rw c.in-Some-WriteFault.field-0-is at c.in-Some-WriteFault.ensures.heard in
     record {
       served = part_run g.S.Served.made g.S.Served.seen g.met.S.Served.apart c.served_runs_go_on.ensures c.one_call_is_a_run.ensures
-          c.tenants_are_answered_equally.ensures _ _ c.args.first.now k.0 _ _ _ _
-          (Consumes-prepend c.args.first.now (g.R.Source.left c.args.source.now)) k.1
-          (stops c.args.service.now (g.W.Sink.taken c.args.sink.now) []
+          c.tenants_are_answered_equally.ensures _ _ [] c.args.first.now _ _ _ _ _
+          (Consumes-prepend c.args.first.now (g.R.Source.left c.args.source.now)) c.requires.short
           (begun g.S.Served.made (g.S.Served.seen c.args.service.now).logins g.S.Served.who _ c.args.service.now
-          (g.W.Sink.taken c.args.sink.now) c.new-held.ensures));
+          (g.W.Sink.taken c.args.sink.now) c.new-held.ensures) stops;
       end = λ e. cc;
       flushed = λ h. absurd (h refl);
       ends = refl;
@@ -86,7 +88,7 @@ returns-in-Some-WriteFault g c =
 
 pub feed-requires-in-Bytes-clause-answers : goal.feed-requires-in-Bytes-clause-answers
 feed-requires-in-Bytes-clause-answers g c =
-    MaySend-later _ _ IsAnswer IsAnswer c.args.sink.now c.loop-pulls.sink _ _ (λ text is. is) c.loop-pulls.invariant.flushed c.requires.answers
+    MaySend-later _ _ AreAnswers AreAnswers c.args.sink.now c.loop-pulls.sink _ _ (λ text is. is) c.loop-pulls.invariant.flushed c.requires.answers
 
 pub pull-requires-clause-ready : goal.pull-requires-clause-ready
 pull-requires-clause-ready g c = c.requires.prompt c.loop-pulls.source c.loop-pulls.sink _ (omega arith) (record {
@@ -145,12 +147,12 @@ returns g c =
 pub returns-in-Some-Quit-feed : goal.returns-in-Some-Quit-feed
 returns-in-Some-Quit-feed g c =
     let h = c.loop-pulls.invariant.heard in
-    let k = c.in-Some-Quit-feed.ensures.heard in
-    let stops = rw (c.loop-pulls.invariant.logins, c.in-Some-Quit-feed.field-0-is) at k.2 in
+    let stops = rw (c.loop-pulls.invariant.logins, c.in-Some-Quit-feed.field-0-is) at c.in-Some-Quit-feed.ensures.heard in
+    let short = pull_fits c.in-Bytes.n _ c.pull.new.buf c.in-Bytes.ensures.bytes.1 c.pull.auto.buf (omega arith) in
     record {
       served = all_quit g.S.Served.made g.S.Served.seen g.met.S.Served.apart c.served_runs_go_on.ensures c.one_call_is_a_run.ensures
-          c.tenants_are_answered_equally.ensures _ _ (h.0 ++ take c.in-Bytes.n c.pull.new.buf) k.0 _ _ _ _
-          (Consumes-append _ _ _ _ _ h.1 c.in-Bytes.ensures.bytes.2) k.1 (stops _ _ h.0 h.2);
+          c.tenants_are_answered_equally.ensures _ _ h.0 (take c.in-Bytes.n c.pull.new.buf) _ _ _ _ _
+          (Consumes-append _ _ _ _ _ h.1 c.in-Bytes.ensures.bytes.2) short h.2 stops;
       end = λ e. cc;
       flushed = λ h waits. c.loop-pulls.invariant.flushed ((rw c.in-Some-Quit-feed.field-0-is at c.in-Some-Quit-feed.ensures.flushed) unlike waits);
       ends = c.in-Bytes.ensures.ends ∙ c.loop-pulls.invariant.ends;
@@ -163,12 +165,12 @@ returns-in-Some-Quit-feed g c =
 pub returns-in-Some-WriteFault-feed : goal.returns-in-Some-WriteFault-feed
 returns-in-Some-WriteFault-feed g c =
     let h = c.loop-pulls.invariant.heard in
-    let k = c.in-Some-WriteFault-feed.ensures.heard in
-    let stops = rw (c.loop-pulls.invariant.logins, c.in-Some-WriteFault-feed.field-0-is) at k.2 in
+    let stops = rw (c.loop-pulls.invariant.logins, c.in-Some-WriteFault-feed.field-0-is) at c.in-Some-WriteFault-feed.ensures.heard in
+    let short = pull_fits c.in-Bytes.n _ c.pull.new.buf c.in-Bytes.ensures.bytes.1 c.pull.auto.buf (omega arith) in
     record {
       served = part_run g.S.Served.made g.S.Served.seen g.met.S.Served.apart c.served_runs_go_on.ensures c.one_call_is_a_run.ensures
-          c.tenants_are_answered_equally.ensures _ _ (h.0 ++ take c.in-Bytes.n c.pull.new.buf) k.0 _ _ _ _
-          (Consumes-append _ _ _ _ _ h.1 c.in-Bytes.ensures.bytes.2) k.1 (stops _ _ h.0 h.2);
+          c.tenants_are_answered_equally.ensures _ _ h.0 (take c.in-Bytes.n c.pull.new.buf) _ _ _ _ _
+          (Consumes-append _ _ _ _ _ h.1 c.in-Bytes.ensures.bytes.2) short h.2 stops;
       end = λ e. cc;
       flushed = λ h. absurd (h refl);
       ends = c.in-Bytes.ensures.ends ∙ c.loop-pulls.invariant.ends;

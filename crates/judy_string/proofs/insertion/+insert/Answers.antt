@@ -148,7 +148,7 @@ returns-clause-done t c =
     (shown c.in_ok-below.below.inserted) c.if-string-lt8.false at below
     (subst (λ k. IsRewritten c.insert.new.arena.blocks c.lead.new.arena.blocks c.args.node c.args.node
     (with_entry word_order (entries true c.insert.new.arena.blocks c.args.node) k c.in_ok-below.below.node))
-    c.word_at-word.ensures c.lead.ensures.done) c.lead.ensures.refusals
+    c.word_at-word.ensures c.lead.ensures.done) c.lead.ensures.memory.refusals
 
 -- ---- how many blocks it takes
 

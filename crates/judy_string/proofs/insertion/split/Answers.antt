@@ -29,7 +29,7 @@ returns-in-Some-clause-done c =
     (sym c.get.ensures ∙ c.in-Some.is)
     (c.write.ensures.blocks ∙ ap (λ x. put c.args.arena.now.blocks (number_of c.args.node)
     (slice_set (words_of c.args.arena.now.blocks (number_of c.args.node)) 0 x)) c.value_after.ensures)
-    c.write.ensures.refusals
+    c.write.ensures.memory.refusals
 
 pub read-value-requires-clause-sound : goal.read-value-requires-clause-sound
 read-value-requires-clause-sound c = (
@@ -88,4 +88,4 @@ returns-clause-done c =
     (subst (λ x. IsChanged (suc c.args.room) a c.fork.new.arena.blocks 0 c.in_ok-array.array
     (with_entry string_order ((c.as_slice.result.now, c.read-value.result) ∷ []) c.args.string.now x)) c.value_after-added.ensures
     c.in_ok-array.ensures.changed)))
-    c.release.ensures.blocks (c.release.ensures.refusals ∙ c.in_ok-array.ensures.refusals)
+    c.release.ensures.blocks (c.release.ensures.memory.refusals ∙ c.in_ok-array.ensures.refusals)

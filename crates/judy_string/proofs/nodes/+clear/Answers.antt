@@ -1,4 +1,4 @@
-use Rattle.std.proofs.Common.{◌≡◌, ◌<◌, ◌+◌, ◌-◌, suc, true, length, ◌∙◌, ap, sym, refl, subst, arith}
+use Rattle.std.proofs.Common.{◌≡◌, ◌<◌, ◌+◌, ◌-◌, suc, true, length, ◌∙◌, ap, sym, subst, arith}
 use Rattle.judy_arena.proofs.lemmas.TakeLaws.{same-rests, rests-two}
 use Rattle.judy_tree.specs.Root.{IsRoot, entries}
 use Rattle.judy_string.specs.Strings.{nested_content_at}
@@ -34,8 +34,6 @@ clear-loop-place-init t c = record {
       c.from_reference-words.result c.first-found.result c.from_reference-words.ensures c.first-found.ensures.found;
   cleared =
       cleared-none c.args.room c.args.arena.now.blocks c.args.node;
-  quiet = refl;
-  region = refl;
   memory = same-rests c.args.arena.now;
 }
 
@@ -107,8 +105,6 @@ clear-loop-place-preserved t c =
           (entries true c.args.arena.now.blocks c.args.node) c.in-Some.entry c.next-found.result
           c.from_reference-words.ensures stays.1 (nest-sorted c.args.room c.args.arena.now.blocks c.args.node nest) at c.next-found.ensures.found;
       cleared = more;
-      quiet = c.clear_entry-count.ensures.refusals ∙ c.loop-place.invariant.quiet;
-      region = c.clear_entry-count.ensures.region ∙ c.loop-place.invariant.region;
       memory = rests-two c.args.arena.now c.loop-place.arena c.clear_entry-count.new.arena c.loop-place.invariant.memory c.clear_entry-count.ensures.memory;
     }
 

@@ -16,7 +16,5 @@ invariant-clear-loop-place l = record {
   words : l.words ≡ l.fn.node;
   found : l.found ≡ slice_get (entries true l.fn.arena.blocks l.fn.node) l.place;
   cleared : IsCleared l.room l.fn.arena.blocks l.arena.blocks l.fn.node l.place l.count;
-  quiet : l.arena.refusals ≡ l.fn.arena.refusals;
-  region : l.arena.region ≡ l.fn.arena.region;
   memory : TakesNothing l.fn.arena l.arena;
 }

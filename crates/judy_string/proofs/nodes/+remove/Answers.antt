@@ -34,7 +34,7 @@ returns-then-is_suffix-clause-removal t c =
     let v = a-value c.get.result c.if-is_none.ensures in
     suffix-lost c.args.room c.args.arena.now.blocks c.args.node c.args.string.now c.requires.rest c.requires.node
     (sym c.is_suffix.ensures ∙ c.if-is_suffix.true)
-    c.args.arena.now c.release.new.arena v.0 refl (sym c.get.ensures ∙ v.1) c.release.ensures.blocks c.release.ensures.refusals
+    c.args.arena.now c.release.new.arena v.0 refl (sym c.get.ensures ∙ v.1) c.release.ensures.blocks
 
 pub look-requires : goal.look-requires
 look-requires t c = step-root c.args.room c.args.arena.now.blocks c.args.node c.args.string.now c.requires.rest c.requires.node
@@ -69,7 +69,6 @@ returns-then-string-lt8-clause-removal t c =
           (without_key word_order (entries true c.args.arena.now.blocks c.args.node) k)) c.word_at-word.ensures
           c.take.ensures.done);
       kind = λ _. map-kind c.take.new.arena.blocks c.take.result c.take.ensures.done.root;
-      quiet = c.take.ensures.refusals;
     }
 
 pub known-child-requires : goal.known-child-requires
@@ -144,7 +143,6 @@ returns-then-word-eq0-clause-removal t c =
           c.take-then-word-eq0.result (without_key word_order (entries true c.remove.new.arena.blocks c.args.node) k))
           c.word_at-word.ensures c.take-then-word-eq0.ensures.done);
       kind = λ _. map-kind c.take-then-word-eq0.new.arena.blocks c.take-then-word-eq0.result c.take-then-word-eq0.ensures.done.root;
-      quiet = c.take-then-word-eq0.ensures.refusals ∙ below.quiet;
     }
 
 pub lead-requires-clause-root : goal.lead-requires-clause-root
@@ -198,5 +196,4 @@ returns-clause-removal t c =
           (with_entry word_order (entries true c.remove.new.arena.blocks c.args.node) k c.in-Some-remove.left))
           c.word_at-word.ensures c.lead.ensures.done);
       kind = λ _. map-kind c.lead.new.arena.blocks c.args.node c.lead.ensures.done.root;
-      quiet = c.lead.ensures.refusals ∙ below.quiet;
     }

@@ -16,7 +16,7 @@ pub returns-then-is_suffix-clause-changed : goal.returns-then-is_suffix-clause-c
 returns-then-is_suffix-clause-changed t c =
     written-suffix c.args.room c.args.arena.now c.write.new.arena c.args.node c.args.string.now c.args.value c.requires.rest
     c.requires.node c.requires.there c.ranges.value.fits (sym c.is_suffix.ensures ∙ c.if-is_suffix.true) c.write.ensures.blocks
-    c.write.ensures.refusals
+    c.write.ensures.memory.refusals
 
 pub write-requires-then-string-lt8-clause-root : goal.write-requires-then-string-lt8-clause-root
 write-requires-then-string-lt8-clause-root t c = step-root c.args.room c.args.arena.now.blocks c.args.node c.args.string.now

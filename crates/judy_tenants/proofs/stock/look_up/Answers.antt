@@ -30,7 +30,7 @@ returns-then-eq-clause-ok g c =
     record {
       before = c.stands_at-before.ensures;
       places = sym (ap (with_place d k) same ∙ put_back d k (c.requires.held.filled k));
-      start = refl;
+      footing = refl;
       array = c.in_ok-reply.ensures.array;
       step = c.in_ok-reply.ensures.step;
       refusals = c.in_ok-reply.ensures.quiet;
@@ -42,7 +42,7 @@ pub returns-clause-ok : goal.returns-clause-ok
 returns-clause-ok g c = record {
   before = c.stands_at-before.ensures;
   places = c.put.ensures.places;
-  start = c.put.ensures.start;
+  footing = c.put.ensures.footing;
   array = c.in_ok-reply.ensures.array;
   step = c.in_ok-reply.ensures.step;
   refusals = c.in_ok-reply.ensures.quiet;

@@ -1,4 +1,4 @@
-use Rattle.std.proofs.Common.{ap, arith, sym, subst, refl, ◌∙◌, ◌<◌, Bool, true, false, ◌≡◌}
+use Rattle.std.proofs.Common.{ap, arith, inr, sym, subst, refl, ◌∙◌, ◌<◌, Bool, true, false, ◌≡◌}
 use Rattle.judy_arena.specs.Blocks.{AreSized, total_words}
 use Rattle.judy_arena.proofs.Chains.{by_lt}
 use Rattle.judy_arena.specs.Ready.{greatest}
@@ -53,3 +53,22 @@ invariant_of-self c =
       omega (arith, t, m),
       omega (arith, f, r, m),
     )
+
+-- a run is refused only while no run is free: every run has a live block
+pub returns-clause-memory : goal.returns-clause-memory
+returns-clause-memory c =
+    let h = first-tells c.self.inside.pool.heads c.first.result 7 512 (greatest c.self.inside.pool.heads) c.is_some.result (omega arith)
+    (sym sizes.7) refl c.is_some.ensures c.first.ensures.some c.first.ensures.none in
+    let none : greatest c.self.inside.pool.heads < 512 = by_lt (greatest c.self.inside.pool.heads) 512 (λ l. l)
+    (λ o. absurd (not_both c.is_some.result c.if-is_some.false (h.1 o))) in
+    let f = filled-last c.self.inside.pool.region (total_words c.self.inside.pool.blocks) (greatest c.self.inside.pool.heads) c.is_filled.ensures none in
+    let o = c.self.invariant.2 in let g = c.grow.ensures.refused c.if-grow.false in
+    let l = ap (λ a. a.live) c.self.view_is in let p = ap (λ a. a.peak) c.self.view_is in let r = ap (λ a. a.region) c.self.view_is in record {
+      words = omega (arith, l);
+      peak = omega (arith, p);
+      rises = omega (arith, p);
+      region = omega (arith, g, r);
+      kept = omega (arith, g, r);
+      reserved = ap (λ a. a.reserved) c.self.view_is;
+      refused = inr (omega (arith, f, o, p, r));
+    }

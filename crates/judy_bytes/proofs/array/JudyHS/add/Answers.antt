@@ -75,5 +75,5 @@ returns-in-Err-clause-refused g c = record {
   blocks = taken-back c.args.arena.now.blocks c.prepend.new.arena.blocks c.enter.new.arena.blocks c.release.new.arena.blocks
       c.in_ok-bucket.bucket c.in_ok-bucket.ensures.fresh c.in-Err.ensures.blocks c.release.ensures.blocks;
   word = refl;
-  counted = c.release.ensures.refusals ∙ c.in-Err.ensures.refusals ∙ ap count_up c.in_ok-bucket.ensures.refusals;
+  counted = c.release.ensures.memory.refusals ∙ c.in-Err.ensures.refusals ∙ ap count_up c.in_ok-bucket.ensures.refusals;
 }

@@ -16,8 +16,6 @@ loop-least-init g c = record {
   sound = c.requires;
   frame = unchanged g.H.KeyHash.hashed c.args.arena.now.blocks c.args.arena.now.blocks c.args.self.now.words c.requires refl;
   counted = omega arith;
-  refusals = refl;
-  region = refl;
   memory = same-rests c.args.arena.now;
 }
 
@@ -60,8 +58,6 @@ loop-least-preserved g c =
           (bytes_numbers c.args.arena.now.blocks c.args.self.now.words) (bytes_numbers c.loop-least.arena.blocks c.loop-least.self.words)
           (bytes_numbers c.take_first.new.arena.blocks c.take_first.new.self.words) c.loop-least.invariant.frame c.take_first.ensures.array.frame;
       counted = omega arith;
-      refusals = c.take_first.ensures.refusals ∙ c.loop-least.invariant.refusals;
-      region = c.take_first.ensures.region ∙ c.loop-least.invariant.region;
       memory = rests-two c.args.arena.now c.loop-least.arena c.take_first.new.arena c.loop-least.invariant.memory c.take_first.ensures.memory;
     }
 

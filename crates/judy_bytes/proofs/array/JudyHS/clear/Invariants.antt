@@ -9,8 +9,6 @@ invariant-loop-least g l = record {
   sound : IsBytesArray g.H.KeyHash.hashed l.arena.blocks l.self.words;
   frame : Frame l.fn.arena.blocks l.arena.blocks (bytes_numbers l.fn.arena.blocks l.fn.self.words) (bytes_numbers l.arena.blocks l.self.words);
   counted : l.count + length (bytes_in l.arena.blocks l.self.words) ≡ length (bytes_in l.fn.arena.blocks l.fn.self.words);
-  refusals : l.arena.refusals ≡ l.fn.arena.refusals;
-  region : l.arena.region ≡ l.fn.arena.region;
   memory : TakesNothing l.fn.arena l.arena;
 }
 

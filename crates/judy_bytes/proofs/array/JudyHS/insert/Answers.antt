@@ -1,7 +1,7 @@
 use Rattle.std.proofs.Common.{rules, ◌∙◌, ap, sym, subst, refl, Some, is_some}
 use Rattle.judy_model.specs.Contents.{string_order, with_entry}
 use Rattle.judy_model.specs.Tenant.{value_after}
-use Rattle.judy_model.proofs.lemmas.TestLemmas.{on_err, not_both}
+use Rattle.judy_model.proofs.lemmas.TestLemmas.{on_err}
 use Rattle.judy_bytes.specs.Chains.{IsBucketChain}
 use Rattle.judy_bytes.specs.BytesArrays.{bytes_in, first_at}
 use Rattle.judy_bytes.proofs.Chains.{found-bucket, chain-value, revalued}
@@ -143,16 +143,6 @@ returns-in-Nothing-clause-space g c = map-has-space g.H.KeyHash.hashed c.args.ar
 
 pub returns-clause-space : goal.returns-clause-space
 returns-clause-space g c = map-has-space g.H.KeyHash.hashed c.set_value.new.arena c.args.self.now.words (returns-clause-array g c).sound
-
-pub returns-in_err-add-clause-rests : goal.returns-in_err-add-clause-rests
-returns-in_err-add-clause-rests g c = λ there. absurd (not_both _ there
-    (ap is_some (map-found g.H.KeyHash.hashed c.args.arena.now.blocks c.args.self.now.words c.first-first.result c.word-hash.result
-    c.args.key.now c.word-hash.ensures c.requires.array c.first-first.ensures ∙ c.in_default.ensures.none)))
-
-pub returns-in_default-clause-rests : goal.returns-in_default-clause-rests
-returns-in_default-clause-rests g c = λ there. absurd (not_both _ there
-    (ap is_some (map-found g.H.KeyHash.hashed c.args.arena.now.blocks c.args.self.now.words c.first-first.result c.word-hash.result
-    c.args.key.now c.word-hash.ensures c.requires.array c.first-first.ensures ∙ c.in_default.ensures.none)))
 
 -- ---- how many blocks it takes
 

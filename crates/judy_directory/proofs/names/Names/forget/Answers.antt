@@ -4,7 +4,7 @@ use Rattle.std.specs.FinMap.{get, remove}
 use Rattle.judy_directory.specs.Places.{Stand}
 use Rattle.judy_directory.specs.declared.keyed.Keyed.{Keyed}
 use Rattle.judy_directory.specs.Rooms.{look_up, others}
-use Rattle.judy_directory.proofs.Rooms.{joined, get-joined, both-remove, room-falls, fewer-others, either}
+use Rattle.judy_directory.proofs.Rooms.{footed, joined, get-joined, both-remove, room-falls, fewer-others, either}
 use Rattle.judy_directory.proofs.names.Names.forget.Goals as goal
 
 pub invariant_of-self : goal.invariant_of-self
@@ -33,6 +33,6 @@ returns-clause-places c =
     ∙ both-remove c.self.inside.table.entries c.self.inside.kept.items c.args.spot.now c.remove.new.self.entries c.remove.ensures.updates.0
     ∙ ap (λ m. remove m c.args.spot.now) (ap (λ v. v.0) c.self.view_is)
 
--- the start of the hashes is unchanged
-pub returns-clause-start : goal.returns-clause-start
-returns-clause-start c = ap (λ (k : Keyed). k.start.state) c.remove.ensures.hasher ∙ ap (λ v. v.1) c.self.view_is
+-- the start of the hashes and the room are unchanged
+pub returns-clause-footing : goal.returns-clause-footing
+returns-clause-footing c = footed (ap (λ (k : Keyed). k.start.state) c.remove.ensures.hasher) c.drop_kept.ensures.capacity ∙ ap (λ v. v.1) c.self.view_is

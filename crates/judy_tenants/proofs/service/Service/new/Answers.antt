@@ -1,14 +1,15 @@
-use Rattle.std.proofs.Common.{◌≤◌, ap, ◌∙◌, subst}
-use Rattle.judy_arena.specs.Blocks.{Blocks, total_words}
+use Rattle.std.proofs.Common.{◌≤◌, ◌∙◌, subst, arith}
 use Rattle.judy_tenants.proofs.Seen.{seen-state}
 use Rattle.judy_tenants.proofs.Fresh.{fresh-state, fresh-server, fresh-names}
 use Rattle.judy_tenants.proofs.service.Service.new.Goals as goal
 
 pub invariant_of-service : goal.invariant_of-service
-invariant_of-service g c =
-    fresh-server (c.kinds_are_lawful.ensures g.H.KeyHash.hashed) c.in-Ok.accounts.items c.args.table c.new-2.result.blocks c.in_ok-directory.directory.0
-    c.new-2.ensures.blocks c.in_ok-directory.ensures.empty (c.in-Ok.ensures.many ∙ c.len.ensures.count)
-    (subst (λ n. n ≤ 64) c.len.ensures.count c.len.ensures.most) c.in-Ok.ensures.entries c.in-Ok.ensures.pieces
+invariant_of-service g c = (
+  fresh-server (c.kinds_are_lawful.ensures g.H.KeyHash.hashed) c.in-Ok.accounts.items c.args.table c.new-2.result.blocks c.in_ok-directory.directory.0
+      c.new-2.ensures.blocks c.in_ok-directory.ensures.empty (c.in-Ok.ensures.many ∙ c.len.ensures.count)
+      (subst (λ n. n ≤ 64) c.len.ensures.count c.len.ensures.most) c.in-Ok.ensures.entries c.in-Ok.ensures.pieces,
+  (let none = c.new-2.ensures.peak in omega (arith, none)),
+)
 
 pub returns-clause-states : goal.returns-clause-states
 returns-clause-states g c = λ t.
@@ -23,6 +24,3 @@ pub returns-clause-names : goal.returns-clause-names
 returns-clause-names g c = fresh-names (c.kinds_are_lawful.ensures g.H.KeyHash.hashed) c.in-Ok.accounts.items c.args.table
     c.new-2.result.blocks c.in_ok-directory.directory.0
     c.new-2.ensures.blocks c.in_ok-directory.ensures.empty
-
-pub returns-clause-words : goal.returns-clause-words
-returns-clause-words g c = ap (λ (b : Blocks). total_words b) c.new-2.ensures.blocks ∙ c.sizes_add_up.ensures.none

@@ -8,8 +8,8 @@ use Rattle.judy_tenants.proofs.service.Service.pieces.Goals as goal
 
 pub returns-clause-pieces : goal.returns-clause-pieces
 returns-clause-pieces g c =
-    c.account_of.ensures.pieces ∙ ap (λ (l : List Account). account_pieces l c.args.tenant) c.deref.ensures.value ∙ c.self.invariant.pieces c.args.tenant
-    ∙ ap (λ (s : State). pieces s) (sym (seen-state c.self.inside.table c.self.inside.stock c.self.invariant c.args.tenant)
+    c.account_of.ensures.pieces ∙ ap (λ (l : List Account). account_pieces l c.args.tenant) c.deref.ensures.value ∙ c.self.invariant.0.pieces c.args.tenant
+    ∙ ap (λ (s : State). pieces s) (sym (seen-state c.self.inside.table c.self.inside.stock c.self.invariant.0 c.args.tenant)
     ∙ ap (λ (h : Held). states_of h c.args.tenant) c.self.view_is)
 
 pub returns-clause-within : goal.returns-clause-within
@@ -17,4 +17,4 @@ returns-clause-within g c =
     let counted : c.account_of.result.pieces ≡ account_pieces c.self.inside.stock.accounts.items c.args.tenant
     = c.account_of.ensures.pieces ∙ ap (λ (l : List Account). account_pieces l c.args.tenant) c.deref.ensures.value in
     subst (λ (h : Held). c.account_of.result.pieces ≤ (quotas_of h.tenants c.args.tenant).pieces) c.self.view_is
-    (subst (λ n. n ≤ (quotas_of c.self.inside.table c.args.tenant).pieces) (sym counted) (c.self.invariant.pieces_within c.args.tenant))
+    (subst (λ n. n ≤ (quotas_of c.self.inside.table c.args.tenant).pieces) (sym counted) (c.self.invariant.0.pieces_within c.args.tenant))

@@ -8,8 +8,8 @@ use Rattle.judy_tenants.proofs.service.Service.used.Goals as goal
 
 pub returns-clause-used : goal.returns-clause-used
 returns-clause-used g c =
-    c.account_of.ensures.entries ∙ ap (λ (l : List Account). entries_at l c.args.tenant) c.deref.ensures.value ∙ c.self.invariant.entries c.args.tenant
-    ∙ ap (λ (s : State). used s) (sym (seen-state c.self.inside.table c.self.inside.stock c.self.invariant c.args.tenant)
+    c.account_of.ensures.entries ∙ ap (λ (l : List Account). entries_at l c.args.tenant) c.deref.ensures.value ∙ c.self.invariant.0.entries c.args.tenant
+    ∙ ap (λ (s : State). used s) (sym (seen-state c.self.inside.table c.self.inside.stock c.self.invariant.0 c.args.tenant)
     ∙ ap (λ (h : Held). states_of h c.args.tenant) c.self.view_is)
 
 pub returns-clause-within : goal.returns-clause-within
@@ -17,4 +17,4 @@ returns-clause-within g c =
     let counted : c.account_of.result.entries ≡ entries_at c.self.inside.stock.accounts.items c.args.tenant
     = c.account_of.ensures.entries ∙ ap (λ (l : List Account). entries_at l c.args.tenant) c.deref.ensures.value in
     subst (λ (h : Held). c.account_of.result.entries ≤ (quotas_of h.tenants c.args.tenant).entries) c.self.view_is
-    (subst (λ n. n ≤ (quotas_of c.self.inside.table c.args.tenant).entries) (sym counted) (c.self.invariant.entries_within c.args.tenant))
+    (subst (λ n. n ≤ (quotas_of c.self.inside.table c.args.tenant).entries) (sym counted) (c.self.invariant.0.entries_within c.args.tenant))

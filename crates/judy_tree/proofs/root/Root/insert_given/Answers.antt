@@ -3,7 +3,7 @@ use Rattle.judy_tree.specs.Root.{entries}
 use Rattle.judy_tree.proofs.lemmas.Unchanged.{present-same}
 use Rattle.judy_tree.proofs.lemmas.Trees.{root-words}
 use Rattle.judy_tree.proofs.lemmas.RootLaws.{stays, came, has-space}
-use Rattle.judy_arena.proofs.lemmas.TakeLaws.{takes-more, takes-still}
+use Rattle.judy_arena.proofs.lemmas.TakeLaws.{takes-more}
 use Rattle.judy_tree.specs.Nodes.{is_branch}
 use Rattle.judy_tree.proofs.Taking.{root-few, for-absent}
 use Rattle.judy_tree.proofs.root.Root.insert_given.Goals as goal
@@ -33,15 +33,6 @@ returns-in-NoMemory-clause-array g c = stays _ c.args.arena.now c.insert.new.are
 pub returns-in-NoMemory-clause-space : goal.returns-in-NoMemory-clause-space
 returns-in-NoMemory-clause-space g c = has-space _ c.insert.new.arena.blocks c.args.self.now.reference
     (stays _ c.args.arena.now c.insert.new.arena c.args.self.now.reference _ c.in-NoMemory.ensures.insertion.1.blocks c.requires.root refl).root
-
-pub returns-in-Done-clause-rests : goal.returns-in-Done-clause-rests
-returns-in-Done-clause-rests g c = λ there. absurd (let absent = c.in-Done.ensures.insertion.0 in cc)
-
-pub returns-in-NoMemory-clause-rests : goal.returns-in-NoMemory-clause-rests
-returns-in-NoMemory-clause-rests g c = λ there. absurd (let absent = c.in-NoMemory.ensures.insertion.0 in cc)
-
-pub returns-in-Present-clause-rests : goal.returns-in-Present-clause-rests
-returns-in-Present-clause-rests g c = λ _. takes-still c.args.arena.now c.insert.new.arena c.in-Present.ensures.memory
 
 pub returns-in-Done-clause-memory : goal.returns-in-Done-clause-memory
 returns-in-Done-clause-memory g c = for-absent _ _ c.args.arena.now c.insert.new.arena c.in-Done.ensures.insertion.0 c.in-Done.ensures.memory

@@ -1,0 +1,135 @@
+"""The status socket of a judyd (`judyd serve --status PATH`): its requests, and the numbers of its text."""
+
+import errno
+import os
+import re
+import select
+import socket
+import time
+from typing import Dict, Optional, Tuple
+
+from .errors import ConnectionLost, Error, NoServer, TimedOut
+
+LIMIT = 1 << 20
+"""The most bytes of an answer."""
+
+_LINE = re.compile(r'(\w+)(?:\{\w+="([^"\\]*)"\})? (\d{1,20})\Z')
+_CAUSES = {
+    errno.ENOENT: "no server has made that socket (judyd serve --status %s)",
+    errno.ECONNREFUSED: "no server listens there, and one that ended left the socket: %s",
+    errno.EACCES: "this user may not connect to %s: be root, or in the group judyd",
+}
+
+
+class Metrics:
+    """The numbers of a status text, by their names; those with a label also by its value."""
+
+    def __init__(self, text: bytes) -> None:
+        self._numbers: Dict[str, Dict[str, int]] = {}
+        lines = text.decode("ascii", "replace").split("\n")
+        if lines.pop():
+            raise Error("the status is cut: its last line has no end")
+        for line in lines:
+            found = _LINE.match(line)
+            if found:
+                self._numbers.setdefault(found[1], {})[found[2] or ""] = int(found[3])
+            elif line and not line.startswith("#"):
+                raise Error("this is no status: %s" % line[:60])
+        self.one("judyd_uptime_seconds")
+
+    def one(self, name: str) -> int:
+        """The number of a metric without a label."""
+        numbers = self.all(name)
+        if list(numbers) != [""]:
+            raise Error("the status has no %s" % name)
+        return numbers[""]
+
+    def all(self, name: str) -> Dict[str, int]:
+        """The numbers of a metric, by the value of its label."""
+        return self._numbers.get(name, {})
+
+
+class Question:
+    """A request line on a status socket, whose answer comes bit by bit."""
+
+    def __init__(self, path: str, line: str, seconds: Optional[float]) -> None:
+        self._path = path
+        self._sock = socket.socket(socket.AF_UNIX, socket.SOCK_STREAM)
+        self._sock.settimeout(seconds)
+        self._got = b""
+        try:
+            self._sock.connect(path)
+            self._sock.sendall(b"%b\n" % line.encode("ascii"))
+        except OSError as e:
+            self._sock.close()
+            raise NoServer(_CAUSES.get(e.errno or 0, "no connection to %%s: %s" % str(e).replace("%", "%%")) % path) from None
+        self._sock.setblocking(False)
+
+    def __enter__(self) -> "Question":
+        return self
+
+    def __exit__(self, *_: object) -> None:
+        self._sock.close()
+
+    def fileno(self) -> int:
+        """The number of the file to wait for."""
+        return self._sock.fileno()
+
+    def answer(self) -> Optional[bytes]:
+        """The whole answer, once the server has closed. None if more may come."""
+        try:
+            piece = self._sock.recv(65536)
+        except BlockingIOError:
+            return None
+        except OSError as e:
+            raise ConnectionLost("%s: the connection was lost: %s" % (self._path, e)) from None
+        self._got += piece
+        if not self._got:
+            raise ConnectionLost("%s: the server closed without an answer" % self._path)
+        if self._got.startswith(b"ERR") and self._got.endswith(b"\n"):
+            raise Error("%s answers %s: it is not the socket of --status" % (self._path, self._got.split(b"\n")[0].decode("ascii", "replace")))
+        if len(self._got) > LIMIT:
+            raise Error("%s gives more than %d bytes: it is not the socket of --status" % (self._path, LIMIT))
+        return None if piece else self._got
+
+
+def ask(path: str, line: str, seconds: Optional[float]) -> bytes:
+    """The answer to a request line, which comes within so many seconds."""
+    until = None if seconds is None else time.monotonic() + seconds
+    with Question(path, line, seconds) as question:
+        while True:
+            left = None if until is None else max(until - time.monotonic(), 0)
+            if not select.select([question], [], [], left)[0]:
+                raise TimedOut("%s: no answer for %g s" % (path, seconds or 0))
+            answer = question.answer()
+            if answer is not None:
+                return answer
+
+
+def status(path: str, seconds: Optional[float]) -> bytes:
+    """The status text of a server."""
+    text = ask(path, "STATUS", seconds)
+    Metrics(text)
+    return text
+
+
+def stop(path: str, seconds: Optional[float]) -> None:
+    """Tells a server to end, and waits until its status socket is gone."""
+    before, until = _identity(path), None if seconds is None else time.monotonic() + seconds
+    try:
+        ask(path, "STOP", seconds)
+    except ConnectionLost:
+        pass  # it may be gone before its answer is read
+    while before is not None and _identity(path) == before:
+        if until is not None and time.monotonic() >= until:
+            raise Error("the server was told to stop, and after %g s its socket is still there: %s" % (seconds or 0, path))
+        time.sleep(0.02)
+
+
+def _identity(path: str) -> Optional[Tuple[int, int, int]]:
+    """What tells a socket from another one on the same path. None if nothing is there."""
+    try:
+        found = os.lstat(path)
+    except OSError:
+        return None
+    return found.st_dev, found.st_ino, found.st_ctime_ns

@@ -1,0 +1,128 @@
+"""The words of the command line `judy`."""
+
+import argparse
+
+from . import __version__
+from .client import TIMEOUT
+
+USAGE = """judy: a command line for a judyd. At a terminal it asks for lines, with history and completion, and
+makes a connection for each line. With a call on the command line it makes that call. Otherwise it runs
+a script from a file or from standard input, over one connection: it reads what is available, sends it,
+and goes on. If the connection is lost it says how many lines were answered, and its status is 1.
+
+  judy -u alice                              asks for lines at a terminal
+  judy -u alice J1S ids 5                    one call: status 0 for a reply, 1 for a refusal,
+                                             4 if the connection failed
+  judy -u alice SCRIPT, or < SCRIPT          a script
+  judy help [CALL]                           what a call does, as: judy help J1S
+  judy add JL:hits 5 [N]                     adds N, or 1, to a value, and prints the value afterwards
+  judy status                                whether a server answers, and what to do if none does
+  judy status PATH                           the numbers of a server, from its socket of --status
+  judy top [--once] PATH                     a screen of them, which renews itself each second
+  judy stop PATH                             ends that server, and waits until it has ended
+  judy wait [--timeout S]                    waits until a server answers: status 1 if none does
+  judy dump [-o FILE] J1:ids JHS:keys=FILE .. arrays as lines, to a file or to standard output
+  judy load [FILE]                           loads a dump, if it is whole
+  judy check [FILE]                          compares a dump with the arrays: status 1 if they differ
+  judy backup --folder DIR LIST              a dump of each tenant of a list, and the one before it
+  judy move --to WHERE [--free] J1:ids ..    copies arrays to another server, and compares the two
+  judy table FILE                            the faults of a table of tenants: status 3 if it has any
+  judy table FILE add | set | remove TENANT  changes a table, if judyd takes the new one
+  judy digest [--look]                       asks for a token, and prints its line for the table
+
+A line is a line of the protocol, as `J1S ids 5`, or uses the manual's name, as `Judy1Set ids 5`. A
+key may also be text between double quotes, as `JSLI words "tree" 3`. In a script, empty lines and
+lines that begin with # are skipped.
+"""
+
+
+def add_options(parser: argparse.ArgumentParser, is_first: bool) -> None:
+    """The options of a connection, before or after the command."""
+
+    def default(value: object) -> object:
+        return value if is_first else argparse.SUPPRESS
+
+    parser.add_argument("-s", "--socket", default=default("/run/judyd/socket"), metavar="PATH", help="the server's socket (/run/judyd/socket)")
+    parser.add_argument("-t", "--tcp", default=default(None), metavar="HOST:PORT", help="instead of a socket: a program that forwards TCP to one")
+    parser.add_argument("--tls", action="store_true", default=default(False), help="use TLS to HOST:PORT")
+    parser.add_argument("--ca", default=default(None), metavar="FILE", help="certificates to trust for --tls, instead of the system's")
+    parser.add_argument("-u", "--user", default=default(None), metavar="TENANT", help="log in as this tenant; asks for the token")
+    parser.add_argument("--token-file", default=default(None), metavar="FILE", help="read the token from a file's first line (else JUDY_TOKEN, else a prompt)")
+    add_timeout(parser, default(TIMEOUT))
+    parser.add_argument("--pretty", action="store_true", default=default(False), help="print replies as rows of a table")
+    parser.add_argument("--hold", action="store_true", default=default(False), help="at a terminal: keep one connection for all lines")
+
+
+def add_timeout(parser: argparse.ArgumentParser, default: object) -> None:
+    """The option that tells how long to wait."""
+    parser.add_argument("--timeout", type=seconds, default=default, metavar="S", help="wait this many seconds while no byte comes (%d); 0 for ever" % TIMEOUT)
+
+
+def seconds(text: str) -> float:
+    """A number of seconds, at most a million."""
+    number = float(text)
+    if not 0 <= number <= 1e6:
+        raise ValueError(text)
+    return number
+
+
+def subcommand(name: str) -> argparse.ArgumentParser:
+    """The words of a subcommand."""
+    sub = argparse.ArgumentParser(prog="judy %s" % name)
+    if name in ("add", "status", "wait", "dump", "load", "check", "backup", "move"):
+        add_options(sub, is_first=False)
+    if name in ("top", "stop"):
+        add_timeout(sub, argparse.SUPPRESS)
+    if name == "status":
+        sub.add_argument("path", nargs="?", metavar="PATH", help="print what the socket of judyd serve --status tells")
+    elif name == "top":
+        sub.add_argument("--once", action="store_true", help="print one table")
+        sub.add_argument("path", metavar="PATH", help="the socket of judyd serve --status")
+    elif name == "stop":
+        sub.add_argument("path", metavar="PATH", help="the socket of judyd serve --status")
+    elif name == "add":
+        sub.add_argument("array", metavar="ARRAY", help="JL:NAME, JSL:NAME or JHS:NAME")
+        sub.add_argument("key", metavar="KEY", help="a number for JL, a text for JSL and JHS")
+        sub.add_argument("number", nargs="?", type=int, default=1, metavar="N", help="what to add; less than 0 subtracts")
+    elif name == "dump":
+        sub.add_argument("-o", "--output", metavar="FILE", help="write a file beside FILE, which takes its place when the dump is whole")
+        sub.add_argument("--all", action="store_true", help="all arrays of the tenant's catalogue")
+        sub.add_argument("--empty", action="store_true", help="an array may have no entries")
+        sub.add_argument("arrays", nargs="*", metavar="ARRAY", help="J1:NAME, JL:NAME, JSL:NAME, JHS:NAME=FILE with keys in hexadecimal digits")
+    elif name in ("load", "check"):
+        sub.add_argument("--unchecked", action="store_true", help="take lines that are no whole dump, without a check")
+        if name == "check":
+            sub.add_argument("--whole", action="store_true", help="ask no server: only read the dump, status 1 if it is not whole")
+        sub.add_argument("file", nargs="?", metavar="FILE", help="- or nothing for standard input")
+    elif name == "backup":
+        sub.add_argument("--folder", required=True, metavar="DIR", help="where the dumps are")
+        sub.add_argument("list", metavar="LIST", help="a file with a row for each tenant: TENANT TOKEN ARRAY.. or --all")
+    elif name == "move":
+        sub.add_argument("--to", required=True, metavar="WHERE", help="the second server: the path of its socket, or HOST:PORT")
+        sub.add_argument("--new-token-file", metavar="FILE", help="the tenant's token there, if it is another one (else JUDY_NEW_TOKEN)")
+        sub.add_argument("--free", action="store_true", help="free the arrays in the first server, once all of them are alike in both")
+        sub.add_argument("--part", action="store_true", help="the tenant may have other arrays, which stay")
+        sub.add_argument("--all", action="store_true", help="all arrays of the tenant's catalogue")
+        sub.add_argument("arrays", nargs="*", metavar="ARRAY", help="as for dump")
+    elif name == "table":
+        sub.add_argument("file", metavar="FILE", help="- for standard input")
+        sub.add_argument("action", nargs="?", choices=("add", "set", "remove"), help="change the tenant's part of the table")
+        sub.add_argument("tenant", nargs="?")
+        sub.add_argument("--quota", type=int, metavar="N", help="how many entries the tenant may have")
+        sub.add_argument("--pieces", type=int, metavar="N", help="how many pieces it may have")
+        sub.add_argument("--token", action="store_true", help="ask for a new token")
+        sub.add_argument("--look", action="store_true", help="ask for a read-only token")
+    elif name == "digest":
+        sub.add_argument("--look", action="store_true", help="for a read-only token")
+    elif name == "help":
+        sub.add_argument("call", nargs="*")
+    return sub
+
+
+def first_words() -> argparse.ArgumentParser:
+    """The words before a subcommand."""
+    parser = argparse.ArgumentParser(prog="judy", description=USAGE, formatter_class=argparse.RawDescriptionHelpFormatter)
+    add_options(parser, is_first=True)
+    parser.add_argument("--version", action="version", version="judy %s" % __version__)
+    parser.add_argument("words", nargs=argparse.REMAINDER, metavar="CALL | SCRIPT | COMMAND", help="as above")
+    return parser
