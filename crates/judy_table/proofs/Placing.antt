@@ -7,15 +7,15 @@
 --     distinct-placed            no two rows have one name
 --     length-placed, few-placed  how many rows there are
 --     named-placed               how many tenants
-use Rattle.std.proofs.Common.{◌≡◌, ◌≢◌, ℕ, zero, suc, ◌+◌, ◌-◌, ◌≤◌, ◌<◌, ◌==◌, ◌&&◌, ◌||◌, Bool, true, false, not, cond, List, [], ◌∷◌, length, Option, Some, None}
-use Rattle.std.proofs.Common.{is_some, ap, ap₂, sym, ◌∙◌, refl, subst, get_or, drop, filter, count_by, slice_get, option_map, nat_lt, arith}
+use Rattle.std.proofs.Common.{◌≡◌, ◌≢◌, ℕ, suc, ◌+◌, ◌-◌, ◌≤◌, ◌<◌, ◌==◌, ◌&&◌, ◌||◌, Bool, true, false, not, cond, List, [], ◌∷◌, length, Some, None}
+use Rattle.std.proofs.Common.{ap, ap₂, sym, ◌∙◌, refl, get_or, drop, count_by, slice_get, option_map, nat_lt, arith}
 use Rattle.std.proofs.Common.{lt-ltb, le-ltb, ltb-true, ltb-false}
-use Rattle.std.proofs.lemmas.Bool.{eqb-true, or_parts, or_from, or_cases, or_right, and_parts, and_from, false_from_ne_true, not-true, not-false}
-use Rattle.std.proofs.lemmas.Bool.{not_from_true, not_from_false, both_ways}
+use Rattle.std.proofs.lemmas.Bool.{eqb-true, or_parts, or_right, and_parts, and_from, false_from_ne_true, not-true, not-false}
+use Rattle.std.proofs.lemmas.Bool.{not_from_false, both_ways}
 use Rattle.std.proofs.lemmas.List.{nil_from_length}
-use Rattle.std.proofs.lemmas.List.Sums.{sum_by-cons, length-filter}
+use Rattle.std.proofs.lemmas.List.Sums.{sum_by-cons}
 use Rattle.std.proofs.lemmas.Slice.Eq.{bytes_eq-Decides}
-use Rattle.std.specs.List.{AllByRecursion, list_any, position_or_len}
+use Rattle.std.specs.List.{AllByRecursion, position_or_len}
 use Rattle.std.specs.Str.{bytes_eq}
 use Rattle.judy_table.specs.declared.tenant.Tenant.{Tenant}
 use Rattle.judy_table.specs.Tenants.{is_vacant, vacant, place_of}
@@ -101,8 +101,10 @@ place-more name t ts = by (bytes_eq t.name name)
   where
     n : ℕ
     n = length ts
+
     k : ℕ
     k = position_or_len (λ u. bytes_eq u.name name) ts
+
     on : (b : Bool) → nat_lt k n ≡ b → cond (nat_lt (1 + k) (suc n)) (Some (1 + k)) None ≡ option_map suc (cond b (Some k) None)
     on true h =
         let less : k < n = ltb-true k n h in
@@ -113,6 +115,7 @@ place-more name t ts = by (bytes_eq t.name name)
         let least : n ≤ k = ltb-false k n h in
         let more : suc n ≤ 1 + k = omega arith in
         ap (λ b. cond b (Some (1 + k)) None) (le-ltb (1 + k) (suc n) more)
+
     by : (b : Bool) → cond (nat_lt (cond (not b) (1 + k) 0) (suc n)) (Some (cond (not b) (1 + k) 0)) None
         ≡ cond b (Some 0) (option_map suc (cond (nat_lt k n) (Some k) None))
     by true = let more : 0 < suc n = omega arith in ap (λ b. cond b (Some 0) None) (lt-ltb 0 (suc n) more)
@@ -235,6 +238,7 @@ distinct-fresh rows (t ∷ ts) h =
     alone true g = refl
     alone false g = not_from_false (has_name t.name (fresh_in rows ts))
         (has-fresh-none t.name rows ts (not-true (has_name t.name ts) g))
+
     by : are_distinct (fresh_in rows ts) ≡ true → (is_vacant t || not (has_name t.name ts)) ≡ true → (b : Bool)
         → are_distinct (cond b (t ∷ fresh_in rows ts) (fresh_in rows ts)) ≡ true
     by rest p true =
@@ -266,14 +270,17 @@ has-placed name table (r ∷ rows) fresh n = by (λ fs. has-placed name table ro
     later true true false z = refl
     later true false y z = refl
     later false x y z = refl
+
     merged : (e x y z : Bool) → ((e && y) || ((x && y) || z)) ≡ (((e || x) && y) || z)
     merged true true true z = refl
     merged true true false z = refl
     merged true false true z = refl
     merged true false false z = refl
     merged false x y z = refl
+
     apart : is_vacant r ≡ true → bytes_eq r.name name ≡ false
     apart = vacant-other r name n
+
     here : (e : Bool) → bytes_eq r.name name ≡ e → bytes_eq (row_of r.name table).name name ≡ (e && has_name name table)
     here false p = row-other r.name name table n p
     here true p = at (has_name name table) refl
@@ -283,8 +290,10 @@ has-placed name table (r ∷ rows) fresh n = by (λ fs. has-placed name table ro
             (ap (λ m. (row_of m table).name) (same-name r.name name p) ∙ row-named name table q)
         at false q = ap (λ m. bytes_eq (row_of m table).name name) (same-name r.name name p)
             ∙ ap (λ (t : Tenant). bytes_eq t.name name) (row-absent name table q) ∙ other-name [] name (λ e. n (sym e))
+
     Names : List Tenant → Type 0
     Names fs = has_name name (placed table rows fs) ≡ ((has_name name rows && has_name name table) || has_name name fs)
+
     by : ((fs : List Tenant) → Names fs) → (b : Bool) → is_vacant r ≡ b → (fs : List Tenant)
         → has_name name (cond b (get_or fs 0 vacant ∷ placed table rows (drop 1 fs)) (row_of r.name table ∷ placed table rows fs))
         ≡ (((bytes_eq r.name name || has_name name rows) && has_name name table) || has_name name fs)
@@ -327,6 +336,7 @@ row-placed-old name table (r ∷ rows) fresh n h f =
   where
     Goal : Bool → List Tenant → Type 0
     Goal b fs = row_of name (cond b (get_or fs 0 vacant ∷ placed table rows (drop 1 fs)) (row_of r.name table ∷ placed table rows fs)) ≡ row_of name table
+
     own : (fs : List Tenant) → bytes_eq r.name name ≡ true → has_name name fs ≡ false → (b : Bool) → has_name name table ≡ b
         → row_of name (row_of r.name table ∷ placed table rows fs) ≡ row_of name table
     own fs e g true q =
@@ -344,6 +354,7 @@ row-placed-old name table (r ∷ rows) fresh n h f =
         nothing : (b : Bool) → ((b && false) || false) ≡ false
         nothing true = refl
         nothing false = refl
+
     by : ((fs : List Tenant) → has_name name rows ≡ true → has_name name fs ≡ false → row_of name (placed table rows fs) ≡ row_of name table)
         → (e : Bool) → bytes_eq r.name name ≡ e → (e || has_name name rows) ≡ true → (b : Bool) → is_vacant r ≡ b
         → (fs : List Tenant) → has_name name fs ≡ false → Goal b fs
@@ -368,8 +379,10 @@ place-kept name table (r ∷ rows) fresh n h there f =
   where
     next : (a : Tenant) (ts : List Tenant) → bytes_eq a.name name ≡ false → place_of name (a ∷ ts) ≡ option_map suc (place_of name ts)
     next a ts p = place-more name a ts ∙ ap (λ b. cond b (Some 0) (option_map suc (place_of name ts))) p
+
     first : (a : Tenant) (ts : List Tenant) → bytes_eq a.name name ≡ true → place_of name (a ∷ ts) ≡ Some 0
     first a ts p = place-more name a ts ∙ ap (λ b. cond b (Some 0) (option_map suc (place_of name ts))) p
+
     by : ((fs : List Tenant) → has_name name rows ≡ true → has_name name fs ≡ false → place_of name (placed table rows fs) ≡ place_of name rows)
         → (e : Bool) → bytes_eq r.name name ≡ e → (e || has_name name rows) ≡ true → (b : Bool) → is_vacant r ≡ b
         → (fs : List Tenant) → has_name name fs ≡ false
@@ -415,13 +428,16 @@ distinct-placed table (r ∷ rows) fresh d f a =
         one : (b : Bool) → is_vacant t ≡ b → (b || not (has_name t.name ts)) ≡ true
         one true e = refl
         one false e = not_from_false (has_name t.name ts) (h e)
+
     none : (x y z : Bool) → x ≡ false → z ≡ false → ((x && y) || z) ≡ false
     none true y z p q = cc
     none false y z p q = q
+
     absent : (t : Tenant) (fs : List Tenant) → is_vacant t ≡ false → has_name t.name rows ≡ false → has_name t.name fs ≡ false
         → has_name t.name (placed table rows fs) ≡ false
     absent t fs v p q =
         has-placed t.name table rows fs (tenant-name t v) ∙ none (has_name t.name rows) (has_name t.name table) (has_name t.name fs) p q
+
     not-in : (t : Tenant) (fs : List Tenant) → Apart (r ∷ rows) (t ∷ fs) → is_vacant t ≡ false → has_name t.name rows ≡ false
     not-in t fs g v = false_from_ne_true (has_name t.name rows) (λ h.
         both_ways (has_name t.name (t ∷ fs)) (g t.name (tenant-name t v) (or_right (bytes_eq r.name t.name) (has_name t.name rows) h))
@@ -429,6 +445,7 @@ distinct-placed table (r ∷ rows) fresh d f a =
       where
         or_first : bytes_eq t.name t.name ≡ true → (bytes_eq t.name t.name || has_name t.name fs) ≡ true
         or_first e = ap (λ b. b || has_name t.name fs) e
+
     own : (fs : List Tenant) → is_vacant r ≡ false → not (has_name r.name rows) ≡ true → Apart (r ∷ rows) fs
         → is_vacant (row_of r.name table) ≡ false → has_name (row_of r.name table).name (placed table rows fs) ≡ false
     own fs v p g w =
@@ -436,6 +453,7 @@ distinct-placed table (r ∷ rows) fresh d f a =
         not-false (has_name r.name table) (sym (row-vacant r.name table (tenant-name r v)) ∙ w) in
         ap (λ m. has_name m (placed table rows fs)) (row-named r.name table there)
         ∙ absent r fs v (not-true (has_name r.name rows) p) (g r.name (tenant-name r v) (ap (λ b. b || has_name r.name rows) (one-name r.name r.name refl)))
+
     by : ((fs : List Tenant) → are_distinct fs ≡ true → Apart rows fs → are_distinct (placed table rows fs) ≡ true)
         → (b : Bool) → is_vacant r ≡ b → (b || not (has_name r.name rows)) ≡ true → (fs : List Tenant)
         → are_distinct fs ≡ true → Apart (r ∷ rows) fs
@@ -510,6 +528,7 @@ named-placed table (r ∷ rows) fresh f = by (named-placed table rows) (is_vacan
   where
     count : (t : Tenant) (ts : List Tenant) → named (t ∷ ts) ≡ cond {A = ℕ} (not (is_vacant t)) 1 0 + named ts
     count t ts = sum_by-cons (λ u. cond (not (is_vacant u)) 1 0) t ts
+
     own : is_vacant r ≡ false → ◌≡◌ {A = ℕ} (cond (not (is_vacant (row_of r.name table))) 1 0) (cond (not (is_vacant r) && has_name r.name table) 1 0)
     own v =
         ap (λ b. cond (not b) 1 0) (row-vacant r.name table (tenant-name r v)) ∙ twice (has_name r.name table)
@@ -518,6 +537,7 @@ named-placed table (r ∷ rows) fresh f = by (named-placed table rows) (is_vacan
         twice : (b : Bool) → ◌≡◌ {A = ℕ} (cond (not (not b)) 1 0) (cond (true && b) 1 0)
         twice true = refl
         twice false = refl
+
     by : ((fs : List Tenant) → all-named fs → named (placed table rows fs) ≡ kept rows table + length fs)
         → (b : Bool) → is_vacant r ≡ b → (fs : List Tenant) → all-named fs
         → kept (r ∷ rows) table ≡ cond {A = ℕ} (not (is_vacant r) && has_name r.name table) 1 0 + kept rows table
@@ -557,6 +577,7 @@ taken-or-fresh rows (t ∷ ts) =
     either true true = refl
     either true false = refl
     either false h = refl
+
     longer : (b : Bool) → length (cond b (t ∷ fresh_in rows ts) (fresh_in rows ts)) ≡ cond {A = ℕ} b 1 0 + length (fresh_in rows ts)
     longer true = omega arith
     longer false = omega arith
@@ -584,13 +605,16 @@ taken-one r rows (t ∷ ts) v h g = by (taken-one r rows ts v h) (bytes_eq t.nam
   where
     a : taken rows (t ∷ ts) ≡ cond {A = ℕ} (not (is_vacant t) && has_name t.name rows) 1 0 + taken rows ts
     a = sum_by-cons (λ u. cond (not (is_vacant u) && has_name u.name rows) 1 0) t ts
+
     b : taken (r ∷ rows) (t ∷ ts) ≡ cond {A = ℕ} (not (is_vacant t) && has_name t.name (r ∷ rows)) 1 0 + taken (r ∷ rows) ts
     b = sum_by-cons (λ u. cond (not (is_vacant u) && has_name u.name (r ∷ rows)) 1 0) t ts
+
     either : (v e h : Bool) → ◌≤◌ (cond (v && h) 1 0) (cond (v && (e || h)) 1 0)
     either true true true = omega arith
     either true true false = omega arith
     either true false h = omega arith
     either false e h = omega arith
+
     by : (has_name r.name ts ≡ true → 1 + taken rows ts ≤ taken (r ∷ rows) ts)
         → (e : Bool) → bytes_eq t.name r.name ≡ e → (e || has_name r.name ts) ≡ true → 1 + taken rows (t ∷ ts) ≤ taken (r ∷ rows) (t ∷ ts)
     by rest true e q =
@@ -619,6 +643,7 @@ kept-taken (r ∷ rows) table d =
   where
     a : kept (r ∷ rows) table ≡ cond {A = ℕ} (not (is_vacant r) && has_name r.name table) 1 0 + kept rows table
     a = sum_by-cons (λ u. cond (not (is_vacant u) && has_name u.name table) 1 0) r rows
+
     by : (v : Bool) → is_vacant r ≡ v → (v || not (has_name r.name rows)) ≡ true → (h : Bool) → has_name r.name table ≡ h
         → kept rows table ≤ taken rows table → kept (r ∷ rows) table ≤ taken (r ∷ rows) table
     by true v p h q more =

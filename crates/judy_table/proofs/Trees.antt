@@ -257,6 +257,7 @@ below-apart name (t ∷ ts) h =
   where
     same : bytes_eq t.name name ≡ true → bytes_eq name t.name ≡ true
     same e = (bytes_eq-Decides name t.name).1 (sym ((bytes_eq-Decides t.name name).0 e))
+
     apart : bytes_eq name t.name ≡ true → ⊥
     apart e = false≢true (ap is_eq (sym h.0) ∙ is_eq-slice_cmp name t.name ∙ e)
 
@@ -290,16 +291,20 @@ read-tenants text ts = by_utf8 (is_utf8 text)
   where
     Tenants : Type 0
     Tenants = (ms : Members) × (tenants_in ms ≡ Ok ts) × (size ms ≤ 64)
+
     by_count : (ms : Members) (b : Bool) → (nat_le 1 (size ms) && nat_le (size ms) 64) ≡ b → (if b then tenants_in ms else Err fault.Count) ≡ Ok ts → Tenants
     by_count ms true c e = (ms, e, leb-true (size ms) 64 (and_parts (nat_le 1 (size ms)) (nat_le (size ms) 64) c).1)
     by_count ms false c e = cc
+
     by_shape : (ms : Members) (b : Bool)
         → (if b then (if nat_le 1 (size ms) && nat_le (size ms) 64 then tenants_in ms else Err fault.Count) else Err fault.Shape) ≡ Ok ts → Tenants
     by_shape ms true e = by_count ms (nat_le 1 (size ms) && nat_le (size ms) 64) refl e
     by_shape ms false e = cc
+
     by_document : (o : Option Members) → read_document o ≡ Ok ts → Tenants
     by_document (Some ms) e = by_shape ms (have_shape ms) e
     by_document None e = cc
+
     by_utf8 : (b : Bool) → (if b then read_document (parse_document text) else Err fault.Toml) ≡ Ok ts → Tenants
     by_utf8 true e = by_document (parse_document text) e
     by_utf8 false e = cc

@@ -1,5 +1,5 @@
 -- The tenants of a table's text, by its `toml` tree, and the first fault of a text.
-use Rattle.std.specs.Prelude.{◌≡◌, ℕ, suc, ℤ, pos, negsuc, ◌+◌, ◌*◌, ◌<◌, ◌≤◌, ◌==◌, ◌&&◌, Bool, true, false, List, [], ◌∷◌}
+use Rattle.std.specs.Prelude.{ℕ, suc, ℤ, pos, negsuc, ◌+◌, ◌*◌, ◌≤◌, ◌==◌, ◌&&◌, Bool, true, false, List, [], ◌∷◌}
 use Rattle.std.specs.Prelude.{length, Option, Some, None, is_some, Result, Ok, Err, nat_le, if◌then◌else◌, codes, option_and_then}
 use Rattle.std.specs.Prelude.{option_map, position, map, slice_get, replicate}
 use Rattle.std.specs.Ordering.{nat_cmp}
@@ -14,7 +14,6 @@ use Rattle.hex.specs.declared.error.FromHexError.{FromHexError}
 use Rattle.sha2.specs.Sha256.{sha256}
 use Rattle.judy_model.specs.Grammar.{is_name}
 use Rattle.judy_model.specs.Speakers.{Speaker}
-use Rattle.judy_model.specs.declared.quotas.Quota.{Quota}
 use Rattle.judy_model.specs.declared.quotas.Right.{Right}
 use Rattle.judy_model.specs.declared.quotas.TheConstants.{ENTRIES_LIMIT, PIECES_LIMIT}
 use Rattle.judy_model.specs.declared.quotas.Right.TheVariants.{Change, Look}

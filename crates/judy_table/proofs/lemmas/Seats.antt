@@ -14,9 +14,9 @@
 --     no-name         no log-in finds a vacant row
 --     knows-place     a speaker that is known has a place, with a tenant
 --     read-rows       what holds of the rows of a table that was read
-use Rattle.std.proofs.Common.{◌≡◌, ◌≢◌, ◌⊎◌, inl, inr, ℕ, zero, suc, ◌+◌, ◌-◌, ◌≤◌, ◌<◌, ◌&&◌, ◌||◌, Bool, true, false, not, cond, List, [], ◌∷◌, length}
-use Rattle.std.proofs.Common.{◌==◌, if◌then◌else◌, Option, Some, None, Ok, is_some, ap, ap₂, sym, ◌∙◌, refl, subst, get_or, drop, slice_get, option_map, option_and_then, arith}
-use Rattle.std.proofs.lemmas.Bool.{or_parts, and_parts, and_from, or_from, both_ways, not-true, cases_Bool}
+use Rattle.std.proofs.Common.{◌≡◌, ◌≢◌, ◌⊎◌, inl, inr, ℕ, zero, suc, ◌≤◌, ◌<◌, ◌&&◌, ◌||◌, Bool, true, false, not, cond, List, [], ◌∷◌, length}
+use Rattle.std.proofs.Common.{◌==◌, if◌then◌else◌, Option, Some, None, Ok, ap, sym, ◌∙◌, refl, subst, get_or, drop, slice_get, option_map, option_and_then, arith}
+use Rattle.std.proofs.lemmas.Bool.{and_parts, both_ways, not-true}
 use Rattle.std.proofs.lemmas.List.Elements.{All-from_recursion, recursion_from_All}
 use Rattle.std.proofs.lemmas.Option.{slice_get_within}
 use Rattle.std.specs.List.{AllByRecursion}
@@ -29,8 +29,8 @@ use Rattle.judy_table.specs.declared.tenant.Tenant.{Tenant}
 use Rattle.judy_table.specs.Tenants.{is_vacant, vacant, place_of, right_of, is_digest, speaker_at, login_at, login_of, IsLimited}
 use Rattle.judy_table.specs.Tenants.{read_table, HasRisingNames}
 use Rattle.judy_table.proofs.Trees.{named-tenants_in, read-tenants, tree-rows}
-use Rattle.judy_table.specs.Seats.{has_name, row_of, is_fresh, fresh_in, placed, seated, named, are_distinct, AreRows, knows, knows_row, has_token}
-use Rattle.judy_table.proofs.Placing.{same-name, one-name, vacant-name, unnamed-vacant, tenant-name, row-named, row-absent, place-absent, place-here, fresh-are-fresh}
+use Rattle.judy_table.specs.Seats.{has_name, row_of, is_fresh, fresh_in, placed, seated, are_distinct, AreRows, knows, knows_row, has_token}
+use Rattle.judy_table.proofs.Placing.{one-name, unnamed-vacant, row-named, row-absent, place-absent, place-here, fresh-are-fresh}
 use Rattle.judy_table.proofs.Placing.{fresh-each, has-fresh-old, has-fresh-new, row-fresh, distinct-fresh, placed-each, has-placed, row-placed-new}
 use Rattle.judy_table.proofs.Placing.{row-placed-old, place-kept, distinct-placed, length-placed, few-placed, named-seated, few-fresh}
 
@@ -76,6 +76,7 @@ stays-in table r v (s ∷ rs) fs (suc p) g = by (λ gs. stays-in table r v rs gs
 pub stays-at : (rows table : List Tenant) (p : ℕ) (r : Tenant) → slice_get rows p ≡ Some r → is_vacant r ≡ false
     → slice_get (seated rows table) p ≡ Some (row_of r.name table)
 stays-at rows table p r h v = stays-in table r v rows (fresh_in rows table) p h
+
 -- a place that has no row, or a vacant one
 abbrev pub IsFree : Option Tenant → Type 0
 IsFree None = Unit {0}
@@ -100,6 +101,7 @@ new-in P table t (s ∷ rs) fs (suc p) f h g = by (λ gs k. new-in P table t rs 
     rest : (fs : List Tenant) → AllByRecursion P fs → AllByRecursion P (drop 1 fs)
     rest [] f = tt
     rest (u ∷ us) f = f.1
+
     by : ((gs : List Tenant) → AllByRecursion P gs → slice_get (placed table rs gs) p ≡ Some t → (t ≡ vacant) ⊎ P t) → (b : Bool)
         → slice_get (cond b (get_or fs 0 vacant ∷ placed table rs (drop 1 fs)) (row_of s.name table ∷ placed table rs fs)) (suc p) ≡ Some t
         → (t ≡ vacant) ⊎ P t
@@ -215,6 +217,7 @@ no-name token ts = right-of-row [] token ts ∙ by (has_name [] ts) refl
     unnamed : (t : Tenant) → is_vacant t ≡ true → right_of (sha256 token) t ≡ None
     unnamed t v = ap
         (λ b. if b then None else if bytes_eq t.digest (sha256 token) then Some Change else if is_digest t.look (sha256 token) then Some Look else None) v
+
     by : (b : Bool) → has_name [] ts ≡ b → right_of (sha256 token) (row_of [] ts) ≡ None
     by true h = unnamed (row_of [] ts) (unnamed-vacant (row_of [] ts) (row-named [] ts h))
     by false h = ap (right_of (sha256 token)) (row-absent [] ts h)

@@ -1,4 +1,4 @@
-use Rattle.std.proofs.Common.{◌≡◌, ◌++◌, ap, sym, ◌∙◌, Ok, refl, rules, length, arith, ◌≤◌}
+use Rattle.std.proofs.Common.{◌++◌, ap, sym, ◌∙◌, Ok, refl, length, arith, ◌≤◌}
 use Rattle.std.proofs.lemmas.List.{drop_all}
 use Rattle.std.proofs.lemmas.Iterator.Adapters.{items_from_extend, YieldsList-from_vec}
 use Rattle.std.specs.declared.alloc.AllocError.{AllocError}
