@@ -6,9 +6,11 @@
 --     seated rows ts       the rows after the table is read
 --     named ts             how many rows have a tenant
 --     AreRows ts           what holds of the rows of every table
+--     IsFree row           a place has no row, or a vacant one
+--     right_in name token ts   the right of a log-in
 --     knows ts who         the speaker's place has a tenant with a token for the speaker's right
 use Rattle.std.specs.Prelude.{◌≡◌, ℕ, ◌≤◌, ◌&&◌, ◌||◌, Bool, true, false, not, List, [], ◌∷◌, length, Option, Some, None, is_some}
-use Rattle.std.specs.Prelude.{if◌then◌else◌, filter, count_by, get_or, drop, slice_get}
+use Rattle.std.specs.Prelude.{if◌then◌else◌, filter, count_by, get_or, drop, slice_get, option_map}
 use Rattle.std.specs.List.{All, list_any}
 use Rattle.std.specs.Str.{bytes_eq}
 use Rattle.judy_model.specs.Speakers.{Speaker}
@@ -16,7 +18,7 @@ use Rattle.judy_model.specs.declared.quotas.Right.{Right}
 use Rattle.judy_model.specs.declared.quotas.Right.TheVariants.{Change, Look}
 use Rattle.judy_table.specs.declared.table.TheConstants.{TENANTS_LIMIT, ROWS_LIMIT}
 use Rattle.judy_table.specs.declared.tenant.Tenant.{Tenant}
-use Rattle.judy_table.specs.Tenants.{is_vacant, vacant, AreLimited}
+use Rattle.judy_table.specs.Tenants.{is_vacant, vacant, login_of, AreLimited}
 
 -- some row has this name
 abbrev pub has_name : List ℕ → List Tenant → Bool
@@ -55,6 +57,11 @@ abbrev pub are_distinct : List Tenant → Bool
 are_distinct [] = true
 are_distinct (t ∷ ts) = (is_vacant t || not (has_name t.name ts)) && are_distinct ts
 
+-- a place that has no row, or a vacant one
+abbrev pub IsFree : Option Tenant → Type 0
+IsFree None = Unit {0}
+IsFree (Some r) = is_vacant r ≡ true
+
 -- what holds of the rows of every table
 pub record AreRows (ts : List Tenant) : Type 0 where
   pub few : length ts ≤ ROWS_LIMIT
@@ -64,6 +71,10 @@ pub record AreRows (ts : List Tenant) : Type 0 where
   -- all vacant rows are alike, so each has a quota of 0
   pub empty : All (λ t. is_vacant t ≡ true → t ≡ vacant) ts
   pub distinct : are_distinct ts ≡ true
+
+-- the right that a name and a token have
+abbrev pub right_in : List ℕ → List ℕ → List Tenant → Option Right
+right_in name token ts = option_map (λ (s : Speaker). s.right) (login_of name token ts)
 
 -- whether a tenant has a token for this right
 abbrev pub has_token : Right → Tenant → Bool

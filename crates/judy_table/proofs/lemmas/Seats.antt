@@ -2,6 +2,7 @@
 --     seated-rows     what holds of every table's rows holds afterwards
 --     longer          there are no fewer rows
 --     stays-at        a row with a tenant becomes the table's row of its name, or vacant
+--     stays-or-goes   so it keeps its name, or becomes vacant
 --     new-at          another place is vacant, or has a tenant whose name no row had
 --     has-seated      the names are those of the table
 --     row-seated      each has the table's row
@@ -29,7 +30,7 @@ use Rattle.judy_table.specs.declared.tenant.Tenant.{Tenant}
 use Rattle.judy_table.specs.Tenants.{is_vacant, vacant, place_of, right_of, is_digest, speaker_at, login_at, login_of, IsLimited}
 use Rattle.judy_table.specs.Tenants.{read_table, HasRisingNames}
 use Rattle.judy_table.proofs.Trees.{named-tenants_in, read-tenants, tree-rows}
-use Rattle.judy_table.specs.Seats.{has_name, row_of, is_fresh, fresh_in, placed, seated, are_distinct, AreRows, knows, knows_row, has_token}
+use Rattle.judy_table.specs.Seats.{has_name, row_of, is_fresh, fresh_in, placed, seated, are_distinct, IsFree, AreRows, right_in, knows, knows_row, has_token}
 use Rattle.judy_table.proofs.Placing.{one-name, unnamed-vacant, row-named, row-absent, place-absent, place-here, fresh-are-fresh}
 use Rattle.judy_table.proofs.Placing.{fresh-each, has-fresh-old, has-fresh-new, row-fresh, distinct-fresh, placed-each, has-placed, row-placed-new}
 use Rattle.judy_table.proofs.Placing.{row-placed-old, place-kept, distinct-placed, length-placed, few-placed, named-seated, few-fresh}
@@ -77,10 +78,17 @@ pub stays-at : (rows table : List Tenant) (p : ℕ) (r : Tenant) → slice_get r
     → slice_get (seated rows table) p ≡ Some (row_of r.name table)
 stays-at rows table p r h v = stays-in table r v rows (fresh_in rows table) p h
 
--- a place that has no row, or a vacant one
-abbrev pub IsFree : Option Tenant → Type 0
-IsFree None = Unit {0}
-IsFree (Some r) = is_vacant r ≡ true
+-- so it keeps its name, or becomes vacant
+pub stays-or-goes : (rows table : List Tenant) (p : ℕ) (r t : Tenant) → slice_get rows p ≡ Some r → is_vacant r ≡ false
+    → slice_get (seated rows table) p ≡ Some t → (t.name ≡ r.name) ⊎ (t ≡ vacant)
+stays-or-goes rows table p r t h v g = by (has_name r.name table) refl
+  where
+    same : Some (row_of r.name table) ≡ Some t
+    same = sym (stays-at rows table p r h v) ∙ g
+
+    by : (b : Bool) → has_name r.name table ≡ b → (t.name ≡ r.name) ⊎ (t ≡ vacant)
+    by true e = let is : row_of r.name table ≡ t = cc same in inl (ap (λ (u : Tenant). u.name) (sym is) ∙ row-named r.name table e)
+    by false e = let is : row_of r.name table ≡ t = cc same in inr (sym is ∙ row-absent r.name table e)
 
 among : (P : Tenant → Type 0) (t : Tenant) (fs : List Tenant) (p : ℕ) → AllByRecursion P fs → slice_get fs p ≡ Some t → P t
 among P t [] p f g = cc
@@ -187,10 +195,6 @@ pub left-vacant : (rows table : List Tenant) (p : ℕ) (r : Tenant) → slice_ge
 left-vacant rows table p r h v g = stays-at rows table p r h v ∙ ap Some (row-absent r.name table g)
 
 -- ---- log-ins
-
--- the right that a name and a token have
-abbrev pub right_in : List ℕ → List ℕ → List Tenant → Option Right
-right_in name token ts = option_map (λ (s : Speaker). s.right) (login_of name token ts)
 
 right-at : (p : ℕ) (o : Option Right) → option_map (λ (s : Speaker). s.right) (speaker_at p o) ≡ o
 right-at p None = refl
