@@ -49,9 +49,7 @@ fn digit(n: u64) -> u8 {
 }
 
 /// The spot of the n-th name of a thousand.
-fn spot(tenant: u8, kind: ArrayKind, n: u64) -> Result<Spot, Fail>
-    requires { tenant < 64 }
-{
+fn spot(tenant: u8, kind: ArrayKind, n: u64) -> Result<Spot, Fail> {
     let text = [b'n', digit(n / 100), digit(n / 10), digit(n)];
     let name = Name::read(&text).ok_or("a name")?;
     Ok(Spot::new(tenant, kind, name))
@@ -97,5 +95,39 @@ fn tenants_and_kinds_have_their_own_names(rt: HostRuntime) -> Result<(), Fail> {
     assert!(rt; directory.find(&spot(0, ArrayKind::One, 8)?).is_none());
     directory.forget(&mine);
     assert!(rt; directory.find(&mine).is_none());
+    Ok(())
+}
+
+/// Gives an array a place.
+fn keep(rt: &impl Abort, directory: &mut Directory, spot: &Spot, n: u64) -> Result<(), Fail>
+    requires { n < 1000 }
+{
+    let kept = place(n)?;
+    take(rt, directory, spot)?;
+    directory.put(spot, kept);
+    Ok(())
+}
+
+#[test]
+fn all_names_of_a_tenant_are_given(rt: HostRuntime) -> Result<(), Fail> {
+    let mut directory = empty(rt.alloc())?;
+    assert!(rt; directory.some_spot(127).is_none());
+    for n in 0..200 {
+        keep(&rt, &mut directory, &spot(63, ArrayKind::Str, n)?, n)?;
+        keep(&rt, &mut directory, &spot(127, ArrayKind::Bytes, n)?, n)?;
+        keep(&rt, &mut directory, &spot(127, ArrayKind::Long, n)?, n)?;
+    }
+    assert_eq!(rt; directory.count(), 600);
+    for _ in 0..400 {
+        let spot = directory.some_spot(127).ok_or("one more")?;
+        let (kind, name) = spot.array();
+        assert!(rt; kind == ArrayKind::Bytes || kind == ArrayKind::Long);
+        assert!(rt; Spot::new(127, kind, name) == spot);
+        directory.forget(&spot);
+    }
+    assert!(rt; directory.some_spot(127).is_none());
+    assert!(rt; directory.some_spot(62).is_none());
+    assert!(rt; directory.some_spot(63).is_some());
+    assert_eq!(rt; directory.count(), 200);
     Ok(())
 }

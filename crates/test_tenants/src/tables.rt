@@ -1,7 +1,7 @@
 //! Tables of tenants, with their faults. Each request for memory may be refused once.
 use arrayvec::ArrayString;
 use judy_table::{Quota, Right, Table, TableFault};
-use std::alloc::Global;
+use std::alloc::{AllocError, Global};
 use std::fmt::Write;
 use std::process::Abort;
 use std::test::Fail;
@@ -252,6 +252,92 @@ fn logins(rt: HostRuntime) -> Result<(), Fail> {
     assert_eq!(rt; login(&table, b"bob", b"abc"), None);
     assert_eq!(rt; login(&table, b"nobody", b"abc"), None);
     assert_eq!(rt; login(&table, b"", b""), None);
+    Ok(())
+}
+
+// The table of these tenants. The token of each is `abc`, and the n-th has a quota of n.
+fn table_of(alloc: Global, names: &[&str]) -> Result<Table, Fail> {
+    let mut text: ArrayString<512> = ArrayString::new();
+    let mut quota = 0u32;
+    for name in names {
+        write!(text, "[{name}]\nsha256 = \"{ABC}\"\nquota = {quota}\n")?;
+        quota = quota.saturating_add(1);
+    }
+    Ok(parse(alloc, text.as_bytes())?)
+}
+
+// The rows after another table is read. If memory is refused, a second try makes them.
+fn seated(alloc: Global, rows: &Table, table: &Table) -> Result<Table, AllocError> {
+    match rows.seated(alloc, table) {
+        Err(AllocError) => rows.seated(alloc, table),
+        seats => seats,
+    }
+}
+
+#[test]
+fn places_after_another_table(rt: HostRuntime) -> Result<(), Fail> {
+    let a = rt.alloc();
+    let first = table_of(a, &["alice", "bob", "carol"])?;
+    let second = seated(a, &first, &table_of(a, &["bob", "dave"])?)?;
+    assert_eq!(rt; first.len(), 3);
+    assert_eq!(rt; second.len(), 4);
+    assert_eq!(rt; place(&second, b"alice"), None);
+    assert_eq!(rt; place(&second, b"bob"), Some(1));
+    assert_eq!(rt; place(&second, b"carol"), None);
+    assert_eq!(rt; place(&second, b"dave"), Some(3));
+    assert_eq!(rt; login(&second, b"alice", b"abc"), None);
+    assert_eq!(rt; login(&second, b"", b"abc"), None);
+    assert_eq!(rt; login(&second, b"dave", b"abc"), Some((3, Right::Change)));
+    let bob = second.find(b"bob").ok_or("bob")?;
+    assert_eq!(rt; second.quota(bob).entries, 0);
+    let third = seated(a, &second, &table_of(a, &["alice", "dave", "erin", "fred"])?)?;
+    assert_eq!(rt; third.len(), 5);
+    assert_eq!(rt; place(&third, b"alice"), Some(0));
+    assert_eq!(rt; place(&third, b"bob"), None);
+    assert_eq!(rt; place(&third, b"erin"), Some(2));
+    assert_eq!(rt; place(&third, b"dave"), Some(3));
+    assert_eq!(rt; place(&third, b"fred"), Some(4));
+    Ok(())
+}
+
+#[test]
+fn speakers_after_another_table(rt: HostRuntime) -> Result<(), Fail> {
+    let a = rt.alloc();
+    let first = parse(a, TWO_TENANTS.as_bytes())?;
+    let alice = first.login(b"alice", b"abc").ok_or("alice")?;
+    let reader = first.login(b"alice", b"hello").ok_or("alice reads")?;
+    let bob = first.login(b"bob", b"hello").ok_or("bob")?;
+    assert!(rt; first.knows(alice) && first.knows(reader) && first.knows(bob));
+    let second = seated(a, &first, &table_of(a, &["alice"])?)?;
+    assert!(rt; second.knows(alice));
+    assert!(rt; !second.knows(reader), "no token to look");
+    assert!(rt; !second.knows(bob), "no tenant");
+    Ok(())
+}
+
+// A table of 64 tenants, whose names begin with this letter.
+fn full_table(alloc: Global, letter: char) -> Result<Table, Fail> {
+    let mut text: ArrayString<8192> = ArrayString::new();
+    for i in 10..74u32 {
+        write!(text, "[{letter}{i}]\nsha256 = \"{ABC}\"\nquota = {i}\n")?;
+    }
+    Ok(parse(alloc, text.as_bytes())?)
+}
+
+#[test]
+fn all_tenants_are_replaced(rt: HostRuntime) -> Result<(), Fail> {
+    let a = rt.alloc();
+    let first = full_table(a, 'a')?;
+    let second = seated(a, &first, &full_table(a, 'b')?)?;
+    assert_eq!(rt; second.len(), 128);
+    assert_eq!(rt; place(&second, b"b10"), Some(64));
+    assert_eq!(rt; place(&second, b"b73"), Some(127));
+    assert_eq!(rt; place(&second, b"a10"), None);
+    let third = seated(a, &second, &full_table(a, 'c')?)?;
+    assert_eq!(rt; third.len(), 128);
+    assert_eq!(rt; place(&third, b"c10"), Some(0));
+    assert_eq!(rt; place(&third, b"c73"), Some(63));
+    assert_eq!(rt; place(&third, b"b10"), None);
     Ok(())
 }
 
