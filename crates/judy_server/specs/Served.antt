@@ -13,7 +13,7 @@ use Rattle.judy_protocol.specs.Services.{IsCalled, Seen}
 use Rattle.judy_table.specs.declared.tenant.Tenant.{Tenant}
 use Rattle.judy_table.specs.Tenants.{login_of}
 use Rattle.judy_directory.specs.Secrets.{start_of}
-use Rattle.judy_tenants.specs.Held.{HasCause, Held, IsSoundService, Keeps, quotas_of, states_of}
+use Rattle.judy_tenants.specs.Held.{HasCause, Held, IsSoundService, Keeps, quotas_of, states_of, words_for}
 
 -- the visible state of the service: names and tokens are those of the table
 abbrev pub seen_of : Held → Seen
@@ -55,6 +55,8 @@ pub record IsNewService (secret : List ℕ) (reserve : Option ℕ) (table : List
   -- so much memory was taken from the machine
   pub taken : IsTaken reserve held.region held.room
   pub reserved : held.reserved ≡ held.region
+  -- its quotas allow so many words to be live at once
+  pub granted : held.granted ≡ words_for held.tenants
   -- so the blocks have few words for what the arrays hold
   pub sound : IsSoundService held
   -- names are looked up by hashes that begin with the secret

@@ -3,6 +3,7 @@
 #![tactic(auto)]
 
 mod accounts;
+mod grants;
 mod laws;
 mod replay;
 mod service;

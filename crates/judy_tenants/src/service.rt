@@ -7,9 +7,10 @@ ghost use Rattle.judy_directory.specs.Secrets.{start_of};
 ghost use Rattle.judy_kinds.specs.Calls.{has_string};
 ghost use Rattle.judy_table.specs.Shown.{seen};
 ghost use Rattle.judy_table.specs.Tenants.{login_of, place_of};
-ghost use Rattle.judy_tenants.specs.Held.{states_of, quotas_of, HasCause, HasNoReserve, HasServiceSpace, HasNames, IsReserved, IsSoundService, Keeps};
+ghost use Rattle.judy_tenants.specs.Held.{states_of, quotas_of, words_for, HasCause, HasNoReserve, HasServiceSpace, HasNames, IsReserved, IsSoundService, Keeps};
 
 use crate::accounts::{account_of, no_accounts};
+use crate::grants::words_for;
 use crate::laws;
 use crate::serving::serve;
 use crate::stock::{Stock, prepare};
@@ -31,16 +32,14 @@ pub struct Service<H: KeyHash> {
 }
 
 impl<H: KeyHash> Model for Service<H> {
-    ghost use Rattle.std.specs.Prelude.{◌≤◌};
-    ghost use Rattle.judy_tenants.specs.Held.{Held, words_for};
-    ghost use Rattle.judy_tenants.specs.Stocks.{held_of, IsStocked};
+    ghost use Rattle.judy_tenants.specs.Held.{Held};
+    ghost use Rattle.judy_tenants.specs.Stocks.{held_of, IsGranted, IsStocked};
 
     ghost Value = { Held };
 
     ghost view = { λ s. held_of s.table s.stock };
 
-    ghost invariant = { λ s. IsStocked H.hashed s.table s.stock
-        × (s.stock.arena.peak ≤ words_for s.table) };
+    ghost invariant = { λ s. IsStocked H.hashed s.table s.stock × IsGranted s.table s.stock };
 }
 
 impl<H: KeyHash> Service<H> {
@@ -57,6 +56,7 @@ impl<H: KeyHash> Service<H> {
         ensures region { IfOk result (λ s. s.region ≡ 0) }
         ensures reserved { IfOk result (λ s. s.reserved ≡ 0) }
         ensures room { IfOk result (λ s. s.room ≡ 256) }
+        ensures granted { IfOk result (λ s. s.granted ≡ words_for table) }
         ensures secret { IfOk result (λ s. s.start ≡ start_of secret.now) }
         ensures sound { IfOk result (λ s. IsSoundService s) }
     {
@@ -70,6 +70,7 @@ impl<H: KeyHash> Service<H> {
             directory,
             accounts,
             unplaced: 0,
+            granted: words_for(&table),
         };
         let service = Service { stock, table, hash };
         service.is_at_all_times();

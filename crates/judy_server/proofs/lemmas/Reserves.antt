@@ -30,7 +30,7 @@ pub reserved-enough : (secret : List ℕ) (megabytes : ℕ) (tenants : List Tena
     → IsMuch megabytes tenants → HasEnough held × HasRoom held
 reserved-enough secret megabytes tenants held new much =
     let same = ap (λ ts. all_quotas (length ts) (quotas_of ts)) new.tenants in let region = new.taken.0 in let room = new.taken.1 in
-    (omega (arith, same, region, much), omega (arith, same, room, much))
+    let granted = new.granted in (omega (arith, same, granted, region, much), omega (arith, same, room, much))
 
 -- the calls of a service, one after another
 calls-of : (before : Held) (ps : List (Event × Reply)) (after : Held) → AreMade IsServedStep before ps after → AreCallsOf before ps after

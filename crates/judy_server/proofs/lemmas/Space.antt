@@ -35,10 +35,21 @@ use Rattle.judy_server.specs.Status.{status_of}
 -- calls one after another keep the invariant of a service
 pub sound-calls : (before after : Held) (answered : List (Event × Reply)) → IsSoundService before
     → AreMade IsServedStep before answered after → IsSoundOf before after
-sound-calls before after [] h same = record { sound = subst IsSoundService (sym same) h; tenants = ap (λ (s : Held). s.tenants) same; reserved = ap (λ (s : Held). s.reserved) same }
+sound-calls before after [] h same =
+    record {
+      sound = subst IsSoundService (sym same) h;
+      tenants = ap (λ (s : Held). s.tenants) same;
+      granted = ap (λ (s : Held). s.granted) same;
+      reserved = ap (λ (s : Held). s.reserved) same;
+    }
 sound-calls before after (p ∷ ps) h (mid, made, rest) =
     let later : IsSoundOf mid after = sound-calls mid after ps made.sound rest in
-    record { sound = later.sound; tenants = later.tenants ∙ made.keeps.tenants; reserved = later.reserved ∙ made.keeps.memory.reserved }
+    record {
+      sound = later.sound;
+      tenants = later.tenants ∙ made.keeps.tenants;
+      granted = later.granted ∙ made.keeps.granted;
+      reserved = later.reserved ∙ made.keeps.memory.reserved;
+    }
 
 -- a connection keeps it, however it ends
 pub sound-end : (end : End) (left left' : MaybeBytes) (before after : Held) (taken taken' : MaybeBytes) → IsSoundService before
@@ -52,20 +63,40 @@ sound-end ends.WriteFault left left' before after taken taken' s h = sound-calls
 -- lines one after another keep it, whatever their connections
 pub sound-turns : (turns : List Turn) (before after : Held) → IsSoundService before → AreTurns IsServedStep before turns after
     → IsSoundOf before after
-sound-turns [] before after s same = record { sound = subst IsSoundService (sym same) s; tenants = ap (λ (h : Held). h.tenants) same; reserved = ap (λ (h : Held). h.reserved) same }
+sound-turns [] before after s same =
+    record {
+      sound = subst IsSoundService (sym same) s;
+      tenants = ap (λ (h : Held). h.tenants) same;
+      granted = ap (λ (h : Held). h.granted) same;
+      reserved = ap (λ (h : Held). h.reserved) same;
+    }
 sound-turns (t ∷ turns) before after s (mid, one, rest) =
     let first : IsSoundOf before mid = sound-calls before mid _ s one.1 in
     let more : IsSoundOf mid after = sound-turns turns mid after first.sound rest in
-    record { sound = more.sound; tenants = more.tenants ∙ first.tenants; reserved = more.reserved ∙ first.reserved }
+    record {
+      sound = more.sound;
+      tenants = more.tenants ∙ first.tenants;
+      granted = more.granted ∙ first.granted;
+      reserved = more.reserved ∙ first.reserved;
+    }
 
 -- at each moment, after some of the lines and before the others, the service is sound
 pub sound-moments : (done turns : List Turn) (before after : Held) → IsSoundService before → AreTurns IsServedStep before (done ++ turns) after
     → (mid : Held) × AreTurns IsServedStep before done mid × IsSoundOf before mid × AreTurns IsServedStep mid turns after
-sound-moments [] turns before after s run = (before, refl, record { sound = s; tenants = refl; reserved = refl }, run)
+sound-moments [] turns before after s run = (before, refl, record { sound = s; tenants = refl; granted = refl; reserved = refl }, run)
 sound-moments (t ∷ done) turns before after s (mid, one, rest) =
     let first : IsSoundOf before mid = sound-calls before mid _ s one.1 in
-    let (now, did, more, left) = sound-moments done turns mid after first.sound rest in
-    (now, (mid, one, did), record { sound = more.sound; tenants = more.tenants ∙ first.tenants; reserved = more.reserved ∙ first.reserved }, left)
+    let (now, did, more, left) = sound-moments done turns mid after first.sound rest in (
+      now,
+      (mid, one, did),
+      record {
+        sound = more.sound;
+        tenants = more.tenants ∙ first.tenants;
+        granted = more.granted ∙ first.granted;
+        reserved = more.reserved ∙ first.reserved;
+      },
+      left,
+    )
 
 turns_in-append : (p q : Story) → turns_in (p ++ q) ≡ turns_in p ++ turns_in q
 turns_in-append [] q = refl
@@ -80,43 +111,51 @@ sound-server secret config socket watch reserve limits how log log' h p q e =
     sound-moments (turns_in p) (turns_in q) h.before h.after h.begun.opened.fresh.sound
     (subst (λ ts. AreTurns IsServedStep h.before ts h.after) (ap turns_in e ∙ turns_in-append p q) h.hosted.run)
 
--- a sound service is bounded by the quotas of its table, or by what was taken beforehand
-bounded : (before after : Held) → IsSoundOf before after → IsBoundedBy before.tenants before.reserved after
+-- a sound service is bounded by what its quotas allow, or by what was taken beforehand
+bounded : (before after : Held) → IsSoundOf before after → IsBoundedBy before.granted before.reserved after
 bounded before after s = record {
-  peak = subst (λ ts. after.peak ≤ words_for ts) s.tenants s.sound.peak;
-  region = subst (λ ts. after.region ≤ max before.reserved (128 * words_for ts + 512)) s.tenants
-      (subst (λ n. after.region ≤ max n (128 * words_for after.tenants + 512)) s.reserved s.sound.machine);
+  peak = subst (λ n. after.peak ≤ n) s.granted s.sound.peak;
+  region = subst (λ n. after.region ≤ max before.reserved (128 * n + 512)) s.granted
+      (subst (λ n. after.region ≤ max n (128 * after.granted + 512)) s.reserved s.sound.machine);
 }
 
--- at each moment, after some calls and before the others, the memory is bounded by the quotas
+-- at each moment, after some calls and before the others, the memory is bounded by what the quotas
+-- allow
 pub calls-are-bounded : (done rest : List (Event × Reply)) (before after : Held) → IsSoundService before → AreMade IsServedStep before (done ++ rest) after
-    → (mid : Held) × AreMade IsServedStep before done mid × IsBoundedBy before.tenants before.reserved mid × AreMade IsServedStep mid rest after
-calls-are-bounded [] rest before after s run = (before, refl, bounded before before (record { sound = s; tenants = refl; reserved = refl }), run)
+    → (mid : Held) × AreMade IsServedStep before done mid × IsBoundedBy before.granted before.reserved mid × AreMade IsServedStep mid rest after
+calls-are-bounded [] rest before after s run = (before, refl, bounded before before (record { sound = s; tenants = refl; granted = refl; reserved = refl }), run)
 calls-are-bounded (p ∷ done) rest before after s (mid, made, run) =
     let (now, did, bound, left) = calls-are-bounded done rest mid after made.sound run in (
       now,
       (mid, made, did),
-      subst (λ n. IsBoundedBy before.tenants n now) made.keeps.memory.reserved
-          (subst (λ ts. IsBoundedBy ts mid.reserved now) made.keeps.tenants bound),
+      subst (λ n. IsBoundedBy before.granted n now) made.keeps.memory.reserved
+          (subst (λ n. IsBoundedBy n mid.reserved now) made.keeps.granted bound),
       left,
     )
 
 -- so it is where a script ends, however it ends; both numbers never fall, so they were no greater before
 pub run-is-bounded : (secret : List ℕ) (words : Bool) (end : End) (left left' taken taken' : MaybeBytes) (told told' : ℕ)
     → (h : HasServed IsServedStep seen_of held_words (IsNewService secret None) words (ran.Served end) left left' taken taken' told told')
-    → IsBoundedBy h.tenants 0 h.after
+    → IsBoundedBy (words_for h.tenants) 0 h.after
 run-is-bounded secret words end left left' taken taken' told told' h =
-    subst (λ n. IsBoundedBy h.tenants n h.after) (h.fresh.reserved ∙ h.fresh.taken.0) (subst (λ ts. IsBoundedBy ts h.before.reserved h.after) h.fresh.tenants
+    subst (λ n. IsBoundedBy (words_for h.tenants) n h.after) (h.fresh.reserved ∙ h.fresh.taken.0)
+    (subst (λ n. IsBoundedBy n h.before.reserved h.after) (h.fresh.granted ∙ ap words_for h.fresh.tenants)
     (bounded h.before h.after (sound-end end _ _ h.before h.after _ _ h.fresh.sound h.run.script.served)))
 
 -- and at each moment of a server's story, but for what was taken at its start
 pub server-is-bounded : (secret config socket : List ℕ) (watch : Option (List ℕ)) (reserve : Option ℕ) (limits : Limits) (how : Ending) (log log' : Log)
     → (h : HasServedAll IsServedStep status_of seen_of (IsNewService secret reserve) config socket watch limits how log log')
     → (p q : Story) → h.hosted.story ≡ p ++ q
-    → (mid : Held) × AreTurns IsServedStep h.before (turns_in p) mid × IsBoundedBy h.before.tenants h.before.region mid × AreTurns IsServedStep mid (turns_in q) h.after
+    → (mid : Held) × AreTurns IsServedStep h.before (turns_in p) mid × IsBoundedBy (words_for h.before.tenants) h.before.region mid × AreTurns IsServedStep mid (turns_in q) h.after
 server-is-bounded secret config socket watch reserve limits how log log' h p q e =
     let (mid, did, sound, left) = sound-server secret config socket watch reserve limits how log log' h p q e in
-    (mid, did, subst (λ n. IsBoundedBy h.before.tenants n mid) h.begun.opened.fresh.reserved (bounded h.before mid sound), left)
+    let fresh = h.begun.opened.fresh in (
+      mid,
+      did,
+      subst (λ n. IsBoundedBy (words_for h.before.tenants) n mid) fresh.reserved
+          (subst (λ n. IsBoundedBy n h.before.reserved mid) fresh.granted (bounded h.before mid sound)),
+      left,
+    )
 
 -- if a script was served to its end and the words are wanted, the words that are reported are few
 pub few-words : (secret : List ℕ) (words : Bool) (end : End) (left left' taken taken' : MaybeBytes) (told told' : ℕ) → tells_words words end ≡ true
