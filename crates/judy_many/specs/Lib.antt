@@ -7,8 +7,10 @@ pub mod Fates
 pub mod Lives
 pub mod Nets
 pub mod Queues
+pub mod Rules
 pub mod Sessions
 pub mod Slots
 pub mod Statuses
 pub mod Stories
 pub mod Times
+pub mod Warnings
