@@ -31,6 +31,7 @@ use Rattle.judy_tenants.specs.Held.{Held, IsSoundService, all_arrays, states_of,
 use Rattle.judy_server.specs.Served.{IsServedStep, IsNewService, seen_of, held_words}
 use Rattle.judy_server.specs.Space.{IsSoundOf, IsBoundedBy, TellsFew}
 use Rattle.judy_server.specs.Status.{status_of}
+use Rattle.judy_server.specs.Tally.{Tallied}
 
 -- calls one after another keep the invariant of a service
 pub sound-calls : (before after : Held) (answered : List (Event × Reply)) → IsSoundService before
