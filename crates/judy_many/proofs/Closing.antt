@@ -1,23 +1,17 @@
 -- How the serving of many ends.
-use Rattle.std.proofs.Common.{◌≡◌, inl, inr, ◌≤◌, ◌+◌, ℕ, Bool, true, false, List, [], ◌∷◌, ◌++◌, length, Option, arith, sym, ◌∙◌, ap, subst, refl, append-nil}
-use Rattle.std.specs.Prelude.{zip}
-use Rattle.std.proofs.lemmas.List.{length-append}
-use Rattle.judy_model.specs.declared.replies.Reply.{Reply}
+use Rattle.std.proofs.Common.{◌≡◌, inl, inr, ◌≤◌, ℕ, Bool, true, false, List, [], ◌∷◌, ◌++◌, length, Option, arith, sym, ◌∙◌, ap, subst, refl, append-nil}
 use Rattle.judy_model.specs.Service.{ServingGoesOn, ServingIsStepwise}
 use Rattle.judy_model.specs.Solo.{SoloIsDetermined}
-use Rattle.judy_model.specs.Speakers.{Event}
-use Rattle.judy_model.specs.Stream.{event_of}
 use Rattle.judy_model.specs.Worlds.{served-worlds}
-use Rattle.judy_protocol.specs.Services.{AreMade, IsCalled, Made, Seen}
 use Rattle.judy_protocol.proofs.Ending.{are_served}
-use Rattle.judy_protocol.proofs.Talking.{AreMade-append, zip-append}
 use Rattle.judy_many.specs.Crowds.{AreFree, Crowd, HasServedMany, IsTold, events_in}
 use Rattle.judy_many.specs.Endings.{IsCaused, IsSpent, lost_in, waits_in}
 use Rattle.judy_many.specs.Queues.{nobody}
 use Rattle.judy_many.specs.Lives.{IsServed, View}
 use Rattle.judy_many.specs.Nets.{Acts, DidLog}
 use Rattle.judy_many.specs.Nets.Act.{Lost, Questioned}
-use Rattle.judy_many.specs.Sessions.{AreTurns, Turn, replies_in}
+use Rattle.judy_many.specs.Rules.{Rules}
+use Rattle.judy_many.specs.Sessions.{replies_in}
 use Rattle.judy_many.specs.Statuses.{HasAnswered, Passes}
 use Rattle.judy_many.specs.Stories.{AreWithin, Phase, IsPhased, Share, Story, acts_in, came_in, closed_in, own, times, turns_in, writes_since}
 use Rattle.judy_many.specs.Stories.Moment.{Did}
@@ -26,44 +20,31 @@ use Rattle.judy_many.specs.declared.serve.Ending.{Ending}
 use Rattle.judy_many.specs.declared.serve.Ending.TheVariants as ending
 use Rattle.judy_many.specs.declared.serve.Limits.{Limits}
 use Rattle.judy_many.proofs.Owning.{own-append}
+use Rattle.judy_many.proofs.Seeing.{Called, IsUnseen, KeepsApart, turns_seen}
 use Rattle.judy_many.proofs.Seats.{free_at, taken_most}
 use Rattle.judy_many.proofs.Turning.{still}
 use Rattle.judy_many.proofs.Passing.{passes_run}
 use Rattle.judy_many.proofs.Living.{no_log}
 use Rattle.judy_many.proofs.Crowding.{crowd_first, told_more}
 
--- ---- all calls
-
-made_in : {S : Type 0} (made : Made S) (first last : S) (ts : List Turn) → AreTurns made first ts last
-    → (length (replies_in ts) ≡ length (events_in ts)) × AreMade made first (zip (events_in ts) (replies_in ts)) last
-made_in made first last [] h = (refl, h)
-made_in made first last (t ∷ ts) (mid, (count, step), rest) =
-    let later = made_in made mid last ts rest in (
-      length-append t.replies (replies_in ts) ∙ ap (λ n. n + length (replies_in ts)) count ∙ ap (λ n. length (event_of t.line t.who) + n) later.0
-          ∙ sym (length-append (event_of t.line t.who) (events_in ts)),
-      subst (λ ps. AreMade made first ps last) (sym (zip-append (event_of t.line t.who) (events_in ts) t.replies (replies_in ts) count))
-          (AreMade-append made first mid last (zip (event_of t.line t.who) t.replies) (zip (events_in ts) (replies_in ts)) step later.1),
-    )
-
 -- the server ends, after these last answers
-crowd_ends : {B S : Type 0} (view : B → View) (made : Made S) (status : S → List ℕ) (seen : S → Seen)
-    (apart : (before after : S) (event : Event) (reply : Reply) → made before event reply after → IsCalled (seen before) event reply (seen after))
+crowd_ends : {B S : Type 0} (view : B → View) (rules : Rules S) (apart : KeepsApart rules) (unseen : IsUnseen rules)
     → ServingGoesOn → ServingIsStepwise → SoloIsDetermined
     → (first : S) (start mid log : Acts) (phase : Phase) (had : ℕ → Type 0) (waits lost : ℕ) (slots : List (Option B)) (count : ℕ) (now : S) (limits : Limits) (how : Ending) (more : Story)
     → (how ≡ ending.Done → (limits.connections ≤ count) × AreFree slots)
-    → (h : Crowd view made status (seen first).logins limits first start phase had waits mid slots count now)
-    → ((n : ℕ) → own n more ≡ []) → IsTold made status limits first start phase lost waits log slots count now (h.story ++ more) → IsCaused how (h.story ++ more)
-    → HasServedMany made status seen limits how start log first now
-crowd_ends view made status seen apart goes_on one equal first start mid log phase had waits lost slots count now limits how more done h none told cause =
+    → (h : Crowd view rules limits first start phase had waits mid slots count now)
+    → ((n : ℕ) → own n more ≡ []) → IsTold rules limits first start phase lost waits log slots count now (h.story ++ more) → IsCaused how (h.story ++ more)
+    → HasServedMany rules limits how start log first now
+crowd_ends view rules apart unseen goes_on one equal first start mid log phase had waits lost slots count now limits how more done h none told cause =
     let story = h.story ++ more in
     let turns = turns_in story in
-    let ran = passes_run made status first now story told.run in
-    let all = made_in made first now turns ran in
-    let run = (are_served made seen apart goes_on one equal first now (events_in turns) (replies_in turns) all.0 all.1).0 in
+    let ran = passes_run rules first now story told.run in
+    let all = turns_seen rules apart unseen first now turns ran in
+    let run = (are_served Called (λ s. s) (λ before after event reply h. h) goes_on one equal (rules.seen first) (rules.seen now) (events_in turns) (replies_in turns) all.0 all.1).0 in
     record {
       story = story;
       logged = told.logged;
-      served = λ n. subst (IsServed (seen first).logins) (sym (same n)) (h.served n);
+      served = λ n. subst IsServed (sym (same n)) (h.served n);
       order = λ p q cut n. (h.served n).order (own n p) (own n q) (sym (same n) ∙ ap (own n) cut ∙ own-append n p q);
       phases = told.phases;
       fair = told.fair;
@@ -81,25 +62,24 @@ crowd_ends view made status seen apart goes_on one equal first start mid log pha
       run = ran;
       told = told.run;
       solo = run;
-      worlds = served-worlds equal (seen first).quotas (seen first).states (events_in turns) (replies_in turns) (seen now).states run;
+      worlds = served-worlds equal (rules.seen first).quotas (rules.seen first).states (events_in turns) (replies_in turns) (rules.seen now).states run;
     }
   where
     same : (n : ℕ) → own n (h.story ++ more) ≡ own n h.story
     same n = own-append n h.story more ∙ ap (λ l. own n h.story ++ l) (none n) ∙ append-nil (own n h.story)
 
 -- in a crowd: nothing more is answered, or that something failed for good
-module _ {B S : Type 0} (view : B → View) (made : Made S) (status : S → List ℕ) (seen : S → Seen)
-    (apart : (before after : S) (event : Event) (reply : Reply) → made before event reply after → IsCalled (seen before) event reply (seen after))
+module _ {B S : Type 0} (view : B → View) (rules : Rules S) (apart : KeepsApart rules) (unseen : IsUnseen rules)
     (goes_on : ServingGoesOn) (one : ServingIsStepwise) (equal : SoloIsDetermined)
     (first : S) (start : Acts) (limits : Limits) where
   told_on : (phase : Phase) (had : ℕ → Type 0) (waits lost : ℕ) (mid log : Acts) (slots : List (Option B)) (count : ℕ) (now : S)
-      (h : Crowd view made status (seen first).logins limits first start phase had waits mid slots count now) (more : Story)
-      → DidLog mid (acts_in more) log → Passes made status now more now → came_in (acts_in more) ≡ 0 → closed_in (acts_in more) ≡ 0 → AreWithin limits (acts_in more)
+      (h : Crowd view rules limits first start phase had waits mid slots count now) (more : Story)
+      → DidLog mid (acts_in more) log → Passes rules now more now → came_in (acts_in more) ≡ 0 → closed_in (acts_in more) ≡ 0 → AreWithin limits (acts_in more)
       → ((wrote : Bool) → IsPhased wrote more × (writes_since wrote more ≡ wrote)) → ((share : Share) → times share more ≡ 0)
       → lost ≡ lost_in (acts_in more) → waits_in (acts_in more) ≡ 0
-      → IsTold made status limits first start phase lost waits log slots count now (h.story ++ more)
+      → IsTold rules limits first start phase lost waits log slots count now (h.story ++ more)
   told_on phase had waits lost mid log slots count now h more k r came closed within phases silent lose wait =
-      told_more made status limits first start phase phase 0 lost waits waits mid log slots slots count count now now h.story more h.is_told k r
+      told_more rules limits first start phase phase 0 lost waits waits mid log slots slots count count now now h.story more h.is_told k r
       (omega (arith, came)) h.is_told.capped (omega (arith, came, closed))
       (let a = taken_most slots in let b = h.is_told.sized in omega (arith, a, b, came)) h.is_told.sized within
       (phases (writes_since false h.story)).0 (λ e. (phases (writes_since false h.story)).1 ∙ h.is_told.quiet e)
@@ -107,16 +87,16 @@ module _ {B S : Type 0} (view : B → View) (made : Made S) (status : S → List
 
   pub ends_here : (log : Acts) (phase : Phase) (had : ℕ → Type 0) (waits : ℕ) (slots : List (Option B)) (count : ℕ) (now : S) (how : Ending)
       → (how ≡ ending.Done → (limits.connections ≤ count) × AreFree slots)
-      → (h : Crowd view made status (seen first).logins limits first start phase had waits log slots count now)
-      → IsCaused how (h.story ++ []) → HasServedMany made status seen limits how start log first now
+      → (h : Crowd view rules limits first start phase had waits log slots count now)
+      → IsCaused how (h.story ++ []) → HasServedMany rules limits how start log first now
   ends_here log phase had waits slots count now how done h cause =
-      crowd_ends view made status seen apart goes_on one equal first start log log phase had waits 0 slots count now limits how [] done h (λ n. refl)
+      crowd_ends view rules apart unseen goes_on one equal first start log log phase had waits 0 slots count now limits how [] done h (λ n. refl)
       (told_on phase had waits 0 log log slots count now h [] (no_log log) refl refl refl tt (λ wrote. (tt, refl)) (λ share. refl) refl refl) cause
 
   -- before anything was asked of the system
-  pub ends_first : (slots : List (Option B)) → AreFree slots → length slots ≤ limits.clients → HasServedMany made status seen limits ending.Memory start start first first
+  pub ends_first : (slots : List (Option B)) → AreFree slots → length slots ≤ limits.clients → HasServedMany rules limits ending.Memory start start first first
   ends_first slots free sized =
-      let first_of = crowd_first view made status (seen first).logins limits first start slots free sized in
+      let first_of = crowd_first view rules limits first start slots free sized in
       ends_here start Phase.Reads nobody 0 slots 0 first ending.Memory (λ e. absurd (memory_not e)) first_of.0 (ap (λ t. t ++ []) first_of.1)
     where
       memory_not : ending.Memory ≡ ending.Done → ⊥
@@ -124,15 +104,15 @@ module _ {B S : Type 0} (view : B → View) (made : Made S) (status : S → List
 
   -- in order
   pub ends_done : (log : Acts) (phase : Phase) (had : ℕ → Type 0) (waits : ℕ) (slots : List (Option B)) (count : ℕ) (now : S)
-      → limits.connections ≤ count → AreFree slots → Crowd view made status (seen first).logins limits first start phase had waits log slots count now
-      → HasServedMany made status seen limits ending.Done start log first now
+      → limits.connections ≤ count → AreFree slots → Crowd view rules limits first start phase had waits log slots count now
+      → HasServedMany rules limits ending.Done start log first now
   ends_done log phase had waits slots count now enough free h =
       ends_here log phase had waits slots count now ending.Done (λ e. (enough, free)) h (subst (λ t. lost_in (acts_in t) ≡ 0) (sym (append-nil h.story)) h.is_told.unlost)
 
   -- after all rounds
   pub ends_spent : (log : Acts) (phase : Phase) (had : ℕ → Type 0) (waits : ℕ) (slots : List (Option B)) (count : ℕ) (now : S)
-      → waits ≡ 18446744073709551615 → Crowd view made status (seen first).logins limits first start phase had waits log slots count now
-      → HasServedMany made status seen limits ending.Socket start log first now
+      → waits ≡ 18446744073709551615 → Crowd view rules limits first start phase had waits log slots count now
+      → HasServedMany rules limits ending.Socket start log first now
   ends_spent log phase had waits slots count now all h =
       ends_here log phase had waits slots count now ending.Socket (λ e. absurd (socket_not e)) h
       (inr (subst IsSpent (sym (append-nil h.story)) (record { rounds = h.is_told.waited ∙ all; unlost = h.is_told.unlost })))
@@ -142,10 +122,10 @@ module _ {B S : Type 0} (view : B → View) (made : Made S) (status : S → List
 
   -- where the listener, or the wait, failed for good
   pub ends_lost : (mid log : Acts) (phase : Phase) (had : ℕ → Type 0) (waits : ℕ) (slots : List (Option B)) (count : ℕ) (now : S)
-      → DidLog mid (Lost ∷ []) log → Crowd view made status (seen first).logins limits first start phase had waits mid slots count now
-      → HasServedMany made status seen limits ending.Socket start log first now
+      → DidLog mid (Lost ∷ []) log → Crowd view rules limits first start phase had waits mid slots count now
+      → HasServedMany rules limits ending.Socket start log first now
   ends_lost mid log phase had waits slots count now k h =
-      crowd_ends view made status seen apart goes_on one equal first start mid log phase had waits 1 slots count now limits ending.Socket (Did Lost ∷ []) (λ e. absurd (socket_not e)) h (λ n. refl)
+      crowd_ends view rules apart unseen goes_on one equal first start mid log phase had waits 1 slots count now limits ending.Socket (Did Lost ∷ []) (λ e. absurd (socket_not e)) h (λ n. refl)
       (told_on phase had waits 1 mid log slots count now h (Did Lost ∷ []) k (tt, refl) refl refl (tt, tt) (λ wrote. ((tt, tt), refl)) (λ share. refl) refl refl)
       (inl (record { before = h.story; last = refl; once = h.is_told.unlost }))
     where
@@ -154,11 +134,11 @@ module _ {B S : Type 0} (view : B → View) (made : Made S) (status : S → List
 
   -- where a stop was asked for
   pub ends_stopped : (mid log : Acts) (phase : Phase) (had : ℕ → Type 0) (waits : ℕ) (slots : List (Option B)) (count : ℕ) (now : S) (watches : Bool) → limits.status ≡ watches
-      → HasAnswered watches true (status now) mid log → Crowd view made status (seen first).logins limits first start phase had waits mid slots count now
-      → HasServedMany made status seen limits ending.Stopped start log first now
+      → HasAnswered watches true (rules.status now) mid log → Crowd view rules limits first start phase had waits mid slots count now
+      → HasServedMany rules limits ending.Stopped start log first now
   ends_stopped mid log phase had waits slots count now false e bad h = absurd bad
   ends_stopped mid log phase had waits slots count now true e k h =
-      crowd_ends view made status seen apart goes_on one equal first start mid log phase had waits 1 slots count now limits ending.Stopped (Did (Questioned question.Stop) ∷ []) (λ e. absurd (stopped_not e)) h (λ n. refl)
+      crowd_ends view rules apart unseen goes_on one equal first start mid log phase had waits 1 slots count now limits ending.Stopped (Did (Questioned question.Stop) ∷ []) (λ e. absurd (stopped_not e)) h (λ n. refl)
       (told_on phase had waits 1 mid log slots count now h (Did (Questioned question.Stop) ∷ []) k (tt, refl) refl refl (e, tt) (λ wrote. ((tt, tt), refl)) (λ share. refl) refl refl)
       (record { before = h.story; last = refl; once = h.is_told.unlost })
     where

@@ -3,8 +3,6 @@ use Rattle.std.proofs.Common.{◌≡◌, ◌≢◌, ◌⊎◌, inl, inr, ◌<◌
 use Rattle.std.specs.Prelude.{if◌then◌else◌, option_map}
 use Rattle.std.proofs.lemmas.Bool.Decides.{eqb_tells}
 use Rattle.std.proofs.lemmas.List.{length-append}
-use Rattle.judy_model.specs.Stream.{Login}
-use Rattle.judy_protocol.specs.Services.{Made}
 use Rattle.judy_many.specs.Crowds.{AreFree, At, Crowd, IsThere, IsTold, taken, taken_by}
 use Rattle.judy_many.specs.Endings.{lost_in, waits_in}
 use Rattle.judy_many.specs.Queues.{nobody}
@@ -13,6 +11,7 @@ use Rattle.judy_many.specs.Lives.{IsLive, IsPart, IsReason, IsServed, Lives, Slo
 use Rattle.judy_many.specs.Nets.{Act, Acts, DidLog}
 use Rattle.judy_many.specs.Nets.Act.{Came, Refused, Closed, Questioned, Reported, Waited}
 use Rattle.judy_many.specs.Arrivals.{Arrives, IsArrival}
+use Rattle.judy_many.specs.Rules.{Rules}
 use Rattle.judy_many.specs.Sessions.{AreTurns, Turn}
 use Rattle.judy_many.specs.Statuses.{HasAnswered, Passes, Tells}
 use Rattle.judy_many.specs.Stories.{AreWithin, Phase, IsAllowed, InPhase, IsPhased, IsPiece, Mine, Share, Story, acts_in, came_in, closed_in, most, own, times, turns_in, turns_since, writes_since}
@@ -31,11 +30,11 @@ use Rattle.judy_many.proofs.Telling.{AreWithin-append, InPhase-append, IsPhased-
 
 -- ---- the whole story
 
-module _ {B S : Type 0} (made : Made S) (status : S → List ℕ) (limits : Limits) (first : S) (start : Acts) where
+module _ {B S : Type 0} (rules : Rules S) (limits : Limits) (first : S) (start : Acts) where
   -- more happened
   pub told_more : (phase phase' : Phase) (lost lost' waits waits' : ℕ) (log log' : Acts) (slots slots' : List (Option B)) (count count' : ℕ) (now after : S) (story more : Story)
-      → IsTold made status limits first start phase lost waits log slots count now story
-      → DidLog log (acts_in more) log' → Passes made status now more after
+      → IsTold rules limits first start phase lost waits log slots count now story
+      → DidLog log (acts_in more) log' → Passes rules now more after
       → count' ≡ count + came_in (acts_in more) → count' ≤ limits.connections
       → came_in (acts_in more) + taken slots ≡ closed_in (acts_in more) + taken slots'
       → taken slots + came_in (acts_in more) ≤ limits.clients → length slots' ≤ limits.clients
@@ -43,10 +42,10 @@ module _ {B S : Type 0} (made : Made S) (status : S → List ℕ) (limits : Limi
       → IsPhased (writes_since false story) more
       → (phase' ≡ Phase.Reads → writes_since (writes_since false story) more ≡ false)
       → GoOn story more → lost' ≡ lost + lost_in (acts_in more) → waits' ≡ waits + waits_in (acts_in more)
-      → IsTold made status limits first start phase' lost' waits' log' slots' count' after (story ++ more)
+      → IsTold rules limits first start phase' lost' waits' log' slots' count' after (story ++ more)
   told_more phase phase' lost lost' waits waits' log log' slots slots' count count' now after story more h k r counts capped sums room sized within phases quiet turns lose wait = record {
     logged = subst (λ a. DidLog start a log') (sym (acts_in-append story more)) (then_log start log log' (acts_in story) (acts_in more) h.logged k);
-    run = Passes-append made status first now after story more h.run r;
+    run = Passes-append rules first now after story more h.run r;
     total = let e = came-append story more in let f = h.total in omega (arith, e, f, counts);
     capped = capped;
     opened = let e = came-append story more in let f = closed-append story more in let o = h.opened in omega (arith, e, f, o, sums);
@@ -73,7 +72,7 @@ module _ {B S : Type 0} (made : Made S) (status : S → List ℕ) (limits : Limi
 
   -- the moments of one phase of a round
   told_phase : (phase : Phase) (lost waits : ℕ) (log : Acts) (slots : List (Option B)) (count : ℕ) (now : S) (story more : Story)
-      → IsTold made status limits first start phase lost waits log slots count now story → InPhase phase more
+      → IsTold rules limits first start phase lost waits log slots count now story → InPhase phase more
       → IsPhased (writes_since false story) more × (phase ≡ Phase.Reads → writes_since (writes_since false story) more ≡ false)
   told_phase Phase.Reads lost waits log slots count now story more h part =
       let e = h.quiet refl in
@@ -97,12 +96,12 @@ reads_most Share.Reading = omega arith
 reads_most Share.Running = omega arith
 reads_most Share.Writing = omega arith
 
-module _ {B S : Type 0} (view : B → View) (made : Made S) (status : S → List ℕ) (login : Login) (limits : Limits) (first : S) (start : Acts) where
+module _ {B S : Type 0} (view : B → View) (rules : Rules S) (limits : Limits) (first : S) (start : Acts) where
   abbrev Now : Phase → (ℕ → Type 0) → ℕ → Acts → List (Option B) → ℕ → S → Type 0
-  Now = Crowd view made status login limits first start
+  Now = Crowd view rules limits first start
 
   abbrev Told : Phase → ℕ → Acts → List (Option B) → ℕ → S → Story → Type 0
-  Told phase waits log slots count now story = IsTold made status limits first start phase 0 waits log slots count now story
+  Told phase waits log slots count now story = IsTold rules limits first start phase 0 waits log slots count now story
 
   -- the slots that had no turn have had none after the moments of another connection
   open_other : (story more : Story) (n m : ℕ) (bound : Share → ℕ) → Mine n more → m ≢ n
@@ -126,10 +125,10 @@ module _ {B S : Type 0} (view : B → View) (made : Made S) (status : S → List
     at_other m d P p =
         subst P (sym (own-append m h.story more ∙ ap (λ l. own m h.story ++ l) (own-other n m more mine d) ∙ append-nil (own m h.story))) p
 
-    served' : IsServed login (own n h.story ++ more) → (m : ℕ) → IsServed login (own m story')
+    served' : IsServed (own n h.story ++ more) → (m : ℕ) → IsServed (own m story')
     served' k m = elim (eqb_tells m n) [
-      | inl p ↦ subst (λ l. IsServed login (own l story')) (sym p.1) (at_own (IsServed login) k)
-      | inr p ↦ at_other m p.1 (IsServed login) (h.served m)
+      | inl p ↦ subst (λ l. IsServed (own l story')) (sym p.1) (at_own (IsServed) k)
+      | inr p ↦ at_other m p.1 (IsServed) (h.served m)
     ]
 
     fresh' : (bound : ℕ) → count ≤ bound → n < bound → (m : ℕ) → bound ≤ m → own m story' ≡ []
@@ -140,14 +139,14 @@ module _ {B S : Type 0} (view : B → View) (made : Made S) (status : S → List
     -- the client of slot i is gone
     pub gone : (i : ℕ) (b : B) → At slots i b → (view b).number ≡ n → Told phase waits log' (slice_set slots i None) count after story'
         → closed_in (acts_in (own n h.story ++ more)) ≡ 1
-        → IsServed login (own n h.story ++ more) → Now phase had' waits log' (slice_set slots i None) count after
+        → IsServed (own n h.story ++ more) → Now phase had' waits log' (slice_set slots i None) count after
     gone i b at is told close s = record {
       story = story';
       is_told = told;
       below = λ j c there. h.below j c (others j c there).1;
       live = λ j c there.
           let p = others j c there in
-          at_other (view c).number (λ e. p.0 (h.apart j i c b p.1 at (e ∙ sym is))) (λ t. Lives login t (view c)) (h.live j c p.1);
+          at_other (view c).number (λ e. p.0 (h.apart j i c b p.1 at (e ∙ sym is))) (λ t. Lives t (view c)) (h.live j c p.1);
       apart = λ j l c d there too e. h.apart j l c d (others j c there).1 (others l d too).1 e;
       fresh = fresh' count (omega arith) (subst (λ m. m < count) is (h.below i b at));
       served = served' s;
@@ -185,7 +184,7 @@ module _ {B S : Type 0} (view : B → View) (made : Made S) (status : S → List
         → ((j : ℕ) (c : B) → j ≢ i → At slots j c → (view c).number ≢ n)
         → Told phase waits log' (slice_set slots i (Some s)) bound after story'
         → ((had' i → ⊥) → (share : Share) → turns_since n share 0 story' + most phase share ≤ 1)
-        → Lives login (own n h.story ++ more) (view s) → Now phase had' waits log' (slice_set slots i (Some s)) bound after
+        → Lives (own n h.story ++ more) (view s) → Now phase had' waits log' (slice_set slots i (Some s)) bound after
     seated i bound s within highest last away is above under alone told free l = record {
       story = story';
       is_told = told;
@@ -194,13 +193,13 @@ module _ {B S : Type 0} (view : B → View) (made : Made S) (status : S → List
         | inr p ↦ let q = h.below j c p.1 in omega arith
       ];
       live = λ j c there. elim (At-set slots i (Some s) j c there) [
-        | inl p ↦ subst (λ b. Lives login (own (view b).number story') (view b)) (same c p.1)
-            (subst (λ m. Lives login (own m story') (view s)) (sym is) (at_own (λ t. Lives login t (view s)) l))
-        | inr p ↦ at_other (view c).number (alone j c p.0 p.1) (λ t. Lives login t (view c)) (h.live j c p.1)
+        | inl p ↦ subst (λ b. Lives (own (view b).number story') (view b)) (same c p.1)
+            (subst (λ m. Lives (own m story') (view s)) (sym is) (at_own (λ t. Lives t (view s)) l))
+        | inr p ↦ at_other (view c).number (alone j c p.0 p.1) (λ t. Lives t (view c)) (h.live j c p.1)
       ];
       apart = λ j m c d there too e. both j m c d (At-set slots i (Some s) j c there) (At-set slots i (Some s) m d too) e;
       fresh = fresh' bound above under;
-      served = served' (lives_served login (own n h.story ++ more) (view s) l);
+      served = served' (lives_served (own n h.story ++ more) (view s) l);
       ready = λ j c there not share. elim (At-set slots i (Some s) j c there) [
         | inl p ↦ subst (λ b. turns_since (view b).number share 0 story' + most phase share ≤ 1) (same c p.1)
             (subst (λ m. turns_since m share 0 story' + most phase share ≤ 1) (sym is) (free (λ k. not (subst had' (sym p.0) k)) share))
@@ -250,10 +249,10 @@ module _ {B S : Type 0} (view : B → View) (made : Made S) (status : S → List
     story = h.story ++ more;
     is_told = told;
     below = λ j c there. h.below j c (back j c there);
-    live = λ j c there. subst (λ t. Lives login t (view c)) (sym (same (view c).number)) (h.live j c (back j c there));
+    live = λ j c there. subst (λ t. Lives t (view c)) (sym (same (view c).number)) (h.live j c (back j c there));
     apart = λ j m c d there too e. h.apart j m c d (back j c there) (back m d too) e;
     fresh = λ n over. same n ∙ h.fresh n over;
-    served = λ n. subst (IsServed login) (sym (same n)) (h.served n);
+    served = λ n. subst (IsServed) (sym (same n)) (h.served n);
     ready = λ j c there not. free j c (back j c there) not;
     ends = λ m few. elim (h.ends m few) [
       | inl q ↦ inl (subst (λ t. closed_in (acts_in t) ≡ 1) (sym (same m)) q)
@@ -280,7 +279,7 @@ module _ {B S : Type 0} (view : B → View) (made : Made S) (status : S → List
       → Now phase had waits log' slots count now
   idle phase had waits log log' slots count now k h =
       foreign phase phase had had waits waits log log' slots slots count now h [] (λ n. refl)
-      (told_more made status limits first start phase phase 0 0 waits waits log log' slots slots count count now now h.story [] h.is_told k refl (omega arith) h.is_told.capped (omega arith)
+      (told_more rules limits first start phase phase 0 0 waits waits log log' slots slots count count now now h.story [] h.is_told k refl (omega arith) h.is_told.capped (omega arith)
       (let a = taken_most slots in let b = h.is_told.sized in omega (arith, a, b)) h.is_told.sized tt tt h.is_told.quiet
       (still h.story [] h.is_told.fair (λ share. refl)) refl (omega arith))
       (λ j c at. at) (λ j c at. at) (open_still phase had had waits log slots count now h [] (λ j k. k) (λ share. refl))
@@ -290,7 +289,7 @@ module _ {B S : Type 0} (view : B → View) (made : Made S) (status : S → List
       → Now Phase.Reads nobody (waits + 1) log' slots count now
   has_waited phase had waits log log' slots count now k h =
       foreign phase Phase.Reads had nobody waits (waits + 1) log log' slots slots count now h (Did Waited ∷ []) (λ n. refl)
-      (told_more made status limits first start phase Phase.Reads 0 0 waits (waits + 1) log log' slots slots count count now now h.story (Did Waited ∷ []) h.is_told k (tt, refl) (omega arith) h.is_told.capped (omega arith)
+      (told_more rules limits first start phase Phase.Reads 0 0 waits (waits + 1) log log' slots slots count count now now h.story (Did Waited ∷ []) h.is_told k (tt, refl) (omega arith) h.is_told.capped (omega arith)
       (let a = taken_most slots in let b = h.is_told.sized in omega (arith, a, b)) h.is_told.sized (tt, tt) (tt, tt) (λ e. refl)
       (still h.story (Did Waited ∷ []) h.is_told.fair (λ share. refl)) refl (omega arith))
       (λ j c at. at) (λ j c at. at) (λ j c at not share.
@@ -300,19 +299,19 @@ module _ {B S : Type 0} (view : B → View) (made : Made S) (status : S → List
 
   -- a status was asked for, and told
   has_told : (phase : Phase) (had : ℕ → Type 0) (waits : ℕ) (log log' : Acts) (slots : List (Option B)) (count : ℕ) (now : S) (text : List ℕ) → limits.status ≡ true
-      → Tells (status now) (Reported text) → DidLog log (Questioned question.Status ∷ Reported text ∷ []) log' → Now phase had waits log slots count now
+      → Tells (rules.status now) (Reported text) → DidLog log (Questioned question.Status ∷ Reported text ∷ []) log' → Now phase had waits log slots count now
       → Now phase had waits log' slots count now
   has_told phase had waits log log' slots count now text watches tells k h =
       let more : Story = Did (Questioned question.Status) ∷ Did (Reported text) ∷ [] in
       foreign phase phase had had waits waits log log' slots slots count now h more (λ n. refl)
-      (told_more made status limits first start phase phase 0 0 waits waits log log' slots slots count count now now h.story more h.is_told k (tt, (tells, refl)) (omega arith) h.is_told.capped (omega arith)
+      (told_more rules limits first start phase phase 0 0 waits waits log log' slots slots count count now now h.story more h.is_told k (tt, (tells, refl)) (omega arith) h.is_told.capped (omega arith)
       (let a = taken_most slots in let b = h.is_told.sized in omega (arith, a, b)) h.is_told.sized (watches, (watches, tt)) (tt, (tt, tt)) h.is_told.quiet
       (still h.story more h.is_told.fair (λ share. refl)) refl (omega arith))
       (λ j c at. at) (λ j c at. at) (open_still phase had had waits log slots count now h more (λ j k. k) (λ share. refl))
 
   -- the server goes on after it asked
   pub answered : (phase : Phase) (had : ℕ → Type 0) (waits : ℕ) (log log' : Acts) (slots : List (Option B)) (count : ℕ) (now : S) (watches : Bool) → limits.status ≡ watches
-      → HasAnswered watches false (status now) log log' → Now phase had waits log slots count now → Now phase had waits log' slots count now
+      → HasAnswered watches false (rules.status now) log log' → Now phase had waits log slots count now → Now phase had waits log' slots count now
   answered phase had waits log log' slots count now true e (inl k) h = idle phase had waits log log' slots count now k h
   answered phase had waits log log' slots count now true e (inr (text, tells, k)) h = has_told phase had waits log log' slots count now text e tells k h
   answered phase had waits log log' slots count now false e k h = idle phase had waits log log' slots count now k h
@@ -380,16 +379,16 @@ module _ {B S : Type 0} (view : B → View) (made : Made S) (status : S → List
   -- what happened to the client of a slot that had no turn in this phase
   pub crowd_turn : (phase : Phase) (had had' : ℕ → Type 0) (waits : ℕ) (log log' : Acts) (slots : List (Option B)) (count : ℕ) (now after : S) (i : ℕ) (d s : Option B) (more : Story)
       → ((j : ℕ) → had j → had' j) → (had i → ⊥) → had' i
-      → Now phase had waits log slots count now → i < length slots → d ≡ slice_index_or slots i d → DidLog log (acts_in more) log' → AreTurns made now (turns_in more) after
-      → SlotDid login limits phase (option_map view d) (option_map view s) more → Now phase had' waits log' (slice_set slots i s) count after
+      → Now phase had waits log slots count now → i < length slots → d ≡ slice_index_or slots i d → DidLog log (acts_in more) log' → AreTurns rules now (turns_in more) after
+      → SlotDid limits phase (option_map view d) (option_map view s) more → Now phase had' waits log' (slice_set slots i s) count after
   crowd_turn phase had had' waits log log' slots count now after i None None more wider new done h within is k r did =
-      let same : after ≡ now = subst (λ m. AreTurns made now (turns_in m) after) did.1 r in
+      let same : after ≡ now = subst (λ m. AreTurns rules now (turns_in m) after) did.1 r in
       let quiet : DidLog log [] log' = subst (λ m. DidLog log (acts_in m) log') did.1 k in
       let free : (b : B) → At slots i b → ⊥ = λ b there. nobody_is b (At-some slots i None b is there) in
       let count_is = taken_free slots i None within free in
       subst (λ a. Now phase had' waits log' (slice_set slots i None) count a) (sym same)
       (foreign phase phase had had' waits waits log log' slots (slice_set slots i None) count now h [] (λ n. refl)
-      (told_more made status limits first start phase phase 0 0 waits waits log log' slots (slice_set slots i None) count count now now h.story [] h.is_told quiet refl (omega arith) h.is_told.capped
+      (told_more rules limits first start phase phase 0 0 waits waits log log' slots (slice_set slots i None) count count now now h.story [] h.is_told quiet refl (omega arith) h.is_told.capped
       (let a = count_is.0 in omega (arith, a))
       (let a = taken_most slots in let b = h.is_told.sized in omega (arith, a, b))
       (let a = long_set slots i None in let b = h.is_told.sized in omega (arith, a, b)) tt tt h.is_told.quiet
@@ -411,7 +410,7 @@ module _ {B S : Type 0} (view : B → View) (made : Made S) (status : S → List
   crowd_turn phase had had' waits log log' slots count now after i (Some b) None more wider new done h within is k r (mine, came, closing, part, once, (close, goes)) =
       let at = At-index slots i (Some b) b within is refl in
       let n = (view b).number in
-      let fits = told_phase made status limits first start phase 0 waits log slots count now h.story more h.is_told part in
+      let fits = told_phase rules limits first start phase 0 waits log slots count now h.story more h.is_told part in
       let count_is = taken_at slots i b None at in
       let unclosed = (h.live i b at).unclosed in
       let all = closed-append (own n h.story) more in
@@ -419,7 +418,7 @@ module _ {B S : Type 0} (view : B → View) (made : Made S) (status : S → List
       let lost = plain.1 in
       let waited = plain.0 in
       gone phase had had' wider waits log log' slots count now after h n more mine i b at refl
-      (told_more made status limits first start phase phase 0 0 waits waits log log' slots (slice_set slots i None) count count now after h.story more h.is_told k (passes_plain made status now after more plain.2 r)
+      (told_more rules limits first start phase phase 0 0 waits waits log log' slots (slice_set slots i None) count count now after h.story more h.is_told k (passes_plain rules now after more plain.2 r)
       (omega (arith, came)) h.is_told.capped (omega (arith, came, close, count_is))
       (let a = taken_most slots in let b = h.is_told.sized in omega (arith, a, b, came))
       (let a = long_set slots i None in let b = h.is_told.sized in omega (arith, a, b)) closing fits.0 fits.1
@@ -428,7 +427,7 @@ module _ {B S : Type 0} (view : B → View) (made : Made S) (status : S → List
   crowd_turn phase had had' waits log log' slots count now after i (Some b) (Some s) more wider new done h within is k r (mine, came, closing, part, once, (same, close, goes)) =
       let at = At-index slots i (Some b) b within is refl in
       let n = (view b).number in
-      let fits = told_phase made status limits first start phase 0 waits log slots count now h.story more h.is_told part in
+      let fits = told_phase rules limits first start phase 0 waits log slots count now h.story more h.is_told part in
       let count_is = taken_at slots i b (Some s) at in
       let plain = mine_plain n more mine in
       let lost = plain.1 in
@@ -437,7 +436,7 @@ module _ {B S : Type 0} (view : B → View) (made : Made S) (status : S → List
       (λ m q d e. d (sym q.is ∙ ap (λ c. (view c).number) (At-only slots i q.b b (subst (λ j. At slots j q.b) e q.there) at)))
       same (omega arith) (h.below i b at)
       (λ j c d there e. d (h.apart j i c b there at e))
-      (told_more made status limits first start phase phase 0 0 waits waits log log' slots (slice_set slots i (Some s)) count count now after h.story more h.is_told k (passes_plain made status now after more plain.2 r)
+      (told_more rules limits first start phase phase 0 0 waits waits log log' slots (slice_set slots i (Some s)) count count now after h.story more h.is_told k (passes_plain rules now after more plain.2 r)
       (omega (arith, came)) h.is_told.capped (omega (arith, came, close, count_is))
       (let a = taken_most slots in let b = h.is_told.sized in omega (arith, a, b, came))
       (let a = long_set slots i (Some s) in let b = h.is_told.sized in omega (arith, a, b)) closing fits.0 fits.1
@@ -452,14 +451,14 @@ module _ {B S : Type 0} (view : B → View) (made : Made S) (status : S → List
       → Told Phase.Reads waits log' (slice_set slots i s) (count + came) now (h.story ++ more)
   arrives waits log log' slots count now i s more came closed h within free k a sums one capped =
       let count_is = taken_free slots i s within free in
-      let fits = told_phase made status limits first start Phase.Reads 0 waits log slots count now h.story more h.is_told a.part in
+      let fits = told_phase rules limits first start Phase.Reads 0 waits log slots count now h.story more h.is_told a.part in
       let came_is = a.came_is in
       let closed_is = a.closed_is in
       let sized = h.is_told.sized in
       let lost = a.unlost in
       let waited = a.waited in
-      told_more made status limits first start Phase.Reads Phase.Reads 0 0 waits waits log log' slots (slice_set slots i s) count (count + came) now now h.story more h.is_told k
-      (passes_plain made status now now more a.untold (subst (λ t. AreTurns made now t now) (sym a.none) refl))
+      told_more rules limits first start Phase.Reads Phase.Reads 0 0 waits waits log log' slots (slice_set slots i s) count (count + came) now now h.story more h.is_told k
+      (passes_plain rules now now more a.untold (subst (λ t. AreTurns rules now t now) (sym a.none) refl))
       (omega (arith, came_is)) capped (let e = count_is.0 in omega (arith, came_is, closed_is, sums, e))
       (let e = count_is.1 in omega (arith, came_is, one, e, sized))
       (let e = long_set slots i s in omega (arith, e, sized)) (a.within limits) fits.0 fits.1
@@ -482,7 +481,7 @@ module _ {B S : Type 0} (view : B → View) (made : Made S) (status : S → List
       let q = arrival.silent share in
       let r = reads_most share in
       omega (arith, e, f, g, q, r))
-      (subst (λ t. Lives login (t ++ more) (view s)) (sym none) (live login))
+      (subst (λ t. Lives (t ++ more) (view s)) (sym none) (live))
   crowd_seat waits log log' slots count now i true None more within free below h k (arrival, mine, done) = record {
     story = story' Phase.Reads nobody nobody (λ j k. k) waits log log' slots count now now h count more mine;
     is_told = told;
@@ -490,7 +489,7 @@ module _ {B S : Type 0} (view : B → View) (made : Made S) (status : S → List
     live = λ j c there.
         let q = h.below j c (others j c there) in
         at_other Phase.Reads nobody nobody (λ j k. k) waits log log' slots count now now h count more mine (view c).number (λ e. absurd (omega (arith, e, q)))
-        (λ t. Lives login t (view c)) (h.live j c (others j c there));
+        (λ t. Lives t (view c)) (h.live j c (others j c there));
     apart = λ j m c d there too e. h.apart j m c d (others j c there) (others m d too) e;
     fresh = fresh' Phase.Reads nobody nobody (λ j k. k) waits log log' slots count now now h count more mine (count + 1) (omega arith) (omega arith);
     served = served' Phase.Reads nobody nobody (λ j k. k) waits log log' slots count now now h count more mine kept;
@@ -522,8 +521,8 @@ module _ {B S : Type 0} (view : B → View) (made : Made S) (status : S → List
       others : (j : ℕ) (c : B) → At (slice_set slots i None) j c → At slots j c
       others j c there = elim (At-set slots i None j c there) [ inl p ↦ absurd (nothing c p.1) | inr p ↦ p.1 ]
 
-      kept : IsServed login (own count h.story ++ more)
-      kept = subst (λ t. IsServed login (t ++ more)) (sym none) (done login)
+      kept : IsServed (own count h.story ++ more)
+      kept = subst (λ t. IsServed (t ++ more)) (sym none) (done)
 
       closing : closed_in (acts_in (own count h.story ++ more)) ≡ 1
       closing = subst (λ t. closed_in (acts_in (t ++ more)) ≡ 1) (sym none) arrival.closed_is
@@ -560,8 +559,8 @@ module _ {B S : Type 0} (view : B → View) (made : Made S) (status : S → List
 
 -- ---- the beginning
 
-unserved : (login : Login) → IsServed login []
-unserved login = record {
+unserved : IsServed []
+unserved = record {
   order = λ p q cut. at_start p q (sym cut);
   whole = λ yes. absurd (never yes);
   why = λ p q n how cut. absurd (no_close p q n how (sym cut));
@@ -572,16 +571,16 @@ unserved login = record {
     no_close [] q n how e = cc
     no_close (m ∷ p) q n how e = cc
 
-    at_start : (p q : Story) → p ++ q ≡ [] → IsPart login (acts_in p) (turns_in p)
+    at_start : (p q : Story) → p ++ q ≡ [] → IsPart (acts_in p) (turns_in p)
     at_start [] q e = record { heard = []; unheard = []; missing = []; last_who = None; read = refl; ran = refl; speaks = refl; text = refl; last = refl }
     at_start (m ∷ p) q e = absurd (some e)
       where
         some : m ∷ (p ++ q) ≡ [] → ⊥
         some e = cc
 
-pub crowd_first : {B S : Type 0} (view : B → View) (made : Made S) (status : S → List ℕ) (login : Login) (limits : Limits) (first : S) (start : Acts) (slots : List (Option B)) → AreFree slots
-    → length slots ≤ limits.clients → (h : Crowd view made status login limits first start Phase.Reads nobody 0 start slots 0 first) × (h.story ≡ [])
-crowd_first view made status login limits first start slots free sized = (
+pub crowd_first : {B S : Type 0} (view : B → View) (rules : Rules S) (limits : Limits) (first : S) (start : Acts) (slots : List (Option B)) → AreFree slots
+    → length slots ≤ limits.clients → (h : Crowd view rules limits first start Phase.Reads nobody 0 start slots 0 first) × (h.story ≡ [])
+crowd_first view rules limits first start slots free sized = (
   record {
     story = [];
     is_told = record {
@@ -603,7 +602,7 @@ crowd_first view made status login limits first start slots free sized = (
     live = λ i b there. absurd (free_at slots i b free there);
     apart = λ i j b c there too e. absurd (free_at slots i b free there);
     fresh = λ n over. refl;
-    served = λ n. unserved login;
+    served = λ n. unserved;
     ready = λ i b there. absurd (free_at slots i b free there);
     ends = λ n few. absurd (omega (arith, few));
   },
@@ -624,29 +623,29 @@ crowd_first view made status login limits first start slots free sized = (
         some : m ∷ (p ++ q) ≡ [] → ⊥
         some e = cc
 
-pub crowd_none : {B S : Type 0} (view : B → View) (made : Made S) (status : S → List ℕ) (login : Login) (limits : Limits) (first : S) (start : Acts) (slots : List (Option B)) → AreFree slots
-    → length slots ≤ limits.clients → Crowd view made status login limits first start Phase.Reads nobody 0 start slots 0 first
-crowd_none view made status login limits first start slots free sized = (crowd_first view made status login limits first start slots free sized).0
+pub crowd_none : {B S : Type 0} (view : B → View) (rules : Rules S) (limits : Limits) (first : S) (start : Acts) (slots : List (Option B)) → AreFree slots
+    → length slots ≤ limits.clients → Crowd view rules limits first start Phase.Reads nobody 0 start slots 0 first
+crowd_none view rules limits first start slots free sized = (crowd_first view rules limits first start slots free sized).0
 
 -- ---- one slot
 
 -- what a piece of a round does to a slot
-module _ {B : Type 0} (view : B → View) (login : Login) (limits : Limits) (phase : Phase) where
+module _ {B : Type 0} (view : B → View) (limits : Limits) (phase : Phase) where
   -- there was no client
-  pub did_none : (s t : Option B) → s ≡ None → t ≡ None → SlotDid login limits phase (option_map view s) (option_map view t) []
+  pub did_none : (s t : Option B) → s ≡ None → t ≡ None → SlotDid limits phase (option_map view s) (option_map view t) []
   did_none s t e f =
-      subst (λ o. SlotDid login limits phase (option_map view o) (option_map view t) []) (sym e)
-      (subst (λ o. SlotDid login limits phase None (option_map view o) []) (sym f) (refl, refl))
+      subst (λ o. SlotDid limits phase (option_map view o) (option_map view t) []) (sym e)
+      (subst (λ o. SlotDid limits phase None (option_map view o) []) (sym f) (refl, refl))
 
   -- the client stays
   pub did_stay : (s : Option B) (b : B) (w : View) (more : Story) → Some b ≡ s → w.number ≡ (view b).number → IsPiece (view b).number phase more
-      → Stays login (view b) w more → SlotDid login limits phase (option_map view s) (Some w) more
+      → Stays (view b) w more → SlotDid limits phase (option_map view s) (Some w) more
   did_stay s b w more e same piece stays =
-      subst (λ o. SlotDid login limits phase (option_map view o) (Some w) more) e (piece.mine, piece.came, piece.within limits, piece.part, piece.once, (same, piece.unclosed, stays))
+      subst (λ o. SlotDid limits phase (option_map view o) (Some w) more) e (piece.mine, piece.came, piece.within limits, piece.part, piece.once, (same, piece.unclosed, stays))
 
   -- the client was closed
   pub did_left : (h : How) (s t : Option B) (b : B) (more : Story) → Some b ≡ s → t ≡ None → IsPiece (view b).number phase more → IsAllowed limits h
-      → Leaves h login (view b) more → SlotDid login limits phase (option_map view s) (option_map view t) (more ++ Did (Closed (view b).number h) ∷ [])
+      → Leaves h (view b) more → SlotDid limits phase (option_map view s) (option_map view t) (more ++ Did (Closed (view b).number h) ∷ [])
   did_left h s t b more e f piece allowed leaves =
       let n = (view b).number in
       let last : Story = Did (Closed n h) ∷ [] in
@@ -654,14 +653,14 @@ module _ {B : Type 0} (view : B → View) (login : Login) (limits : Limits) (pha
       let closed = closed-append more last in
       let none = piece.came in
       let unclosed = piece.unclosed in
-      subst (λ o. SlotDid login limits phase (option_map view o) (option_map view t) (more ++ last)) e
-      (subst (λ o. SlotDid login limits phase (Some (view b)) (option_map view o) (more ++ last)) (sym f) (
+      subst (λ o. SlotDid limits phase (option_map view o) (option_map view t) (more ++ last)) e
+      (subst (λ o. SlotDid limits phase (Some (view b)) (option_map view o) (more ++ last)) (sym f) (
         Mine-append n more last piece.mine (same_eq n, tt),
         omega (arith, came, none),
         AreWithin-append limits more last (piece.within limits) (allowed, tt),
         InPhase-append phase more last piece.part (closing phase n h),
         (λ share. let e = times-append share more last in let f = piece.once share in omega (arith, e, f)),
-        (omega (arith, closed, unclosed), λ did live. subst (IsServed login) (append_assoc did more last) (left_served h login n (did ++ more) (leaves did live))),
+        (omega (arith, closed, unclosed), λ did live. subst (IsServed) (append_assoc did more last) (left_served h n (did ++ more) (leaves did live))),
       ))
     where
       closing : (phase : Phase) (n : ℕ) (h : How) → InPhase phase (Did (Closed n h) ∷ [])
@@ -671,9 +670,9 @@ module _ {B : Type 0} (view : B → View) (login : Login) (limits : Limits) (pha
 
   -- the client was closed without a turn
   pub did_idle : (h : How) (s t : Option B) (b : B) → is_orderly h ≡ false → ((acts : List Act) (turns : List Turn) → IsReason h acts turns) → IsAllowed limits h → Some b ≡ s → t ≡ None
-      → SlotDid login limits phase (option_map view s) (option_map view t) (Did (Closed (view b).number h) ∷ [])
+      → SlotDid limits phase (option_map view s) (option_map view t) (Did (Closed (view b).number h) ∷ [])
   did_idle h s t b not why allowed e f =
-      did_left h s t b [] e f (piece_none (view b).number phase) allowed (leaves_part login h (view b) (view b) [] not (λ acts turns. why (acts ++ []) turns) (stays_none login (view b)))
+      did_left h s t b [] e f (piece_none (view b).number phase) allowed (leaves_part h (view b) (view b) [] not (λ acts turns. why (acts ++ []) turns) (stays_none (view b)))
 
 -- a client came
 pub arrived : (n : ℕ) → IsArrival 1 0 (Did (Came n) ∷ [])
@@ -696,28 +695,29 @@ came_in_slot v n is held who waiting pending quits = (
   arrived n,
   is,
   (same_eq n, tt),
-  λ login.
-      let live : IsLive login (Came n ∷ []) [] v = record {
-        heard = [];
-        read = sym waiting;
-        ran = refl;
-        holds = held;
-        speaks = who;
-        text = pending;
-        last = refl;
-        asked = quits;
-        stays = refl;
-      } in
-      record { live = live; order = λ p q cut. at_each login live p q cut; came = refl; unclosed = refl },
+  record { live = live; order = λ p q cut. at_each p q cut; came = refl; unclosed = refl },
 )
   where
-    at_each : (login : Login) → IsLive login (Came n ∷ []) [] v → (p q : Story) → Did (Came n) ∷ [] ≡ p ++ q → IsPart login (acts_in p) (turns_in p)
-    at_each login live [] q cut = record { heard = []; unheard = []; missing = []; last_who = None; read = refl; ran = refl; speaks = refl; text = refl; last = refl }
-    at_each login live (x ∷ []) q cut = subst (λ y. IsPart login (acts_in (y ∷ [])) (turns_in (y ∷ []))) (one cut) (live_part login (Came n ∷ []) [] v live)
+    live : IsLive (Came n ∷ []) [] v
+    live = record {
+      heard = [];
+      read = sym waiting;
+      ran = refl;
+      holds = held;
+      speaks = who;
+      text = pending;
+      last = refl;
+      asked = quits;
+      stays = refl;
+    }
+
+    at_each : (p q : Story) → Did (Came n) ∷ [] ≡ p ++ q → IsPart (acts_in p) (turns_in p)
+    at_each [] q cut = record { heard = []; unheard = []; missing = []; last_who = None; read = refl; ran = refl; speaks = refl; text = refl; last = refl }
+    at_each (x ∷ []) q cut = subst (λ y. IsPart (acts_in (y ∷ [])) (turns_in (y ∷ []))) (one cut) (live_part (Came n ∷ []) [] v live)
       where
         one : Did (Came n) ∷ [] ≡ x ∷ q → Did (Came n) ≡ x
         one e = cc
-    at_each login live (x ∷ y ∷ p) q cut = absurd (short (ap length cut))
+    at_each (x ∷ y ∷ p) q cut = absurd (short (ap length cut))
       where
         short : 1 ≡ suc (suc (length (p ++ q))) → ⊥
         short e = omega (arith, e)
@@ -728,16 +728,16 @@ pub dropped : {B : Type 0} (view : B → View) (s : Option B) (n : ℕ) → s �
 dropped view s n e = subst (λ o. Arrives n true (option_map view o) (Did (Came n) ∷ Did (Closed n how.Memory) ∷ [])) (sym e) (
   record { came_is = refl; closed_is = refl; within = λ limits. (tt, (tt, tt)); none = refl; silent = λ share. refl; waited = refl; unlost = refl; untold = refl; part = ((tt, (tt, tt)), refl) },
   (same_eq n, (same_eq n, tt)),
-  λ login. record {
-    order = λ p q cut. at_each login p q cut;
+  record {
+    order = λ p q cut. at_each p q cut;
     whole = λ yes. absurd (never yes);
     why = λ p q m other cut. reason p q m other cut;
     once = (omega arith, omega arith);
   },
 )
   where
-    nothing_yet : (login : Login) (acts : List Act) → read_in acts ≡ [] → wrote_in acts ≡ [] → IsPart login acts []
-    nothing_yet login acts read wrote = record {
+    nothing_yet : (acts : List Act) → read_in acts ≡ [] → wrote_in acts ≡ [] → IsPart acts []
+    nothing_yet acts read wrote = record {
       heard = [];
       unheard = [];
       missing = [];
@@ -763,21 +763,21 @@ dropped view s n e = subst (λ o. Arrives n true (option_map view o) (Did (Came 
         short : 2 ≡ suc (suc (length p + suc (length q))) → ⊥
         short e = omega (arith, e)
 
-    at_each : (login : Login) (p q : Story) → Did (Came n) ∷ Did (Closed n how.Memory) ∷ [] ≡ p ++ q → IsPart login (acts_in p) (turns_in p)
-    at_each login [] q cut = nothing_yet login [] refl refl
-    at_each login (x ∷ []) q cut = subst (λ y. IsPart login (acts_in (y ∷ [])) (turns_in (y ∷ []))) (one cut) (nothing_yet login (Came n ∷ []) refl refl)
+    at_each : (p q : Story) → Did (Came n) ∷ Did (Closed n how.Memory) ∷ [] ≡ p ++ q → IsPart (acts_in p) (turns_in p)
+    at_each [] q cut = nothing_yet [] refl refl
+    at_each (x ∷ []) q cut = subst (λ y. IsPart (acts_in (y ∷ [])) (turns_in (y ∷ []))) (one cut) (nothing_yet (Came n ∷ []) refl refl)
       where
         one : Did (Came n) ∷ Did (Closed n how.Memory) ∷ [] ≡ x ∷ q → Did (Came n) ≡ x
         one e = cc
-    at_each login (x ∷ y ∷ []) q cut = subst (λ z. IsPart login (acts_in (z ∷ y ∷ [])) (turns_in (z ∷ y ∷ []))) (one cut)
-        (subst (λ z. IsPart login (acts_in (Did (Came n) ∷ z ∷ [])) (turns_in (Did (Came n) ∷ z ∷ []))) (two cut) (nothing_yet login (Came n ∷ Closed n how.Memory ∷ []) refl refl))
+    at_each (x ∷ y ∷ []) q cut = subst (λ z. IsPart (acts_in (z ∷ y ∷ [])) (turns_in (z ∷ y ∷ []))) (one cut)
+        (subst (λ z. IsPart (acts_in (Did (Came n) ∷ z ∷ [])) (turns_in (Did (Came n) ∷ z ∷ []))) (two cut) (nothing_yet (Came n ∷ Closed n how.Memory ∷ []) refl refl))
       where
         one : Did (Came n) ∷ Did (Closed n how.Memory) ∷ [] ≡ x ∷ y ∷ q → Did (Came n) ≡ x
         one e = cc
 
         two : Did (Came n) ∷ Did (Closed n how.Memory) ∷ [] ≡ x ∷ y ∷ q → Did (Closed n how.Memory) ≡ y
         two e = cc
-    at_each login (x ∷ y ∷ z ∷ p) q cut = absurd (short (ap length cut))
+    at_each (x ∷ y ∷ z ∷ p) q cut = absurd (short (ap length cut))
       where
         short : 2 ≡ suc (suc (suc (length (p ++ q)))) → ⊥
         short e = omega (arith, e)

@@ -4,14 +4,14 @@ use Rattle.std.proofs.lemmas.List.{take-append-drop, drop-drop, drop_at, length-
 use Rattle.std.proofs.lemmas.List.Folds.{list_any-append}
 use Rattle.judy_model.proofs.lemmas.StreamLemmas.{through_quit-none, served-after_quit}
 use Rattle.judy_model.specs.Speakers.{Speaker}
-use Rattle.judy_model.specs.Stream.{Login, answer_from, is_quit, served, through_quit}
-use Rattle.judy_protocol.specs.Services.{Made}
+use Rattle.judy_model.specs.Stream.{is_quit, served, through_quit}
 use Rattle.judy_protocol.specs.Serving.{asks_to_quit}
 use Rattle.judy_protocol.specs.declared.held.Held.{Held}
 use Rattle.judy_many.specs.Nets.{Act, Acts, DidLog}
-use Rattle.judy_many.specs.Sessions.{Turn, lines_in, replies_in, texts, Steps}
+use Rattle.judy_many.specs.Rules.{Rules}
+use Rattle.judy_many.specs.Sessions.{Turn, lines_in, texts, Steps}
 use Rattle.judy_many.specs.Lives.{View, IsLive, IsPart, IsWhole, read_in, read_by, wrote_in, wrote_by, end_well, ends_well}
-use Rattle.judy_many.proofs.Stepping.{lines_in-append, texts-append, texts_are, Speaks-append}
+use Rattle.judy_many.proofs.Stepping.{lines_in-append, texts-append, Speaks-append}
 
 -- ---- answers of the system in a row
 
@@ -34,10 +34,10 @@ end_well-append (x ∷ a) b = ap (λ v. ends_well x || v) (end_well-append a b) 
 pub both_open : (a b : List Act) → end_well a ≡ false → end_well b ≡ false → end_well (a ++ b) ≡ false
 both_open a b h k = end_well-append a b ∙ ap (λ v. v || end_well b) h ∙ k
 
-module _ (login : Login) (did : List Act) (ran : List Turn) (v : View) (h : IsLive login did ran v) where
+module _ (did : List Act) (ran : List Turn) (v : View) (h : IsLive did ran v) where
   -- bytes were read, when all others were heard
   pub live_read : (acts : List Act) (bytes : List ℕ) → v.waiting ≡ [] → read_in acts ≡ bytes → wrote_in acts ≡ [] → end_well acts ≡ false
-      → IsLive login (did ++ acts) ran (record v { waiting = bytes })
+      → IsLive (did ++ acts) ran (record v { waiting = bytes })
   live_read acts bytes none read wrote stays = record {
     heard = h.heard;
     read = read_in-append did acts ∙ ap (λ r. r ++ read_in acts) (h.read ∙ ap (λ w. h.heard ++ w) none ∙ append-nil h.heard)
@@ -53,7 +53,7 @@ module _ (login : Login) (did : List Act) (ran : List Turn) (v : View) (h : IsLi
 
   -- answers were written
   pub live_send : (acts : List Act) (pending : List ℕ) → wrote_in acts ++ pending ≡ v.pending → read_in acts ≡ [] → end_well acts ≡ false
-      → IsLive login (did ++ acts) ran (record v { pending = pending })
+      → IsLive (did ++ acts) ran (record v { pending = pending })
   live_send acts pending wrote read stays = record {
     heard = h.heard;
     read = read_in-append did acts ∙ ap (λ r. read_in did ++ r) read ∙ append-nil (read_in did) ∙ h.read;
@@ -68,12 +68,12 @@ module _ (login : Login) (did : List Act) (ran : List Turn) (v : View) (h : IsLi
   }
 
   -- lines were run
-  pub live_hear : {S : Type 0} (made : Made S) (used rest : List ℕ) (turns : List Turn) (quit : Bool) (held' : Held) (who' : Option Speaker)
+  pub live_hear : {S : Type 0} (rules : Rules S) (used rest : List ℕ) (turns : List Turn) (quit : Bool) (held' : Held) (who' : Option Speaker)
       (before after : S) (answers' waiting' : List ℕ)
       → v.quits ≡ false → v.pending ≡ [] → used ++ rest ≡ v.waiting → waiting' ≡ rest
-      → Steps made login used turns quit v.held held' v.who who' before after [] answers'
-      → IsLive login did (ran ++ turns) (record { number = v.number; waiting = waiting'; held = held'; who = who'; pending = answers'; quits = quit })
-  live_hear made used rest turns quit held' who' before after answers' waiting' stays none cut is s =
+      → Steps rules used turns quit v.held held' v.who who' before after [] answers'
+      → IsLive did (ran ++ turns) (record { number = v.number; waiting = waiting'; held = held'; who = who'; pending = answers'; quits = quit })
+  live_hear rules used rest turns quit held' who' before after answers' waiting' stays none cut is s =
       let goes_on : asks_to_quit (lines_in ran) ≡ false = sym h.asked ∙ stays in
       record {
         heard = h.heard ++ used;
@@ -81,10 +81,10 @@ module _ (login : Login) (did : List Act) (ran : List Turn) (v : View) (h : IsLi
             ∙ ap (λ w. (h.heard ++ used) ++ w) (sym is);
         ran = lines_in-append ran turns ∙ ap (λ l. l ++ lines_in turns) h.ran ∙ sym (s.hears.lines h.heard h.holds);
         holds = s.hears.holds h.heard h.holds;
-        speaks = Speaks-append login None v.who who' ran turns h.speaks s.speaks;
+        speaks = Speaks-append None v.who who' ran turns h.speaks s.speaks;
         text = ap (λ w. wrote_in did ++ w) s.text
-            ∙ ap (λ w. w ++ texts login turns) (sym (append-nil (wrote_in did)) ∙ ap (λ w. wrote_in did ++ w) (sym none) ∙ h.text)
-            ∙ sym (texts-append login ran turns);
+            ∙ ap (λ w. w ++ texts turns) (sym (append-nil (wrote_in did)) ∙ ap (λ w. wrote_in did ++ w) (sym none) ∙ h.text)
+            ∙ sym (texts-append ran turns);
         last = ap through_quit (lines_in-append ran turns) ∙ through_quit-none (lines_in ran) (lines_in turns) goes_on
             ∙ ap (λ l. lines_in ran ++ l) s.last ∙ sym (lines_in-append ran turns);
         asked = s.quits ∙ sym (ap asks_to_quit (lines_in-append ran turns) ∙ list_any-append is_quit (lines_in ran) (lines_in turns)
@@ -93,7 +93,7 @@ module _ (login : Login) (did : List Act) (ran : List Turn) (v : View) (h : IsLi
       }
 
   -- so the promise is kept so far
-  pub live_part : IsPart login did ran
+  pub live_part : IsPart did ran
   live_part = record {
     heard = h.heard;
     unheard = v.waiting;
@@ -102,18 +102,17 @@ module _ (login : Login) (did : List Act) (ran : List Turn) (v : View) (h : IsLi
     read = h.read;
     ran = h.ran;
     speaks = h.speaks;
-    text = h.text ∙ texts_are login None v.who ran h.speaks;
+    text = h.text;
     last = h.last;
   }
 
   -- and all of it, where nothing is left
-  pub live_whole : v.pending ≡ [] → ((v.quits ≡ true) ⊎ (v.waiting ≡ [])) → IsWhole login did ran
+  pub live_whole : v.pending ≡ [] → ((v.quits ≡ true) ⊎ (v.waiting ≡ [])) → IsWhole did ran
   live_whole none ends = record {
     last_who = v.who;
     ran = lines;
     speaks = h.speaks;
-    text = sym (append-nil (wrote_in did)) ∙ ap (λ w. wrote_in did ++ w) (sym none) ∙ h.text ∙ texts_are login None v.who ran h.speaks
-        ∙ ap (λ l. answer_from login None l (replies_in ran)) lines;
+    text = sym (append-nil (wrote_in did)) ∙ ap (λ w. wrote_in did ++ w) (sym none) ∙ h.text;
   }
     where
       all : ((v.quits ≡ true) ⊎ (v.waiting ≡ [])) → served (h.heard ++ v.waiting) ≡ served h.heard

@@ -4,14 +4,14 @@ use Rattle.std.proofs.lemmas.Bool.{eq-eqb}
 use Rattle.std.proofs.lemmas.List.{length-append}
 use Rattle.std.proofs.lemmas.List.Folds.{list_any-append}
 use Rattle.std.specs.List.{list_any}
-use Rattle.judy_model.specs.Stream.{Login, answer, served}
+use Rattle.judy_model.specs.Stream.{served}
 use Rattle.judy_many.specs.declared.network.How.{How}
 use Rattle.judy_many.specs.declared.serve.Limits.{Limits}
 use Rattle.judy_many.specs.Fates.{Ends, IsLeft, Leaves, Stays}
 use Rattle.judy_many.specs.Lives.{HasReason, IsLive, IsOrdered, IsReason, IsPart, IsServed, IsWhole, Lives, View, end_well, ends_well, is_orderly, read_in, wrote_in}
 use Rattle.judy_many.specs.Nets.{Act}
 use Rattle.judy_many.specs.Nets.Act.{Came, Refused, Read, Ended, Broke, Wrote, Failed, Closed, Waited, Lost, Asked, Questioned, Reported}
-use Rattle.judy_many.specs.Sessions.{Turn, replies_in}
+use Rattle.judy_many.specs.Sessions.{Turn}
 use Rattle.judy_many.specs.Stories.{AreReads, AreWithin, AreWrites, Phase, InPhase, IsOnce, IsPhased, IsPiece, IsRead, IsWrite, Mine, Moment, Share, Story, acts_by, acts_in, came_by, came_in, closed_by, closed_in, reading, running, share_of, times, told, turns_by, turns_in, writes_after, writes_since}
 use Rattle.judy_many.specs.Stories.Moment.{Did, Ran}
 use Rattle.judy_many.proofs.Living.{end_well-append, live_part, live_read, live_send, live_whole, read_in-append, wrote_in-append}
@@ -209,16 +209,16 @@ plain_ends (a ∷ acts) h =
 -- ---- one moment
 
 -- a story stays in order where at most one moment is added
-ordered_more : (login : Login) (s : Story) (m : Moment) → IsOrdered login s → IsPart login (acts_in (s ++ m ∷ [])) (turns_in (s ++ m ∷ []))
-    → IsOrdered login (s ++ m ∷ [])
-ordered_more login s m h last p q e = elim (split s (m ∷ []) p q e) [ inl k ↦ h p k.0 k.1 | inr k ↦ at_end k.0 k.1 k.2 ]
+ordered_more : (s : Story) (m : Moment) → IsOrdered s → IsPart (acts_in (s ++ m ∷ [])) (turns_in (s ++ m ∷ []))
+    → IsOrdered (s ++ m ∷ [])
+ordered_more s m h last p q e = elim (split s (m ∷ []) p q e) [ inl k ↦ h p k.0 k.1 | inr k ↦ at_end k.0 k.1 k.2 ]
   where
     Fits : Story → Type 0
-    Fits t = IsPart login (acts_in t) (turns_in t)
+    Fits t = IsPart (acts_in t) (turns_in t)
 
-    at_end : (r : Story) → p ≡ s ++ r → m ∷ [] ≡ r ++ q → IsPart login (acts_in p) (turns_in p)
-    at_end [] is cut = subst (λ t. IsPart login (acts_in t) (turns_in t)) (sym is) (h (s ++ []) [] (sym (append-nil (s ++ []) ∙ append-nil s)))
-    at_end (x ∷ []) is cut = subst (λ t. IsPart login (acts_in t) (turns_in t)) (sym is) (subst (λ y. IsPart login (acts_in (s ++ y ∷ [])) (turns_in (s ++ y ∷ []))) (same cut) last)
+    at_end : (r : Story) → p ≡ s ++ r → m ∷ [] ≡ r ++ q → IsPart (acts_in p) (turns_in p)
+    at_end [] is cut = subst (λ t. IsPart (acts_in t) (turns_in t)) (sym is) (h (s ++ []) [] (sym (append-nil (s ++ []) ∙ append-nil s)))
+    at_end (x ∷ []) is cut = subst (λ t. IsPart (acts_in t) (turns_in t)) (sym is) (subst (λ y. IsPart (acts_in (s ++ y ∷ [])) (turns_in (s ++ y ∷ []))) (same cut) last)
       where
         same : m ∷ [] ≡ x ∷ q → m ≡ x
         same e = cc
@@ -227,83 +227,82 @@ ordered_more login s m h last p q e = elim (split s (m ∷ []) p q e) [ inl k �
         never : 1 ≡ suc (suc (length (r ++ q))) → ⊥
         never e = omega (arith, e)
 
-module _ (login : Login) where
-  -- one answer of the system
-  stays_one : (v w : View) (a : Act) → came_by a ≡ 0 → closed_by a ≡ 0
-      → ((did : List Act) (ran : List Turn) → IsLive login did ran v → IsLive login (did ++ a ∷ []) ran w) → Stays login v w (Did a ∷ [])
-  stays_one v w a came unclosed goes s h = record {
-    live = later;
-    order = ordered_more login s (Did a) h.order (live_part login _ _ w later);
-    came = let e = came-append s (Did a ∷ []) in let f = h.came in omega (arith, e, f, came);
-    unclosed = let e = closed-append s (Did a ∷ []) in let f = h.unclosed in omega (arith, e, f, unclosed);
-  }
-    where
-      later : IsLive login (acts_in (s ++ Did a ∷ [])) (turns_in (s ++ Did a ∷ [])) w
-      later =
-          subst (λ x. IsLive login x (turns_in (s ++ Did a ∷ [])) w) (sym (acts_in-append s (Did a ∷ [])))
-          (subst (λ t. IsLive login (acts_in s ++ a ∷ []) t w) (sym (turns_in-append s (Did a ∷ []) ∙ append-nil (turns_in s)))
-          (goes (acts_in s) (turns_in s) h.live))
+-- one answer of the system
+stays_one : (v w : View) (a : Act) → came_by a ≡ 0 → closed_by a ≡ 0
+    → ((did : List Act) (ran : List Turn) → IsLive did ran v → IsLive (did ++ a ∷ []) ran w) → Stays v w (Did a ∷ [])
+stays_one v w a came unclosed goes s h = record {
+  live = later;
+  order = ordered_more s (Did a) h.order (live_part _ _ w later);
+  came = let e = came-append s (Did a ∷ []) in let f = h.came in omega (arith, e, f, came);
+  unclosed = let e = closed-append s (Did a ∷ []) in let f = h.unclosed in omega (arith, e, f, unclosed);
+}
+  where
+    later : IsLive (acts_in (s ++ Did a ∷ [])) (turns_in (s ++ Did a ∷ [])) w
+    later =
+        subst (λ x. IsLive x (turns_in (s ++ Did a ∷ [])) w) (sym (acts_in-append s (Did a ∷ [])))
+        (subst (λ t. IsLive (acts_in s ++ a ∷ []) t w) (sym (turns_in-append s (Did a ∷ []) ∙ append-nil (turns_in s)))
+        (goes (acts_in s) (turns_in s) h.live))
 
-  -- at most one
-  pub stays_did : (v w : View) (acts : List Act) → length acts ≤ 1 → came_in acts ≡ 0 → closed_in acts ≡ 0
-      → ((did : List Act) (ran : List Turn) → IsLive login did ran v → IsLive login (did ++ acts) ran w) → Stays login v w (told acts)
-  stays_did v w [] few came unclosed goes s h =
-      let later : IsLive login (acts_in s) (turns_in s) w
-      = subst (λ x. IsLive login x (turns_in s) w) (append-nil (acts_in s)) (goes (acts_in s) (turns_in s) h.live) in
-      subst (λ t. Lives login t w) (sym (append-nil s)) (record { live = later; order = h.order; came = h.came; unclosed = h.unclosed })
-  stays_did v w (a ∷ []) few came unclosed goes s h = stays_one v w a (omega (arith, came)) (omega (arith, unclosed)) goes s h
-  stays_did v w (a ∷ b ∷ acts) few came unclosed goes s h = absurd (omega (arith, few))
+-- at most one
+pub stays_did : (v w : View) (acts : List Act) → length acts ≤ 1 → came_in acts ≡ 0 → closed_in acts ≡ 0
+    → ((did : List Act) (ran : List Turn) → IsLive did ran v → IsLive (did ++ acts) ran w) → Stays v w (told acts)
+stays_did v w [] few came unclosed goes s h =
+    let later : IsLive (acts_in s) (turns_in s) w
+    = subst (λ x. IsLive x (turns_in s) w) (append-nil (acts_in s)) (goes (acts_in s) (turns_in s) h.live) in
+    subst (λ t. Lives t w) (sym (append-nil s)) (record { live = later; order = h.order; came = h.came; unclosed = h.unclosed })
+stays_did v w (a ∷ []) few came unclosed goes s h = stays_one v w a (omega (arith, came)) (omega (arith, unclosed)) goes s h
+stays_did v w (a ∷ b ∷ acts) few came unclosed goes s h = absurd (omega (arith, few))
 
-  -- lines
-  pub stays_ran : (v w : View) (n : ℕ) (turns : List Turn)
-      → ((did : List Act) (ran : List Turn) → IsLive login did ran v → IsLive login did (ran ++ turns) w) → Stays login v w (Ran n turns ∷ [])
-  stays_ran v w n turns goes s h = record {
-    live = later;
-    order = ordered_more login s (Ran n turns) h.order (live_part login _ _ w later);
-    came = let e = came-append s (Ran n turns ∷ []) in let f = h.came in omega (arith, e, f);
-    unclosed = let e = closed-append s (Ran n turns ∷ []) in let f = h.unclosed in omega (arith, e, f);
-  }
-    where
-      later : IsLive login (acts_in (s ++ Ran n turns ∷ [])) (turns_in (s ++ Ran n turns ∷ [])) w
-      later =
-          subst (λ x. IsLive login x (turns_in (s ++ Ran n turns ∷ [])) w) (sym (acts_in-append s (Ran n turns ∷ []) ∙ append-nil (acts_in s)))
-          (subst (λ t. IsLive login (acts_in s) t w) (sym (turns_in-append s (Ran n turns ∷ []) ∙ ap (λ t. turns_in s ++ t) (append-nil turns)))
-          (goes (acts_in s) (turns_in s) h.live))
+-- lines
+pub stays_ran : (v w : View) (n : ℕ) (turns : List Turn)
+    → ((did : List Act) (ran : List Turn) → IsLive did ran v → IsLive did (ran ++ turns) w) → Stays v w (Ran n turns ∷ [])
+stays_ran v w n turns goes s h = record {
+  live = later;
+  order = ordered_more s (Ran n turns) h.order (live_part _ _ w later);
+  came = let e = came-append s (Ran n turns ∷ []) in let f = h.came in omega (arith, e, f);
+  unclosed = let e = closed-append s (Ran n turns ∷ []) in let f = h.unclosed in omega (arith, e, f);
+}
+  where
+    later : IsLive (acts_in (s ++ Ran n turns ∷ [])) (turns_in (s ++ Ran n turns ∷ [])) w
+    later =
+        subst (λ x. IsLive x (turns_in (s ++ Ran n turns ∷ [])) w) (sym (acts_in-append s (Ran n turns ∷ []) ∙ append-nil (acts_in s)))
+        (subst (λ t. IsLive (acts_in s) t w) (sym (turns_in-append s (Ran n turns ∷ []) ∙ ap (λ t. turns_in s ++ t) (append-nil turns)))
+        (goes (acts_in s) (turns_in s) h.live))
 
-  pub stays_none : (v : View) → Stays login v v []
-  stays_none v s h = subst (λ t. Lives login t v) (sym (append-nil s)) h
+pub stays_none : (v : View) → Stays v v []
+stays_none v s h = subst (λ t. Lives t v) (sym (append-nil s)) h
 
-  pub stays_then : (u v w : View) (a b : Story) → Stays login u v a → Stays login v w b → Stays login u w (a ++ b)
-  stays_then u v w a b h k s live = subst (λ t. Lives login t w) (append_assoc s a b) (k (s ++ a) (h s live))
+pub stays_then : (u v w : View) (a b : Story) → Stays u v a → Stays v w b → Stays u w (a ++ b)
+stays_then u v w a b h k s live = subst (λ t. Lives t w) (append_assoc s a b) (k (s ++ a) (h s live))
 
-  pub leaves_part : (how : How) (v w : View) (a : Story) → is_orderly how ≡ false → ((acts : List Act) (turns : List Turn) → IsReason how (acts ++ acts_in a) turns)
-      → Stays login v w a → Leaves how login v a
-  leaves_part how v w a not why h s live =
-      let later = h s live in
-      record { order = later.order; whole = λ yes. absurd (no (sym not ∙ yes)); stays = later.live.stays; why = subst (λ x. IsReason how x (turns_in (s ++ a))) (sym (acts_in-append s a)) (why (acts_in s) (turns_in (s ++ a))); came = later.came; unclosed = later.unclosed }
-    where
-      no : false ≡ true → ⊥
-      no e = cc
+pub leaves_part : (how : How) (v w : View) (a : Story) → is_orderly how ≡ false → ((acts : List Act) (turns : List Turn) → IsReason how (acts ++ acts_in a) turns)
+    → Stays v w a → Leaves how v a
+leaves_part how v w a not why h s live =
+    let later = h s live in
+    record { order = later.order; whole = λ yes. absurd (no (sym not ∙ yes)); stays = later.live.stays; why = subst (λ x. IsReason how x (turns_in (s ++ a))) (sym (acts_in-append s a)) (why (acts_in s) (turns_in (s ++ a))); came = later.came; unclosed = later.unclosed }
+  where
+    no : false ≡ true → ⊥
+    no e = cc
 
-  pub leaves_whole : (how : How) (v w : View) (a : Story) → w.pending ≡ [] → ((w.quits ≡ true) ⊎ (w.waiting ≡ []))
-      → ((acts : List Act) (turns : List Turn) → IsLive login (acts ++ acts_in a) turns w → IsReason how (acts ++ acts_in a) turns)
-      → Stays login v w a → Leaves how login v a
-  leaves_whole how v w a none ends why h s live =
-      let later = h s live in
-      record {
-        order = later.order;
-        whole = λ yes. live_whole login (acts_in (s ++ a)) (turns_in (s ++ a)) w later.live none ends;
-        stays = later.live.stays;
-        why = subst (λ x. IsLive login x (turns_in (s ++ a)) w → IsReason how x (turns_in (s ++ a))) (sym (acts_in-append s a)) (why (acts_in s) (turns_in (s ++ a))) later.live;
-        came = later.came;
-        unclosed = later.unclosed;
-      }
+pub leaves_whole : (how : How) (v w : View) (a : Story) → w.pending ≡ [] → ((w.quits ≡ true) ⊎ (w.waiting ≡ []))
+    → ((acts : List Act) (turns : List Turn) → IsLive (acts ++ acts_in a) turns w → IsReason how (acts ++ acts_in a) turns)
+    → Stays v w a → Leaves how v a
+leaves_whole how v w a none ends why h s live =
+    let later = h s live in
+    record {
+      order = later.order;
+      whole = λ yes. live_whole (acts_in (s ++ a)) (turns_in (s ++ a)) w later.live none ends;
+      stays = later.live.stays;
+      why = subst (λ x. IsLive x (turns_in (s ++ a)) w → IsReason how x (turns_in (s ++ a))) (sym (acts_in-append s a)) (why (acts_in s) (turns_in (s ++ a))) later.live;
+      came = later.came;
+      unclosed = later.unclosed;
+    }
 
 -- ---- the end of a client
 
 -- a client is served
-pub lives_served : (login : Login) (s : Story) (v : View) → Lives login s v → IsServed login s
-lives_served login s v h = record {
+pub lives_served : (s : Story) (v : View) → Lives s v → IsServed s
+lives_served s v h = record {
   order = h.order;
   whole = λ yes. absurd (no (sym h.live.stays ∙ yes));
   why = λ p q n how cut. absurd (none_closed s p q n how h.unclosed cut);
@@ -313,14 +312,14 @@ lives_served login s v h = record {
     no : false ≡ true → ⊥
     no e = cc
 
-module _ (how : How) (login : Login) (n : ℕ) (acts : List Act) (turns : List Turn) where
+module _ (how : How) (n : ℕ) (acts : List Act) (turns : List Turn) where
   reads : read_in (acts ++ Closed n how ∷ []) ≡ read_in acts
   reads = read_in-append acts (Closed n how ∷ []) ∙ append-nil (read_in acts)
 
   writes : wrote_in (acts ++ Closed n how ∷ []) ≡ wrote_in acts
   writes = wrote_in-append acts (Closed n how ∷ []) ∙ append-nil (wrote_in acts)
 
-  closed_part : IsPart login acts turns → IsPart login (acts ++ Closed n how ∷ []) turns
+  closed_part : IsPart acts turns → IsPart (acts ++ Closed n how ∷ []) turns
   closed_part part = record {
     heard = part.heard;
     unheard = part.unheard;
@@ -333,11 +332,11 @@ module _ (how : How) (login : Login) (n : ℕ) (acts : List Act) (turns : List T
     last = part.last;
   }
 
-  closed_whole : (is_orderly how ≡ true → IsWhole login acts turns) → end_well acts ≡ false → end_well (acts ++ Closed n how ∷ []) ≡ true
-      → IsWhole login (acts ++ Closed n how ∷ []) turns
+  closed_whole : (is_orderly how ≡ true → IsWhole acts turns) → end_well acts ≡ false → end_well (acts ++ Closed n how ∷ []) ≡ true
+      → IsWhole (acts ++ Closed n how ∷ []) turns
   closed_whole whole stays well =
       let w = whole (ordered (is_orderly how) (sym ends ∙ well)) in
-      record { last_who = w.last_who; ran = w.ran ∙ ap served (sym reads); speaks = w.speaks; text = writes ∙ w.text ∙ ap (λ r. answer login r (replies_in turns)) (sym reads) }
+      record { last_who = w.last_who; ran = w.ran ∙ ap served (sym reads); speaks = w.speaks; text = writes ∙ w.text }
     where
       ends : end_well (acts ++ Closed n how ∷ []) ≡ (is_orderly how || false)
       ends = end_well-append acts (Closed n how ∷ []) ∙ ap (λ b. b || (is_orderly how || false)) stays
@@ -352,8 +351,8 @@ at_closed how n s P p =
     subst (λ a. P a (turns_in (s ++ Did (Closed n how) ∷ []))) (sym (acts_in-append s (Did (Closed n how) ∷ [])))
     (subst (λ t. P (acts_in s ++ Closed n how ∷ []) t) (sym (turns_in-append s (Did (Closed n how) ∷ []) ∙ append-nil (turns_in s))) p)
 
-closed_why : (how : How) (login : Login) (n : ℕ) (s : Story) → IsLeft how login s → HasReason (s ++ Did (Closed n how) ∷ [])
-closed_why how login n s h p q m other cut = elim (split s (Did (Closed n how) ∷ []) p (Did (Closed m other) ∷ q) cut) [
+closed_why : (how : How) (n : ℕ) (s : Story) → IsLeft how s → HasReason (s ++ Did (Closed n how) ∷ [])
+closed_why how n s h p q m other cut = elim (split s (Did (Closed n how) ∷ []) p (Did (Closed m other) ∷ q) cut) [
   | inl k ↦ inside k.0 k.1 k.2
   | inr k ↦ at_end k.0 k.1 k.2
 ]
@@ -379,24 +378,23 @@ closed_why how login n s h p q m other cut = elim (split s (Did (Closed n how) �
         short e = omega (arith, e)
 
 -- a client was closed
-pub left_served : (how : How) (login : Login) (n : ℕ) (s : Story) → IsLeft how login s → IsServed login (s ++ Did (Closed n how) ∷ [])
-left_served how login n s h = record {
-  order = ordered_more login s (Did (Closed n how)) h.order
-      (at_closed how n s (IsPart login) (closed_part how login n (acts_in s) (turns_in s) (subst (λ t. IsPart login (acts_in t) (turns_in t)) (append-nil s) (h.order (s ++ []) [] (sym (append-nil (s ++ []) ∙ append-nil s))))));
-  whole = at_closed how n s (λ a t. end_well a ≡ true → IsWhole login a t) (closed_whole how login n (acts_in s) (turns_in s) h.whole h.stays);
-  why = λ p q m other cut. closed_why how login n s h p q m other cut;
+pub left_served : (how : How) (n : ℕ) (s : Story) → IsLeft how s → IsServed (s ++ Did (Closed n how) ∷ [])
+left_served how n s h = record {
+  order = ordered_more s (Did (Closed n how)) h.order
+      (at_closed how n s (IsPart) (closed_part how n (acts_in s) (turns_in s) (subst (λ t. IsPart (acts_in t) (turns_in t)) (append-nil s) (h.order (s ++ []) [] (sym (append-nil (s ++ []) ∙ append-nil s))))));
+  whole = at_closed how n s (λ a t. end_well a ≡ true → IsWhole a t) (closed_whole how n (acts_in s) (turns_in s) h.whole h.stays);
+  why = λ p q m other cut. closed_why how n s h p q m other cut;
   once = let e = came-append s (Did (Closed n how) ∷ []) in let f = closed-append s (Did (Closed n how) ∷ []) in let k = h.came in let o = h.unclosed in
       (omega (arith, e, k), omega (arith, e, f, k, o));
 }
 
 -- ---- fates
 
-module _ (login : Login) where
-  pub ends_then : (how : How) (u v : View) (a b : Story) → Stays login u v a → Ends how login v b → Ends how login u (a ++ b)
-  ends_then how u v a b h k = (
-    k.0,
-    λ s live. subst (IsLeft how login) (append_assoc s a b) (k.1 (s ++ a) (h s live)),
-  )
+pub ends_then : (how : How) (u v : View) (a b : Story) → Stays u v a → Ends how v b → Ends how u (a ++ b)
+ends_then how u v a b h k = (
+  k.0,
+  λ s live. subst (IsLeft how) (append_assoc s a b) (k.1 (s ++ a) (h s live)),
+)
 
 -- ---- reads, lines and writes
 
@@ -411,8 +409,8 @@ writes_plain n acts h few =
     (ap came_in (sym (acts_in-told acts)) ∙ piece.came, ap closed_in (sym (acts_in-told acts)) ∙ piece.unclosed)
 
 -- the connection is seen anew
-renumber : (login : Login) (acts : List Act) (turns : List Turn) (v : View) (n : ℕ) → IsLive login acts turns v → IsLive login acts turns (record v { number = n })
-renumber login acts turns v n l = record {
+renumber : (acts : List Act) (turns : List Turn) (v : View) (n : ℕ) → IsLive acts turns v → IsLive acts turns (record v { number = n })
+renumber acts turns v n l = record {
   heard = l.heard;
   read = l.read;
   ran = l.ran;
@@ -424,20 +422,20 @@ renumber login acts turns v n l = record {
   stays = l.stays;
 }
 
-pub stays_read : (login : Login) (v : View) (m n : ℕ) (acts : List Act) (bytes : List ℕ) → v.waiting ≡ [] → AreReads m acts → length acts ≤ 1
-    → read_in acts ≡ bytes → wrote_in acts ≡ [] → Stays login v (record v { waiting = bytes; number = n }) (told acts)
-stays_read login v m n acts bytes none reads few read wrote =
+pub stays_read : (v : View) (m n : ℕ) (acts : List Act) (bytes : List ℕ) → v.waiting ≡ [] → AreReads m acts → length acts ≤ 1
+    → read_in acts ≡ bytes → wrote_in acts ≡ [] → Stays v (record v { waiting = bytes; number = n }) (told acts)
+stays_read v m n acts bytes none reads few read wrote =
     let plain = reads_plain m acts reads few in
-    stays_did login v (record v { waiting = bytes; number = n }) acts few plain.0 plain.1
-    (λ did ran live. renumber login (did ++ acts) ran (record v { waiting = bytes }) n (live_read login did ran v live acts bytes none read wrote (plain_ends acts plain.1)))
+    stays_did v (record v { waiting = bytes; number = n }) acts few plain.0 plain.1
+    (λ did ran live. renumber (did ++ acts) ran (record v { waiting = bytes }) n (live_read did ran v live acts bytes none read wrote (plain_ends acts plain.1)))
 
-pub stays_send : (login : Login) (v : View) (m n : ℕ) (acts : List Act) (pending waiting : List ℕ) → waiting ≡ v.waiting → AreWrites m acts → length acts ≤ 1
-    → wrote_in acts ++ pending ≡ v.pending → read_in acts ≡ [] → Stays login v (record v { pending = pending; waiting = waiting; number = n }) (told acts)
-stays_send login v m n acts pending waiting same writes few wrote read =
+pub stays_send : (v : View) (m n : ℕ) (acts : List Act) (pending waiting : List ℕ) → waiting ≡ v.waiting → AreWrites m acts → length acts ≤ 1
+    → wrote_in acts ++ pending ≡ v.pending → read_in acts ≡ [] → Stays v (record v { pending = pending; waiting = waiting; number = n }) (told acts)
+stays_send v m n acts pending waiting same writes few wrote read =
     let plain = writes_plain m acts writes few in
-    subst (λ w. Stays login v (record v { pending = pending; waiting = w; number = n }) (told acts)) (sym same)
-    (stays_did login v (record v { pending = pending; number = n }) acts few plain.0 plain.1
-    (λ did ran live. renumber login (did ++ acts) ran (record v { pending = pending }) n (live_send login did ran v live acts pending wrote read (plain_ends acts plain.1))))
+    subst (λ w. Stays v (record v { pending = pending; waiting = w; number = n }) (told acts)) (sym same)
+    (stays_did v (record v { pending = pending; number = n }) acts few plain.0 plain.1
+    (λ did ran live. renumber (did ++ acts) ran (record v { pending = pending }) n (live_send did ran v live acts pending wrote read (plain_ends acts plain.1))))
 
 -- a read, and then lines
 pub acts_heard : (n : ℕ) (acts : List Act) (turns : List Turn) → acts_in (told acts ++ Ran n turns ∷ []) ≡ acts

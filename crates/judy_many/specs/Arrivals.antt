@@ -1,6 +1,5 @@
 -- What an accept did to a free slot.
 use Rattle.std.specs.Prelude.{◌≡◌, ℕ, Bool, true, false, [], Option, Some, None}
-use Rattle.judy_model.specs.Stream.{Login}
 use Rattle.judy_many.specs.declared.serve.Limits.{Limits}
 use Rattle.judy_many.specs.Endings.{lost_in, reports_in, waits_in}
 use Rattle.judy_many.specs.Lives.{IsServed, Lives, View}
@@ -20,7 +19,7 @@ pub record IsArrival (came closed : ℕ) (more : Story) : Type 0 where
 
 -- a client of this number came, and is in the slot; or it came and was closed; or none came
 abbrev pub Arrives : ℕ → Bool → Option View → Story → Type 0
-Arrives id true (Some w) more = IsArrival 1 0 more × (w.number ≡ id) × Mine id more × ((login : Login) → Lives login more w)
-Arrives id true None more = IsArrival 1 1 more × Mine id more × ((login : Login) → IsServed login more)
+Arrives id true (Some w) more = IsArrival 1 0 more × (w.number ≡ id) × Mine id more × Lives more w
+Arrives id true None more = IsArrival 1 1 more × Mine id more × IsServed more
 Arrives id false (Some w) more = ⊥
 Arrives id false None more = IsArrival 0 0 more × ((n : ℕ) → own n more ≡ [])

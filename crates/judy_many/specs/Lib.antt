@@ -7,6 +7,7 @@ pub mod Fates
 pub mod Lives
 pub mod Nets
 pub mod Queues
+pub mod Rules
 pub mod Sessions
 pub mod Slots
 pub mod Statuses

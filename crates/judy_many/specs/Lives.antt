@@ -1,13 +1,13 @@
 -- One connection among many: what it gave and took, and the lines that it ran.
 --     read_in, wrote_in            the bytes that it gave, and those that it took
---     IsLive login acts turns v    a client so far, with what it keeps
---     Lives login story v          the same at each moment
---     IsServed login story         the promise to a connection, at any time and after its end
+--     IsLive acts turns v          a client so far, with what it keeps
+--     Lives story v                the same at each moment
+--     IsServed story               the promise to a connection, at any time and after its end
 --     SlotDid ..                   what happened to the client of a slot
 use Rattle.std.specs.List.{list_any}
 use Rattle.std.specs.Prelude.{◌≡◌, ◌≤◌, ◌||◌, ℕ, Bool, true, false, List, [], ◌∷◌, ◌++◌, Option, Some, None, option_map}
 use Rattle.judy_model.specs.Speakers.{Speaker}
-use Rattle.judy_model.specs.Stream.{Login, answer, answer_from, rest_of, served, through_quit}
+use Rattle.judy_model.specs.Stream.{rest_of, served, through_quit}
 use Rattle.judy_protocol.specs.Serving.{heard_in, asks_to_quit}
 use Rattle.judy_protocol.specs.Talks.{Holds}
 use Rattle.judy_protocol.specs.declared.held.Held.{Held}
@@ -17,7 +17,7 @@ use Rattle.judy_many.specs.declared.network.How.TheVariants as how
 use Rattle.judy_many.specs.declared.serve.Limits.{Limits}
 use Rattle.judy_many.specs.Nets.{Act}
 use Rattle.judy_many.specs.Nets.Act.{Came, Refused, Read, Ended, Broke, Wrote, Failed, Closed, Waited, Lost, Asked, Questioned, Reported}
-use Rattle.judy_many.specs.Sessions.{Turn, lines_in, replies_in, texts, Speaks}
+use Rattle.judy_many.specs.Sessions.{Turn, lines_in, texts, Speaks}
 use Rattle.judy_many.specs.Stories.{AreWithin, Phase, InPhase, IsOnce, Mine, Story, acts_in, came_in, closed_in, is_end, is_fault, turns_in}
 use Rattle.judy_many.specs.Stories.Moment.{Did}
 
@@ -113,42 +113,42 @@ view_of who number c = record {
 
 -- A client so far: the lines of the bytes that it gave were run, but for those that wait; their
 -- answers were written, but for those that wait; only the last line may have asked to quit.
-pub record IsLive (login : Login) (acts : List Act) (turns : List Turn) (v : View) : Type 0 where
+pub record IsLive (acts : List Act) (turns : List Turn) (v : View) : Type 0 where
   pub heard : List ℕ
   pub read : read_in acts ≡ heard ++ v.waiting
   pub ran : lines_in turns ≡ heard_in heard
   pub holds : Holds (rest_of heard) v.held
-  pub speaks : Speaks login None turns v.who
-  pub text : wrote_in acts ++ v.pending ≡ texts login turns
+  pub speaks : Speaks None turns v.who
+  pub text : wrote_in acts ++ v.pending ≡ texts turns
   pub last : through_quit (lines_in turns) ≡ lines_in turns
   pub asked : v.quits ≡ asks_to_quit (lines_in turns)
   pub stays : end_well acts ≡ false
 
 -- The lines that were run are the first of those that the connection gave, up to one that asks to
 -- quit, and what was written to it is the first part of their answers.
-pub record IsPart (login : Login) (acts : List Act) (turns : List Turn) : Type 0 where
+pub record IsPart (acts : List Act) (turns : List Turn) : Type 0 where
   pub heard : List ℕ
   pub unheard : List ℕ
   pub missing : List ℕ
   pub last_who : Option Speaker
   pub read : read_in acts ≡ heard ++ unheard
   pub ran : lines_in turns ≡ heard_in heard
-  pub speaks : Speaks login None turns last_who
-  pub text : wrote_in acts ++ missing ≡ answer_from login None (lines_in turns) (replies_in turns)
+  pub speaks : Speaks None turns last_who
+  pub text : wrote_in acts ++ missing ≡ texts turns
   pub last : through_quit (lines_in turns) ≡ lines_in turns
 
 -- All lines that the connection gave were run, up to the first that asks to quit, and what was
 -- written to it is their answers and nothing else.
-pub record IsWhole (login : Login) (acts : List Act) (turns : List Turn) : Type 0 where
+pub record IsWhole (acts : List Act) (turns : List Turn) : Type 0 where
   pub last_who : Option Speaker
   pub ran : lines_in turns ≡ served (read_in acts)
-  pub speaks : Speaks login None turns last_who
-  pub text : wrote_in acts ≡ answer login (read_in acts) (replies_in turns)
+  pub speaks : Speaks None turns last_who
+  pub text : wrote_in acts ≡ texts turns
 
 -- At each moment so far, the lines that were run are the first of those whose bytes had come, and what
 -- was written is the first part of the answers to lines that had been run.
-abbrev pub IsOrdered : Login → Story → Type 0
-IsOrdered login story = (p q : Story) → story ≡ p ++ q → IsPart login (acts_in p) (turns_in p)
+abbrev pub IsOrdered : Story → Type 0
+IsOrdered story = (p q : Story) → story ≡ p ++ q → IsPart (acts_in p) (turns_in p)
 
 -- Why a connection is closed: a line asked to quit; it sends no more; a read or a write of it failed.
 abbrev pub IsReason : How → List Act → List Turn → Type 0
@@ -164,26 +164,26 @@ abbrev pub HasReason : Story → Type 0
 HasReason story = (p q : Story) (n : ℕ) (how : How) → story ≡ p ++ Did (Closed n how) ∷ q → IsReason how (acts_in p) (turns_in p)
 
 -- a client so far, at each moment
-pub record Lives (login : Login) (story : Story) (v : View) : Type 0 where
-  pub live : IsLive login (acts_in story) (turns_in story) v
-  pub order : IsOrdered login story
+pub record Lives (story : Story) (v : View) : Type 0 where
+  pub live : IsLive (acts_in story) (turns_in story) v
+  pub order : IsOrdered story
   pub came : came_in (acts_in story) ≡ 1
   pub unclosed : closed_in (acts_in story) ≡ 0
 
 -- the promise to a connection, at any time; and all of it, once it was closed in order
-pub record IsServed (login : Login) (story : Story) : Type 0 where
-  pub order : IsOrdered login story
-  pub whole : end_well (acts_in story) ≡ true → IsWhole login (acts_in story) (turns_in story)
+pub record IsServed (story : Story) : Type 0 where
+  pub order : IsOrdered story
+  pub whole : end_well (acts_in story) ≡ true → IsWhole (acts_in story) (turns_in story)
   pub why : HasReason story
   -- it came at most once, and was closed at most once
   pub once : (came_in (acts_in story) ≤ 1) × (closed_in (acts_in story) ≤ came_in (acts_in story))
 
 -- what happened to a client: it is closed, or stays
-abbrev pub Goes : Login → View → Option View → Story → Type 0
-Goes login v None more = (closed_in (acts_in more) ≡ 1) × ((story : Story) → Lives login story v → IsServed login (story ++ more))
-Goes login v (Some w) more = (w.number ≡ v.number) × (closed_in (acts_in more) ≡ 0) × ((story : Story) → Lives login story v → Lives login (story ++ more) w)
+abbrev pub Goes : View → Option View → Story → Type 0
+Goes v None more = (closed_in (acts_in more) ≡ 1) × ((story : Story) → Lives story v → IsServed (story ++ more))
+Goes v (Some w) more = (w.number ≡ v.number) × (closed_in (acts_in more) ≡ 0) × ((story : Story) → Lives story v → Lives (story ++ more) w)
 
 -- The same for a slot, which may have no client. It has at most one turn in a phase of a round.
-abbrev pub SlotDid : Login → Limits → Phase → Option View → Option View → Story → Type 0
-SlotDid login limits phase None new more = (new ≡ None) × (more ≡ [])
-SlotDid login limits phase (Some v) new more = Mine v.number more × (came_in (acts_in more) ≡ 0) × AreWithin limits (acts_in more) × InPhase phase more × IsOnce phase more × Goes login v new more
+abbrev pub SlotDid : Limits → Phase → Option View → Option View → Story → Type 0
+SlotDid limits phase None new more = (new ≡ None) × (more ≡ [])
+SlotDid limits phase (Some v) new more = Mine v.number more × (came_in (acts_in more) ≡ 0) × AreWithin limits (acts_in more) × InPhase phase more × IsOnce phase more × Goes v new more

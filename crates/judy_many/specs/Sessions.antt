@@ -1,23 +1,27 @@
 -- The lines of a session, run one after another, between lines of other sessions.
---     Turn                         one line that was run: who spoke, and the replies to its calls
---     AreTurns made s turns s'     the service made the calls of these lines, one after another
---     Speaks login who turns who'  who speaks before and after each of one session's lines
---     texts login turns            their answers
+--     Turn                         one line that was run: who spoke, the replies to its calls, and who speaks after it
+--     texts turns                  the answers
+--     Speaks who turns who'        who speaks before and after each of one session's lines
+--     AreTurns rules s turns s'    the service ran these lines, one after another
 --     Steps ..                     these bytes were heard, and the lines that they complete were run
+--     UseLogin login turns         each speaker of these lines comes from these names and tokens
 use Rattle.std.specs.Prelude.{◌≡◌, ℕ, Bool, List, [], ◌∷◌, ◌++◌, map, zip, length, Option}
 use Rattle.judy_model.specs.declared.replies.Reply.{Reply}
 use Rattle.judy_model.specs.Speakers.{Speaker}
 use Rattle.judy_model.specs.Stream.{Heard, Login, rest_of, through_quit, speaker_after, event_of, answer_from}
-use Rattle.judy_protocol.specs.Services.{Made, AreMade}
+use Rattle.judy_protocol.specs.Services.{AreMade}
 use Rattle.judy_protocol.specs.Serving.{heard_in, asks_to_quit}
 use Rattle.judy_protocol.specs.Talks.{Holds}
 use Rattle.judy_protocol.specs.declared.held.Held.{Held}
+use Rattle.judy_many.specs.Rules.{Rules}
 
--- a line that was run: the speaker before it, what it asks for, and the reply to its call, if it makes one
+-- a line that was run: the speaker before it, what it asks for, the reply to its call, if it makes one, and
+-- the speaker after it
 pub record Turn : Type 0 where
   pub who : Option Speaker
   pub line : Heard
   pub replies : List Reply
+  pub after : Option Speaker
 
 -- the lines
 abbrev pub lines_in : List Turn → List Heard
@@ -28,24 +32,38 @@ abbrev pub replies_in : List Turn → List Reply
 replies_in [] = []
 replies_in (t ∷ turns) = t.replies ++ replies_in turns
 
+-- the answer to a line; a log-in is answered by who speaks after it
+abbrev pub text_of : Turn → List ℕ
+text_of t = answer_from (λ name token. t.after) t.who (t.line ∷ []) t.replies
+
 -- the answers
-abbrev pub texts : Login → List Turn → List ℕ
-texts login [] = []
-texts login (t ∷ turns) = answer_from login t.who (t.line ∷ []) t.replies ++ texts login turns
+abbrev pub texts : List Turn → List ℕ
+texts [] = []
+texts (t ∷ turns) = text_of t ++ texts turns
 
--- the speakers of one session's lines
-abbrev pub Speaks : Login → Option Speaker → List Turn → Option Speaker → Type 0
-Speaks login who [] last = last ≡ who
-Speaks login who (t ∷ turns) last = (t.who ≡ who) × (length t.replies ≡ length (event_of t.line t.who)) × Speaks login (speaker_after login who t.line) turns last
+-- the speakers of one session's lines: each line has the speaker that the line before it left
+abbrev pub Speaks : Option Speaker → List Turn → Option Speaker → Type 0
+Speaks who [] last = last ≡ who
+Speaks who (t ∷ turns) last = (t.who ≡ who) × (length t.replies ≡ length (event_of t.line t.who)) × Speaks t.after turns last
 
--- one line was run
-abbrev pub IsTurn : {S : Type 0} → Made S → S → Turn → S → Type 0
-IsTurn made before t after = (length t.replies ≡ length (event_of t.line t.who)) × AreMade made before (zip (event_of t.line t.who) t.replies) after
+-- One line was run: its speaker afterwards is by the names and tokens in force, its call was made, if it
+-- makes one, and then it was counted, with its answer.
+pub record IsTurn {S : Type 0} (rules : Rules S) (before : S) (t : Turn) (after : S) : Type 0 where
+  pub mid : S
+  pub speaks : t.after ≡ speaker_after (rules.seen before).logins t.who t.line
+  pub count : length t.replies ≡ length (event_of t.line t.who)
+  pub calls : AreMade rules.made before (zip (event_of t.line t.who) t.replies) mid
+  pub noted : rules.noted mid t.line (text_of t) after
 
 -- the lines were run, one after another; they may be lines of many sessions
-abbrev pub AreTurns : {S : Type 0} → Made S → S → List Turn → S → Type 0
-AreTurns made before [] after = after ≡ before
-AreTurns {S} made before (t ∷ turns) after = (mid : S) × IsTurn made before t mid × AreTurns made mid turns after
+abbrev pub AreTurns : {S : Type 0} → Rules S → S → List Turn → S → Type 0
+AreTurns rules before [] after = after ≡ before
+AreTurns {S} rules before (t ∷ turns) after = (mid : S) × IsTurn rules before t mid × AreTurns rules mid turns after
+
+-- the speakers after these lines are by these names and tokens
+abbrev pub UseLogin : Login → List Turn → Type 0
+UseLogin login [] = Unit {0}
+UseLogin login (t ∷ turns) = (t.after ≡ speaker_after login t.who t.line) × UseLogin login turns
 
 -- after any stream whose rest is held, these bytes complete these lines, and hold what is left
 pub record Hears (held : Held) (bytes : List ℕ) (ls : List Heard) (held' : Held) : Type 0 where
@@ -54,11 +72,11 @@ pub record Hears (held : Held) (bytes : List ℕ) (ls : List Heard) (held' : Hel
 
 -- Bytes of one session were heard, and the lines that they complete were run and answered. Only the
 -- last of them may ask to quit.
-pub record Steps {S : Type 0} (made : Made S) (login : Login) (used : List ℕ) (turns : List Turn) (quit : Bool) (held held' : Held)
+pub record Steps {S : Type 0} (rules : Rules S) (used : List ℕ) (turns : List Turn) (quit : Bool) (held held' : Held)
     (who who' : Option Speaker) (before after : S) (answers answers' : List ℕ) : Type 0 where
   pub hears : Hears held used (lines_in turns) held'
-  pub speaks : Speaks login who turns who'
-  pub run : AreTurns made before turns after
-  pub text : answers' ≡ answers ++ texts login turns
+  pub speaks : Speaks who turns who'
+  pub run : AreTurns rules before turns after
+  pub text : answers' ≡ answers ++ texts turns
   pub last : through_quit (lines_in turns) ≡ lines_in turns
   pub quits : quit ≡ asks_to_quit (lines_in turns)

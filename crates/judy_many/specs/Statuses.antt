@@ -1,12 +1,12 @@
 -- What is told on the status socket.
---     Passes made status s story s'   a story takes the service from s to s', and each status that is
+--     Passes rules s story s'         a story takes the service from s to s', and each status that is
 --                                     told is that of the service at this moment
 --     HasAnswered ..                  what was asked once, and what it was answered
 use Rattle.std.specs.Prelude.{◌≡◌, ◌⊎◌, ℕ, Bool, true, false, List, [], ◌∷◌}
-use Rattle.judy_protocol.specs.Services.{Made}
 use Rattle.judy_many.specs.declared.network.Question.TheVariants as question
 use Rattle.judy_many.specs.Nets.{Act, Acts, DidLog}
 use Rattle.judy_many.specs.Nets.Act.{Came, Refused, Read, Ended, Broke, Wrote, Failed, Closed, Waited, Lost, Asked, Questioned, Reported}
+use Rattle.judy_many.specs.Rules.{Rules}
 use Rattle.judy_many.specs.Sessions.{AreTurns}
 use Rattle.judy_many.specs.Stories.{Story}
 use Rattle.judy_many.specs.Stories.Moment.{Did, Ran}
@@ -37,7 +37,7 @@ HasAnswered false true status log log' = ⊥
 HasAnswered false false status log log' = DidLog log [] log'
 
 -- Lines change the service as they were run. Nothing else changes it: no question does.
-abbrev pub Passes : {S : Type 0} → Made S → (S → List ℕ) → S → Story → S → Type 0
-Passes made status before [] after = after ≡ before
-Passes made status before (Did a ∷ story) after = Tells (status before) a × Passes made status before story after
-Passes {S} made status before (Ran n turns ∷ story) after = (mid : S) × AreTurns made before turns mid × Passes made status mid story after
+abbrev pub Passes : {S : Type 0} → Rules S → S → Story → S → Type 0
+Passes rules before [] after = after ≡ before
+Passes rules before (Did a ∷ story) after = Tells (rules.status before) a × Passes rules before story after
+Passes {S} rules before (Ran n turns ∷ story) after = (mid : S) × AreTurns rules before turns mid × Passes rules mid story after

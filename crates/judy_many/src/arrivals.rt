@@ -9,6 +9,7 @@ ghost use Rattle.judy_many.specs.Slots.{AreKnown, IsKnownSlot};
 ghost use Rattle.judy_many.specs.Lives.{view_of};
 ghost use Rattle.judy_many.specs.Nets.{Acts, DidLog};
 ghost use Rattle.judy_many.specs.Arrivals.{Arrives};
+ghost use Rattle.judy_many.specs.Rules.{rules_of};
 ghost use Rattle.judy_many.specs.Stories.{Story, acts_in};
 ghost use Rattle.judy_many.specs.Stories.Phase.{Reads};
 
@@ -16,6 +17,7 @@ use crate::client::Client;
 use crate::clients::{Clients, Listening};
 use crate::network::{Accept, How, Network};
 use crate::serve::Limits;
+use crate::shows::Shows;
 use judy_protocol::Served;
 use std::alloc::Global;
 
@@ -99,19 +101,19 @@ fn accept_at<S: Served, N: Network>(
 
 /// Accepts connections while one waits and a slot is free. False if the listener is broken, which is
 /// then the last answer.
-pub fn accept<S: Served, N: Network>(
+pub fn accept<S: Shows, N: Network>(
     alloc: Global,
     network: &mut N,
     clients: &mut Clients<S, N>,
     limits: Limits,
     now: Option<u64>,
 ) -> bool
-    ensures crowd { (login : Login) (first now : S) (status : S → List ℕ) (start : Acts) (waits : ℕ)
-        → Crowd (λ b. view_of S.who N.number b.value) S.made status login limits first start Reads nobody waits
-        (N.log network.old) clients.old.slots.items clients.old.accepted now
+    ensures crowd { (first now : S) (start : Acts) (waits : ℕ)
+        → Crowd (λ b. view_of S.who N.number b.value) (rules_of S.made S.seen S.noted S.status) limits first start
+        Reads nobody waits (N.log network.old) clients.old.slots.items clients.old.accepted now
         → (mid : Acts) × DidLog mid (lost_unless result) (N.log network.new)
-        × Crowd (λ b. view_of S.who N.number b.value) S.made status login limits first start Reads nobody waits
-        mid clients.new.slots.items clients.new.accepted now }
+        × Crowd (λ b. view_of S.who N.number b.value) (rules_of S.made S.seen S.noted S.status) limits first start
+        Reads nobody waits mid clients.new.slots.items clients.new.accepted now }
     ensures known { (login : Login)
         → AreKnown (λ b. option_map S.who b.value.session.speaker) login clients.old.slots.items
         → AreKnown (λ b. option_map S.who b.value.session.speaker) login clients.new.slots.items }

@@ -3,13 +3,15 @@ ghost use Rattle.std.specs.Prelude.{◌≡◌, ◌≤◌, ◌++◌, ℕ, List, [
 ghost use Rattle.judy_protocol.specs.Services.{HasLoggedIn};
 ghost use Rattle.judy_many.specs.Nets.{Act, DidLog, gives};
 ghost use Rattle.judy_many.specs.Lives.{read_in, wrote_in};
+ghost use Rattle.judy_many.specs.Rules.{rules_of};
 ghost use Rattle.judy_many.specs.Sessions.{Steps, Turn};
 ghost use Rattle.judy_many.specs.Stories.{AreReads, AreWrites, TellsRead, TellsWrite};
 
 use crate::network::{Got, Network, Put};
 use crate::session::{ANSWERS_LIMIT, Ran, Rooms, Session, run_lines};
+use crate::shows::Shows;
 use arrayvec::ArrayVec;
-use judy_protocol::{PULL_LIMIT, Served};
+use judy_protocol::PULL_LIMIT;
 use std::alloc::Global;
 use std::marker::Model;
 
@@ -149,7 +151,7 @@ impl Answers {
     }
 
     /// Runs the lines that the bytes complete, as `run_lines` does, if everything is written.
-    pub fn run<S: Served>(
+    pub fn run<S: Shows>(
         &mut self,
         alloc: Global,
         session: &mut Session<S::Speaker>,
@@ -162,7 +164,7 @@ impl Answers {
             (option_map S.who session.old.speaker) }
         ensures steps { (used : List ℕ) × (rest : List ℕ) × (turns : List Turn)
             × (used ++ rest ≡ bytes.now) × (length rest ≡ result.left)
-            × Steps S.made (S.seen service.old).logins used turns result.quit
+            × Steps (rules_of S.made S.seen S.noted S.status) used turns result.quit
             session.old.held session.new.held
             (option_map S.who session.old.speaker) (option_map S.who session.new.speaker)
             service.old service.new [] self.new }

@@ -5,6 +5,7 @@ ghost use Rattle.judy_protocol.specs.Services.{HasLoggedIn};
 ghost use Rattle.judy_many.specs.Fates.{FateGoes, HeardGoes};
 ghost use Rattle.judy_many.specs.Lives.{IsLive, view_of};
 ghost use Rattle.judy_many.specs.Nets.{Act, DidLog};
+ghost use Rattle.judy_many.specs.Rules.{rules_of};
 ghost use Rattle.judy_many.specs.Sessions.{AreTurns, Turn};
 ghost use Rattle.judy_many.specs.Stories.{IsPiece, Story, acts_in, turns_in};
 ghost use Rattle.judy_many.specs.Stories.Phase.{Reads, Writes};
@@ -12,6 +13,7 @@ ghost use Rattle.judy_many.specs.Stories.Phase.{Reads, Writes};
 use crate::buffers::{Answers, Input, Sent};
 use crate::network::{Got, How, Network};
 use crate::session::{Rooms, Session};
+use crate::shows::Shows;
 use judy_protocol::Served;
 use std::alloc::Global;
 
@@ -59,7 +61,7 @@ impl<P: Copy, C: Drop> Client<P, C> {
 }
 
 /// Runs the lines that have come, as long as there is room for the longest answer.
-fn hear<S: Served, N: Network>(
+fn hear<S: Shows, N: Network>(
     alloc: Global,
     service: &mut S,
     rooms: &mut Rooms,
@@ -69,11 +71,11 @@ fn hear<S: Served, N: Network>(
     requires empty { client.old.answers ≡ [] }
     requires known { HasLoggedIn (S.seen service.old).logins
         (option_map S.who client.old.session.speaker) }
-    ensures turns { (turns : List Turn) × AreTurns S.made service.old turns service.new
+    ensures turns { (turns : List Turn)
+        × AreTurns (rules_of S.made S.seen S.noted S.status) service.old turns service.new
         × ((acts : List Act) (ran : List Turn)
-        → IsLive (S.seen service.old).logins acts ran (view_of S.who N.number client.old)
-        → IsLive (S.seen service.old).logins acts (ran ++ turns)
-        (view_of S.who N.number client.new)) }
+        → IsLive acts ran (view_of S.who N.number client.old)
+        → IsLive acts (ran ++ turns) (view_of S.who N.number client.new)) }
     ensures same { N.number client.new.connection ≡ N.number client.old.connection }
     ensures logins { (S.seen service.new).logins ≡ (S.seen service.old).logins }
     ensures known { HasLoggedIn (S.seen service.new).logins
@@ -93,7 +95,7 @@ fn hear<S: Served, N: Network>(
 /// The first half of a client's turn: at most one read, then the lines for whose answers there is
 /// room. While answers wait to be written nothing is read. Returns why the client has to be closed, if
 /// it is.
-pub fn listen<S: Served, N: Network>(
+pub fn listen<S: Shows, N: Network>(
     alloc: Global,
     network: &mut N,
     service: &mut S,
@@ -105,8 +107,8 @@ pub fn listen<S: Served, N: Network>(
         (option_map S.who client.old.session.speaker) }
     ensures goes { (more : Story) × DidLog (N.log network.old) (acts_in more) (N.log network.new)
         × IsPiece (N.number client.old.connection) Reads more
-        × AreTurns S.made service.old (turns_in more) service.new
-        × HeardGoes result (S.seen service.old).logins (view_of S.who N.number client.old)
+        × AreTurns (rules_of S.made S.seen S.noted S.status) service.old (turns_in more) service.new
+        × HeardGoes result (view_of S.who N.number client.old)
         (view_of S.who N.number client.new) more }
     ensures same { N.number client.new.connection ≡ N.number client.old.connection }
     ensures logins { (S.seen service.new).logins ≡ (S.seen service.old).logins }
@@ -165,8 +167,8 @@ pub fn tell<S: Served, N: Network>(
 ) -> Fate
     ensures goes { (more : Story) × DidLog (N.log network.old) (acts_in more) (N.log network.new)
         × IsPiece (N.number client.old.connection) Writes more × (turns_in more ≡ [])
-        × ((login : Login) → FateGoes result login (view_of S.who N.number client.old)
-        (view_of S.who N.number client.new) more) }
+        × FateGoes result (view_of S.who N.number client.old)
+        (view_of S.who N.number client.new) more }
     ensures same { N.number client.new.connection ≡ N.number client.old.connection }
     ensures session { client.new.session ≡ client.old.session }
 {

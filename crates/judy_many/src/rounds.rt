@@ -6,6 +6,7 @@ ghost use Rattle.judy_many.specs.Queues.{AreApart, IsBefore, nobody};
 ghost use Rattle.judy_many.specs.Slots.{AreKnown, IsKnownSlot};
 ghost use Rattle.judy_many.specs.Lives.{SlotDid, view_of};
 ghost use Rattle.judy_many.specs.Nets.{Acts, DidLog};
+ghost use Rattle.judy_many.specs.Rules.{rules_of};
 ghost use Rattle.judy_many.specs.Sessions.{AreTurns};
 ghost use Rattle.judy_many.specs.Stories.{Story, acts_in, turns_in};
 ghost use Rattle.judy_many.specs.Stories.Phase.{Reads, Sweeps, Writes};
@@ -16,11 +17,12 @@ use crate::clients::Clients;
 use crate::network::Network;
 use crate::queue::Left;
 use crate::session::Rooms;
+use crate::shows::Shows;
 use judy_protocol::Served;
 use std::alloc::Global;
 
 /// The first half of the turn of the client in a slot, if there is one. Returns whether it was closed.
-fn listen_at<S: Served, N: Network>(
+fn listen_at<S: Shows, N: Network>(
     alloc: Global,
     network: &mut N,
     service: &mut S,
@@ -31,8 +33,8 @@ fn listen_at<S: Served, N: Network>(
     requires known { IsKnownSlot (λ b. option_map S.who b.value.session.speaker)
         (S.seen service.old).logins slot.old }
     ensures did { (more : Story) × DidLog (N.log network.old) (acts_in more) (N.log network.new)
-        × AreTurns S.made service.old (turns_in more) service.new
-        × ((limits : Limits) → SlotDid (S.seen service.old).logins limits Reads
+        × AreTurns (rules_of S.made S.seen S.noted S.status) service.old (turns_in more) service.new
+        × ((limits : Limits) → SlotDid limits Reads
         (option_map (λ b. view_of S.who N.number b.value) slot.old)
         (option_map (λ b. view_of S.who N.number b.value) slot.new) more) }
     ensures logins { (S.seen service.new).logins ≡ (S.seen service.old).logins }
@@ -51,7 +53,7 @@ fn listen_at<S: Served, N: Network>(
 }
 
 /// The first half of the turn of the client at a place of the queue.
-fn listen_to<S: Served, N: Network>(
+fn listen_to<S: Shows, N: Network>(
     alloc: Global,
     network: &mut N,
     service: &mut S,
@@ -64,11 +66,11 @@ fn listen_to<S: Served, N: Network>(
         (S.seen service.old).logins clients.old.slots.items }
     requires within { place < length clients.old.queue }
     requires apart { AreApart clients.old.queue }
-    ensures crowd { (limits : Limits) (first : S) (status : S → List ℕ) (start : Acts) (waits : ℕ)
-        → Crowd (λ b. view_of S.who N.number b.value) S.made status (S.seen service.old).logins limits first start
+    ensures crowd { (limits : Limits) (first : S) (start : Acts) (waits : ℕ)
+        → Crowd (λ b. view_of S.who N.number b.value) (rules_of S.made S.seen S.noted S.status) limits first start
         Reads (IsBefore clients.old.queue place) waits
         (N.log network.old) clients.old.slots.items clients.old.accepted service.old
-        → Crowd (λ b. view_of S.who N.number b.value) S.made status (S.seen service.old).logins limits first start
+        → Crowd (λ b. view_of S.who N.number b.value) (rules_of S.made S.seen S.noted S.status) limits first start
         Reads (IsBefore clients.old.queue (place + 1)) waits
         (N.log network.new) clients.new.slots.items clients.new.accepted service.new }
     ensures queue { clients.new.queue ≡ clients.old.queue }
@@ -86,7 +88,7 @@ fn listen_to<S: Served, N: Network>(
 
 /// The first half of a round: each client in the queue, in its order, reads at most once and runs its
 /// lines. Nothing is written.
-pub fn listen_all<S: Served, N: Network>(
+pub fn listen_all<S: Shows, N: Network>(
     alloc: Global,
     network: &mut N,
     service: &mut S,
@@ -96,11 +98,11 @@ pub fn listen_all<S: Served, N: Network>(
 )
     requires known { AreKnown (λ b. option_map S.who b.value.session.speaker)
         (S.seen service.old).logins clients.old.slots.items }
-    ensures crowd { (limits : Limits) (first : S) (status : S → List ℕ) (start : Acts) (waits : ℕ)
-        → Crowd (λ b. view_of S.who N.number b.value) S.made status (S.seen service.old).logins limits first start
+    ensures crowd { (limits : Limits) (first : S) (start : Acts) (waits : ℕ)
+        → Crowd (λ b. view_of S.who N.number b.value) (rules_of S.made S.seen S.noted S.status) limits first start
         Reads nobody waits
         (N.log network.old) clients.old.slots.items clients.old.accepted service.old
-        → Crowd (λ b. view_of S.who N.number b.value) S.made status (S.seen service.old).logins limits first start
+        → Crowd (λ b. view_of S.who N.number b.value) (rules_of S.made S.seen S.noted S.status) limits first start
         Writes nobody waits
         (N.log network.new) clients.new.slots.items clients.new.accepted service.new }
     ensures logins { (S.seen service.new).logins ≡ (S.seen service.old).logins }
@@ -120,7 +122,7 @@ fn tell_at<S: Served, N: Network>(
 ) -> Left
     ensures did { (more : Story) × DidLog (N.log network.old) (acts_in more) (N.log network.new)
         × (turns_in more ≡ [])
-        × ((login : Login) (limits : Limits) → SlotDid login limits Writes
+        × ((limits : Limits) → SlotDid limits Writes
         (option_map (λ b. view_of S.who N.number b.value) slot.old)
         (option_map (λ b. view_of S.who N.number b.value) slot.new) more) }
     ensures known { (login : Login) → IsKnownSlot (λ b. option_map S.who b.value.session.speaker) login slot.old
@@ -143,7 +145,7 @@ fn tell_at<S: Served, N: Network>(
 }
 
 /// The second half of the turn of the client at a place of the queue.
-fn tell_to<S: Served, N: Network>(
+fn tell_to<S: Shows, N: Network>(
     network: &mut N,
     clients: &mut Clients<S, N>,
     place: usize,
@@ -151,11 +153,11 @@ fn tell_to<S: Served, N: Network>(
 )
     requires within { place < length clients.old.queue }
     requires apart { AreApart clients.old.queue }
-    ensures crowd { (login : Login) (limits : Limits) (first now : S) (status : S → List ℕ) (start : Acts) (waits : ℕ)
-        → Crowd (λ b. view_of S.who N.number b.value) S.made status login limits first start
+    ensures crowd { (limits : Limits) (first now : S) (start : Acts) (waits : ℕ)
+        → Crowd (λ b. view_of S.who N.number b.value) (rules_of S.made S.seen S.noted S.status) limits first start
         Writes (IsBefore clients.old.queue place) waits
         (N.log network.old) clients.old.slots.items clients.old.accepted now
-        → Crowd (λ b. view_of S.who N.number b.value) S.made status login limits first start
+        → Crowd (λ b. view_of S.who N.number b.value) (rules_of S.made S.seen S.noted S.status) limits first start
         Writes (IsBefore clients.old.queue (place + 1)) waits
         (N.log network.new) clients.new.slots.items clients.new.accepted now }
     ensures queue { clients.new.queue ≡ clients.old.queue }
@@ -174,12 +176,12 @@ fn tell_to<S: Served, N: Network>(
 }
 
 /// The second half of a round: each client in the queue, in its order, writes once. No line is run.
-pub fn tell_all<S: Served, N: Network>(network: &mut N, clients: &mut Clients<S, N>, now: u64)
-    ensures crowd { (login : Login) (limits : Limits) (first now : S) (status : S → List ℕ) (start : Acts) (waits : ℕ)
-        → Crowd (λ b. view_of S.who N.number b.value) S.made status login limits first start Writes nobody waits
-        (N.log network.old) clients.old.slots.items clients.old.accepted now
-        → Crowd (λ b. view_of S.who N.number b.value) S.made status login limits first start Sweeps nobody waits
-        (N.log network.new) clients.new.slots.items clients.new.accepted now }
+pub fn tell_all<S: Shows, N: Network>(network: &mut N, clients: &mut Clients<S, N>, now: u64)
+    ensures crowd { (limits : Limits) (first now : S) (start : Acts) (waits : ℕ)
+        → Crowd (λ b. view_of S.who N.number b.value) (rules_of S.made S.seen S.noted S.status) limits first start
+        Writes nobody waits (N.log network.old) clients.old.slots.items clients.old.accepted now
+        → Crowd (λ b. view_of S.who N.number b.value) (rules_of S.made S.seen S.noted S.status) limits first start
+        Sweeps nobody waits (N.log network.new) clients.new.slots.items clients.new.accepted now }
     ensures known { (login : Login)
         → AreKnown (λ b. option_map S.who b.value.session.speaker) login clients.old.slots.items
         → AreKnown (λ b. option_map S.who b.value.session.speaker) login clients.new.slots.items }

@@ -3,6 +3,7 @@ ghost use Rattle.std.specs.Prelude.{◌≡◌, []};
 ghost use Rattle.judy_many.specs.Crowds.{HasServedMany};
 ghost use Rattle.judy_many.specs.Endings.{waited_if};
 ghost use Rattle.judy_many.specs.Nets.{DidLog};
+ghost use Rattle.judy_many.specs.Rules.{rules_of};
 
 use crate::arrivals::accept;
 use crate::asking::answer;
@@ -100,8 +101,8 @@ pub fn serve_many<S: Shows, N: Network>(
     service: &mut S,
     limits: Limits,
 ) -> Ending
-    ensures { HasServedMany S.made S.status S.seen limits result (N.log network.old) (N.log network.new)
-        service.old service.new }
+    ensures { HasServedMany (rules_of S.made S.seen S.noted S.status) limits result
+        (N.log network.old) (N.log network.new) service.old service.new }
 {
     // Laws: calls one after another are one run, and another service gives the same replies.
     one_call_is_a_run();

@@ -2,11 +2,13 @@
 ghost use Rattle.std.specs.Prelude.{◌≡◌, ◌≤◌, ◌+◌, ◌++◌, ◌∷◌, ℕ, List, [], None, length, option_map};
 ghost use Rattle.judy_protocol.specs.Services.{HasLoggedIn};
 ghost use Rattle.judy_protocol.specs.Talks.{HasNoLf, Holds};
+ghost use Rattle.judy_many.specs.Rules.{rules_of};
 ghost use Rattle.judy_many.specs.Sessions.{Steps, Turn};
 
+use crate::shows::Shows;
 use arrayvec::ArrayVec;
 use judy_model::KEY_LIMIT;
-use judy_protocol::{Held, REPLY_LIMIT, Served, asks_to_quit, cut_line, hear, run};
+use judy_protocol::{Held, REPLY_LIMIT, asks_to_quit, cut_line, hear, run};
 use std::alloc::Global;
 
 /// The most bytes of the answers that one turn of a connection leaves to be written.
@@ -72,9 +74,9 @@ fn append(answers: &mut ArrayVec<u8, ANSWERS_LIMIT>, text: &[u8])
     let _fits = answers.try_extend_from_slice(text);
 }
 
-/// Runs the line that is held and ends with the chunk, and appends its answer. Returns whether the
-/// line asked to quit.
-pub fn run_line<S: Served>(
+/// Runs the line that is held and ends with the chunk, counts it, and appends its answer. Returns
+/// whether the line asked to quit.
+pub fn run_line<S: Shows>(
     alloc: Global,
     session: &mut Session<S::Speaker>,
     service: &mut S,
@@ -86,7 +88,7 @@ pub fn run_line<S: Served>(
     requires room { length answers.old.items + REPLY_LIMIT ≤ ANSWERS_LIMIT }
     requires known { HasLoggedIn (S.seen service.old).logins (option_map S.who session.old.speaker) }
     ensures steps { (turn : Turn)
-        × Steps S.made (S.seen service.old).logins (chunk.now ++ 10 ∷ []) (turn ∷ []) result
+        × Steps (rules_of S.made S.seen S.noted S.status) (chunk.now ++ 10 ∷ []) (turn ∷ []) result
         session.old.held session.new.held
         (option_map S.who session.old.speaker) (option_map S.who session.new.speaker)
         service.old service.new answers.old.items answers.new.items }
@@ -102,13 +104,14 @@ pub fn run_line<S: Served>(
         &mut rooms.found,
         &mut rooms.reply,
     );
+    service.note(&asked, rooms.reply.as_slice());
     append(answers, rooms.reply.as_slice());
     asks_to_quit(&asked)
 }
 
 /// Runs the lines that the bytes complete, as long as there is room for the longest answer, and up to
 /// a line that asks to quit. Holds what comes after the last line feed.
-pub fn run_lines<S: Served>(
+pub fn run_lines<S: Shows>(
     alloc: Global,
     session: &mut Session<S::Speaker>,
     service: &mut S,
@@ -119,7 +122,7 @@ pub fn run_lines<S: Served>(
     requires known { HasLoggedIn (S.seen service.old).logins (option_map S.who session.old.speaker) }
     ensures steps { (used : List ℕ) × (rest : List ℕ) × (turns : List Turn)
         × (used ++ rest ≡ bytes.now) × (length rest ≡ result.left)
-        × Steps S.made (S.seen service.old).logins used turns result.quit
+        × Steps (rules_of S.made S.seen S.noted S.status) used turns result.quit
         session.old.held session.new.held
         (option_map S.who session.old.speaker) (option_map S.who session.new.speaker)
         service.old service.new answers.old.items answers.new.items }

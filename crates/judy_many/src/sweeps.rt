@@ -6,6 +6,7 @@ ghost use Rattle.judy_many.specs.Queues.{nobody};
 ghost use Rattle.judy_many.specs.Slots.{AreKnown, IsKnownSlot};
 ghost use Rattle.judy_many.specs.Lives.{IsReason, SlotDid, is_orderly, view_of};
 ghost use Rattle.judy_many.specs.Nets.{Act, Acts, DidLog};
+ghost use Rattle.judy_many.specs.Rules.{rules_of};
 ghost use Rattle.judy_many.specs.Sessions.{Turn};
 ghost use Rattle.judy_many.specs.Stories.{IsAllowed, Story, acts_in, turns_in};
 ghost use Rattle.judy_many.specs.Stories.Phase.{Sweeps};
@@ -15,6 +16,7 @@ use crate::clients::Clients;
 use crate::network::{How, Network};
 use crate::queue::Left;
 use crate::serve::Limits;
+use crate::shows::Shows;
 use crate::times::is_past;
 use judy_protocol::Served;
 
@@ -42,9 +44,9 @@ fn sweep_at<S: Served, N: Network>(
 ) -> Left
     ensures did { (more : Story) × DidLog (N.log network.old) (acts_in more) (N.log network.new)
         × (turns_in more ≡ [])
-        × ((login : Login) → SlotDid login limits Sweeps
+        × SlotDid limits Sweeps
         (option_map (λ b. view_of S.who N.number b.value) slot.old)
-        (option_map (λ b. view_of S.who N.number b.value) slot.new) more) }
+        (option_map (λ b. view_of S.who N.number b.value) slot.new) more }
     ensures known { (login : Login) → IsKnownSlot (λ b. option_map S.who b.value.session.speaker) login slot.old
         → IsKnownSlot (λ b. option_map S.who b.value.session.speaker) login slot.new }
 {
@@ -60,17 +62,17 @@ fn sweep_at<S: Served, N: Network>(
 }
 
 /// Closes the clients whose time is over, if this was not done in this second.
-pub fn sweep<S: Served, N: Network>(
+pub fn sweep<S: Shows, N: Network>(
     network: &mut N,
     clients: &mut Clients<S, N>,
     limits: Limits,
     now: Option<u64>,
 )
-    ensures crowd { (login : Login) (first now : S) (status : S → List ℕ) (start : Acts) (waits : ℕ)
-        → Crowd (λ b. view_of S.who N.number b.value) S.made status login limits first start Sweeps nobody waits
-        (N.log network.old) clients.old.slots.items clients.old.accepted now
-        → Crowd (λ b. view_of S.who N.number b.value) S.made status login limits first start Sweeps nobody waits
-        (N.log network.new) clients.new.slots.items clients.new.accepted now }
+    ensures crowd { (first now : S) (start : Acts) (waits : ℕ)
+        → Crowd (λ b. view_of S.who N.number b.value) (rules_of S.made S.seen S.noted S.status) limits first start
+        Sweeps nobody waits (N.log network.old) clients.old.slots.items clients.old.accepted now
+        → Crowd (λ b. view_of S.who N.number b.value) (rules_of S.made S.seen S.noted S.status) limits first start
+        Sweeps nobody waits (N.log network.new) clients.new.slots.items clients.new.accepted now }
     ensures known { (login : Login)
         → AreKnown (λ b. option_map S.who b.value.session.speaker) login clients.old.slots.items
         → AreKnown (λ b. option_map S.who b.value.session.speaker) login clients.new.slots.items }

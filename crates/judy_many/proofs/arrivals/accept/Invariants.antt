@@ -1,4 +1,4 @@
-use Rattle.std.specs.Prelude.{ℕ, option_map, List}
+use Rattle.std.specs.Prelude.{ℕ, option_map}
 use Rattle.judy_many.specs.Queues.{nobody}
 use Rattle.judy_model.specs.Stream.{Login}
 use Rattle.judy_many.specs.Crowds.{Crowd}
@@ -6,12 +6,13 @@ use Rattle.judy_many.specs.Slots.{AreKnown}
 use Rattle.judy_many.specs.Lives.{view_of}
 use Rattle.judy_many.specs.Nets.{Acts}
 use Rattle.judy_many.specs.Stories.Phase.{Reads}
+use Rattle.judy_many.specs.Rules.{rules_of}
 use Rattle.judy_many.proofs.arrivals.accept.Given as goal
 
 abbrev pub invariant-loop-try : goal.invariant-loop-try
 invariant-loop-try g l = record {
-  crowd : (login : Login) (first now : g.row.S.Denot) (status : g.row.S.Denot → List ℕ) (start : Acts) (waits : ℕ) → Crowd (λ b. view_of g.S.Served.who g.N.Network.number b.value) g.S.Served.made status login l.fn.limits first start Reads nobody waits (g.N.Network.log l.fn.network) l.fn.clients.slots.items l.fn.clients.accepted now
-      → Crowd (λ b. view_of g.S.Served.who g.N.Network.number b.value) g.S.Served.made status login l.fn.limits first start Reads nobody waits (g.N.Network.log l.network) l.clients.slots.items l.clients.accepted now;
+  crowd : (first now : g.row.S.Denot) (start : Acts) (waits : ℕ) → Crowd (λ b. view_of g.S.Served.who g.N.Network.number b.value) (rules_of g.S.Served.made g.S.Served.seen g.S.Shows.noted g.S.Shows.status) l.fn.limits first start Reads nobody waits (g.N.Network.log l.fn.network) l.fn.clients.slots.items l.fn.clients.accepted now
+      → Crowd (λ b. view_of g.S.Served.who g.N.Network.number b.value) (rules_of g.S.Served.made g.S.Served.seen g.S.Shows.noted g.S.Shows.status) l.fn.limits first start Reads nobody waits (g.N.Network.log l.network) l.clients.slots.items l.clients.accepted now;
   known : (login : Login) → AreKnown (λ b. option_map g.S.Served.who b.value.session.speaker) login l.fn.clients.slots.items
       → AreKnown (λ b. option_map g.S.Served.who b.value.session.speaker) login l.clients.slots.items;
 }

@@ -7,6 +7,7 @@ use Rattle.judy_many.specs.Stories.{is_end, is_fault, told}
 use Rattle.judy_many.specs.Stories.Moment.{Ran}
 use Rattle.judy_many.proofs.Living.{no_log}
 use Rattle.judy_many.proofs.Telling.{acts_heard, acts_in-told, leaves_part, leaves_whole, piece_heard, piece_reads, said_after, stays_ran, stays_read, stays_then, turns_heard, turns_in-told}
+use Rattle.judy_many.specs.Rules.{rules_of}
 use Rattle.judy_many.proofs.client.listen.Goals as goal
 
 pub returns-then-not-is_empty-2-clause-goes : goal.returns-then-not-is_empty-2-clause-goes
@@ -16,8 +17,8 @@ returns-then-not-is_empty-2-clause-goes g c =
       Ran n turns ∷ [],
       no_log _,
       piece_heard n [] turns tt (omega arith),
-      subst (λ t. AreTurns g.S.Served.made c.args.service.now t c.hear.new.service) (sym (turns_heard n [] turns)) run,
-      stays_ran _ _ _ n turns stays,
+      subst (λ t. AreTurns (rules_of g.S.Served.made g.S.Served.seen g.S.Shows.noted g.S.Shows.status) c.args.service.now t c.hear.new.service) (sym (turns_heard n [] turns)) run,
+      stays_ran _ _ n turns stays,
     )
 
 pub returns-in-Bytes-clause-goes : goal.returns-in-Bytes-clause-goes
@@ -30,10 +31,10 @@ returns-in-Bytes-clause-goes g c =
       told acts ++ Ran n turns ∷ [],
       subst (λ a. DidLog (g.N.Network.log c.args.network.now) a (g.N.Network.log c.fill.new.network)) (sym (acts_heard n acts turns)) log,
       piece_heard n acts turns mine few,
-      subst (λ t. AreTurns g.S.Served.made c.args.service.now t c.hear-in-Bytes.new.service) (sym (turns_heard n acts turns)) run,
-      stays_then _ v _ _ (told acts) (Ran n turns ∷ [])
-          (stays_read _ v n (g.N.Network.number c.fill.new.connection) acts c.fill.new.self empty mine few read wrote)
-          (stays_ran _ _ _ n turns stays),
+      subst (λ t. AreTurns (rules_of g.S.Served.made g.S.Served.seen g.S.Shows.noted g.S.Shows.status) c.args.service.now t c.hear-in-Bytes.new.service) (sym (turns_heard n acts turns)) run,
+      stays_then v _ _ (told acts) (Ran n turns ∷ [])
+          (stays_read v n (g.N.Network.number c.fill.new.connection) acts c.fill.new.self empty mine few read wrote)
+          (stays_ran _ _ n turns stays),
     )
 
 pub returns-in-Nothing-clause-goes : goal.returns-in-Nothing-clause-goes
@@ -45,8 +46,8 @@ returns-in-Nothing-clause-goes g c =
       told acts,
       subst (λ a. DidLog (g.N.Network.log c.args.network.now) a (g.N.Network.log c.fill.new.network)) (sym (acts_in-told acts)) log,
       piece_reads n acts mine few,
-      subst (λ t. AreTurns g.S.Served.made c.args.service.now t c.args.service.now) (sym (turns_in-told acts)) refl,
-      stays_read _ v n (g.N.Network.number c.fill.new.connection) acts c.fill.new.self empty mine few read wrote,
+      subst (λ t. AreTurns (rules_of g.S.Served.made g.S.Served.seen g.S.Shows.noted g.S.Shows.status) c.args.service.now t c.args.service.now) (sym (turns_in-told acts)) refl,
+      stays_read v n (g.N.Network.number c.fill.new.connection) acts c.fill.new.self empty mine few read wrote,
     )
 
 pub returns-in-End-clause-goes : goal.returns-in-End-clause-goes
@@ -58,11 +59,11 @@ returns-in-End-clause-goes g c =
       told acts,
       subst (λ a. DidLog (g.N.Network.log c.args.network.now) a (g.N.Network.log c.fill.new.network)) (sym (acts_in-told acts)) log,
       piece_reads n acts mine few,
-      subst (λ t. AreTurns g.S.Served.made c.args.service.now t c.args.service.now) (sym (turns_in-told acts)) refl,
+      subst (λ t. AreTurns (rules_of g.S.Served.made g.S.Served.seen g.S.Shows.noted g.S.Shows.status) c.args.service.now t c.args.service.now) (sym (turns_in-told acts)) refl,
       (
         λ limits. tt,
-        leaves_whole _ how.End v _ (told acts) (c.is_empty.ensures c.if-not-is_empty.false) (inr (c.in-End.ensures.none refl)) (λ before turns live. said_after is_end before acts tells)
-            (stays_read _ v n (g.N.Network.number c.fill.new.connection) acts c.fill.new.self empty mine few read wrote),
+        leaves_whole how.End v _ (told acts) (c.is_empty.ensures c.if-not-is_empty.false) (inr (c.in-End.ensures.none refl)) (λ before turns live. said_after is_end before acts tells)
+            (stays_read v n (g.N.Network.number c.fill.new.connection) acts c.fill.new.self empty mine few read wrote),
       ),
     )
 
@@ -75,10 +76,10 @@ returns-in-Fault-clause-goes g c =
       told acts,
       subst (λ a. DidLog (g.N.Network.log c.args.network.now) a (g.N.Network.log c.fill.new.network)) (sym (acts_in-told acts)) log,
       piece_reads n acts mine few,
-      subst (λ t. AreTurns g.S.Served.made c.args.service.now t c.args.service.now) (sym (turns_in-told acts)) refl,
+      subst (λ t. AreTurns (rules_of g.S.Served.made g.S.Served.seen g.S.Shows.noted g.S.Shows.status) c.args.service.now t c.args.service.now) (sym (turns_in-told acts)) refl,
       (
         λ limits. tt,
-        leaves_part _ how.Fault v _ (told acts) refl (λ before turns. said_after is_fault before acts tells)
-            (stays_read _ v n (g.N.Network.number c.fill.new.connection) acts c.fill.new.self empty mine few read wrote),
+        leaves_part how.Fault v _ (told acts) refl (λ before turns. said_after is_fault before acts tells)
+            (stays_read v n (g.N.Network.number c.fill.new.connection) acts c.fill.new.self empty mine few read wrote),
       ),
     )

@@ -15,7 +15,7 @@ returns-in-Fault-clause-goes g c =
       subst (λ a. DidLog (g.N.Network.log c.args.network.now) a (g.N.Network.log c.send-sent.new.network)) (sym (acts_in-told acts)) log,
       piece_writes n acts mine few,
       turns_in-told acts,
-      λ login. (λ limits. tt, leaves_part login how.Fault v _ (told acts) refl (λ before turns. said_after is_fault before acts (subst (λ r. TellsWrite r acts) c.in-Fault.is tells)) (stays_send login v n (g.N.Network.number c.send-sent.new.connection) acts c.send-sent.new.self c.args.client.now.input refl mine few wrote read)),
+      (λ limits. tt, leaves_part how.Fault v _ (told acts) refl (λ before turns. said_after is_fault before acts (subst (λ r. TellsWrite r acts) c.in-Fault.is tells)) (stays_send v n (g.N.Network.number c.send-sent.new.connection) acts c.send-sent.new.self c.args.client.now.input refl mine few wrote read)),
     )
 
 pub returns-then-not-is_empty-clause-goes : goal.returns-then-not-is_empty-clause-goes
@@ -27,7 +27,7 @@ returns-then-not-is_empty-clause-goes g c =
       subst (λ a. DidLog (g.N.Network.log c.args.network.now) a (g.N.Network.log c.send-sent.new.network)) (sym (acts_in-told acts)) log,
       piece_writes n acts mine few,
       turns_in-told acts,
-      λ login. stays_send login v n (g.N.Network.number c.send-sent.new.connection) acts c.send-sent.new.self c.expect_more.new.self c.expect_more.ensures mine few wrote read,
+      stays_send v n (g.N.Network.number c.send-sent.new.connection) acts c.send-sent.new.self c.expect_more.new.self c.expect_more.ensures mine few wrote read,
     )
 
 pub returns-then-client-clause-goes : goal.returns-then-client-clause-goes
@@ -39,7 +39,7 @@ returns-then-client-clause-goes g c =
       subst (λ a. DidLog (g.N.Network.log c.args.network.now) a (g.N.Network.log c.send-sent.new.network)) (sym (acts_in-told acts)) log,
       piece_writes n acts mine few,
       turns_in-told acts,
-      λ login. (λ limits. tt, leaves_whole login how.Quit v _ (told acts) (c.is_empty.ensures c.if-not-is_empty.false) (inl c.if-client.true) (λ before turns live. sym live.asked ∙ c.if-client.true) (stays_send login v n (g.N.Network.number c.send-sent.new.connection) acts c.send-sent.new.self c.args.client.now.input refl mine few wrote read)),
+      (λ limits. tt, leaves_whole how.Quit v _ (told acts) (c.is_empty.ensures c.if-not-is_empty.false) (inl c.if-client.true) (λ before turns live. sym live.asked ∙ c.if-client.true) (stays_send v n (g.N.Network.number c.send-sent.new.connection) acts c.send-sent.new.self c.args.client.now.input refl mine few wrote read)),
     )
 
 pub returns-then-is_drained-clause-goes : goal.returns-then-is_drained-clause-goes
@@ -51,7 +51,7 @@ returns-then-is_drained-clause-goes g c =
       subst (λ a. DidLog (g.N.Network.log c.args.network.now) a (g.N.Network.log c.send-sent.new.network)) (sym (acts_in-told acts)) log,
       piece_writes n acts mine few,
       turns_in-told acts,
-      λ login. stays_send login v n (g.N.Network.number c.send-sent.new.connection) acts c.send-sent.new.self c.args.client.now.input refl mine few wrote read,
+      stays_send v n (g.N.Network.number c.send-sent.new.connection) acts c.send-sent.new.self c.args.client.now.input refl mine few wrote read,
     )
 
 pub returns-clause-goes : goal.returns-clause-goes
@@ -63,5 +63,5 @@ returns-clause-goes g c =
       subst (λ a. DidLog (g.N.Network.log c.args.network.now) a (g.N.Network.log c.send-sent.new.network)) (sym (acts_in-told acts)) log,
       piece_writes n acts mine few,
       turns_in-told acts,
-      λ login. stays_send login v n (g.N.Network.number c.send-sent.new.connection) acts c.send-sent.new.self c.args.client.now.input refl mine few wrote read,
+      stays_send v n (g.N.Network.number c.send-sent.new.connection) acts c.send-sent.new.self c.args.client.now.input refl mine few wrote read,
     )

@@ -10,6 +10,7 @@ use Rattle.judy_many.specs.Stories.Moment.{Did}
 use Rattle.judy_many.proofs.Crowding.{did_left, did_none, did_stay}
 use Rattle.judy_many.proofs.Living.{no_log, then_log}
 use Rattle.judy_many.proofs.Telling.{acts_in-append, turns_in-append}
+use Rattle.judy_many.specs.Rules.{rules_of}
 use Rattle.judy_many.proofs.rounds.listen_at.Goals as goal
 
 pub returns-in_default-clause-did : goal.returns-in_default-clause-did
@@ -17,7 +18,7 @@ returns-in_default-clause-did g c = (
   [],
   no_log _,
   refl,
-  λ limits. did_none (λ b. view_of g.S.Served.who g.N.Network.number b.value) _ limits Reads c.args.slot.now c.take.new.self (sym c.take.ensures.value ∙ c.in_default.is) c.take.ensures.after,
+  λ limits. did_none (λ b. view_of g.S.Served.who g.N.Network.number b.value) limits Reads c.args.slot.now c.take.new.self (sym c.take.ensures.value ∙ c.in_default.is) c.take.ensures.after,
 )
 
 pub returns-in-Some-listen-clause-did : goal.returns-in-Some-listen-clause-did
@@ -30,11 +31,11 @@ returns-in-Some-listen-clause-did g c =
       more ++ Did (Closed n c.in-Some-listen.how) ∷ [],
       subst (λ a. DidLog (g.N.Network.log c.args.network.now) a (g.N.Network.log c.close.new.self)) (sym (acts_in-append more (Did (Closed n c.in-Some-listen.how) ∷ [])))
           (then_log _ _ _ (acts_in more) _ log last),
-      subst (λ t. AreTurns g.S.Served.made c.args.service.now t c.listen.new.service)
+      subst (λ t. AreTurns (rules_of g.S.Served.made g.S.Served.seen g.S.Shows.noted g.S.Shows.status) c.args.service.now t c.listen.new.service)
           (sym (turns_in-append more (Did (Closed n c.in-Some-listen.how) ∷ []) ∙ append-nil _)) run,
-      λ limits. did_left (λ b. view_of g.S.Served.who g.N.Network.number b.value) _ limits Reads c.in-Some-listen.how c.args.slot.now c.take.new.self c.in-Some.client more
+      λ limits. did_left (λ b. view_of g.S.Served.who g.N.Network.number b.value) limits Reads c.in-Some-listen.how c.args.slot.now c.take.new.self c.in-Some.client more
           c.in-Some.ensures.value c.take.ensures.after (subst (λ n. IsPiece n Reads more) first piece) (ends.0 limits)
-          (subst (λ x. Leaves c.in-Some-listen.how (g.S.Served.seen c.args.service.now).logins (view_of g.S.Served.who g.N.Network.number x) more)
+          (subst (λ x. Leaves c.in-Some-listen.how (view_of g.S.Served.who g.N.Network.number x) more)
           c.deref_mut.ensures.value ends.1),
     )
 
@@ -45,8 +46,8 @@ returns-clause-did g c =
       more,
       log,
       run,
-      λ limits. did_stay (λ b. view_of g.S.Served.who g.N.Network.number b.value) _ limits Reads c.args.slot.now c.in-Some.client (view_of g.S.Served.who g.N.Network.number c.listen.new.client) more
+      λ limits. did_stay (λ b. view_of g.S.Served.who g.N.Network.number b.value) limits Reads c.args.slot.now c.in-Some.client (view_of g.S.Served.who g.N.Network.number c.listen.new.client) more
           c.in-Some.ensures.value (c.in_default-listen.ensures.same ∙ first) (subst (λ n. IsPiece n Reads more) first piece)
-          (subst (λ x. Stays (g.S.Served.seen c.args.service.now).logins (view_of g.S.Served.who g.N.Network.number x) (view_of g.S.Served.who g.N.Network.number c.listen.new.client) more)
+          (subst (λ x. Stays (view_of g.S.Served.who g.N.Network.number x) (view_of g.S.Served.who g.N.Network.number c.listen.new.client) more)
           c.deref_mut.ensures.value stays),
     )

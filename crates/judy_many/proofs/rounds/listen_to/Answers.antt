@@ -6,6 +6,7 @@ use Rattle.judy_many.specs.Stories.Phase.{Reads}
 use Rattle.judy_many.proofs.Crowding.{crowd_turn}
 use Rattle.judy_many.proofs.Queueing.{before_more, before_not, before_this}
 use Rattle.judy_many.proofs.Known.{known-at, known-keep, known-set}
+use Rattle.judy_many.specs.Rules.{rules_of}
 use Rattle.judy_many.proofs.rounds.listen_to.Goals as goal
 
 pub listen_at-closed-requires : goal.listen_at-closed-requires
@@ -15,9 +16,9 @@ listen_at-closed-requires g c = record {
 }
 
 pub returns-clause-crowd : goal.returns-clause-crowd
-returns-clause-crowd g c = λ limits first status start waits h.
+returns-clause-crowd g c = λ limits first start waits h.
     let (more, log, run, did) = c.listen_at-closed.ensures.did in
-    crowd_turn (λ b. view_of g.S.Served.who g.N.Network.number b.value) g.S.Served.made status (g.S.Served.seen c.args.service.now).logins limits first start Reads (IsBefore c.args.clients.now.queue c.args.place) (IsBefore c.args.clients.now.queue (c.args.place + 1)) waits _ _ c.args.clients.now.slots.items c.args.clients.now.accepted
+    crowd_turn (λ b. view_of g.S.Served.who g.N.Network.number b.value) (rules_of g.S.Served.made g.S.Served.seen g.S.Shows.noted g.S.Shows.status) limits first start Reads (IsBefore c.args.clients.now.queue c.args.place) (IsBefore c.args.clients.now.queue (c.args.place + 1)) waits _ _ c.args.clients.now.slots.items c.args.clients.now.accepted
     c.args.service.now c.listen_at-closed.new.service c.slot_at-at.result c.index_mut.result.now c.listen_at-closed.new.slot more
     (before_more c.args.clients.now.queue c.args.place) (λ k. before_not c.args.clients.now.queue c.args.place c.requires.apart c.requires.within (subst (IsBefore c.args.clients.now.queue c.args.place) c.slot_at-at.ensures k)) (before_this c.args.clients.now.queue c.args.place _ c.slot_at-at.ensures)
     h (omega arith) c.index_mut.ensures.value log run (did limits)

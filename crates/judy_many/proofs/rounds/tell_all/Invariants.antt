@@ -1,4 +1,4 @@
-use Rattle.std.proofs.Common.{◌≡◌, ℕ, List}
+use Rattle.std.proofs.Common.{◌≡◌, ℕ}
 use Rattle.std.specs.Prelude.{option_map}
 use Rattle.judy_many.specs.Queues.{IsBefore, nobody}
 use Rattle.judy_model.specs.Stream.{Login}
@@ -8,12 +8,13 @@ use Rattle.judy_many.specs.Lives.{view_of}
 use Rattle.judy_many.specs.Nets.{Acts}
 use Rattle.judy_many.specs.Stories.Phase.{Writes}
 use Rattle.judy_many.specs.declared.serve.Limits.{Limits}
+use Rattle.judy_many.specs.Rules.{rules_of}
 use Rattle.judy_many.proofs.rounds.tell_all.Given as goal
 
 abbrev pub invariant-loop-place : goal.invariant-loop-place
 invariant-loop-place g l = record {
-  crowd : (login : Login) (limits : Limits) (first now : g.row.S.Denot) (status : g.row.S.Denot → List ℕ) (start : Acts) (waits : ℕ) → Crowd (λ b. view_of g.S.Served.who g.N.Network.number b.value) g.S.Served.made status login limits first start Writes nobody waits (g.N.Network.log l.fn.network) l.fn.clients.slots.items l.fn.clients.accepted now
-      → Crowd (λ b. view_of g.S.Served.who g.N.Network.number b.value) g.S.Served.made status login limits first start Writes (IsBefore l.fn.clients.queue l.place) waits (g.N.Network.log l.network) l.clients.slots.items l.clients.accepted now;
+  crowd : (limits : Limits) (first now : g.row.S.Denot) (start : Acts) (waits : ℕ) → Crowd (λ b. view_of g.S.Served.who g.N.Network.number b.value) (rules_of g.S.Served.made g.S.Served.seen g.S.Shows.noted g.S.Shows.status) limits first start Writes nobody waits (g.N.Network.log l.fn.network) l.fn.clients.slots.items l.fn.clients.accepted now
+      → Crowd (λ b. view_of g.S.Served.who g.N.Network.number b.value) (rules_of g.S.Served.made g.S.Served.seen g.S.Shows.noted g.S.Shows.status) limits first start Writes (IsBefore l.fn.clients.queue l.place) waits (g.N.Network.log l.network) l.clients.slots.items l.clients.accepted now;
   queue : l.clients.queue ≡ l.fn.clients.queue;
   known : (login : Login) → AreKnown (λ b. option_map g.S.Served.who b.value.session.speaker) login l.fn.clients.slots.items
       → AreKnown (λ b. option_map g.S.Served.who b.value.session.speaker) login l.clients.slots.items;

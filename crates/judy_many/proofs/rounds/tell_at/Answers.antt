@@ -17,7 +17,7 @@ returns-in_default-clause-did g c = (
   [],
   no_log _,
   refl,
-  λ login limits. did_none (λ b. view_of g.S.Served.who g.N.Network.number b.value) login limits Writes c.args.slot.now c.take.new.self (sym c.take.ensures.value ∙ c.in_default.is) c.take.ensures.after,
+  λ limits. did_none (λ b. view_of g.S.Served.who g.N.Network.number b.value) limits Writes c.args.slot.now c.take.new.self (sym c.take.ensures.value ∙ c.in_default.is) c.take.ensures.after,
 )
 
 pub returns-in-Ends-clause-did : goal.returns-in-Ends-clause-did
@@ -31,10 +31,10 @@ returns-in-Ends-clause-did g c =
       subst (λ a. DidLog (g.N.Network.log c.args.network.now) a (g.N.Network.log c.close.new.self)) (sym (acts_in-append more (Did (Closed n c.in-Ends.how) ∷ [])))
           (then_log _ _ _ (acts_in more) _ log last),
       turns_in-append more (Did (Closed n c.in-Ends.how) ∷ []) ∙ append-nil _ ∙ none,
-      λ login limits. did_left (λ b. view_of g.S.Served.who g.N.Network.number b.value) login limits Writes c.in-Ends.how c.args.slot.now c.take.new.self c.in-Some.client more
-          c.in-Some.ensures.value c.take.ensures.after (subst (λ n. IsPiece n Writes more) first piece) ((ends login).0 limits)
-          (subst (λ x. Leaves c.in-Ends.how login (view_of g.S.Served.who g.N.Network.number x) more)
-          c.deref_mut.ensures.value (ends login).1),
+      λ limits. did_left (λ b. view_of g.S.Served.who g.N.Network.number b.value) limits Writes c.in-Ends.how c.args.slot.now c.take.new.self c.in-Some.client more
+          c.in-Some.ensures.value c.take.ensures.after (subst (λ n. IsPiece n Writes more) first piece) (ends.0 limits)
+          (subst (λ x. Leaves c.in-Ends.how (view_of g.S.Served.who g.N.Network.number x) more)
+          c.deref_mut.ensures.value ends.1),
     )
 
 pub returns-clause-did : goal.returns-clause-did
@@ -45,10 +45,10 @@ returns-clause-did g c = elim c.match-tell.branch [
         more,
         log,
         none,
-        λ login limits. did_stay (λ b. view_of g.S.Served.who g.N.Network.number b.value) login limits Writes c.args.slot.now c.in-Some.client (view_of g.S.Served.who g.N.Network.number c.tell.new.client) more
+        λ limits. did_stay (λ b. view_of g.S.Served.who g.N.Network.number b.value) limits Writes c.args.slot.now c.in-Some.client (view_of g.S.Served.who g.N.Network.number c.tell.new.client) more
             c.in-Some.ensures.value (c.tell.ensures.same ∙ first) (subst (λ n. IsPiece n Writes more) first piece)
-            (subst (λ x. Stays login (view_of g.S.Served.who g.N.Network.number x) (view_of g.S.Served.who g.N.Network.number c.tell.new.client) more)
-            c.deref_mut.ensures.value (stays login)),
+            (subst (λ x. Stays (view_of g.S.Served.who g.N.Network.number x) (view_of g.S.Served.who g.N.Network.number c.tell.new.client) more)
+            c.deref_mut.ensures.value stays),
       )
   | in-Drained w ↦
       let (more, log, piece, none, stays) = w.in-Drained.ensures.goes in
@@ -56,10 +56,10 @@ returns-clause-did g c = elim c.match-tell.branch [
         more,
         log,
         none,
-        λ login limits. did_stay (λ b. view_of g.S.Served.who g.N.Network.number b.value) login limits Writes c.args.slot.now c.in-Some.client (view_of g.S.Served.who g.N.Network.number c.tell.new.client) more
+        λ limits. did_stay (λ b. view_of g.S.Served.who g.N.Network.number b.value) limits Writes c.args.slot.now c.in-Some.client (view_of g.S.Served.who g.N.Network.number c.tell.new.client) more
             c.in-Some.ensures.value (c.tell.ensures.same ∙ first) (subst (λ n. IsPiece n Writes more) first piece)
-            (subst (λ x. Stays login (view_of g.S.Served.who g.N.Network.number x) (view_of g.S.Served.who g.N.Network.number c.tell.new.client) more)
-            c.deref_mut.ensures.value (stays login)),
+            (subst (λ x. Stays (view_of g.S.Served.who g.N.Network.number x) (view_of g.S.Served.who g.N.Network.number c.tell.new.client) more)
+            c.deref_mut.ensures.value stays),
       )
   | in-Blocked w ↦
       let (more, log, piece, none, stays) = w.in-Blocked.ensures.goes in
@@ -67,9 +67,9 @@ returns-clause-did g c = elim c.match-tell.branch [
         more,
         log,
         none,
-        λ login limits. did_stay (λ b. view_of g.S.Served.who g.N.Network.number b.value) login limits Writes c.args.slot.now c.in-Some.client (view_of g.S.Served.who g.N.Network.number c.tell.new.client) more
+        λ limits. did_stay (λ b. view_of g.S.Served.who g.N.Network.number b.value) limits Writes c.args.slot.now c.in-Some.client (view_of g.S.Served.who g.N.Network.number c.tell.new.client) more
             c.in-Some.ensures.value (c.tell.ensures.same ∙ first) (subst (λ n. IsPiece n Writes more) first piece)
-            (subst (λ x. Stays login (view_of g.S.Served.who g.N.Network.number x) (view_of g.S.Served.who g.N.Network.number c.tell.new.client) more)
-            c.deref_mut.ensures.value (stays login)),
+            (subst (λ x. Stays (view_of g.S.Served.who g.N.Network.number x) (view_of g.S.Served.who g.N.Network.number c.tell.new.client) more)
+            c.deref_mut.ensures.value stays),
       )
 ]

@@ -11,7 +11,7 @@ cut_more heard chunk after rest bytes h e =
 
 pub loop-alloc-init : goal.loop-alloc-init
 loop-alloc-init g c = record {
-  steps = ([], [], refl, Steps-none _ _ _ _ _ _);
+  steps = ([], [], refl, Steps-none _ _ _ _ _);
   left = omega arith;
   more = omega arith;
   logins = refl;
@@ -26,29 +26,29 @@ returns-in_default-clause-steps g c =
       turns ++ [],
       append-nil (used ++ c.loop-alloc.rest.now) ∙ cut,
       refl,
-      Steps-append _ _ used c.loop-alloc.rest.now turns [] false _ _ _ _ _ _ _ _ _ _ _ _ steps
-          (Steps-held _ _ c.loop-alloc.rest.now _ _ _ _ _ c.in_default.ensures c.hold.ensures),
+      Steps-append _ used c.loop-alloc.rest.now turns [] false _ _ _ _ _ _ _ _ _ _ _ _ steps
+          (Steps-held _ c.loop-alloc.rest.now _ _ _ _ _ c.in_default.ensures c.hold.ensures),
     )
 
 pub returns-then-run_line-clause-steps : goal.returns-then-run_line-clause-steps
 returns-then-run_line-clause-steps g c =
     let (used, turns, cut, steps) = c.loop-alloc.invariant.steps in
     let k = c.run_line.ensures.steps in
-    let more = rw (c.loop-alloc.invariant.logins, c.if-run_line.true) at k.1 in
+    let more = rw c.if-run_line.true at k.1 in
     let line = c.in-Some.chunk.now ++ 10 ∷ [] in (
       used ++ line,
       c.in-Some.after.now,
       turns ++ k.0 ∷ [],
       cut_more used c.in-Some.chunk.now c.in-Some.after.now c.loop-alloc.rest.now c.args.bytes.now cut c.in-Some.ensures.1,
       omega arith,
-      Steps-append _ _ used line turns (k.0 ∷ []) _ _ _ _ _ _ _ _ _ _ _ _ _ steps more,
+      Steps-append _ used line turns (k.0 ∷ []) _ _ _ _ _ _ _ _ _ _ _ _ _ steps more,
     )
 
 pub loop-alloc-preserved : goal.loop-alloc-preserved
 loop-alloc-preserved g c =
     let (used, turns, cut, steps) = c.loop-alloc.invariant.steps in
     let k = c.run_line.ensures.steps in
-    let more = rw (c.loop-alloc.invariant.logins, c.if-run_line.false) at k.1 in
+    let more = rw c.if-run_line.false at k.1 in
     let line = c.in-Some.chunk.now ++ 10 ∷ [] in
     let longer = ap length more.text in
     record {
@@ -56,7 +56,7 @@ loop-alloc-preserved g c =
         used ++ line,
         turns ++ k.0 ∷ [],
         cut_more used c.in-Some.chunk.now c.in-Some.after.now c.loop-alloc.rest.now c.args.bytes.now cut c.in-Some.ensures.1,
-        Steps-append _ _ used line turns (k.0 ∷ []) _ _ _ _ _ _ _ _ _ _ _ _ _ steps more,
+        Steps-append _ used line turns (k.0 ∷ []) _ _ _ _ _ _ _ _ _ _ _ _ _ steps more,
       );
       left = omega (arith, ap length c.in-Some.ensures.1, length-append c.in-Some.chunk.now (10 ∷ c.in-Some.after.now), c.loop-alloc.invariant.left);
       more = omega (arith, longer, length-append {A = ℕ}, c.loop-alloc.invariant.more);

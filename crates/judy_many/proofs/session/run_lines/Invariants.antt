@@ -2,12 +2,13 @@ use Rattle.std.proofs.Common.{◌≡◌, ◌≤◌, ◌++◌, false, ℕ, List, 
 use Rattle.std.specs.Prelude.{option_map}
 use Rattle.judy_protocol.specs.Services.{HasLoggedIn}
 use Rattle.judy_many.specs.Sessions.{Steps, Turn}
+use Rattle.judy_many.specs.Rules.{rules_of}
 use Rattle.judy_many.proofs.session.run_lines.Given as goal
 
 abbrev pub invariant-loop-alloc : goal.invariant-loop-alloc
 invariant-loop-alloc g l = record {
   steps : (used : List ℕ) × (turns : List Turn) × (used ++ l.rest ≡ l.bytes)
-      × Steps g.S.Served.made (g.S.Served.seen l.fn.service).logins used turns false l.fn.session.held l.session.held
+      × Steps (rules_of g.S.Served.made g.S.Served.seen g.S.Shows.noted g.S.Shows.status) used turns false l.fn.session.held l.session.held
       (option_map g.S.Served.who l.fn.session.speaker) (option_map g.S.Served.who l.session.speaker)
       l.fn.service l.service l.fn.answers.items l.answers.items;
   left : length l.rest ≤ length l.bytes;

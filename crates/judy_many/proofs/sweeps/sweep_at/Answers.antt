@@ -14,7 +14,7 @@ returns-in_default-clause-did g c = (
   [],
   no_log _,
   refl,
-  λ login. did_none (λ b. view_of g.S.Served.who g.N.Network.number b.value) login c.args.limits Sweeps c.args.slot.now c.take.new.self (sym c.take.ensures.value ∙ c.in_default.is) c.take.ensures.after,
+  did_none (λ b. view_of g.S.Served.who g.N.Network.number b.value) c.args.limits Sweeps c.args.slot.now c.take.new.self (sym c.take.ensures.value ∙ c.in_default.is) c.take.ensures.after,
 )
 
 pub returns-in-Some-overdue-clause-did : goal.returns-in-Some-overdue-clause-did
@@ -23,7 +23,7 @@ returns-in-Some-overdue-clause-did g c = (
   subst (λ n. DidLog (g.N.Network.log c.args.network.now) (Closed n c.in-Some-overdue.how ∷ []) (g.N.Network.log c.close.new.self))
       (ap (λ x. g.N.Network.number x.connection) c.deref_mut.ensures.value) c.close.ensures,
   refl,
-  λ login. did_idle (λ b. view_of g.S.Served.who g.N.Network.number b.value) login c.args.limits Sweeps c.in-Some-overdue.how c.args.slot.now c.take.new.self c.in-Some.client
+  did_idle (λ b. view_of g.S.Served.who g.N.Network.number b.value) c.args.limits Sweeps c.in-Some-overdue.how c.args.slot.now c.take.new.self c.in-Some.client
       c.in-Some-overdue.ensures.disorderly c.in-Some-overdue.ensures.reason c.in-Some-overdue.ensures.allowed c.in-Some.ensures.value c.take.ensures.after,
 )
 
@@ -32,6 +32,6 @@ returns-clause-did g c = (
   [],
   no_log _,
   refl,
-  λ login. did_stay (λ b. view_of g.S.Served.who g.N.Network.number b.value) login c.args.limits Sweeps c.args.slot.now c.in-Some.client (view_of g.S.Served.who g.N.Network.number c.in-Some.client.value) [] c.in-Some.ensures.value refl
-      (piece_none _ Sweeps) (stays_none login _),
+  did_stay (λ b. view_of g.S.Served.who g.N.Network.number b.value) c.args.limits Sweeps c.args.slot.now c.in-Some.client (view_of g.S.Served.who g.N.Network.number c.in-Some.client.value) [] c.in-Some.ensures.value refl
+      (piece_none _ Sweeps) (stays_none _),
 )

@@ -1,0 +1,59 @@
+-- Lines of one connection where the names and tokens stayed.
+--     texts_are        the answers, by the definition of a connection's answers
+--     whole_is         all answers of a connection that was closed in order
+--     own_use          the lines of one connection are among all lines
+use Rattle.std.proofs.Common.{◌≡◌, ℕ, true, false, List, [], ◌∷◌, ◌++◌, length, Option, None, sym, ◌∙◌, ap, subst, refl, append-nil}
+use Rattle.std.specs.Prelude.{if◌then◌else◌}
+use Rattle.judy_model.proofs.lemmas.StreamLemmas.{answer_from-append}
+use Rattle.judy_model.specs.Speakers.{Speaker}
+use Rattle.judy_model.specs.Stream.{Login, answer, event_of, events_from, answer_from, speaker_after}
+use Rattle.judy_many.specs.Lives.{IsWhole, read_in, wrote_in}
+use Rattle.judy_many.specs.Nets.{Act}
+use Rattle.judy_many.specs.Sessions.{Speaks, Turn, UseLogin, lines_in, replies_in, text_of, texts}
+use Rattle.judy_many.specs.Stories.{Story, belongs, own, turns_in}
+use Rattle.judy_many.specs.Stories.Moment.{Did, Ran}
+use Rattle.judy_many.proofs.Stepping.{answer_is}
+
+-- the answers to one session's lines, by the definition of a connection's answers
+pub texts_are : (login : Login) (who last : Option Speaker) (ts : List Turn) → UseLogin login ts → Speaks who ts last
+    → texts ts ≡ answer_from login who (lines_in ts) (replies_in ts)
+texts_are login who last [] kept h = refl
+texts_are login who last (t ∷ ts) kept h =
+    let one : length t.replies ≡ length (events_from login who (t.line ∷ []))
+    = h.1 ∙ ap (λ w. length (event_of t.line w)) h.0 ∙ ap length (sym (append-nil (event_of t.line who))) in
+    let text : text_of t ≡ answer_from login t.who (t.line ∷ []) t.replies
+    = ap (λ w. answer_from (λ name token. w) t.who (t.line ∷ []) t.replies) kept.0 ∙ sym (answer_is login t.who t.line t.replies) in
+    let later : t.after ≡ speaker_after login who t.line = kept.0 ∙ ap (λ w. speaker_after login w t.line) h.0 in
+    ap (λ v. v ++ texts ts) (text ∙ ap (λ w. answer_from login w (t.line ∷ []) t.replies) h.0)
+    ∙ ap (λ v. answer_from login who (t.line ∷ []) t.replies ++ v) (texts_are login (speaker_after login who t.line) last ts kept.1 (subst (λ w. Speaks w ts last) later h.2))
+    ∙ sym (answer_from-append login who (t.line ∷ []) (lines_in ts) t.replies (replies_in ts) one)
+
+-- what was written to a connection that was closed in order
+pub whole_is : (login : Login) (acts : List Act) (turns : List Turn) → UseLogin login turns → IsWhole acts turns
+    → wrote_in acts ≡ answer login (read_in acts) (replies_in turns)
+whole_is login acts turns kept w = w.text ∙ texts_are login None w.last_who turns kept w.speaks ∙ ap (λ ls. answer_from login None ls (replies_in turns)) w.ran
+
+-- ---- the lines of one connection are among all lines
+
+UseLogin-append : (login : Login) (ts us : List Turn) → UseLogin login ts → UseLogin login us → UseLogin login (ts ++ us)
+UseLogin-append login [] us h k = k
+UseLogin-append login (t ∷ ts) us h k = (h.0, UseLogin-append login ts us h.1 k)
+
+first_use : (login : Login) (ts us : List Turn) → UseLogin login (ts ++ us) → UseLogin login ts × UseLogin login us
+first_use login [] us h = (tt, h)
+first_use login (t ∷ ts) us h = let rest = first_use login ts us h.1 in ((h.0, rest.0), rest.1)
+
+-- those of one connection
+pub own_use : (login : Login) (n : ℕ) (story : Story) → UseLogin login (turns_in story) → UseLogin login (turns_in (own n story))
+own_use login n [] h = tt
+own_use login n (Did a ∷ story) h =
+    elim (belongs n (Did a)) as (λ b. UseLogin login (turns_in (if b then Did a ∷ own n story else own n story))) [
+      | true ↦ own_use login n story h
+      | false ↦ own_use login n story h
+    ]
+own_use login n (Ran m turns ∷ story) h =
+    let parts = first_use login turns (turns_in story) h in
+    elim (belongs n (Ran m turns)) as (λ b. UseLogin login (turns_in (if b then Ran m turns ∷ own n story else own n story))) [
+      | true ↦ UseLogin-append login turns (turns_in (own n story)) parts.0 (own_use login n story parts.1)
+      | false ↦ own_use login n story parts.1
+    ]

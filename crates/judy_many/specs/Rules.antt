@@ -1,0 +1,22 @@
+-- What a service does with lines, and what is seen of it.
+--     Rules S         the steps of a service of kind S, and what they are judged by
+use Rattle.std.specs.Prelude.{ℕ, List}
+use Rattle.judy_model.specs.Stream.{Heard}
+use Rattle.judy_protocol.specs.Services.{Made, Seen}
+
+-- the step of counting a line that was run: what it asked for, and its answer
+abbrev pub Noted : Type 0 → Type 1
+Noted S = S → Heard → List ℕ → S → Type 0
+
+pub record Rules (S : Type 0) : Type 1 where
+  -- the step of a call, with its reply
+  pub made : Made S
+  -- what a connection relies on
+  pub seen : S → Seen
+  -- the step of counting a line
+  pub noted : Noted S
+  -- the text of the status
+  pub status : S → List ℕ
+
+abbrev pub rules_of : {S : Type 0} → Made S → (S → Seen) → Noted S → (S → List ℕ) → Rules S
+rules_of made seen noted status = record { made = made; seen = seen; noted = noted; status = status }
