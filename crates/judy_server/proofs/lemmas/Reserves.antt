@@ -19,8 +19,8 @@ use Rattle.judy_table.specs.declared.tenant.Tenant.{Tenant}
 use Rattle.judy_tenants.specs.Held.{Held, IsCallOf, IsSoundService, all_quotas, quotas_of}
 use Rattle.judy_tenants.specs.Runs.{AreCallsOf, NoneForMemory}
 use Rattle.judy_tenants.proofs.lemmas.Enough.{HasEnough, HasRoom, enough-for-call, enough-stays, room-for-run, room-stays}
-use Rattle.judy_server.specs.Served.{IsServedStep, IsNewService, seen_of}
-use Rattle.judy_server.specs.Status.{status_of}
+use Rattle.judy_server.specs.Rules.{server_rules}
+use Rattle.judy_server.specs.Served.{IsServedStep, IsNewService}
 use Rattle.judy_server.specs.Tally.{Tallied}
 
 -- so many megabytes are enough: one for 64 pieces of all quotas, and 190 more
@@ -69,14 +69,15 @@ abbrev pub NoTurnForMemory : List Turn → Type 0
 NoTurnForMemory [] = Unit {0}
 NoTurnForMemory (t ∷ turns) = NoneForMemory (zip (event_of t.line t.who) t.replies) × NoTurnForMemory turns
 
-pub turns-served : (before : Tallied) (turns : List Turn) (after : Tallied) → IsAmple before.held → AreTurns IsServedStep before turns after → NoTurnForMemory turns
+pub turns-served : (before : Tallied) (turns : List Turn) (after : Tallied) → IsAmple before.held → AreTurns server_rules before turns after → NoTurnForMemory turns
 turns-served before [] after a run = tt
 turns-served before (t ∷ turns) after a (mid, one, run) =
-    (made-served before _ mid a one.1, turns-served mid turns after (stays-ample before _ mid a one.1) run)
+    let kept : mid.held ≡ one.mid.held = ap (λ (s : Tallied). s.held) one.noted in
+    (made-served before _ one.mid a one.calls, turns-served mid turns after (subst IsAmple (sym kept) (stays-ample before _ one.mid a one.calls)) run)
 
 -- a server that began with so many megabytes refuses no call for memory, whatever is called
 pub never-memory : (secret config socket : List ℕ) (watch : Option (List ℕ)) (megabytes : ℕ) (limits : Limits) (how : Ending) (log log' : Log)
-    → (h : HasServedAll IsServedStep status_of seen_of (IsNewService secret (Some megabytes)) config socket watch limits how log log')
+    → (h : HasServedAll server_rules (IsNewService secret (Some megabytes)) config socket watch limits how log log')
     → IsMuch megabytes h.begun.opened.tenants → NoTurnForMemory (turns_in h.hosted.story)
 never-memory secret config socket watch megabytes limits how log log' h much =
     let new = h.begun.opened.fresh in
