@@ -155,12 +155,7 @@ fn add_totals<H: KeyHash>(
 }
 
 /// A number of a tenant.
-fn number<H: KeyHash>(
-    service: &Service<H>,
-    tally: &Tally,
-    share: Share,
-    tenant: TenantId,
-) -> u64
+fn number<H: KeyHash>(service: &Service<H>, tally: &Tally, share: Share, tenant: TenantId) -> u64
     requires { tenant < length service.now.tenants }
     ensures { result ≡ number_of (tallied service.now tally.now) share tenant }
 {
@@ -186,7 +181,13 @@ fn add_shares<H: KeyHash>(
     for place in 0..service.tenants() {
         let tenant = service.tenant(place);
         let n = number(service, tally, share, tenant);
-        add_if(text, Metric::Share(share), b"tenant", service.name(tenant), n)?;
+        add_if(
+            text,
+            Metric::Share(share),
+            b"tenant",
+            service.name(tenant),
+            n,
+        )?;
     }
     Ok(())
 }
@@ -248,7 +249,13 @@ fn add_kinds(text: &mut Vec<u8>, tally: &Tally) -> Result<(), AllocError>
 {
     for place in 0..KINDS {
         let n = count_at(&tally.replies, place);
-        add_if(text, Metric::Replies, b"kind", reply_kind(place).as_bytes(), n)?;
+        add_if(
+            text,
+            Metric::Replies,
+            b"kind",
+            reply_kind(place).as_bytes(),
+            n,
+        )?;
     }
     Ok(())
 }

@@ -145,8 +145,7 @@ fn announce(rt: &HostRuntime, job: &Job, system: &mut System<'_, HostRuntime>) {
         return;
     };
     let (file, path) = (config.0.as_str(), socket.0.as_str());
-    let line = format!(
-        in rt.alloc();
+    let line = format!(in rt.alloc();
         "judyd: {VERSION} started: table {file}, socket {path}, {clients} clients"
     );
     if let Ok(line) = line {
