@@ -9,6 +9,9 @@ ghost use Rattle.judy_command.specs.CommandLine.{serve_app, valued_rule, with_li
 use clap::{Arg, ArgAction, Command};
 use std::alloc::{AllocError, Global};
 
+/// The version of the program.
+pub const VERSION: &str = "1.0.0";
+
 /// The text below the help of `run`.
 const RUN_EXAMPLES: &str = "Examples:
   judyd run < samples/first.txt
@@ -200,7 +203,7 @@ pub fn judyd_command<'a>(alloc: Global) -> Result<Command<'a>, AllocError>
     let serve = serve_command(alloc)?;
     let about = "Judy arrays for many tenants, behind a line protocol";
     described(alloc, "judyd", about, EXAMPLES)
-        .version("1.0.0")
+        .version(VERSION)
         .no_binary_name(true)
         .subcommand_required(true)
         .subcommand(run)?

@@ -4,4 +4,5 @@
 mod commands;
 mod words;
 
+pub use commands::VERSION;
 pub use words::{Job, Refusal, Word, parse_words};

@@ -5,7 +5,10 @@ use arrayvec::ArrayVec;
 use itoa::Buffer;
 
 /// The most bytes of the text.
-const TEXT_LIMIT: usize = 2048;
+const TEXT_LIMIT: usize = 4096;
+
+/// The text, as it grows.
+type Text = ArrayVec<u8, TEXT_LIMIT>;
 
 /// Connections and bytes since the start.
 #[derive(Clone, Copy, Debug)]
@@ -27,12 +30,43 @@ fn up(count: u64) -> u64 {
     count.saturating_add(1)
 }
 
+/// Appends bytes.
+fn push(text: &mut Text, part: &[u8]) {
+    let _ = text.try_extend_from_slice(part);
+}
+
 /// Appends a line: a name and its number.
-fn add(text: &mut ArrayVec<u8, TEXT_LIMIT>, name: &[u8], n: u64) {
+fn add(text: &mut Text, name: &[u8], n: u64) {
     let mut buffer = Buffer::new();
-    let _ = text.try_extend_from_slice(name);
-    let _ = text.try_extend_from_slice(buffer.format(n).as_bytes());
-    let _ = text.try_extend_from_slice(b"\n");
+    push(text, name);
+    push(text, b" ");
+    push(text, buffer.format(n).as_bytes());
+    push(text, b"\n");
+}
+
+/// Appends what a metric tells, and what kind of number it is.
+fn add_heading(text: &mut Text, name: &[u8], help: &[u8], kind: &[u8]) {
+    push(text, b"# HELP ");
+    push(text, name);
+    push(text, b" ");
+    push(text, help);
+    push(text, b"\n# TYPE ");
+    push(text, name);
+    push(text, b" ");
+    push(text, kind);
+    push(text, b"\n");
+}
+
+/// Appends a number that may fall.
+fn add_gauge(text: &mut Text, name: &[u8], help: &[u8], n: u64) {
+    add_heading(text, name, help, b"gauge");
+    add(text, name, n);
+}
+
+/// Appends a number that never falls.
+fn add_counter(text: &mut Text, name: &[u8], help: &[u8], n: u64) {
+    add_heading(text, name, help, b"counter");
+    add(text, name, n);
 }
 
 impl Counts {
@@ -97,68 +131,89 @@ impl Counts {
         self.accepted.saturating_sub(first.saturating_add(rest))
     }
 
-    /// The text, with the seconds since the start.
-    pub fn text(&self, seconds: u64) -> ArrayVec<u8, TEXT_LIMIT> {
-        let mut text = ArrayVec::new();
-        let t = &mut text;
-        add(
-            t,
-            b"# TYPE judyd_connections gauge\njudyd_connections ",
-            self.open(),
+    /// Appends how connections ended.
+    fn add_ended(&self, text: &mut Text) {
+        add_heading(
+            text,
+            b"judyd_connections_ended_total",
+            b"Connections that ended, by cause.",
+            b"counter",
         );
         add(
-            t,
-            b"# TYPE judyd_connections_accepted_total counter\njudyd_connections_accepted_total ",
-            self.accepted,
-        );
-        add(
-            t,
-            b"# TYPE judyd_connections_ended_total counter\njudyd_connections_ended_total{cause=\"quit\"} ",
+            text,
+            b"judyd_connections_ended_total{cause=\"quit\"}",
             self.quit,
         );
         add(
-            t,
-            b"judyd_connections_ended_total{cause=\"end\"} ",
+            text,
+            b"judyd_connections_ended_total{cause=\"end\"}",
             self.end,
         );
         add(
-            t,
-            b"judyd_connections_ended_total{cause=\"fault\"} ",
+            text,
+            b"judyd_connections_ended_total{cause=\"fault\"}",
             self.fault,
         );
         add(
-            t,
-            b"judyd_connections_ended_total{cause=\"idle\"} ",
+            text,
+            b"judyd_connections_ended_total{cause=\"idle\"}",
             self.idle,
         );
         add(
-            t,
-            b"judyd_connections_ended_total{cause=\"turn\"} ",
+            text,
+            b"judyd_connections_ended_total{cause=\"turn\"}",
             self.turn,
         );
         add(
-            t,
-            b"judyd_connections_ended_total{cause=\"memory\"} ",
+            text,
+            b"judyd_connections_ended_total{cause=\"memory\"}",
             self.memory,
         );
-        add(
-            t,
-            b"# TYPE judyd_accepts_failed_total counter\njudyd_accepts_failed_total ",
+    }
+
+    /// Appends the connections.
+    fn add_connections(&self, text: &mut Text) {
+        add_gauge(text, b"judyd_connections", b"Connections now.", self.open());
+        add_counter(
+            text,
+            b"judyd_connections_accepted_total",
+            b"Connections that were accepted.",
+            self.accepted,
+        );
+        self.add_ended(text);
+        add_counter(
+            text,
+            b"judyd_accepts_failed_total",
+            b"Connections that could not be accepted.",
             self.failed,
         );
-        add(
-            t,
-            b"# TYPE judyd_bytes_received_total counter\njudyd_bytes_received_total ",
+    }
+
+    /// Appends the bytes.
+    fn add_bytes(&self, text: &mut Text) {
+        add_counter(
+            text,
+            b"judyd_bytes_received_total",
+            b"Bytes that came from clients.",
             self.received,
         );
-        add(
-            t,
-            b"# TYPE judyd_bytes_sent_total counter\njudyd_bytes_sent_total ",
+        add_counter(
+            text,
+            b"judyd_bytes_sent_total",
+            b"Bytes that went to clients.",
             self.sent,
         );
-        add(
-            t,
-            b"# TYPE judyd_uptime_seconds gauge\njudyd_uptime_seconds ",
+    }
+
+    /// The text, with the seconds since the start.
+    pub fn text(&self, seconds: u64) -> Text {
+        let mut text = ArrayVec::new();
+        self.add_connections(&mut text);
+        self.add_bytes(&mut text);
+        add_gauge(
+            &mut text,
+            b"judyd_uptime_seconds",
+            b"Seconds since the start.",
             seconds,
         );
         text

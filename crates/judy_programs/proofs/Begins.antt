@@ -6,9 +6,9 @@ use Rattle.judy_many.specs.Nets.{Act, DidLog, Step}
 use Rattle.judy_many.specs.Nets.Act.{Asked}
 use Rattle.judy_many.specs.Nets.Step.{Bound, Opened, Shut}
 use Rattle.judy_many.specs.Crowds.{HasServedMany}
+use Rattle.judy_many.specs.Rules.{Rules}
 use Rattle.judy_many.specs.declared.serve.Ending.{Ending}
 use Rattle.judy_many.specs.declared.serve.Limits.{Limits}
-use Rattle.judy_protocol.specs.Services.{Made, Seen}
 use Rattle.judy_protocol.specs.Serving.{MaybeBytes}
 use Rattle.judy_programs.specs.Asking.{Log, Logs}
 use Rattle.judy_programs.specs.Hosting.{Checks, HasBegun, HasNoReserve, HasServedAll, Hosts, Refuses, Watches, watched}
@@ -98,24 +98,24 @@ module _ {S : Type 0} (is_new : Option ℕ → List Tenant → S → Type 0) (re
   checks_none hosted.Memory config log log' h = h
   checks_none hosted.Reserve config log log' h = h
 
-  pub hosts_none : (made : Made S) (status : S → List ℕ) (seen : S → Seen) (how : Hosted) (config socket : List ℕ) (watch : Option (List ℕ)) (limits : Limits) (log log' : Log)
-      → Refuses is_new reserve how config log log' → Hosts made status seen is_new reserve how config socket watch limits log log'
-  hosts_none made status seen hosted.Done config socket watch limits log log' h = absurd h
-  hosts_none made status seen hosted.Stopped config socket watch limits log log' h = absurd h
-  hosts_none made status seen hosted.Socket config socket watch limits log log' h = absurd h
-  hosts_none made status seen hosted.Config config socket watch limits log log' h = h
-  hosts_none made status seen hosted.Long config socket watch limits log log' h = h
-  hosts_none made status seen (hosted.Table f) config socket watch limits log log' h = h
-  hosts_none made status seen hosted.Memory config socket watch limits log log' h = inl h
-  hosts_none made status seen hosted.Reserve config socket watch limits log log' h = h
+  pub hosts_none : (rules : Rules S) (how : Hosted) (config socket : List ℕ) (watch : Option (List ℕ)) (limits : Limits) (log log' : Log)
+      → Refuses is_new reserve how config log log' → Hosts rules is_new reserve how config socket watch limits log log'
+  hosts_none rules hosted.Done config socket watch limits log log' h = absurd h
+  hosts_none rules hosted.Stopped config socket watch limits log log' h = absurd h
+  hosts_none rules hosted.Socket config socket watch limits log log' h = absurd h
+  hosts_none rules hosted.Config config socket watch limits log log' h = h
+  hosts_none rules hosted.Long config socket watch limits log log' h = h
+  hosts_none rules (hosted.Table f) config socket watch limits log log' h = h
+  hosts_none rules hosted.Memory config socket watch limits log log' h = inl h
+  hosts_none rules hosted.Reserve config socket watch limits log log' h = h
 
 -- ---- a service and its sockets
 
-module _ {S : Type 0} (made : Made S) (status : S → List ℕ) (seen : S → Seen) (is_new : List Tenant → S → Type 0) where
+module _ {S : Type 0} (rules : Rules S) (is_new : List Tenant → S → Type 0) where
   -- the file gave a service, then the sockets were made, and connections were served
   pub served_all : (config socket : List ℕ) (watch : Option (List ℕ)) (limits : Limits) (how : Ending) (log start bound mid log' : Log) (before after : S)
       → HasBegun is_new config log start before → socket ≢ [] → Logs start (Bound socket ∷ []) bound → Watches true watch bound mid
-      → HasServedMany made status seen limits how mid log' before after → HasServedAll made status seen is_new config socket watch limits how log log'
+      → HasServedMany rules limits how mid log' before after → HasServedAll rules is_new config socket watch limits how log log'
   served_all config socket watch limits how log start bound mid log' before after begun path first watches hosted = record {
     before = before;
     after = after;

@@ -1,5 +1,5 @@
--- What `judyd serve` does, for any kind S of service: the step of a call (`made`), the text of its
--- status (`status`), the visible state (`seen`), and when the service is new (`is_new`).
+-- What `judyd serve` does, for any kind S of service: what it does with lines, and what is seen of it
+-- (`rules`), and when the service is new (`is_new`).
 --     Checks hosted ..        the table's file was checked; no socket was made
 --     HasNoReserve ..         there is a service, and not the memory that was to be taken for it
 --     HasServedAll how ..     there is a service and a socket, and connections were served at once
@@ -10,7 +10,7 @@ use Rattle.judy_many.specs.Nets.Step.{Bound, Opened, Shut, Unbound, Unopened, Un
 use Rattle.judy_many.specs.declared.serve.Ending.{Ending}
 use Rattle.judy_many.specs.declared.serve.Ending.TheVariants as ending
 use Rattle.judy_many.specs.declared.serve.Limits.{Limits}
-use Rattle.judy_protocol.specs.Services.{Made, Seen}
+use Rattle.judy_many.specs.Rules.{Rules}
 use Rattle.judy_protocol.specs.Serving.{MaybeBytes}
 use Rattle.judy_table.specs.declared.tenant.Tenant.{Tenant}
 use Rattle.judy_many.specs.Nets.{Step}
@@ -90,7 +90,7 @@ Watches false (Some path) log log' = ((path ≡ []) × Logs log [] log') ⊎ ((p
 
 -- ---- the connections
 
-module _ {S : Type 0} (made : Made S) (status : S → List ℕ) (seen : S → Seen) (is_new : List Tenant → S → Type 0) where
+module _ {S : Type 0} (rules : Rules S) (is_new : List Tenant → S → Type 0) where
   -- The file gave a service, then a socket was made, and the status socket if one is wanted, and then
   -- the connections that came were served, many at once. One log has all acts, from the opening of
   -- the file to the last close.
@@ -103,7 +103,7 @@ module _ {S : Type 0} (made : Made S) (status : S → List ℕ) (seen : S → Se
     pub path : socket ≢ []
     pub status_path : watch ≢ Some []
     pub asked : Logs start (Bound socket ∷ watched watch) mid
-    pub hosted : HasServedMany made status seen limits how mid log' before after
+    pub hosted : HasServedMany rules limits how mid log' before after
 
   -- there is a service, and a socket is missing
   pub record HasNoSocket (config socket : List ℕ) (watch : Option (List ℕ)) (log log' : Log) : Type 0 where
@@ -115,15 +115,15 @@ module _ {S : Type 0} (made : Made S) (status : S → List ℕ) (seen : S → Se
 
 -- ---- the whole, by how it ended
 
-module _ {S : Type 0} (made : Made S) (status : S → List ℕ) (seen : S → Seen) (is_new : Option ℕ → List Tenant → S → Type 0) (reserve : Option ℕ) where
+module _ {S : Type 0} (rules : Rules S) (is_new : Option ℕ → List Tenant → S → Type 0) (reserve : Option ℕ) where
   abbrev pub Hosts : Hosted → List ℕ → List ℕ → Option (List ℕ) → Limits → Log → Log → Type 0
-  Hosts hosted.Done config socket watch limits log log' = HasServedAll made status seen (is_new reserve) config socket watch limits ending.Done log log'
-  Hosts hosted.Stopped config socket watch limits log log' = HasServedAll made status seen (is_new reserve) config socket watch limits ending.Stopped log log'
-  Hosts hosted.Socket config socket watch limits log log' = HasNoSocket made status seen (is_new reserve) config socket watch log log'
-      ⊎ HasServedAll made status seen (is_new reserve) config socket watch limits ending.Socket log log'
+  Hosts hosted.Done config socket watch limits log log' = HasServedAll rules (is_new reserve) config socket watch limits ending.Done log log'
+  Hosts hosted.Stopped config socket watch limits log log' = HasServedAll rules (is_new reserve) config socket watch limits ending.Stopped log log'
+  Hosts hosted.Socket config socket watch limits log log' = HasNoSocket rules (is_new reserve) config socket watch log log'
+      ⊎ HasServedAll rules (is_new reserve) config socket watch limits ending.Socket log log'
   Hosts hosted.Config config socket watch limits log log' = Refuses is_new reserve hosted.Config config log log'
   Hosts hosted.Long config socket watch limits log log' = Refuses is_new reserve hosted.Long config log log'
   Hosts (hosted.Table f) config socket watch limits log log' = Refuses is_new reserve (hosted.Table f) config log log'
   Hosts hosted.Memory config socket watch limits log log' = Refuses is_new reserve hosted.Memory config log log'
-      ⊎ HasServedAll made status seen (is_new reserve) config socket watch limits ending.Memory log log'
+      ⊎ HasServedAll rules (is_new reserve) config socket watch limits ending.Memory log log'
   Hosts hosted.Reserve config socket watch limits log log' = Refuses is_new reserve hosted.Reserve config log log'

@@ -1,5 +1,6 @@
 //! The whole of `judyd serve`: the table, the socket, and many connections at once.
 ghost use Rattle.std.specs.Prelude.{◌≡◌, ◌≤◌, ℕ, List, None, IfErr, IfOk, IsFalse, IsSome, IsTrue, option_map};
+ghost use Rattle.judy_many.specs.Rules.{rules_of};
 ghost use Rattle.judy_protocol.specs.Serving.{pull_limit};
 ghost use Rattle.judy_programs.specs.Hosting.{Begins, Checks, Hosts as IsHosted, Watches};
 ghost use Rattle.judy_programs.specs.Opening.{HasOpened, IsShut, open_ends, open_faults};
@@ -148,8 +149,8 @@ pub fn host_on<S: Opens + Shows + Drop, H: Hosts>(
     limits: Limits,
 ) -> Hosted
     requires files { (f : H.File) (room : ℕ) → room ≤ pull_limit → H.File.can_pull f room }
-    ensures { IsHosted S.made S.status S.seen (S.is_new secret.now) reserve result config.now socket.now
-        (option_map (λ s. s.now) status.entry) limits (H.log system.old) (H.log system.new) }
+    ensures { IsHosted (rules_of S.made S.seen S.noted S.status) (S.is_new secret.now) reserve result config.now
+        socket.now (option_map (λ s. s.now) status.entry) limits (H.log system.old) (H.log system.new) }
 {
     let begun: Result<S, Hosted> = begin_on(alloc, secret, system, config, reserve);
     let mut service = match begun {

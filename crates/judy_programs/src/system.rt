@@ -6,7 +6,7 @@ use judy_many::{Accept, Connection, Got, How, Network, Put, Question, Queue, Soc
 use judy_stream::Reads;
 use std::alloc::Global;
 use std::fs::{self, Files};
-use std::io::{self, Read};
+use std::io::{self, Eprint, Read};
 use std::net::Net;
 use std::rt::Clock;
 
@@ -39,6 +39,8 @@ pub struct System<'a, F> {
     failed: Option<Failed>,
     unserved: Unserved,
     watched: bool,
+    start: Option<String>,
+    started: bool,
 }
 
 /// Random bytes that nobody can guess, read from this file of the system. None if it gives too few.
@@ -53,7 +55,7 @@ pub fn read_secret<F: Files>(rt: &F, path: &str) -> Option<[u8; 16]> {
     Some(secret)
 }
 
-impl<'a, F: Files + Net + Clock> System<'a, F> {
+impl<'a, F: Files + Net + Clock + Eprint> System<'a, F> {
     /// The system, with no socket yet.
     pub fn new(rt: &'a F) -> Self {
         System {
@@ -65,6 +67,26 @@ impl<'a, F: Files + Net + Clock> System<'a, F> {
                 memory: 0,
             },
             watched: false,
+            start: None,
+            started: false,
+        }
+    }
+
+    /// Sets the line that is told on standard error once clients are waited for.
+    pub fn tell_at_start(&mut self, line: String) {
+        self.start = Some(line);
+    }
+
+    /// Whether clients were waited for.
+    pub fn has_started(&self) -> bool {
+        self.started
+    }
+
+    /// Tells that clients are waited for, once.
+    fn begin(&mut self) {
+        self.started = true;
+        if let Some(line) = self.start.take() {
+            let _ = eprintln!(self.rt; "{line}");
         }
     }
 
@@ -93,7 +115,7 @@ impl<'a, F: Files + Net + Clock> System<'a, F> {
     }
 }
 
-impl<'a, F: Files + Net + Clock> Network for System<'a, F> {
+impl<'a, F: Files + Net + Clock + Eprint> Network for System<'a, F> {
     type Connection = Connection;
 
     ghost log = { λ _. None };
@@ -115,6 +137,9 @@ impl<'a, F: Files + Net + Clock> Network for System<'a, F> {
     }
 
     fn wait(&mut self, time: Option<u32>, queue: &mut Queue) -> Option<bool> {
+        if !self.started {
+            self.begin();
+        }
         let sockets = self.sockets.as_mut()?;
         let told = sockets.wait(time, queue);
         if let Some(e) = sockets.fault() {
@@ -165,7 +190,7 @@ impl<'a, F: Files + Net + Clock> Network for System<'a, F> {
     }
 }
 
-impl<'a, F: Files + Net + Clock> Hosts for System<'a, F> {
+impl<'a, F: Files + Net + Clock + Eprint> Hosts for System<'a, F> {
     type File = Reads<F::File>;
 
     fn secret(&mut self) -> Option<[u8; 16]> {

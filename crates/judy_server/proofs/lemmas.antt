@@ -1,5 +1,7 @@
 -- The lemmas that proofs of other crates may cite. All other files here are private to this crate.
 pub mod Calls
+pub mod Commands
+pub mod Counts
 pub mod Space
 pub mod Starts
 pub mod Reserves

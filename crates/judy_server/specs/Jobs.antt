@@ -12,7 +12,7 @@ use Rattle.judy_programs.specs.Finish.{host_status, host_text, run_status, run_t
 use Rattle.judy_programs.specs.declared.program.Ran.{Ran}
 use Rattle.judy_programs.specs.declared.socket.Hosted.{Hosted}
 use Rattle.judy_server.specs.Served.{IsServedStep, IsNewService, seen_of, held_words}
-use Rattle.judy_server.specs.Status.{status_of}
+use Rattle.judy_server.specs.Rules.{server_rules}
 
 -- the limits of the command line; there are questions if a status socket was asked for
 abbrev pub limits_of : ℕ → ℕ → Option ℕ → Option ℕ → Option (List ℕ) → Limits
@@ -22,7 +22,7 @@ limits_of clients connections idle turn watch = record { clients = clients; conn
 -- arrays, if so many are wanted.
 abbrev pub ServesBy : Bool → List ℕ → Option ℕ → Hosted → List ℕ → List ℕ → Option (List ℕ) → Limits → Log → Log → Type 0
 ServesBy false secret reserve hosted config socket watch limits log log' =
-    Hosts IsServedStep status_of seen_of (IsNewService secret) reserve hosted config socket watch limits log log'
+    Hosts server_rules (IsNewService secret) reserve hosted config socket watch limits log log'
 ServesBy true secret reserve hosted config socket watch limits log log' = Checks (IsNewService secret) reserve hosted config log log'
 
 -- What the job did with a secret: its status and its line on standard error, if any, follow from how it ended for

@@ -1,12 +1,21 @@
 -- The text of the service's status, in the form that Prometheus reads.
 --     sample name n       a line: a name and its number
---     status_of held      the text
-use Rattle.std.specs.Prelude.{ℕ, suc, List, [], ◌∷◌, ◌++◌, codes, decimal}
+--     heading metric      the two lines that come before those of a metric
+--     total_of t total    a number of the whole service, with its counts
+--     number_of t share   a number of the tenant at each place
+--     status_of t         the text
+use Rattle.std.specs.Prelude.{ℕ, suc, List, [], ◌∷◌, ◌++◌, codes, decimal, flat_map, map, slice_index}
 use Rattle.judy_model.specs.Tenant.{pieces, used}
-use Rattle.judy_table.specs.declared.tenant.Tenant.{Tenant}
-use Rattle.judy_tenants.specs.Held.{Held, quotas_of, states_of}
-use Rattle.judy_server.specs.declared.status.Share.{Share}
-use Rattle.judy_server.specs.declared.status.Share.TheVariants as share
+use Rattle.judy_tenants.specs.Held.{quotas_of, states_of}
+use Rattle.judy_server.specs.Metrics.{help_of, kind_of, name_of}
+use Rattle.judy_server.specs.Tally.{Tallied, call_names, reply_kinds}
+use Rattle.judy_server.specs.declared.metrics.Metric.{Metric}
+use Rattle.judy_server.specs.declared.metrics.Metric.TheVariants as metrics
+use Rattle.judy_server.specs.declared.metrics.Share.{Share}
+use Rattle.judy_server.specs.declared.metrics.Share.TheVariants as share
+use Rattle.judy_server.specs.declared.metrics.Total.{Total}
+use Rattle.judy_server.specs.declared.metrics.Total.TheVariants as total
+use Rattle.judy_server.specs.declared.tally.Tally.{Tally}
 
 -- ---- lines
 
@@ -17,48 +26,74 @@ sample name n = name ++ 32 ∷ decimal n ++ 10 ∷ []
 abbrev pub labelled : List ℕ → List ℕ → List ℕ → ℕ → List ℕ
 labelled name label value n = name ++ 123 ∷ label ++ 61 ∷ 34 ∷ value ++ 34 ∷ 125 ∷ 32 ∷ decimal n ++ 10 ∷ []
 
--- the line that comes before those of a name: what kind of number it is
-abbrev pub heading : List ℕ → List ℕ → List ℕ
-heading name kind = codes "# TYPE " ++ name ++ 32 ∷ kind ++ 10 ∷ []
+-- the same, but no line for an empty value: a place without a tenant has no name
+abbrev pub labelled_if : Metric → List ℕ → List ℕ → ℕ → List ℕ
+labelled_if m label [] n = []
+labelled_if m label (b ∷ value) n = labelled (name_of m) label (b ∷ value) n
 
--- a name with one number
-abbrev pub metric : List ℕ → List ℕ → ℕ → List ℕ
-metric name kind n = heading name kind ++ sample name n
+-- what the metric tells, and what kind of number it is
+unfoldable pub heading : Metric → List ℕ
+heading m = codes "# HELP " ++ name_of m ++ 32 ∷ help_of m ++ 10 ∷ codes "# TYPE " ++ name_of m ++ 32 ∷ kind_of m ++ 10 ∷ []
+
+-- a metric with one number
+unfoldable pub single : Metric → ℕ → List ℕ
+single m n = heading m ++ sample (name_of m) n
+
+-- a line for each of these values of a label; the first of them has this place
+unfoldable pub samples : Metric → List ℕ → (ℕ → ℕ) → ℕ → List (List ℕ) → List ℕ
+samples m label number place [] = []
+samples m label number place (value ∷ values) = labelled_if m label value (number place) ++ samples m label number (suc place) values
+
+-- a metric with a number for each value of a label
+abbrev pub group : Metric → List ℕ → (ℕ → ℕ) → List (List ℕ) → List ℕ
+group m label number values = heading m ++ samples m label number 0 values
 
 -- ---- numbers
 
--- the arena, the directory, and what they refused
-abbrev pub totals : Held → List ℕ
-totals held =
-    metric (codes "judyd_live_words") (codes "gauge") held.words
-    ++ (metric (codes "judyd_machine_words") (codes "gauge") held.region
-    ++ (metric (codes "judyd_peak_words") (codes "gauge") held.peak
-    ++ (metric (codes "judyd_arrays") (codes "gauge") held.names
-    ++ (metric (codes "judyd_refused_requests_total") (codes "counter") held.refusals
-    ++ metric (codes "judyd_refused_names_total") (codes "counter") held.unplaced))))
+-- the arena, the directory, and what they refused; and log-ins of nobody
+abbrev pub total_of : Tallied → Total → ℕ
+total_of t total.LiveWords = t.held.words
+total_of t total.MachineWords = t.held.region
+total_of t total.PeakWords = t.held.peak
+total_of t total.Arrays = t.held.names
+total_of t total.RefusedRequests = t.held.refusals
+total_of t total.RefusedNames = t.held.unplaced
+total_of t total.UnknownLogins = t.tally.unknown
+
+-- a number of the tenant at a place
+abbrev pub number_of : Tallied → Share → ℕ → ℕ
+number_of t share.Entries place = used (states_of t.held place)
+number_of t share.EntriesQuota place = (quotas_of t.held.tenants place).entries
+number_of t share.Pieces place = pieces (states_of t.held place)
+number_of t share.PiecesQuota place = (quotas_of t.held.tenants place).pieces
+number_of t share.RefusedLogins place = slice_index t.tally.refused place
+
+-- one number
+unfoldable pub one_total : Tallied → Total → List ℕ
+one_total t which = single (metrics.Total which) (total_of t which)
 
 -- a number of each tenant
-abbrev pub number_of : Held → Share → ℕ → ℕ
-number_of held share.Entries t = used (states_of held t)
-number_of held share.EntriesQuota t = (quotas_of held.tenants t).entries
-number_of held share.Pieces t = pieces (states_of held t)
-number_of held share.PiecesQuota t = (quotas_of held.tenants t).pieces
+unfoldable pub by_tenant : Tallied → Share → List ℕ
+by_tenant t which = group (metrics.Share which) (codes "tenant") (number_of t which) (map (λ row. row.name) t.held.tenants)
 
--- a line for each of these tenants; the first of them has this place
-abbrev pub shares : List ℕ → (ℕ → ℕ) → ℕ → List Tenant → List ℕ
-shares name number place [] = []
-shares name number place (t ∷ tenants) = labelled name (codes "tenant") t.name (number place) ++ shares name number (suc place) tenants
+-- lines by what they ask for, and replies by their kind
+unfoldable pub by_call : Tally → List ℕ
+by_call tally = group metrics.Lines (codes "call") (slice_index tally.lines) call_names
 
-abbrev pub by_tenant : List ℕ → Share → Held → List ℕ
-by_tenant name share held = heading name (codes "gauge") ++ shares name (number_of held share) 0 held.tenants
+unfoldable pub by_kind : Tally → List ℕ
+by_kind tally = group metrics.Replies (codes "kind") (slice_index tally.replies) reply_kinds
 
 -- ---- the text
 
+abbrev pub first_totals : List Total
+first_totals = total.LiveWords ∷ total.MachineWords ∷ total.PeakWords ∷ total.Arrays ∷ total.RefusedRequests ∷ total.RefusedNames ∷ []
+
+abbrev pub first_shares : List Share
+first_shares = share.Entries ∷ share.EntriesQuota ∷ share.Pieces ∷ share.PiecesQuota ∷ []
+
 -- No entry, no name of an array and no token is in it.
-abbrev pub status_of : Held → List ℕ
-status_of held =
-    totals held
-    ++ (by_tenant (codes "judyd_tenant_entries") share.Entries held
-    ++ (by_tenant (codes "judyd_tenant_quota_entries") share.EntriesQuota held
-    ++ (by_tenant (codes "judyd_tenant_pieces") share.Pieces held
-    ++ by_tenant (codes "judyd_tenant_quota_pieces") share.PiecesQuota held)))
+abbrev pub status_of : Tallied → List ℕ
+status_of t =
+    flat_map (one_total t) first_totals
+    ++ (flat_map (by_tenant t) first_shares
+    ++ (by_call t.tally ++ (by_kind t.tally ++ (by_tenant t share.RefusedLogins ++ one_total t total.UnknownLogins))))

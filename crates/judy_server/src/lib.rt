@@ -2,9 +2,12 @@
 //! what a command line asks of it.
 #![tactic(auto)]
 
+mod calls;
 mod jobs;
+mod metrics;
 mod server;
 mod status;
+mod tally;
 
 pub use jobs::do_job_on;
 pub use server::{Chosen, Server, run};

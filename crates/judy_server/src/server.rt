@@ -1,19 +1,21 @@
 //! The tenants of a table, as a connection and a program see them.
 ghost use Rattle.std.specs.Prelude.{◌≡◌, ◌≤◌, ℕ, None, true};
+ghost use Rattle.std.proofs.Common.{ap};
 ghost use Rattle.judy_table.specs.Shown.{seen};
 ghost use Rattle.judy_protocol.specs.Sending.{MaySend};
 ghost use Rattle.judy_protocol.specs.Serving.{pull_limit, wire};
 ghost use Rattle.judy_programs.specs.Program.{HasRun, IsSent, ServesSoFar, is_refused};
-ghost use Rattle.judy_server.specs.Served.{IsServedStep, IsNewService, seen_of, held_words};
+ghost use Rattle.judy_server.specs.Served.{IsServedStep, IsNewService, IsNoted, seen_of, held_words};
 ghost use Rattle.judy_programs.specs.Tables.{ReadsOn};
 ghost use Rattle.judy_server.specs.Status.{status_of};
 
 use crate::status::add_status;
+use crate::tally::{Tally, refused_name};
 use arrayvec::ArrayVec;
 use judy_many::Shows;
 use judy_model::{Call, KEY_LIMIT, Reply};
 use judy_programs::{Opens, Ran, Unopened, run_with};
-use judy_protocol::Served;
+use judy_protocol::{Line, Refusal, Served};
 use judy_stream::{Sink, Source};
 use judy_table::{Speaker, Table};
 use judy_tenants::{KeyHash, Service, Sha256Hash};
@@ -39,18 +41,20 @@ impl Chosen for Sha256Hash {
     }
 }
 
-/// The tenants of a table, each with its own arrays, in one arena. JudyHS hashes keys by H.
+/// The tenants of a table, each with its own arrays, in one arena, and the counts of their lines.
+/// JudyHS hashes keys by H.
 #[derive(Drop)]
 pub struct Server<H: Chosen> {
     service: Service<H>,
+    tally: Tally,
 }
 
 impl<H: Chosen> Model for Server<H> {
-    ghost use Rattle.judy_tenants.specs.Held.{Held};
+    ghost use Rattle.judy_server.specs.Tally.{Tallied, tallied};
 
-    ghost Value = { Held };
+    ghost Value = { Tallied };
 
-    ghost view = { λ s. s.service };
+    ghost view = { λ s. tallied s.service s.tally };
 }
 
 impl<H: Chosen> Served for Server<H> {
@@ -82,9 +86,20 @@ impl<H: Chosen> Served for Server<H> {
 impl<H: Chosen> Shows for Server<H> {
     ghost status = { status_of };
 
+    ghost noted = { IsNoted };
+
     fn show(&self, text: &mut Vec<u8>) -> Result<(), AllocError> {
-        add_status(text, &self.service)
+        add_status(text, &self.service, &self.tally)
     }
+
+    fn note(&mut self, asked: &Result<Line<'_>, Refusal>, answer: &[u8]) {
+        self.tally.count(asked, answer);
+        if let Some(name) = refused_name(asked, answer) {
+            self.tally.refuse(self.service.find(name));
+        }
+    }
+
+    ghost unseen = { λ before after line answer noted. ap seen_of noted };
 }
 
 impl<H: Chosen> Opens for Server<H> {
@@ -98,7 +113,10 @@ impl<H: Chosen> Opens for Server<H> {
             Err(fault) => return Err(Unopened::Table(fault)),
         };
         match Service::new(alloc, table, secret, H::chosen()) {
-            Ok(service) => Ok(Server { service }),
+            Ok(service) => Ok(Server {
+                service,
+                tally: Tally::new(),
+            }),
             Err(_) => Err(Unopened::Memory),
         }
     }

@@ -1,25 +1,35 @@
 //! The text of the service's status.
-ghost use Rattle.std.specs.Prelude.{◌≡◌, ◌<◌, ◌++◌, OnOk, length, codes};
-ghost use Rattle.judy_server.specs.Status.{by_tenant, heading, labelled, metric, number_of, sample, shares};
-ghost use Rattle.judy_server.specs.Status.{status_of, totals};
+ghost use Rattle.std.specs.Prelude.{◌≡◌, ◌<◌, ◌++◌, OnOk, flat_map, length, map, codes, slice_index};
+ghost use Rattle.judy_server.specs.Metrics.{name_of};
+ghost use Rattle.judy_server.specs.Status.{by_call, by_kind, by_tenant, first_shares, first_totals, heading, labelled_if};
+ghost use Rattle.judy_server.specs.Status.{labelled, number_of, one_total, sample, samples, single, status_of, total_of};
+ghost use Rattle.judy_server.specs.Tally.{call_names, reply_kinds, tallied};
 
+use crate::calls::{call_name, reply_kind};
+use crate::metrics::{Metric, Share, Total, help_of, kind_of, name_of};
+use crate::tally::{CALLS, KINDS, Tally, count_at};
 use itoa::Buffer;
 use judy_table::TenantId;
 use judy_tenants::{KeyHash, Service};
 use std::alloc::AllocError;
 
-/// A number that each tenant has.
-#[derive(Clone, Copy, Debug, PartialEq, Eq)]
-pub enum Share {
-    /// Its entries.
-    Entries,
-    /// The most entries that it may have.
-    EntriesQuota,
-    /// Its pieces.
-    Pieces,
-    /// The most pieces that it may have.
-    PiecesQuota,
-}
+/// The numbers of the whole service that come first.
+const TOTALS: [Total; 6] = [
+    Total::LiveWords,
+    Total::MachineWords,
+    Total::PeakWords,
+    Total::Arrays,
+    Total::RefusedRequests,
+    Total::RefusedNames,
+];
+
+/// The numbers of each tenant that come next.
+const SHARES: [Share; 4] = [
+    Share::Entries,
+    Share::EntriesQuota,
+    Share::Pieces,
+    Share::PiecesQuota,
+];
 
 /// Appends bytes.
 fn push(text: &mut Vec<u8>, part: &[u8]) -> Result<(), AllocError>
@@ -39,7 +49,7 @@ fn add_sample(text: &mut Vec<u8>, name: &[u8], n: u64) -> Result<(), AllocError>
     push(text, b"\n")
 }
 
-/// Appends a name with the label of a tenant, and its number.
+/// Appends a name with the value of a label, and its number.
 fn add_labelled(
     text: &mut Vec<u8>,
     name: &[u8],
@@ -60,113 +70,217 @@ fn add_labelled(
     push(text, b"\n")
 }
 
-/// Appends what kind of number a name has.
-fn add_heading(text: &mut Vec<u8>, name: &[u8], kind: &[u8]) -> Result<(), AllocError>
-    ensures { OnOk result (text.new.items ≡ text.old.items ++ heading name.now kind.now) }
+/// The same for a metric, but nothing for an empty value.
+fn add_if(
+    text: &mut Vec<u8>,
+    metric: Metric,
+    label: &'static [u8],
+    value: &[u8],
+    n: u64,
+) -> Result<(), AllocError>
+    ensures { OnOk result (text.new.items ≡ text.old.items ++ labelled_if metric label.now value.now n) }
 {
-    push(text, b"# TYPE ")?;
-    push(text, name)?;
+    if value.is_empty() {
+        return Ok(());
+    }
+    add_labelled(text, name_of(metric).as_bytes(), label, value, n)
+}
+
+/// Appends what a metric tells, and what kind of number it is.
+#[tactic(auto, unfolding(crate::specs::Status::heading))]
+fn add_heading(text: &mut Vec<u8>, metric: Metric) -> Result<(), AllocError>
+    ensures { OnOk result (text.new.items ≡ text.old.items ++ heading metric) }
+{
+    push(text, b"# HELP ")?;
+    push(text, name_of(metric).as_bytes())?;
     push(text, b" ")?;
-    push(text, kind)?;
+    push(text, help_of(metric).as_bytes())?;
+    push(text, b"\n# TYPE ")?;
+    push(text, name_of(metric).as_bytes())?;
+    push(text, b" ")?;
+    push(text, kind_of(metric).as_bytes())?;
     push(text, b"\n")
 }
 
-/// Appends a name with one number.
-fn add_metric(text: &mut Vec<u8>, name: &[u8], kind: &[u8], n: u64) -> Result<(), AllocError>
-    ensures { OnOk result (text.new.items ≡ text.old.items ++ metric name.now kind.now n) }
+/// Appends a metric with one number.
+#[tactic(auto, unfolding(crate::specs::Status::single))]
+fn add_metric(text: &mut Vec<u8>, metric: Metric, n: u64) -> Result<(), AllocError>
+    ensures { OnOk result (text.new.items ≡ text.old.items ++ single metric n) }
 {
-    add_heading(text, name, kind)?;
-    add_sample(text, name, n)
+    add_heading(text, metric)?;
+    add_sample(text, name_of(metric).as_bytes(), n)
 }
 
-/// Appends the numbers of the arena and the directory.
-fn add_totals<H: KeyHash>(text: &mut Vec<u8>, service: &Service<H>) -> Result<(), AllocError>
-    ensures { OnOk result (text.new.items ≡ text.old.items ++ totals service.now) }
+/// A number of the whole service.
+fn total<H: KeyHash>(service: &Service<H>, tally: &Tally, total: Total) -> u64
+    ensures { result ≡ total_of (tallied service.now tally.now) total }
 {
-    add_metric(text, b"judyd_live_words", b"gauge", service.live_words())?;
-    add_metric(
-        text,
-        b"judyd_machine_words",
-        b"gauge",
-        service.machine_words(),
-    )?;
-    add_metric(text, b"judyd_peak_words", b"gauge", service.peak_words())?;
-    add_metric(text, b"judyd_arrays", b"gauge", service.arrays())?;
-    add_metric(
-        text,
-        b"judyd_refused_requests_total",
-        b"counter",
-        service.refusals(),
-    )?;
-    add_metric(
-        text,
-        b"judyd_refused_names_total",
-        b"counter",
-        service.unplaced(),
-    )
+    match total {
+        Total::LiveWords => service.live_words(),
+        Total::MachineWords => service.machine_words(),
+        Total::PeakWords => service.peak_words(),
+        Total::Arrays => service.arrays(),
+        Total::RefusedRequests => service.refusals(),
+        Total::RefusedNames => service.unplaced(),
+        Total::UnknownLogins => tally.unknown,
+    }
+}
+
+/// Appends a number of the whole service.
+#[tactic(auto, unfolding(crate::specs::Status::one_total))]
+fn add_total<H: KeyHash>(
+    text: &mut Vec<u8>,
+    service: &Service<H>,
+    tally: &Tally,
+    which: Total,
+) -> Result<(), AllocError>
+    ensures { OnOk result (text.new.items ≡ text.old.items ++ one_total (tallied service.now tally.now) which) }
+{
+    add_metric(text, Metric::Total(which), total(service, tally, which))
+}
+
+/// Appends the numbers of the whole service that come first.
+fn add_totals<H: KeyHash>(
+    text: &mut Vec<u8>,
+    service: &Service<H>,
+    tally: &Tally,
+) -> Result<(), AllocError>
+    ensures { OnOk result (text.new.items ≡ text.old.items
+        ++ flat_map (one_total (tallied service.now tally.now)) first_totals) }
+{
+    for which in TOTALS {
+        add_total(text, service, tally, which)?;
+    }
+    Ok(())
 }
 
 /// A number of a tenant.
-fn number<H: KeyHash>(service: &Service<H>, share: Share, tenant: TenantId) -> u64
+fn number<H: KeyHash>(service: &Service<H>, tally: &Tally, share: Share, tenant: TenantId) -> u64
     requires { tenant < length service.now.tenants }
-    ensures { result ≡ number_of service.now share tenant }
+    ensures { result ≡ number_of (tallied service.now tally.now) share tenant }
 {
     match share {
         Share::Entries => service.used(tenant),
         Share::EntriesQuota => service.quota(tenant),
         Share::Pieces => service.pieces(tenant),
         Share::PiecesQuota => service.most(tenant),
+        Share::RefusedLogins => count_at(&tally.refused, tenant.place() as usize),
     }
 }
 
-/// Appends a number of each tenant.
+/// Appends a line for each tenant.
 fn add_shares<H: KeyHash>(
     text: &mut Vec<u8>,
     service: &Service<H>,
-    name: &[u8],
+    tally: &Tally,
     share: Share,
 ) -> Result<(), AllocError>
-    ensures { OnOk result (text.new.items ≡ text.old.items
-        ++ shares name.now (number_of service.now share) 0 service.now.tenants) }
+    ensures { OnOk result (text.new.items ≡ text.old.items ++ samples (Metric.Share share) (codes "tenant")
+        (number_of (tallied service.now tally.now) share) 0 (map (λ row. row.name) service.now.tenants)) }
 {
     for place in 0..service.tenants() {
         let tenant = service.tenant(place);
-        let n = number(service, share, tenant);
-        add_labelled(text, name, b"tenant", service.name(tenant), n)?;
+        let n = number(service, tally, share, tenant);
+        add_if(
+            text,
+            Metric::Share(share),
+            b"tenant",
+            service.name(tenant),
+            n,
+        )?;
     }
     Ok(())
 }
 
-/// The same, after what kind of number it is.
+/// Appends a number of each tenant.
+#[tactic(auto, unfolding(crate::specs::Status::by_tenant))]
 fn add_by_tenant<H: KeyHash>(
     text: &mut Vec<u8>,
     service: &Service<H>,
-    name: &[u8],
+    tally: &Tally,
     share: Share,
 ) -> Result<(), AllocError>
-    ensures { OnOk result (text.new.items ≡ text.old.items ++ by_tenant name.now share service.now) }
+    ensures { OnOk result (text.new.items ≡ text.old.items ++ by_tenant (tallied service.now tally.now) share) }
 {
-    add_heading(text, name, b"gauge")?;
-    add_shares(text, service, name, share)
+    add_heading(text, Metric::Share(share))?;
+    add_shares(text, service, tally, share)
 }
 
-/// Appends the status of a service.
-pub fn add_status<H: KeyHash>(text: &mut Vec<u8>, service: &Service<H>) -> Result<(), AllocError>
-    ensures { OnOk result (text.new.items ≡ text.old.items ++ status_of service.now) }
+/// Appends the numbers of each tenant that come first.
+fn add_by_tenants<H: KeyHash>(
+    text: &mut Vec<u8>,
+    service: &Service<H>,
+    tally: &Tally,
+) -> Result<(), AllocError>
+    ensures { OnOk result (text.new.items ≡ text.old.items
+        ++ flat_map (by_tenant (tallied service.now tally.now)) first_shares) }
 {
-    add_totals(text, service)?;
-    add_by_tenant(text, service, b"judyd_tenant_entries", Share::Entries)?;
-    add_by_tenant(
-        text,
-        service,
-        b"judyd_tenant_quota_entries",
-        Share::EntriesQuota,
-    )?;
-    add_by_tenant(text, service, b"judyd_tenant_pieces", Share::Pieces)?;
-    add_by_tenant(
-        text,
-        service,
-        b"judyd_tenant_quota_pieces",
-        Share::PiecesQuota,
-    )
+    for share in SHARES {
+        add_by_tenant(text, service, tally, share)?;
+    }
+    Ok(())
+}
+
+/// Appends a line for each thing that a line can ask for.
+fn add_calls(text: &mut Vec<u8>, tally: &Tally) -> Result<(), AllocError>
+    ensures { OnOk result (text.new.items ≡ text.old.items
+        ++ samples Metric.Lines (codes "call") (slice_index tally.now.lines) 0 call_names) }
+{
+    for place in 0..CALLS {
+        let n = count_at(&tally.lines, place);
+        add_if(text, Metric::Lines, b"call", call_name(place).as_bytes(), n)?;
+    }
+    Ok(())
+}
+
+/// Appends the lines by what they ask for.
+#[tactic(auto, unfolding(crate::specs::Status::by_call))]
+fn add_by_call(text: &mut Vec<u8>, tally: &Tally) -> Result<(), AllocError>
+    ensures { OnOk result (text.new.items ≡ text.old.items ++ by_call tally.now) }
+{
+    add_heading(text, Metric::Lines)?;
+    add_calls(text, tally)
+}
+
+/// Appends a line for each kind of reply.
+fn add_kinds(text: &mut Vec<u8>, tally: &Tally) -> Result<(), AllocError>
+    ensures { OnOk result (text.new.items ≡ text.old.items
+        ++ samples Metric.Replies (codes "kind") (slice_index tally.now.replies) 0 reply_kinds) }
+{
+    for place in 0..KINDS {
+        let n = count_at(&tally.replies, place);
+        add_if(
+            text,
+            Metric::Replies,
+            b"kind",
+            reply_kind(place).as_bytes(),
+            n,
+        )?;
+    }
+    Ok(())
+}
+
+/// Appends the replies by their kind.
+#[tactic(auto, unfolding(crate::specs::Status::by_kind))]
+fn add_by_kind(text: &mut Vec<u8>, tally: &Tally) -> Result<(), AllocError>
+    ensures { OnOk result (text.new.items ≡ text.old.items ++ by_kind tally.now) }
+{
+    add_heading(text, Metric::Replies)?;
+    add_kinds(text, tally)
+}
+
+/// Appends the status of a service with these counts.
+pub fn add_status<H: KeyHash>(
+    text: &mut Vec<u8>,
+    service: &Service<H>,
+    tally: &Tally,
+) -> Result<(), AllocError>
+    ensures { OnOk result (text.new.items ≡ text.old.items ++ status_of (tallied service.now tally.now)) }
+{
+    add_totals(text, service, tally)?;
+    add_by_tenants(text, service, tally)?;
+    add_by_call(text, tally)?;
+    add_by_kind(text, tally)?;
+    add_by_tenant(text, service, tally, Share::RefusedLogins)?;
+    add_total(text, service, tally, Total::UnknownLogins)
 }

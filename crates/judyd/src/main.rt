@@ -5,7 +5,7 @@
 ghost use Rattle.std.specs.Prelude.{◌≡◌, option_map};
 ghost use Rattle.judyd.specs.Obeying.{IsFinished, IsObeyed, refusal_status};
 
-use judy_command::{Job, Refusal, parse_words};
+use judy_command::{Job, Refusal, VERSION, parse_words};
 use judy_programs::{Failed, System, Unserved};
 use judy_server::do_job_on;
 use judy_stream::{Reads, Writes};
@@ -133,6 +133,33 @@ fn refuse(rt: &HostRuntime, refusal: &Refusal) -> u8
     }
 }
 
+/// Sets the line that is printed once clients are waited for. Without memory for it there is none.
+fn announce(rt: &HostRuntime, job: &Job, system: &mut System<'_, HostRuntime>) {
+    let Job::Serve {
+        config,
+        socket,
+        clients,
+        ..
+    } = job
+    else {
+        return;
+    };
+    let (file, path) = (config.0.as_str(), socket.0.as_str());
+    let line = format!(in rt.alloc();
+        "judyd: {VERSION} started: table {file}, socket {path}, {clients} clients"
+    );
+    if let Ok(line) = line {
+        system.tell_at_start(line);
+    }
+}
+
+/// Prints that a server stops, if it served clients and ended well.
+fn tell_stop(rt: &HostRuntime, status: u8, system: &System<'_, HostRuntime>) {
+    if status == 0 && system.has_started() {
+        let _ = eprintln!(rt; "judyd: stopping");
+    }
+}
+
 /// Does what the command line asks for, and prints how it ended. Returns the status of the program.
 ///
 /// If a line on standard error cannot be written, only the status reports it.
@@ -144,7 +171,9 @@ fn obey(rt: &HostRuntime, asked: &Result<Job, Refusal>) -> u8
         Err(refusal) => return refuse(rt, refusal),
     };
     let mut system = System::new(rt);
+    announce(rt, job, &mut system);
     let (status, text) = do_job(rt, job, &mut system);
+    tell_stop(rt, status, &system);
     leave(job, &mut system);
     if let Some(text) = text {
         let _ = eprintln!(rt; "{text}");

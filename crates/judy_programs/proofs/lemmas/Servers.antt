@@ -11,9 +11,9 @@ use Rattle.std.proofs.Common.{inl, inr}
 use Rattle.judy_many.specs.Crowds.{HasServedMany}
 use Rattle.judy_many.specs.Nets.Act.{Asked}
 use Rattle.judy_many.specs.Nets.Step.{Bound, Opened, Shut, Unbound}
+use Rattle.judy_many.specs.Rules.{Rules}
 use Rattle.judy_many.specs.declared.serve.Ending.{Ending}
 use Rattle.judy_many.specs.declared.serve.Limits.{Limits}
-use Rattle.judy_protocol.specs.Services.{Made, Seen}
 use Rattle.judy_protocol.specs.Serving.{MaybeBytes}
 use Rattle.judy_table.specs.declared.tenant.Tenant.{Tenant}
 use Rattle.judy_programs.specs.Asking.{Log, Logs}
@@ -28,11 +28,11 @@ module _ {S : Type 0} (is_new : List Tenant → S → Type 0) where
       → (left : MaybeBytes) × (left' : MaybeBytes) × IsShut how left left' × Logs log (Opened config left ∷ Shut left' ∷ []) log'
   served-no-table how config log log' h = (h.left, h.left', h.shut, h.asked)
 
-  module _ (made : Made S) (status : S → List ℕ) (seen : S → Seen) (config socket : List ℕ) (watch : Option (List ℕ)) (log log' : Log) where
+  module _ (rules : Rules S) (config socket : List ℕ) (watch : Option (List ℕ)) (log log' : Log) where
     -- between the opening of the file and the first connection nothing else was asked
-    pub served-on-socket : (limits : Limits) (how : Ending) → (h : HasServedAll made status seen is_new config socket watch limits how log log')
+    pub served-on-socket : (limits : Limits) (how : Ending) → (h : HasServedAll rules is_new config socket watch limits how log log')
         → (socket ≢ []) × (watch ≢ Some []) × Logs log (Opened config h.begun.left ∷ Shut h.begun.left' ∷ Bound socket ∷ watched watch) h.mid
-        × HasOpened is_new h.begun.left h.begun.left' h.before × HasServedMany made status seen limits how h.mid log' h.before h.after
+        × HasOpened is_new h.begun.left h.begun.left' h.before × HasServedMany rules limits how h.mid log' h.before h.after
     served-on-socket limits how h = (
       h.path,
       h.status_path,
@@ -42,7 +42,7 @@ module _ {S : Type 0} (is_new : List Tenant → S → Type 0) where
     )
 
     -- there is a service, and a socket is missing
-    pub served-nobody : (h : HasNoSocket made status seen is_new config socket watch log log')
+    pub served-nobody : (h : HasNoSocket rules is_new config socket watch log log')
         → ((socket ≡ []) × Logs log (Opened config h.begun.left ∷ Shut h.begun.left' ∷ []) log')
         ⊎ ((socket ≢ []) × Logs log (Opened config h.begun.left ∷ Shut h.begun.left' ∷ Unbound socket ∷ []) log')
         ⊎ ((bound : Log) × (socket ≢ []) × Logs log (Opened config h.begun.left ∷ Shut h.begun.left' ∷ Bound socket ∷ []) bound × Watches false watch bound log')

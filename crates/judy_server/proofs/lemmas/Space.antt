@@ -11,7 +11,7 @@
 --                    and at least 4 for each array that has entries
 use Rattle.std.specs.Prelude.{None, Option, ◌≡◌, ◌≤◌, ◌+◌, ◌*◌, ℕ, Bool, true, List, [], ◌∷◌, ◌++◌, length, max}
 use Rattle.std.proofs.Common.{◌∙◌, ap, append_assoc, arith, refl, subst, sym}
-use Rattle.judy_many.specs.Sessions.{AreTurns, Turn}
+use Rattle.judy_many.specs.Sessions.{AreTurns, IsTurn, Turn}
 use Rattle.judy_many.specs.Stories.{Story, turns_by, turns_in}
 use Rattle.judy_many.specs.declared.serve.Ending.{Ending}
 use Rattle.judy_many.specs.declared.serve.Limits.{Limits}
@@ -28,22 +28,26 @@ use Rattle.judy_programs.specs.Program.{HasServed, tells_words}
 use Rattle.judy_programs.specs.declared.program.Ran.TheVariants as ran
 use Rattle.judy_programs.proofs.lemmas.Words.{told-words}
 use Rattle.judy_tenants.specs.Held.{Held, IsSoundService, all_arrays, states_of, words_for}
+use Rattle.judy_server.specs.Rules.{server_rules}
 use Rattle.judy_server.specs.Served.{IsServedStep, IsNewService, seen_of, held_words}
 use Rattle.judy_server.specs.Space.{IsSoundOf, IsBoundedBy, TellsFew}
-use Rattle.judy_server.specs.Status.{status_of}
+use Rattle.judy_server.specs.Tally.{Tallied}
+
+-- a service is that which it was
+same-sound : (before after : Tallied) → IsSoundService before.held → after ≡ before → IsSoundOf before.held after.held
+same-sound before after s same = record {
+  sound = subst (λ (t : Tallied). IsSoundService t.held) (sym same) s;
+  tenants = ap (λ (t : Tallied). t.held.tenants) same;
+  granted = ap (λ (t : Tallied). t.held.granted) same;
+  reserved = ap (λ (t : Tallied). t.held.reserved) same;
+}
 
 -- calls one after another keep the invariant of a service
-pub sound-calls : (before after : Held) (answered : List (Event × Reply)) → IsSoundService before
-    → AreMade IsServedStep before answered after → IsSoundOf before after
-sound-calls before after [] h same =
-    record {
-      sound = subst IsSoundService (sym same) h;
-      tenants = ap (λ (s : Held). s.tenants) same;
-      granted = ap (λ (s : Held). s.granted) same;
-      reserved = ap (λ (s : Held). s.reserved) same;
-    }
+pub sound-calls : (before after : Tallied) (answered : List (Event × Reply)) → IsSoundService before.held
+    → AreMade IsServedStep before answered after → IsSoundOf before.held after.held
+sound-calls before after [] h same = same-sound before after h same
 sound-calls before after (p ∷ ps) h (mid, made, rest) =
-    let later : IsSoundOf mid after = sound-calls mid after ps made.sound rest in
+    let later : IsSoundOf mid.held after.held = sound-calls mid after ps made.sound rest in
     record {
       sound = later.sound;
       tenants = later.tenants ∙ made.keeps.tenants;
@@ -52,27 +56,28 @@ sound-calls before after (p ∷ ps) h (mid, made, rest) =
     }
 
 -- a connection keeps it, however it ends
-pub sound-end : (end : End) (left left' : MaybeBytes) (before after : Held) (taken taken' : MaybeBytes) → IsSoundService before
-    → Ends IsServedStep seen_of end left left' before after taken taken' → IsSoundOf before after
+pub sound-end : (end : End) (left left' : MaybeBytes) (before after : Tallied) (taken taken' : MaybeBytes) → IsSoundService before.held
+    → Ends IsServedStep seen_of end left left' before after taken taken' → IsSoundOf before.held after.held
 sound-end ends.Quit left left' before after taken taken' s h = sound-calls before after _ s h.run.run.calls
 sound-end ends.End left left' before after taken taken' s h = sound-calls before after _ s h.run.run.calls
 sound-end ends.ReadFault left left' before after taken taken' s h = sound-calls before after _ s h.run.run.calls
 sound-end ends.Limit left left' before after taken taken' s h = sound-calls before after _ s h.run.run.calls
 sound-end ends.WriteFault left left' before after taken taken' s h = sound-calls before after _ s h.run.calls
 
+-- one line keeps it: its call, and then its count
+sound-turn : (before : Tallied) (t : Turn) (after : Tallied) → IsSoundService before.held → IsTurn server_rules before t after
+    → IsSoundOf before.held after.held
+sound-turn before t after s one =
+    let kept : after.held ≡ one.mid.held = ap (λ (x : Tallied). x.held) one.noted in
+    subst (IsSoundOf before.held) (sym kept) (sound-calls before one.mid _ s one.calls)
+
 -- lines one after another keep it, whatever their connections
-pub sound-turns : (turns : List Turn) (before after : Held) → IsSoundService before → AreTurns IsServedStep before turns after
-    → IsSoundOf before after
-sound-turns [] before after s same =
-    record {
-      sound = subst IsSoundService (sym same) s;
-      tenants = ap (λ (h : Held). h.tenants) same;
-      granted = ap (λ (h : Held). h.granted) same;
-      reserved = ap (λ (h : Held). h.reserved) same;
-    }
+pub sound-turns : (turns : List Turn) (before after : Tallied) → IsSoundService before.held → AreTurns server_rules before turns after
+    → IsSoundOf before.held after.held
+sound-turns [] before after s same = same-sound before after s same
 sound-turns (t ∷ turns) before after s (mid, one, rest) =
-    let first : IsSoundOf before mid = sound-calls before mid _ s one.1 in
-    let more : IsSoundOf mid after = sound-turns turns mid after first.sound rest in
+    let first = sound-turn before t mid s one in
+    let more : IsSoundOf mid.held after.held = sound-turns turns mid after first.sound rest in
     record {
       sound = more.sound;
       tenants = more.tenants ∙ first.tenants;
@@ -81,22 +86,19 @@ sound-turns (t ∷ turns) before after s (mid, one, rest) =
     }
 
 -- at each moment, after some of the lines and before the others, the service is sound
-pub sound-moments : (done turns : List Turn) (before after : Held) → IsSoundService before → AreTurns IsServedStep before (done ++ turns) after
-    → (mid : Held) × AreTurns IsServedStep before done mid × IsSoundOf before mid × AreTurns IsServedStep mid turns after
+pub sound-moments : (done turns : List Turn) (before after : Tallied) → IsSoundService before.held → AreTurns server_rules before (done ++ turns) after
+    → (mid : Tallied) × AreTurns server_rules before done mid × IsSoundOf before.held mid.held × AreTurns server_rules mid turns after
 sound-moments [] turns before after s run = (before, refl, record { sound = s; tenants = refl; granted = refl; reserved = refl }, run)
 sound-moments (t ∷ done) turns before after s (mid, one, rest) =
-    let first : IsSoundOf before mid = sound-calls before mid _ s one.1 in
-    let (now, did, more, left) = sound-moments done turns mid after first.sound rest in (
-      now,
-      (mid, one, did),
-      record {
+    let first = sound-turn before t mid s one in
+    let (now, did, more, left) = sound-moments done turns mid after first.sound rest in
+    let both = record {
         sound = more.sound;
         tenants = more.tenants ∙ first.tenants;
         granted = more.granted ∙ first.granted;
         reserved = more.reserved ∙ first.reserved;
-      },
-      left,
-    )
+    } in
+    (now, (mid, one, did), both, left)
 
 turns_in-append : (p q : Story) → turns_in (p ++ q) ≡ turns_in p ++ turns_in q
 turns_in-append [] q = refl
@@ -104,12 +106,12 @@ turns_in-append (m ∷ p) q = ap (λ ts. turns_by m ++ ts) (turns_in-append p q)
 
 -- at each moment of a server's story its service is sound, and has the tenants of the table
 pub sound-server : (secret config socket : List ℕ) (watch : Option (List ℕ)) (reserve : Option ℕ) (limits : Limits) (how : Ending) (log log' : Log)
-    → (h : HasServedAll IsServedStep status_of seen_of (IsNewService secret reserve) config socket watch limits how log log')
+    → (h : HasServedAll server_rules (IsNewService secret reserve) config socket watch limits how log log')
     → (p q : Story) → h.hosted.story ≡ p ++ q
-    → (mid : Held) × AreTurns IsServedStep h.before (turns_in p) mid × IsSoundOf h.before mid × AreTurns IsServedStep mid (turns_in q) h.after
+    → (mid : Tallied) × AreTurns server_rules h.before (turns_in p) mid × IsSoundOf h.before.held mid.held × AreTurns server_rules mid (turns_in q) h.after
 sound-server secret config socket watch reserve limits how log log' h p q e =
     sound-moments (turns_in p) (turns_in q) h.before h.after h.begun.opened.fresh.sound
-    (subst (λ ts. AreTurns IsServedStep h.before ts h.after) (ap turns_in e ∙ turns_in-append p q) h.hosted.run)
+    (subst (λ ts. AreTurns server_rules h.before ts h.after) (ap turns_in e ∙ turns_in-append p q) h.hosted.run)
 
 -- a sound service is bounded by what its quotas allow, or by what was taken beforehand
 bounded : (before after : Held) → IsSoundOf before after → IsBoundedBy before.granted before.reserved after
@@ -121,53 +123,55 @@ bounded before after s = record {
 
 -- at each moment, after some calls and before the others, the memory is bounded by what the quotas
 -- allow
-pub calls-are-bounded : (done rest : List (Event × Reply)) (before after : Held) → IsSoundService before → AreMade IsServedStep before (done ++ rest) after
-    → (mid : Held) × AreMade IsServedStep before done mid × IsBoundedBy before.granted before.reserved mid × AreMade IsServedStep mid rest after
-calls-are-bounded [] rest before after s run = (before, refl, bounded before before (record { sound = s; tenants = refl; granted = refl; reserved = refl }), run)
+pub calls-are-bounded : (done rest : List (Event × Reply)) (before after : Tallied) → IsSoundService before.held → AreMade IsServedStep before (done ++ rest) after
+    → (mid : Tallied) × AreMade IsServedStep before done mid × IsBoundedBy before.held.granted before.held.reserved mid.held × AreMade IsServedStep mid rest after
+calls-are-bounded [] rest before after s run =
+    (before, refl, bounded before.held before.held (record { sound = s; tenants = refl; granted = refl; reserved = refl }), run)
 calls-are-bounded (p ∷ done) rest before after s (mid, made, run) =
     let (now, did, bound, left) = calls-are-bounded done rest mid after made.sound run in (
       now,
       (mid, made, did),
-      subst (λ n. IsBoundedBy before.granted n now) made.keeps.memory.reserved
-          (subst (λ n. IsBoundedBy n mid.reserved now) made.keeps.granted bound),
+      subst (λ n. IsBoundedBy before.held.granted n now.held) made.keeps.memory.reserved
+          (subst (λ n. IsBoundedBy n mid.held.reserved now.held) made.keeps.granted bound),
       left,
     )
 
 -- so it is where a script ends, however it ends; both numbers never fall, so they were no greater before
 pub run-is-bounded : (secret : List ℕ) (words : Bool) (end : End) (left left' taken taken' : MaybeBytes) (told told' : ℕ)
     → (h : HasServed IsServedStep seen_of held_words (IsNewService secret None) words (ran.Served end) left left' taken taken' told told')
-    → IsBoundedBy (words_for h.tenants) 0 h.after
+    → IsBoundedBy (words_for h.tenants) 0 h.after.held
 run-is-bounded secret words end left left' taken taken' told told' h =
-    subst (λ n. IsBoundedBy (words_for h.tenants) n h.after) (h.fresh.reserved ∙ h.fresh.taken.0)
-    (subst (λ n. IsBoundedBy n h.before.reserved h.after) (h.fresh.granted ∙ ap words_for h.fresh.tenants)
-    (bounded h.before h.after (sound-end end _ _ h.before h.after _ _ h.fresh.sound h.run.script.served)))
+    subst (λ n. IsBoundedBy (words_for h.tenants) n h.after.held) (h.fresh.reserved ∙ h.fresh.taken.0)
+    (subst (λ n. IsBoundedBy n h.before.held.reserved h.after.held) (h.fresh.granted ∙ ap words_for h.fresh.tenants)
+    (bounded h.before.held h.after.held (sound-end end _ _ h.before h.after _ _ h.fresh.sound h.run.script.served)))
 
 -- and at each moment of a server's story, but for what was taken at its start
 pub server-is-bounded : (secret config socket : List ℕ) (watch : Option (List ℕ)) (reserve : Option ℕ) (limits : Limits) (how : Ending) (log log' : Log)
-    → (h : HasServedAll IsServedStep status_of seen_of (IsNewService secret reserve) config socket watch limits how log log')
+    → (h : HasServedAll server_rules (IsNewService secret reserve) config socket watch limits how log log')
     → (p q : Story) → h.hosted.story ≡ p ++ q
-    → (mid : Held) × AreTurns IsServedStep h.before (turns_in p) mid × IsBoundedBy (words_for h.before.tenants) h.before.region mid × AreTurns IsServedStep mid (turns_in q) h.after
+    → (mid : Tallied) × AreTurns server_rules h.before (turns_in p) mid
+    × IsBoundedBy (words_for h.before.held.tenants) h.before.held.region mid.held × AreTurns server_rules mid (turns_in q) h.after
 server-is-bounded secret config socket watch reserve limits how log log' h p q e =
     let (mid, did, sound, left) = sound-server secret config socket watch reserve limits how log log' h p q e in
     let fresh = h.begun.opened.fresh in (
       mid,
       did,
-      subst (λ n. IsBoundedBy (words_for h.before.tenants) n mid) fresh.reserved
-          (subst (λ n. IsBoundedBy n h.before.reserved mid) fresh.granted (bounded h.before mid sound)),
+      subst (λ n. IsBoundedBy (words_for h.before.held.tenants) n mid.held) fresh.reserved
+          (subst (λ n. IsBoundedBy n h.before.held.reserved mid.held) fresh.granted (bounded h.before.held mid.held sound)),
       left,
     )
 
 -- if a script was served to its end and the words are wanted, the words that are reported are few
 pub few-words : (secret : List ℕ) (words : Bool) (end : End) (left left' taken taken' : MaybeBytes) (told told' : ℕ) → tells_words words end ≡ true
     → (h : HasServed IsServedStep seen_of held_words (IsNewService secret None) words (ran.Served end) left left' taken taken' told told')
-    → TellsFew (length h.tenants) h.after h.run.between taken'
+    → TellsFew (length h.tenants) h.after.held h.run.between taken'
 few-words secret words end left left' taken taken' told told' tells h =
-    let s : IsSoundOf h.before h.after = sound-end end _ _ h.before h.after _ _ h.fresh.sound h.run.script.served in
-    let many : length h.after.tenants ≡ length h.tenants = ap length (s.tenants ∙ h.fresh.tenants) in
-    let pieces : all_pieces (length h.after.tenants) (states_of h.after) ≡ all_pieces (length h.tenants) (states_of h.after)
-    = ap (λ m. all_pieces m (states_of h.after)) many in
-    let arrays : all_arrays (length h.after.tenants) (states_of h.after) ≡ all_arrays (length h.tenants) (states_of h.after)
-    = ap (λ m. all_arrays m (states_of h.after)) many in
+    let s : IsSoundOf h.before.held h.after.held = sound-end end _ _ h.before h.after _ _ h.fresh.sound h.run.script.served in
+    let many : length h.after.held.tenants ≡ length h.tenants = ap length (s.tenants ∙ h.fresh.tenants) in
+    let pieces : all_pieces (length h.after.held.tenants) (states_of h.after.held) ≡ all_pieces (length h.tenants) (states_of h.after.held)
+    = ap (λ m. all_pieces m (states_of h.after.held)) many in
+    let arrays : all_arrays (length h.after.held.tenants) (states_of h.after.held) ≡ all_arrays (length h.tenants) (states_of h.after.held)
+    = ap (λ m. all_arrays m (states_of h.after.held)) many in
     record {
       n = held_words h.after;
       line = told-words IsServedStep seen_of held_words (IsNewService secret None) words end left left' taken taken' told told' tells h;

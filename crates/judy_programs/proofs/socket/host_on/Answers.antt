@@ -1,6 +1,7 @@
 use Rattle.std.proofs.Common.{◌≡◌, ℕ, List, [], ◌∷◌, true, false, length, refl, inl, inr, sym, ◌∙◌, arith}
 use Rattle.std.proofs.lemmas.Bool.Decides.{nat_tests}
 use Rattle.std.specs.Prelude.{◌==◌, ◌≢◌}
+use Rattle.judy_many.specs.Rules.{rules_of}
 use Rattle.judy_programs.proofs.Begins.{hosts_none, none_yet, served_all}
 use Rattle.judy_programs.proofs.socket.host_on.Goals as goal
 
@@ -13,19 +14,19 @@ is_none [] e = refl
 is_none (x ∷ xs) e = let none : length (x ∷ xs) ≡ 0 = grind (arith, nat_tests) in absurd (omega (arith, none))
 
 pub returns : goal.returns
-returns g c = inr (served_all g.S.Served.made g.S.Shows.status g.S.Served.seen (g.S.Opens.is_new c.args.secret.now c.args.reserve) _ c.args.socket.now _ _ _ _ _ _ _ _ _ _ c.in-Ok.ensures
+returns g c = inr (served_all (rules_of g.S.Served.made g.S.Served.seen g.S.Shows.noted g.S.Shows.status) (g.S.Opens.is_new c.args.secret.now c.args.reserve) _ c.args.socket.now _ _ _ _ _ _ _ _ _ _ c.in-Ok.ensures
     (is_some c.args.socket.now (sym c.is_empty.ensures ∙ c.if-is_empty.false)) c.if-not-bind.ensures (rw c.if-not-watch_on.false at c.watch_on.ensures) c.in-Socket.ensures)
 
 pub returns-in-Done : goal.returns-in-Done
-returns-in-Done g c = served_all g.S.Served.made g.S.Shows.status g.S.Served.seen (g.S.Opens.is_new c.args.secret.now c.args.reserve) _ c.args.socket.now _ _ _ _ _ _ _ _ _ _ c.in-Ok.ensures
+returns-in-Done g c = served_all (rules_of g.S.Served.made g.S.Served.seen g.S.Shows.noted g.S.Shows.status) (g.S.Opens.is_new c.args.secret.now c.args.reserve) _ c.args.socket.now _ _ _ _ _ _ _ _ _ _ c.in-Ok.ensures
     (is_some c.args.socket.now (sym c.is_empty.ensures ∙ c.if-is_empty.false)) c.if-not-bind.ensures (rw c.if-not-watch_on.false at c.watch_on.ensures) c.in-Done.ensures
 
 pub returns-in-Stopped : goal.returns-in-Stopped
-returns-in-Stopped g c = served_all g.S.Served.made g.S.Shows.status g.S.Served.seen (g.S.Opens.is_new c.args.secret.now c.args.reserve) _ c.args.socket.now _ _ _ _ _ _ _ _ _ _ c.in-Ok.ensures
+returns-in-Stopped g c = served_all (rules_of g.S.Served.made g.S.Served.seen g.S.Shows.noted g.S.Shows.status) (g.S.Opens.is_new c.args.secret.now c.args.reserve) _ c.args.socket.now _ _ _ _ _ _ _ _ _ _ c.in-Ok.ensures
     (is_some c.args.socket.now (sym c.is_empty.ensures ∙ c.if-is_empty.false)) c.if-not-bind.ensures (rw c.if-not-watch_on.false at c.watch_on.ensures) c.in-Stopped.ensures
 
 pub returns-in-Memory : goal.returns-in-Memory
-returns-in-Memory g c = inr (served_all g.S.Served.made g.S.Shows.status g.S.Served.seen (g.S.Opens.is_new c.args.secret.now c.args.reserve) _ c.args.socket.now _ _ _ _ _ _ _ _ _ _ c.in-Ok.ensures
+returns-in-Memory g c = inr (served_all (rules_of g.S.Served.made g.S.Served.seen g.S.Shows.noted g.S.Shows.status) (g.S.Opens.is_new c.args.secret.now c.args.reserve) _ c.args.socket.now _ _ _ _ _ _ _ _ _ _ c.in-Ok.ensures
     (is_some c.args.socket.now (sym c.is_empty.ensures ∙ c.if-is_empty.false)) c.if-not-bind.ensures (rw c.if-not-watch_on.false at c.watch_on.ensures) c.in-Memory.ensures)
 
 pub returns-then-not-watch_on : goal.returns-then-not-watch_on
@@ -53,5 +54,5 @@ returns-then-is_empty g c = inl (record {
 })
 
 pub returns-in-Err : goal.returns-in-Err
-returns-in-Err g c = hosts_none (g.S.Opens.is_new c.args.secret.now) c.args.reserve g.S.Served.made g.S.Shows.status g.S.Served.seen c.in-Err.hosted
+returns-in-Err g c = hosts_none (g.S.Opens.is_new c.args.secret.now) c.args.reserve (rules_of g.S.Served.made g.S.Served.seen g.S.Shows.noted g.S.Shows.status) c.in-Err.hosted
     c.args.config.now c.args.socket.now _ c.args.limits _ _ c.in-Err.ensures

@@ -1,7 +1,7 @@
 use Rattle.std.proofs.Common.{◌≡◌, ℕ, Bool, List, Option, refl, ◌∙◌, subst}
 use Rattle.std.specs.Prelude.{is_some}
-use Rattle.judy_server.specs.Served.{IsServedStep, IsNewService, seen_of}
-use Rattle.judy_server.specs.Status.{status_of}
+use Rattle.judy_server.specs.Rules.{server_rules}
+use Rattle.judy_server.specs.Served.{IsNewService}
 use Rattle.judy_programs.specs.Hosting.{Checks, Hosts}
 use Rattle.judy_server.proofs.jobs.do_job_with.Goals as goal
 
@@ -16,7 +16,7 @@ moved P a a' b b' w w' s s' ea eb ew es h =
 pub returns-else-check : goal.returns-else-check
 returns-else-check g c = rw (c.in-Serve.is, c.if-check.false) (
   c.host_on-hosted.result,
-  moved (λ a b w s. Hosts IsServedStep status_of seen_of (IsNewService c.args.secret.now) c.in-Serve.reserve c.host_on-hosted.result a b w
+  moved (λ a b w s. Hosts server_rules (IsNewService c.args.secret.now) c.in-Serve.reserve c.host_on-hosted.result a b w
       (record { clients = c.in-Serve.clients; connections = c.in-Serve.connections; idle = c.in-Serve.idle; turn = c.in-Serve.turn; status = s })
       (g.H.Network.log c.args.system.now) (g.H.Network.log c.host_on-hosted.new.system))
       c.as_str-file.result.now c.in-Serve.config c.as_str-path.result.now c.in-Serve.socket _ c.in-Serve.status c.is_some.result (is_some c.in-Serve.status)

@@ -1,0 +1,176 @@
+-- What a service counts: lines by what they ask for, replies by their kind, and refused log-ins by tenant.
+--     call_names, call_place line      what a line can ask for, and the place of its name there
+--     reply_kinds, reply_place answer  the kinds of replies, and the place of an answer's kind there
+--     refused_name line answer         the name of a log-in, if the line is one that was refused
+--     no_counts                        nothing was counted yet
+--     counted tenants line answer t    the counts after one more line
+--     Tallied                          a service with its counts
+use Rattle.std.specs.Prelude.{ℕ, ◌+◌, List, [], ◌∷◌, Option, Some, None, codes, if◌then◌else◌, is_some, length, replicate, slice_index, slice_set, unwrap_or, ◌==◌}
+use Rattle.judy_arena.specs.Blocks.{count_up}
+use Rattle.judy_model.specs.Grammar.{at_command}
+use Rattle.judy_model.specs.Replies.{line}
+use Rattle.judy_model.specs.Stream.{Heard}
+use Rattle.judy_model.specs.Stream.Heard.{Asked, TooLong, Unclear}
+use Rattle.judy_model.specs.declared.calls.BytesCall.{BytesCall}
+use Rattle.judy_model.specs.declared.calls.BytesCall.TheVariants as bytes
+use Rattle.judy_model.specs.declared.calls.Call.{Call}
+use Rattle.judy_model.specs.declared.calls.Call.TheVariants.{One, Long, Str, Bytes, Used}
+use Rattle.judy_model.specs.declared.calls.Given.{Given}
+use Rattle.judy_model.specs.declared.calls.Given.TheVariants.{Nothing, Value, Plus}
+use Rattle.judy_model.specs.declared.calls.LongCall.{LongCall}
+use Rattle.judy_model.specs.declared.calls.LongCall.TheVariants as long
+use Rattle.judy_model.specs.declared.calls.OneCall.{OneCall}
+use Rattle.judy_model.specs.declared.calls.OneCall.TheVariants as one
+use Rattle.judy_model.specs.declared.calls.StrCall.{StrCall}
+use Rattle.judy_model.specs.declared.calls.StrCall.TheVariants as str
+use Rattle.judy_model.specs.declared.requests.Line.TheVariants as request
+use Rattle.judy_table.specs.declared.tenant.Tenant.{Tenant}
+use Rattle.judy_table.specs.Tenants.{place_of}
+use Rattle.judy_tenants.specs.Held.{Held}
+use Rattle.judy_server.specs.declared.tally.Tally.{Tally}
+
+-- ---- what a line asks for
+
+-- the command that each request begins with, and `none` for a line that is no request
+unfoldable pub call_names : List (List ℕ)
+call_names =
+    codes "AUTH" ∷ codes "QUIT" ∷ codes "USED"
+    ∷ codes "J1S" ∷ codes "J1U" ∷ codes "J1T" ∷ codes "J1C" ∷ codes "J1BC" ∷ codes "J1F" ∷ codes "J1N" ∷ codes "J1L"
+    ∷ codes "J1P" ∷ codes "J1FE" ∷ codes "J1NE" ∷ codes "J1LE" ∷ codes "J1PE" ∷ codes "J1FA"
+    ∷ codes "JLI" ∷ codes "JLA" ∷ codes "JLD" ∷ codes "JLG" ∷ codes "JLC" ∷ codes "JLBC" ∷ codes "JLF" ∷ codes "JLN"
+    ∷ codes "JLL" ∷ codes "JLP" ∷ codes "JLFE" ∷ codes "JLNE" ∷ codes "JLLE" ∷ codes "JLPE" ∷ codes "JLFA"
+    ∷ codes "JSLI" ∷ codes "JSLA" ∷ codes "JSLD" ∷ codes "JSLG" ∷ codes "JSLF" ∷ codes "JSLN" ∷ codes "JSLL" ∷ codes "JSLP"
+    ∷ codes "JSLFA" ∷ codes "JHSI" ∷ codes "JHSA" ∷ codes "JHSD" ∷ codes "JHSG" ∷ codes "JHSFA" ∷ codes "none" ∷ []
+
+-- The place of a call's command there. An insertion is counted by its command, whatever value it gives; an addition by its own.
+abbrev pub one_place : OneCall → ℕ
+one_place (one.Set i) = 3
+one_place (one.Unset i) = 4
+one_place (one.Test i) = 5
+one_place (one.Count i j) = 6
+one_place (one.ByCount n) = 7
+one_place (one.First i) = 8
+one_place (one.Next i) = 9
+one_place (one.Last i) = 10
+one_place (one.Prev i) = 11
+one_place (one.FirstEmpty i) = 12
+one_place (one.NextEmpty i) = 13
+one_place (one.LastEmpty i) = 14
+one_place (one.PrevEmpty i) = 15
+one_place one.Free = 16
+
+abbrev pub long_place : LongCall → ℕ
+long_place (long.Insert i Nothing) = 17
+long_place (long.Insert i (Value v)) = 17
+long_place (long.Insert i (Plus n)) = 18
+long_place (long.Delete i) = 19
+long_place (long.Get i) = 20
+long_place (long.Count i j) = 21
+long_place (long.ByCount n) = 22
+long_place (long.First i) = 23
+long_place (long.Next i) = 24
+long_place (long.Last i) = 25
+long_place (long.Prev i) = 26
+long_place (long.FirstEmpty i) = 27
+long_place (long.NextEmpty i) = 28
+long_place (long.LastEmpty i) = 29
+long_place (long.PrevEmpty i) = 30
+long_place long.Free = 31
+
+abbrev pub string_place : StrCall → ℕ
+string_place (str.Insert key Nothing) = 32
+string_place (str.Insert key (Value v)) = 32
+string_place (str.Insert key (Plus n)) = 33
+string_place (str.Delete key) = 34
+string_place (str.Get key) = 35
+string_place (str.First key) = 36
+string_place (str.Next key) = 37
+string_place (str.Last key) = 38
+string_place (str.Prev key) = 39
+string_place str.Free = 40
+
+abbrev pub bytes_place : BytesCall → ℕ
+bytes_place (bytes.Insert key Nothing) = 41
+bytes_place (bytes.Insert key (Value v)) = 41
+bytes_place (bytes.Insert key (Plus n)) = 42
+bytes_place (bytes.Delete key) = 43
+bytes_place (bytes.Get key) = 44
+bytes_place bytes.Free = 45
+
+abbrev pub place_of_call : Call → ℕ
+place_of_call (One name c) = one_place c
+place_of_call (Long name c) = long_place c
+place_of_call (Str name c) = string_place c
+place_of_call (Bytes name c) = bytes_place c
+place_of_call Used = 2
+
+-- The place of what a line asks for. `proofs/lemmas/Commands.antt` proves that a request's name there is
+-- its own command.
+abbrev pub call_place : Heard → ℕ
+call_place (Asked (request.Auth name token)) = 0
+call_place (Asked request.Quit) = 1
+call_place (Asked (request.Call call)) = place_of_call call
+call_place Unclear = 46
+call_place TooLong = 46
+
+-- ---- replies
+
+-- each refusal is a kind, and any other reply is `ok`
+unfoldable pub reply_kinds : List (List ℕ)
+reply_kinds = codes "ok" ∷ codes "full" ∷ codes "memory" ∷ codes "auth" ∷ codes "readonly" ∷ codes "syntax" ∷ codes "long" ∷ []
+
+-- the answers of the refusals, and the places of their kinds there
+abbrev pub refusal_places : List (List ℕ × ℕ)
+refusal_places =
+    (line (codes "FULL"), 1) ∷ (line (codes "ERR MEMORY"), 2) ∷ (line (codes "ERR AUTH"), 3)
+    ∷ (line (codes "ERR READONLY"), 4) ∷ (line (codes "ERR SYNTAX"), 5) ∷ (line (codes "ERR LONG"), 6) ∷ []
+
+unfoldable pub reply_place : List ℕ → ℕ
+reply_place answer = unwrap_or (at_command answer refusal_places) 0
+
+-- ---- log-ins
+
+-- the name of the log-in that the line asked for, if it was refused
+abbrev pub refused_name : Heard → List ℕ → Option (List ℕ)
+refused_name (Asked (request.Auth name token)) answer = if reply_place answer == 3 then Some name else None
+refused_name (Asked request.Quit) answer = None
+refused_name (Asked (request.Call call)) answer = None
+refused_name Unclear answer = None
+refused_name TooLong answer = None
+
+-- ---- counts
+
+-- nothing was counted yet; there is a counter for each call, for each kind of reply, and for each place of a tenant
+unfoldable pub no_counts : Tally
+no_counts = record { lines = replicate 47 0; replies = replicate 7 0; refused = replicate 128 0; unknown = 0 }
+
+-- the counter at a place goes up, unless it is at its most
+abbrev pub bumped : List ℕ → ℕ → List ℕ
+bumped counts place = slice_set counts place (count_up (slice_index counts place))
+
+-- after a refused log-in with the name of the tenant at this place, or with a name that no tenant has
+abbrev pub refused_at : Option ℕ → Tally → Tally
+refused_at (Some place) tally = record tally { refused = bumped tally.refused place }
+refused_at None tally = record tally { unknown = count_up tally.unknown }
+
+-- after a log-in with this name was refused, if one was
+abbrev pub refused_to : List Tenant → Option (List ℕ) → Tally → Tally
+refused_to tenants (Some name) tally = refused_at (place_of name tenants) tally
+refused_to tenants None tally = tally
+
+-- a line and its answer were counted
+abbrev pub with_line : Heard → List ℕ → Tally → Tally
+with_line line answer tally = record tally { lines = bumped tally.lines (call_place line); replies = bumped tally.replies (reply_place answer) }
+
+-- The counts after a line: its call, the kind of its answer, and, if it is a log-in that was refused, its tenant.
+abbrev pub counted : List Tenant → Heard → List ℕ → Tally → Tally
+counted tenants line answer tally = refused_to tenants (refused_name line answer) (with_line line answer tally)
+
+-- ---- a service with its counts
+
+pub record Tallied : Type 0 where
+  pub held : Held
+  pub tally : Tally
+
+abbrev pub tallied : Held → Tally → Tallied
+tallied held tally = record { held = held; tally = tally }
