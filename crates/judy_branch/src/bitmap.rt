@@ -190,13 +190,15 @@ pub(crate) fn row(words: &[u64], byte: u8) -> &[u64]
     &words[7 + place..7 + place + many]
 }
 
-/// The byte and the word of the child at a place.
-pub(crate) fn nth(words: &[u64], place: usize) -> (u8, u64)
+/// The byte and the word of the child at a place. The bytes before it are below `from`, and it is
+/// not.
+pub(crate) fn nth(words: &[u64], place: usize, from: u16) -> (u8, u64)
     requires laid { IsLaid Bitmap words.now }
     requires within { place < length (children_in Bitmap words.now) }
+    requires from { IsPlace (child_bytes Bitmap words.now) from place }
     ensures { slice_get (children_in Bitmap words.now) place ≡ Some result }
 {
-    match bits(words).select(place as u32) {
+    match next_in(bit_words(words), from as u8) {
         Some(byte) => (byte, words[7 + place]),
         None => unreachable!(),
     }

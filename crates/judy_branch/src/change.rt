@@ -8,11 +8,13 @@ ghost use Rattle.judy_model.specs.Contents.{word_order, has_key, value_of, with_
 ghost use Rattle.judy_branch.specs.Branch.{IsBranch, IsBranchOf, branch_view, branch_number, view_in, with_child};
 ghost use Rattle.judy_branch.specs.Children.{HasChildRoom, IsLaid, IsShaped, IsBuilt, children_in, count_in, level_in, prefix_in, is_child, most, used_words};
 ghost use Rattle.judy_branch.specs.Draws.{branch_size, HasRoom};
+ghost use Rattle.judy_branch.specs.declared.shape.Shape.TheVariants.{Linear, Bitmap};
 
 use crate::build::{build, refer, shape_for, size};
 use crate::edit::{insert_child, write_child};
-use crate::read::{block, child_in, nth_in};
+use crate::read::{block, child_in};
 use crate::shape::{Shape, read_shape};
+use crate::{bitmap, linear};
 use judy_arena::{Arena, Block, NoMemory, Ref};
 use std::alloc::Global;
 
@@ -50,17 +52,34 @@ fn gather_each(shape: Shape, words: &[u64], list: &mut [(u8, Ref)]) -> usize
     count
 }
 
-// Copies all children, as `gather` does, child by child.
-fn gather_row(shape: Shape, words: &[u64], list: &mut [(u8, Ref)]) -> usize
-    requires laid { IsLaid shape words.now }
+// Copies all children of a linear branch, child by child.
+fn gather_row(words: &[u64], list: &mut [(u8, Ref)]) -> usize
+    requires laid { IsLaid Linear words.now }
     requires room { count_in words.now ≤ length list.old }
     ensures count { result ≡ count_in words.now }
-    ensures all { take result list.new ≡ children_in shape words.now }
+    ensures all { take result list.new ≡ children_in Linear words.now }
 {
     let count = (words[0] % 512) as usize;
     for at in 0..count {
-        let (byte, word) = nth_in(shape, words, at);
+        let (byte, word) = linear::nth(words, at);
         list[at] = (byte, Ref::known(word));
+    }
+    count
+}
+
+// Copies all children of a bitmap branch, from one byte to the next.
+fn gather_bits(words: &[u64], list: &mut [(u8, Ref)]) -> usize
+    requires laid { IsLaid Bitmap words.now }
+    requires room { count_in words.now ≤ length list.old }
+    ensures count { result ≡ count_in words.now }
+    ensures all { take result list.new ≡ children_in Bitmap words.now }
+{
+    let count = (words[0] % 512) as usize;
+    let mut from = 0u16;
+    for at in 0..count {
+        let (byte, word) = bitmap::nth(words, at, from);
+        list[at] = (byte, Ref::known(word));
+        from = u16::from(byte) + 1;
     }
     count
 }
@@ -75,8 +94,8 @@ pub(crate) fn gather(shape: Shape, words: &[u64], list: &mut [(u8, Ref)]) -> usi
 {
     match shape {
         Shape::Full => gather_each(shape, words, list),
-        Shape::Linear => gather_row(shape, words, list),
-        Shape::Bitmap => gather_row(shape, words, list),
+        Shape::Linear => gather_row(words, list),
+        Shape::Bitmap => gather_bits(words, list),
     }
 }
 

@@ -1,5 +1,5 @@
 //! The children of a full branch.
-ghost use Rattle.std.specs.Prelude.{◌≡◌, ◌+◌, ◌<◌, ◌≤◌, length, Some, slice_get, IsTrue, IsFalse};
+ghost use Rattle.std.specs.Prelude.{◌≡◌, ◌+◌, ◌<◌, ◌≤◌, IsTrue, IsFalse};
 ghost use Rattle.judy_model.specs.Contents.{word_order, value_of, has_key, with_entry, without_key};
 ghost use Rattle.judy_branch.specs.Children.{IsLaid, children_in, count_in, is_child};
 ghost use Rattle.judy_branch.specs.Nearest.{IsNextByte, IsPrevByte};
@@ -85,24 +85,4 @@ pub(crate) fn row(words: &[u64], byte: u8) -> &[u64]
     ensures { IsChildRow (children_in Full words.now) byte result.now }
 {
     &words[3 + usize::from(byte)..259]
-}
-
-/// The byte and the word of the child at a place.
-pub(crate) fn nth(words: &[u64], place: usize) -> (u8, u64)
-    requires laid { IsLaid Full words.now }
-    requires within { place < length (children_in Full words.now) }
-    ensures { slice_get (children_in Full words.now) place ≡ Some result }
-{
-    let mut left = place;
-    for at in 0..256usize {
-        let word = words[3 + at];
-        if word == 0 {
-            continue;
-        }
-        if left == 0 {
-            return (at as u8, word);
-        }
-        left -= 1;
-    }
-    unreachable!()
 }

@@ -172,19 +172,6 @@ pub fn last_child(arena: &Arena, branch: Ref) -> (u8, Ref)
     }
 }
 
-// The byte and the word of the child at a place, by the shape of the branch.
-pub(crate) fn nth_in(shape: Shape, words: &[u64], place: usize) -> (u8, u64)
-    requires laid { IsLaid shape words.now }
-    requires within { place < length (children_in shape words.now) }
-    ensures { slice_get (children_in shape words.now) place ≡ Some result }
-{
-    match shape {
-        Shape::Linear => linear::nth(words, place),
-        Shape::Bitmap => bitmap::nth(words, place),
-        Shape::Full => full::nth(words, place),
-    }
-}
-
 // The words of the children, by the shape of the branch.
 fn slots_in(shape: Shape, words: &[u64]) -> &[u64]
     requires { IsLaid shape words.now }

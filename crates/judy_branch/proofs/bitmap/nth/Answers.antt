@@ -1,37 +1,20 @@
-use Rattle.std.proofs.Common.{◌≤◌, length, arith, ap, sym, ◌∙◌}
-use Rattle.std.specs.Prelude.{slice_get}
-use Rattle.judy_bitmap.specs.ByteSets.{members}
+use Rattle.std.proofs.Common.{◌∙◌, arith}
 use Rattle.judy_branch.specs.declared.shape.Shape.TheVariants.{Bitmap}
-use Rattle.judy_branch.specs.Children.{bitmap_in, child_bytes}
-use Rattle.judy_branch.proofs.Nth.{bitmap-nth, paired-within}
+use Rattle.judy_branch.proofs.Nth.{bitmap-nth, bitmap-from, bitmap-there, from-byte, paired-within}
 use Rattle.judy_branch.proofs.Shapes.{bitmap-paired}
 use Rattle.judy_branch.proofs.bitmap.nth.Goals as goal
 
-pub overflow_cast-place : goal.overflow_cast-place
-overflow_cast-place c = let i = paired-within Bitmap c.args.words.now (bitmap-paired c.args.words.now c.requires.laid)
-    c.args.place c.requires.within in let m = c.requires.laid.most in omega arith
-
-pub overflow_add-result : goal.overflow_add-result
-overflow_add-result c = let i = paired-within Bitmap c.args.words.now (bitmap-paired c.args.words.now c.requires.laid)
-    c.args.place c.requires.within in let m = c.requires.laid.most in omega arith
-
-pub offset_bounds-words-place : goal.offset_bounds-words-place
-offset_bounds-words-place c = let i = paired-within Bitmap c.args.words.now (bitmap-paired c.args.words.now c.requires.laid)
-    c.args.place c.requires.within in let m = c.requires.laid.most in omega arith
+pub overflow_cast-from : goal.overflow_cast-from
+overflow_cast-from c = let f = from-byte c.args.words.now c.args.place c.args.from c.requires.laid c.requires.within c.requires.from in omega (arith, f)
 
 pub bounds-words-place : goal.bounds-words-place
 bounds-words-place c = let i = paired-within Bitmap c.args.words.now (bitmap-paired c.args.words.now c.requires.laid) c.args.place
-    c.requires.within in let m = c.requires.laid.room in omega arith
+    c.requires.within in let m = c.requires.laid.room in omega (arith, i, m)
 
 pub unreachable-requires : goal.unreachable-requires
-unfolding child_bytes
-unreachable-requires c =
-    let i = paired-within Bitmap c.args.words.now (bitmap-paired c.args.words.now c.requires.laid) c.args.place c.requires.within in
-    let n : length (members (bitmap_in c.args.words.now)) ≤ c.args.place = (let e = ap length c.bits.ensures in
-    let z = c.in-None.ensures.none in omega arith) in
-    let m = c.requires.laid.counted in
-    omega arith
+unreachable-requires c = bitmap-there c.args.words.now c.args.place c.requires.laid c.requires.within
+    (bitmap-from _ _ _ _ _ c.requires.laid c.requires.within c.requires.from c.bit_words.ensures.same c.next_in.ensures ∙ c.in-None.is)
 
 pub returns : goal.returns
 returns c = bitmap-nth c.args.words.now c.args.place c.in-Some.byte c.requires.laid c.requires.within
-    (ap (λ s. slice_get s c.args.place) (sym c.bits.ensures) ∙ sym c.select.ensures.item ∙ c.in-Some.is)
+    (bitmap-from _ _ _ _ _ c.requires.laid c.requires.within c.requires.from c.bit_words.ensures.same c.next_in.ensures ∙ c.in-Some.is)
