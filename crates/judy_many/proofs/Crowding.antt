@@ -9,12 +9,13 @@ use Rattle.judy_many.specs.Queues.{nobody}
 use Rattle.judy_protocol.specs.Talks.{Holds}
 use Rattle.judy_many.specs.Lives.{IsLive, IsPart, IsReason, IsServed, Lives, SlotDid, View, is_orderly, read_in, wrote_in}
 use Rattle.judy_many.specs.Nets.{Act, Acts, DidLog}
-use Rattle.judy_many.specs.Nets.Act.{Came, Refused, Closed, Questioned, Reported, Waited}
+use Rattle.judy_many.specs.Nets.Act.{Came, Refused, Closed, Questioned, Reported, Waited, Warned}
 use Rattle.judy_many.specs.Arrivals.{Arrives, IsArrival}
 use Rattle.judy_many.specs.Rules.{Rules}
 use Rattle.judy_many.specs.Sessions.{AreTurns, Turn}
 use Rattle.judy_many.specs.Statuses.{HasAnswered, Passes, Tells}
-use Rattle.judy_many.specs.Stories.{AreWithin, Phase, IsAllowed, InPhase, IsPhased, IsPiece, Mine, Share, Story, acts_in, came_in, closed_in, most, own, times, turns_in, turns_since, writes_since}
+use Rattle.judy_many.specs.Warnings.{HasWarned, warning_acts}
+use Rattle.judy_many.specs.Stories.{AreWithin, Phase, IsAllowed, InPhase, IsPhased, IsPiece, IsWarning, Mine, Share, Story, acts_in, came_in, closed_in, most, own, times, turns_in, turns_since, writes_since}
 use Rattle.judy_many.specs.Stories.Moment.{Did}
 use Rattle.judy_many.specs.declared.serve.Limits.{Limits}
 use Rattle.judy_many.specs.declared.network.How.{How}
@@ -87,6 +88,17 @@ module _ {B S : Type 0} (rules : Rules S) (limits : Limits) (first : S) (start :
       apart e = cc
 
 -- ---- the crowd
+
+-- what happened is no client's, and no accept, no wait and no end
+record IsAside (limits : Limits) (more : Story) : Type 0 where
+  pub foreign : (n : ℕ) → own n more ≡ []
+  pub came : came_in (acts_in more) ≡ 0
+  pub closed : closed_in (acts_in more) ≡ 0
+  pub within : AreWithin limits (acts_in more)
+  pub phases : (wrote : Bool) → IsPhased wrote more × (writes_since wrote more ≡ wrote)
+  pub silent : (share : Share) → times share more ≡ 0
+  pub unlost : lost_in (acts_in more) ≡ 0
+  pub waited : waits_in (acts_in more) ≡ 0
 
 never : false ≡ true → ⊥
 never e = cc
@@ -240,12 +252,12 @@ module _ {B S : Type 0} (view : B → View) (rules : Rules S) (limits : Limits) 
         both j m c d (inr p) (inr q) e = h.apart j m c d p.1 q.1 e
 
   -- What happened is no connection's. The slots have the same clients.
-  foreign : (phase phase' : Phase) (had had' : ℕ → Type 0) (waits waits' : ℕ) (log log' : Acts) (slots slots' : List (Option B)) (count : ℕ) (now : S) (h : Now phase had waits log slots count now) (more : Story)
-      → ((n : ℕ) → own n more ≡ []) → Told phase' waits' log' slots' count now (h.story ++ more)
+  foreign : (phase phase' : Phase) (had had' : ℕ → Type 0) (waits waits' : ℕ) (log log' : Acts) (slots slots' : List (Option B)) (count : ℕ) (now after : S) (h : Now phase had waits log slots count now) (more : Story)
+      → ((n : ℕ) → own n more ≡ []) → Told phase' waits' log' slots' count after (h.story ++ more)
       → ((j : ℕ) (c : B) → At slots' j c → At slots j c) → ((j : ℕ) (c : B) → At slots j c → At slots' j c)
       → ((j : ℕ) (c : B) → At slots j c → (had' j → ⊥) → (share : Share) → turns_since (view c).number share 0 (h.story ++ more) + most phase' share ≤ 1)
-      → Now phase' had' waits' log' slots' count now
-  foreign phase phase' had had' waits waits' log log' slots slots' count now h more none told back forth free = record {
+      → Now phase' had' waits' log' slots' count after
+  foreign phase phase' had had' waits waits' log log' slots slots' count now after h more none told back forth free = record {
     story = h.story ++ more;
     is_told = told;
     below = λ j c there. h.below j c (back j c there);
@@ -274,21 +286,33 @@ module _ {B S : Type 0} (view : B → View) (rules : Rules S) (limits : Limits) 
       let n = none share in
       omega (arith, e, f, k, n)
 
+  -- what happened aside: it changes no client and no slot
+  aside : (phase : Phase) (had : ℕ → Type 0) (waits : ℕ) (log log' : Acts) (slots : List (Option B)) (count : ℕ) (now after : S) (more : Story) → IsAside limits more
+      → DidLog log (acts_in more) log' → Passes rules now more after → Now phase had waits log slots count now → Now phase had waits log' slots count after
+  aside phase had waits log log' slots count now after more a k r h =
+      let came = a.came in
+      let closed = a.closed in
+      let lost = a.unlost in
+      let waited = a.waited in
+      foreign phase phase had had waits waits log log' slots slots count now after h more a.foreign
+      (told_more rules limits first start phase phase 0 0 waits waits log log' slots slots count count now after h.story more h.is_told k r (omega (arith, came)) h.is_told.capped
+      (omega (arith, came, closed)) (let a = taken_most slots in let b = h.is_told.sized in omega (arith, a, b, came)) h.is_told.sized a.within
+      (a.phases (writes_since false h.story)).0 (λ e. (a.phases (writes_since false h.story)).1 ∙ h.is_told.quiet e)
+      (still h.story more h.is_told.fair a.silent) (omega (arith, lost)) (omega (arith, waited)))
+      (λ j c at. at) (λ j c at. at) (open_still phase had had waits log slots count now h more (λ j k. k) a.silent)
+
   -- nothing was asked of the system
   pub idle : (phase : Phase) (had : ℕ → Type 0) (waits : ℕ) (log log' : Acts) (slots : List (Option B)) (count : ℕ) (now : S) → DidLog log [] log' → Now phase had waits log slots count now
       → Now phase had waits log' slots count now
   idle phase had waits log log' slots count now k h =
-      foreign phase phase had had waits waits log log' slots slots count now h [] (λ n. refl)
-      (told_more rules limits first start phase phase 0 0 waits waits log log' slots slots count count now now h.story [] h.is_told k refl (omega arith) h.is_told.capped (omega arith)
-      (let a = taken_most slots in let b = h.is_told.sized in omega (arith, a, b)) h.is_told.sized tt tt h.is_told.quiet
-      (still h.story [] h.is_told.fair (λ share. refl)) refl (omega arith))
-      (λ j c at. at) (λ j c at. at) (open_still phase had had waits log slots count now h [] (λ j k. k) (λ share. refl))
+      aside phase had waits log log' slots count now now []
+      (record { foreign = λ n. refl; came = refl; closed = refl; within = tt; phases = λ wrote. (tt, refl); silent = λ share. refl; unlost = refl; waited = refl }) k refl h
 
   -- the server waited
   has_waited : (phase : Phase) (had : ℕ → Type 0) (waits : ℕ) (log log' : Acts) (slots : List (Option B)) (count : ℕ) (now : S) → DidLog log (Waited ∷ []) log' → Now phase had waits log slots count now
       → Now Phase.Reads nobody (waits + 1) log' slots count now
   has_waited phase had waits log log' slots count now k h =
-      foreign phase Phase.Reads had nobody waits (waits + 1) log log' slots slots count now h (Did Waited ∷ []) (λ n. refl)
+      foreign phase Phase.Reads had nobody waits (waits + 1) log log' slots slots count now now h (Did Waited ∷ []) (λ n. refl)
       (told_more rules limits first start phase Phase.Reads 0 0 waits (waits + 1) log log' slots slots count count now now h.story (Did Waited ∷ []) h.is_told k (tt, refl) (omega arith) h.is_told.capped (omega arith)
       (let a = taken_most slots in let b = h.is_told.sized in omega (arith, a, b)) h.is_told.sized (tt, tt) (tt, tt) (λ e. refl)
       (still h.story (Did Waited ∷ []) h.is_told.fair (λ share. refl)) refl (omega arith))
@@ -302,12 +326,31 @@ module _ {B S : Type 0} (view : B → View) (rules : Rules S) (limits : Limits) 
       → Tells (rules.status now) (Reported text) → DidLog log (Questioned question.Status ∷ Reported text ∷ []) log' → Now phase had waits log slots count now
       → Now phase had waits log' slots count now
   has_told phase had waits log log' slots count now text watches tells k h =
-      let more : Story = Did (Questioned question.Status) ∷ Did (Reported text) ∷ [] in
-      foreign phase phase had had waits waits log log' slots slots count now h more (λ n. refl)
-      (told_more rules limits first start phase phase 0 0 waits waits log log' slots slots count count now now h.story more h.is_told k (tt, (tells, refl)) (omega arith) h.is_told.capped (omega arith)
-      (let a = taken_most slots in let b = h.is_told.sized in omega (arith, a, b)) h.is_told.sized (watches, (watches, tt)) (tt, (tt, tt)) h.is_told.quiet
-      (still h.story more h.is_told.fair (λ share. refl)) refl (omega arith))
-      (λ j c at. at) (λ j c at. at) (open_still phase had had waits log slots count now h more (λ j k. k) (λ share. refl))
+      aside phase had waits log log' slots count now now (Did (Questioned question.Status) ∷ Did (Reported text) ∷ [])
+      (record {
+        foreign = λ n. refl;
+        came = refl;
+        closed = refl;
+        within = (watches, (watches, tt));
+        phases = λ wrote. ((tt, (tt, tt)), refl);
+        silent = λ share. refl;
+        unlost = refl;
+        waited = refl;
+      }) k (tt, (tells, refl)) h
+
+  -- a line was told to the operator, if it was due
+  has_warned : (phase : Phase) (had : ℕ → Type 0) (waits : ℕ) (log log' : Acts) (slots : List (Option B)) (count : ℕ) (now : S) (due : Bool) (line : List ℕ) → IsWarning line
+      → DidLog log (warning_acts due line) log' → Now phase had waits log slots count now → Now phase had waits log' slots count now
+  has_warned phase had waits log log' slots count now true line is k h =
+      aside phase had waits log log' slots count now now (Did (Warned line) ∷ [])
+      (record { foreign = λ n. refl; came = refl; closed = refl; within = (is, tt); phases = λ wrote. ((tt, tt), refl); silent = λ share. refl; unlost = refl; waited = refl }) k (tt, refl) h
+  has_warned phase had waits log log' slots count now false line is k h = idle phase had waits log log' slots count now k h
+
+  pub warned : (phase : Phase) (had : ℕ → Type 0) (waits : ℕ) (log log' : Acts) (slots : List (Option B)) (count : ℕ) (now : S) → HasWarned log log'
+      → Now phase had waits log slots count now → Now phase had waits log' slots count now
+  warned phase had waits log log' slots count now w h =
+      has_warned phase had waits w.mid log' slots count now w.due_requests w.requests (inr w.of_requests) w.then_requests
+      (has_warned phase had waits log w.mid slots count now w.due_logins w.logins (inl w.of_logins) w.first h)
 
   -- the server goes on after it asked
   pub answered : (phase : Phase) (had : ℕ → Type 0) (waits : ℕ) (log log' : Acts) (slots : List (Option B)) (count : ℕ) (now : S) (watches : Bool) → limits.status ≡ watches
@@ -387,7 +430,7 @@ module _ {B S : Type 0} (view : B → View) (rules : Rules S) (limits : Limits) 
       let free : (b : B) → At slots i b → ⊥ = λ b there. nobody_is b (At-some slots i None b is there) in
       let count_is = taken_free slots i None within free in
       subst (λ a. Now phase had' waits log' (slice_set slots i None) count a) (sym same)
-      (foreign phase phase had had' waits waits log log' slots (slice_set slots i None) count now h [] (λ n. refl)
+      (foreign phase phase had had' waits waits log log' slots (slice_set slots i None) count now now h [] (λ n. refl)
       (told_more rules limits first start phase phase 0 0 waits waits log log' slots (slice_set slots i None) count count now now h.story [] h.is_told quiet refl (omega arith) h.is_told.capped
       (let a = count_is.0 in omega (arith, a))
       (let a = taken_most slots in let b = h.is_told.sized in omega (arith, a, b))
@@ -529,7 +572,7 @@ module _ {B S : Type 0} (view : B → View) (rules : Rules S) (limits : Limits) 
   crowd_seat waits log log' slots count now i false (Some s) more within free below h k bad = absurd bad
   crowd_seat waits log log' slots count now i false None more within free below h k (arrival, none) =
       subst (λ c. Now Phase.Reads nobody waits log' (slice_set slots i None) c now) same
-      (foreign Phase.Reads Phase.Reads nobody nobody waits waits log log' slots (slice_set slots i None) count now h more none
+      (foreign Phase.Reads Phase.Reads nobody nobody waits waits log log' slots (slice_set slots i None) count now now h more none
       (subst (λ c. Told Phase.Reads waits log' (slice_set slots i None) c now (h.story ++ more)) (sym same)
       (arrives waits log log' slots count now i None more 0 0 h within free k arrival refl (omega arith) (omega (arith, below))))
       (λ j c there. others j c (At-set slots i None j c there))

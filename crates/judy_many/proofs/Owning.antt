@@ -4,7 +4,7 @@ use Rattle.std.specs.Prelude.{◌==◌, if◌then◌else◌}
 use Rattle.std.proofs.lemmas.Bool.{eqb-true}
 use Rattle.std.proofs.lemmas.Bool.Decides.{eqb_tells}
 use Rattle.judy_many.specs.Nets.{Act}
-use Rattle.judy_many.specs.Nets.Act.{Came, Refused, Read, Ended, Broke, Wrote, Failed, Closed, Waited, Lost, Asked, Questioned, Reported}
+use Rattle.judy_many.specs.Nets.Act.{Came, Refused, Read, Ended, Broke, Wrote, Failed, Closed, Waited, Lost, Asked, Questioned, Reported, Warned, Tabled, Untabled, Replied}
 use Rattle.judy_many.specs.Stories.{Mine, Moment, Story, belongs, is_of, own}
 use Rattle.judy_many.specs.Stories.Moment.{Did, Ran}
 
@@ -40,6 +40,10 @@ is_other n m Lost e d = absurd (never e)
 is_other n m (Asked s) e d = absurd (never e)
 is_other n m (Questioned q) e d = absurd (never e)
 is_other n m (Reported text) e d = absurd (never e)
+is_other n m (Warned text) e d = absurd (never e)
+is_other n m (Tabled text) e d = absurd (never e)
+is_other n m Untabled e d = absurd (never e)
+is_other n m (Replied text) e d = absurd (never e)
 
 pub belongs_other : (n m : ℕ) (x : Moment) → belongs n x ≡ true → m ≢ n → belongs m x ≡ false
 belongs_other n m (Did a) e d = is_other n m a e d

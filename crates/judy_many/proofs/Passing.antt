@@ -2,7 +2,7 @@
 use Rattle.std.proofs.Common.{◌≡◌, ℕ, List, [], ◌∷◌, ◌++◌, arith, refl, subst}
 use Rattle.judy_many.specs.Endings.{reports_by, reports_in}
 use Rattle.judy_many.specs.Nets.{Act}
-use Rattle.judy_many.specs.Nets.Act.{Came, Refused, Read, Ended, Broke, Wrote, Failed, Closed, Waited, Lost, Asked, Questioned, Reported}
+use Rattle.judy_many.specs.Nets.Act.{Came, Refused, Read, Ended, Broke, Wrote, Failed, Closed, Waited, Lost, Asked, Questioned, Reported, Warned, Tabled, Untabled, Replied}
 use Rattle.judy_many.specs.Rules.{Rules}
 use Rattle.judy_many.specs.Sessions.{AreTurns, Turn}
 use Rattle.judy_many.specs.Statuses.{Passes, Tells}
@@ -25,6 +25,10 @@ untold text Lost e = tt
 untold text (Asked s) e = tt
 untold text (Questioned q) e = tt
 untold text (Reported told) e = absurd (omega (arith, e))
+untold text (Warned told) e = tt
+untold text (Tabled told) e = tt
+untold text Untabled e = tt
+untold text (Replied told) e = tt
 
 module _ {S : Type 0} (rules : Rules S) where
   -- lines that were run in two parts

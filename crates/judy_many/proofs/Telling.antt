@@ -10,7 +10,7 @@ use Rattle.judy_many.specs.declared.serve.Limits.{Limits}
 use Rattle.judy_many.specs.Fates.{Ends, IsLeft, Leaves, Stays}
 use Rattle.judy_many.specs.Lives.{HasReason, IsLive, IsOrdered, IsReason, IsPart, IsServed, IsWhole, Lives, View, end_well, ends_well, is_orderly, read_in, wrote_in}
 use Rattle.judy_many.specs.Nets.{Act}
-use Rattle.judy_many.specs.Nets.Act.{Came, Refused, Read, Ended, Broke, Wrote, Failed, Closed, Waited, Lost, Asked, Questioned, Reported}
+use Rattle.judy_many.specs.Nets.Act.{Came, Refused, Read, Ended, Broke, Wrote, Failed, Closed, Waited, Lost, Asked, Questioned, Reported, Warned, Tabled, Untabled, Replied}
 use Rattle.judy_many.specs.Sessions.{Turn}
 use Rattle.judy_many.specs.Stories.{AreReads, AreWithin, AreWrites, Phase, InPhase, IsOnce, IsPhased, IsPiece, IsRead, IsWrite, Mine, Moment, Share, Story, acts_by, acts_in, came_by, came_in, closed_by, closed_in, reading, running, share_of, times, told, turns_by, turns_in, writes_after, writes_since}
 use Rattle.judy_many.specs.Stories.Moment.{Did, Ran}
@@ -136,6 +136,10 @@ one_read n Lost h = absurd h
 one_read n (Asked s) h = absurd h
 one_read n (Questioned q) h = absurd h
 one_read n (Reported text) h = absurd h
+one_read n (Warned text) h = absurd h
+one_read n (Tabled text) h = absurd h
+one_read n Untabled h = absurd h
+one_read n (Replied text) h = absurd h
 
 -- at most one read is at most once a share of a turn
 pub reads_once : (n : ℕ) (acts : List Act) → AreReads n acts → length acts ≤ 1 → (share : Share) → times share (told acts) ≤ reading share
@@ -156,6 +160,10 @@ reads_once n (a ∷ []) h few share = let e = one_share n a h.0 share in omega (
     one_share n (Asked s) h share = absurd h
     one_share n (Questioned q) h share = absurd h
     one_share n (Reported text) h share = absurd h
+    one_share n (Warned text) h share = absurd h
+    one_share n (Tabled text) h share = absurd h
+    one_share n Untabled h share = absurd h
+    one_share n (Replied text) h share = absurd h
 reads_once n (a ∷ b ∷ acts) h few share = absurd (omega (arith, few))
 
 pub piece_reads : (n : ℕ) (acts : List Act) → AreReads n acts → length acts ≤ 1 → IsPiece n Phase.Reads (told acts)
@@ -177,6 +185,10 @@ one_write n Lost h = absurd h
 one_write n (Asked s) h = absurd h
 one_write n (Questioned q) h = absurd h
 one_write n (Reported text) h = absurd h
+one_write n (Warned text) h = absurd h
+one_write n (Tabled text) h = absurd h
+one_write n Untabled h = absurd h
+one_write n (Replied text) h = absurd h
 
 pub piece_writes : (n : ℕ) (acts : List Act) → AreWrites n acts → length acts ≤ 1 → IsPiece n Phase.Writes (told acts)
 piece_writes n [] h few = piece_none n Phase.Writes
@@ -198,6 +210,10 @@ plain_end Lost h = refl
 plain_end (Asked s) h = refl
 plain_end (Questioned q) h = refl
 plain_end (Reported text) h = refl
+plain_end (Warned text) h = refl
+plain_end (Tabled text) h = refl
+plain_end Untabled h = refl
+plain_end (Replied text) h = refl
 
 pub plain_ends : (acts : List Act) → closed_in acts ≡ 0 → end_well acts ≡ false
 plain_ends [] h = refl

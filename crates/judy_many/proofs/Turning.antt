@@ -4,7 +4,7 @@ use Rattle.std.specs.Prelude.{◌==◌, if◌then◌else◌}
 use Rattle.std.proofs.lemmas.Bool.Decides.{eqb_tells}
 use Rattle.judy_many.specs.Endings.{lost_by, lost_in, reports_by, reports_in, waits_in}
 use Rattle.judy_many.specs.Nets.{Act}
-use Rattle.judy_many.specs.Nets.Act.{Came, Refused, Read, Ended, Broke, Wrote, Failed, Closed, Waited, Lost, Asked, Questioned, Reported}
+use Rattle.judy_many.specs.Nets.Act.{Came, Refused, Read, Ended, Broke, Wrote, Failed, Closed, Waited, Lost, Asked, Questioned, Reported, Warned, Tabled, Untabled, Replied}
 use Rattle.judy_many.specs.Stories.{HasTurns, Mine, Moment, Share, Story, acts_in, belongs, is_of, is_wait, own, share_by, times, turns_after, turns_since, waits_by, writes_after, writes_since}
 use Rattle.judy_many.specs.Stories.Moment.{Did, Ran}
 use Rattle.judy_many.proofs.Owning.{belongs_other}
@@ -141,6 +141,10 @@ since_quiet n wrote count (m ∷ story) h e = since_quiet n (writes_after wrote 
     after (Did (Asked s)) e = h e
     after (Did (Questioned q)) e = h e
     after (Did (Reported text)) e = h e
+    after (Did (Warned text)) e = h e
+    after (Did (Tabled text)) e = h e
+    after (Did Untabled) e = h e
+    after (Did (Replied text)) e = h e
     after (Ran k turns) e = same (k == n) e
 
 -- ---- pieces
@@ -169,6 +173,22 @@ no_wait n (Questioned q) e = absurd (never e)
     never : false ≡ true → ⊥
     never e = cc
 no_wait n (Reported text) e = absurd (never e)
+  where
+    never : false ≡ true → ⊥
+    never e = cc
+no_wait n (Warned text) e = absurd (never e)
+  where
+    never : false ≡ true → ⊥
+    never e = cc
+no_wait n (Tabled text) e = absurd (never e)
+  where
+    never : false ≡ true → ⊥
+    never e = cc
+no_wait n Untabled e = absurd (never e)
+  where
+    never : false ≡ true → ⊥
+    never e = cc
+no_wait n (Replied text) e = absurd (never e)
   where
     never : false ≡ true → ⊥
     never e = cc

@@ -7,7 +7,7 @@ use Rattle.judy_many.specs.declared.network.Question.TheVariants as question
 use Rattle.judy_many.specs.declared.serve.Ending.{Ending}
 use Rattle.judy_many.specs.declared.serve.Ending.TheVariants as ending
 use Rattle.judy_many.specs.Nets.{Act}
-use Rattle.judy_many.specs.Nets.Act.{Came, Refused, Read, Ended, Broke, Wrote, Failed, Closed, Waited, Lost, Asked, Questioned, Reported}
+use Rattle.judy_many.specs.Nets.Act.{Came, Refused, Read, Ended, Broke, Wrote, Failed, Closed, Waited, Lost, Asked, Questioned, Reported, Warned, Tabled, Untabled, Replied}
 use Rattle.judy_many.specs.Stories.{Story, acts_in, is_wait}
 use Rattle.judy_many.specs.Stories.Moment.{Did}
 
@@ -28,6 +28,10 @@ lost_by (Questioned question.Nothing) = 0
 lost_by (Questioned question.Status) = 0
 lost_by (Questioned question.Stop) = 1
 lost_by (Reported text) = 0
+lost_by (Warned text) = 0
+lost_by (Tabled text) = 0
+lost_by Untabled = 0
+lost_by (Replied text) = 0
 
 abbrev pub lost_in : List Act → ℕ
 lost_in [] = 0
@@ -48,6 +52,10 @@ reports_by Lost = 0
 reports_by (Asked s) = 0
 reports_by (Questioned q) = 0
 reports_by (Reported text) = 1
+reports_by (Warned text) = 0
+reports_by (Tabled text) = 0
+reports_by Untabled = 0
+reports_by (Replied text) = 0
 
 abbrev pub reports_in : List Act → ℕ
 reports_in [] = 0

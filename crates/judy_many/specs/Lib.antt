@@ -13,3 +13,4 @@ pub mod Slots
 pub mod Statuses
 pub mod Stories
 pub mod Times
+pub mod Warnings

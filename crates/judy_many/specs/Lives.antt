@@ -16,7 +16,7 @@ use Rattle.judy_many.specs.declared.network.How.{How}
 use Rattle.judy_many.specs.declared.network.How.TheVariants as how
 use Rattle.judy_many.specs.declared.serve.Limits.{Limits}
 use Rattle.judy_many.specs.Nets.{Act}
-use Rattle.judy_many.specs.Nets.Act.{Came, Refused, Read, Ended, Broke, Wrote, Failed, Closed, Waited, Lost, Asked, Questioned, Reported}
+use Rattle.judy_many.specs.Nets.Act.{Came, Refused, Read, Ended, Broke, Wrote, Failed, Closed, Waited, Lost, Asked, Questioned, Reported, Warned, Tabled, Untabled, Replied}
 use Rattle.judy_many.specs.Sessions.{Turn, lines_in, texts, Speaks}
 use Rattle.judy_many.specs.Stories.{AreWithin, Phase, InPhase, IsOnce, Mine, Story, acts_in, came_in, closed_in, is_end, is_fault, turns_in}
 use Rattle.judy_many.specs.Stories.Moment.{Did}
@@ -36,6 +36,10 @@ read_by Lost = []
 read_by (Asked s) = []
 read_by (Questioned q) = []
 read_by (Reported text) = []
+read_by (Warned text) = []
+read_by (Tabled text) = []
+read_by Untabled = []
+read_by (Replied text) = []
 
 abbrev pub read_in : List Act → List ℕ
 read_in [] = []
@@ -56,6 +60,10 @@ wrote_by Lost = []
 wrote_by (Asked s) = []
 wrote_by (Questioned q) = []
 wrote_by (Reported text) = []
+wrote_by (Warned text) = []
+wrote_by (Tabled text) = []
+wrote_by Untabled = []
+wrote_by (Replied text) = []
 
 abbrev pub wrote_in : List Act → List ℕ
 wrote_in [] = []
@@ -84,6 +92,10 @@ ends_well Lost = false
 ends_well (Asked s) = false
 ends_well (Questioned q) = false
 ends_well (Reported text) = false
+ends_well (Warned text) = false
+ends_well (Tabled text) = false
+ends_well Untabled = false
+ends_well (Replied text) = false
 
 abbrev pub end_well : List Act → Bool
 end_well [] = false

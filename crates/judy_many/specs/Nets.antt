@@ -57,6 +57,13 @@ pub data Act : Type 0 where
   -- this was asked on the status socket, and this text is what it was answered
   Questioned : Question → Act
   Reported : List ℕ → Act
+  -- this line was told to the operator
+  Warned : List ℕ → Act
+  -- the file of the table was read again, and this is its text; or it was not
+  Tabled : List ℕ → Act
+  Untabled : Act
+  -- a question was answered with this text
+  Replied : List ℕ → Act
 
 -- the answers so far, where they are known
 abbrev pub Acts : Type 0

@@ -5,7 +5,7 @@
 use Rattle.std.specs.Prelude.{◌≡◌, ◌⊎◌, ℕ, Bool, true, false, List, [], ◌∷◌}
 use Rattle.judy_many.specs.declared.network.Question.TheVariants as question
 use Rattle.judy_many.specs.Nets.{Act, Acts, DidLog}
-use Rattle.judy_many.specs.Nets.Act.{Came, Refused, Read, Ended, Broke, Wrote, Failed, Closed, Waited, Lost, Asked, Questioned, Reported}
+use Rattle.judy_many.specs.Nets.Act.{Came, Refused, Read, Ended, Broke, Wrote, Failed, Closed, Waited, Lost, Asked, Questioned, Reported, Warned, Tabled, Untabled, Replied}
 use Rattle.judy_many.specs.Rules.{Rules}
 use Rattle.judy_many.specs.Sessions.{AreTurns}
 use Rattle.judy_many.specs.Stories.{Story}
@@ -26,6 +26,10 @@ Tells status Lost = Unit {0}
 Tells status (Asked s) = Unit {0}
 Tells status (Questioned q) = Unit {0}
 Tells status (Reported text) = (text ≡ status) ⊎ (text ≡ [])
+Tells status (Warned text) = Unit {0}
+Tells status (Tabled text) = Unit {0}
+Tells status Untabled = Unit {0}
+Tells status (Replied text) = Unit {0}
 
 -- A stop was asked for; or nothing was; or the status, which was told. Without a status socket nothing
 -- is asked.

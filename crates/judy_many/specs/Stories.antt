@@ -7,7 +7,7 @@
 --     HasTurns                     each connection has at most one turn in a round
 --     AreWithin limits             why connections were closed, and that nothing else was asked
 use Rattle.std.specs.List.{list_any}
-use Rattle.std.specs.Prelude.{◌≡◌, ◌==◌, ◌≤◌, ◌+◌, ℕ, Bool, true, false, List, [], ◌∷◌, ◌++◌, is_some, if◌then◌else◌}
+use Rattle.std.specs.Prelude.{◌≡◌, ◌⊎◌, ◌==◌, ◌≤◌, ◌+◌, ℕ, Bool, true, false, List, [], ◌∷◌, ◌++◌, codes, is_some, if◌then◌else◌}
 use Rattle.judy_many.specs.declared.network.How.{How}
 use Rattle.judy_many.specs.declared.network.How.TheVariants as how
 use Rattle.judy_many.specs.declared.buffers.Sent.{Sent}
@@ -16,7 +16,7 @@ use Rattle.judy_many.specs.declared.network.Got.{Got}
 use Rattle.judy_many.specs.declared.network.Got.TheVariants as got
 use Rattle.judy_many.specs.declared.serve.Limits.{Limits}
 use Rattle.judy_many.specs.Nets.{Act}
-use Rattle.judy_many.specs.Nets.Act.{Came, Refused, Read, Ended, Broke, Wrote, Failed, Closed, Waited, Lost, Asked, Questioned, Reported}
+use Rattle.judy_many.specs.Nets.Act.{Came, Refused, Read, Ended, Broke, Wrote, Failed, Closed, Waited, Lost, Asked, Questioned, Reported, Warned, Tabled, Untabled, Replied}
 use Rattle.judy_many.specs.Sessions.{Turn}
 
 -- an answer of the system, or lines of one connection that were run one after another
@@ -65,6 +65,10 @@ is_of n Lost = false
 is_of n (Asked s) = false
 is_of n (Questioned q) = false
 is_of n (Reported text) = false
+is_of n (Warned text) = false
+is_of n (Tabled text) = false
+is_of n Untabled = false
+is_of n (Replied text) = false
 
 -- whether a moment is this connection's
 abbrev pub belongs : ℕ → Moment → Bool
@@ -96,6 +100,10 @@ IsRead n Lost = ⊥
 IsRead n (Asked s) = ⊥
 IsRead n (Questioned q) = ⊥
 IsRead n (Reported text) = ⊥
+IsRead n (Warned text) = ⊥
+IsRead n (Tabled text) = ⊥
+IsRead n Untabled = ⊥
+IsRead n (Replied text) = ⊥
 
 abbrev pub AreReads : ℕ → List Act → Type 0
 AreReads n [] = Unit {0}
@@ -116,6 +124,10 @@ IsWrite n Lost = ⊥
 IsWrite n (Asked s) = ⊥
 IsWrite n (Questioned q) = ⊥
 IsWrite n (Reported text) = ⊥
+IsWrite n (Warned text) = ⊥
+IsWrite n (Tabled text) = ⊥
+IsWrite n Untabled = ⊥
+IsWrite n (Replied text) = ⊥
 
 abbrev pub AreWrites : ℕ → List Act → Type 0
 AreWrites n [] = Unit {0}
@@ -136,6 +148,10 @@ is_end Lost = false
 is_end (Asked s) = false
 is_end (Questioned q) = false
 is_end (Reported text) = false
+is_end (Warned text) = false
+is_end (Tabled text) = false
+is_end Untabled = false
+is_end (Replied text) = false
 
 -- whether it says that a read or a write failed
 abbrev pub is_fault : Act → Bool
@@ -152,6 +168,10 @@ is_fault Lost = false
 is_fault (Asked s) = false
 is_fault (Questioned q) = false
 is_fault (Reported text) = false
+is_fault (Warned text) = false
+is_fault (Tabled text) = false
+is_fault Untabled = false
+is_fault (Replied text) = false
 
 -- what a read, and a write, says of the connection
 abbrev pub TellsRead : Got → List Act → Type 0
@@ -180,6 +200,10 @@ came_by Lost = 0
 came_by (Asked s) = 0
 came_by (Questioned q) = 0
 came_by (Reported text) = 0
+came_by (Warned text) = 0
+came_by (Tabled text) = 0
+came_by Untabled = 0
+came_by (Replied text) = 0
 
 abbrev pub came_in : List Act → ℕ
 came_in [] = 0
@@ -200,6 +224,10 @@ closed_by Lost = 0
 closed_by (Asked s) = 0
 closed_by (Questioned q) = 0
 closed_by (Reported text) = 0
+closed_by (Warned text) = 0
+closed_by (Tabled text) = 0
+closed_by Untabled = 0
+closed_by (Replied text) = 0
 
 abbrev pub closed_in : List Act → ℕ
 closed_in [] = 0
@@ -220,6 +248,10 @@ writes_after wrote (Did Lost) = wrote
 writes_after wrote (Did (Asked s)) = wrote
 writes_after wrote (Did (Questioned q)) = wrote
 writes_after wrote (Did (Reported text)) = wrote
+writes_after wrote (Did (Warned text)) = wrote
+writes_after wrote (Did (Tabled text)) = wrote
+writes_after wrote (Did Untabled) = wrote
+writes_after wrote (Did (Replied text)) = wrote
 writes_after wrote (Ran n turns) = wrote
 
 abbrev pub writes_since : Bool → Story → Bool
@@ -245,8 +277,17 @@ IsAllowed limits how.Idle = is_some limits.idle ≡ true
 IsAllowed limits how.Over = is_some limits.turn ≡ true
 IsAllowed limits how.Memory = Unit {0}
 
+-- one text is the beginning of another
+abbrev pub BeginsWith : List ℕ → List ℕ → Type 0
+BeginsWith head text = (rest : List ℕ) × (text ≡ head ++ rest)
+
+-- the operator is told of refused log-ins, and of requests that were refused for memory
+abbrev pub IsWarning : List ℕ → Type 0
+IsWarning text = BeginsWith (codes "log-in refused: ") text ⊎ BeginsWith (codes "out of memory: ") text
+
 -- Connections were closed for lack of bytes or for their age only where a limit was given. Questions
--- were answered only where there is a status socket. Nothing else was asked of the system.
+-- were answered only where there is a status socket. Nothing else was asked of the system, but to warn
+-- the operator.
 abbrev pub IsWithin : Limits → Act → Type 0
 IsWithin limits (Came m) = Unit {0}
 IsWithin limits Refused = Unit {0}
@@ -261,6 +302,10 @@ IsWithin limits Lost = Unit {0}
 IsWithin limits (Asked s) = ⊥
 IsWithin limits (Questioned q) = limits.status ≡ true
 IsWithin limits (Reported text) = limits.status ≡ true
+IsWithin limits (Warned text) = IsWarning text
+IsWithin limits (Tabled text) = limits.status ≡ true
+IsWithin limits Untabled = limits.status ≡ true
+IsWithin limits (Replied text) = limits.status ≡ true
 
 abbrev pub AreWithin : Limits → List Act → Type 0
 AreWithin limits [] = Unit {0}
@@ -316,6 +361,10 @@ share_of Lost share = 0
 share_of (Asked s) share = 0
 share_of (Questioned q) share = 0
 share_of (Reported text) share = 0
+share_of (Warned text) share = 0
+share_of (Tabled text) share = 0
+share_of Untabled share = 0
+share_of (Replied text) share = 0
 
 abbrev pub share_by : Moment → Share → ℕ
 share_by (Did a) share = share_of a share
@@ -349,6 +398,10 @@ is_wait Lost = false
 is_wait (Asked s) = false
 is_wait (Questioned q) = false
 is_wait (Reported text) = false
+is_wait (Warned text) = false
+is_wait (Tabled text) = false
+is_wait Untabled = false
+is_wait (Replied text) = false
 
 abbrev pub waits_by : Moment → Bool
 waits_by (Did a) = is_wait a

@@ -17,6 +17,7 @@ mod shows;
 mod sockets;
 mod sweeps;
 mod times;
+mod warnings;
 
 pub use buffers::{Answers, Input, Sent};
 pub use client::{Client, Fate, listen, tell};
@@ -27,3 +28,4 @@ pub use session::{ANSWERS_LIMIT, Ran, Rooms, Session, run_line, run_lines};
 pub use shows::Shows;
 pub use sockets::{Connection, Sockets};
 pub use times::is_past;
+pub use warnings::{Told, Warnings};

@@ -1,7 +1,7 @@
 //! What the loop asks of the system: to wait, to accept, to read, to write and to close.
 ghost use Rattle.std.specs.Prelude.{◌≡◌, ◌<◌, ℕ, [], ◌∷◌, length};
 ghost use Rattle.judy_many.specs.Nets.{Acts, DidLog, Fits, Takes, question_acts, read_acts, wait_acts, write_acts};
-ghost use Rattle.judy_many.specs.Nets.Act.{Closed, Reported};
+ghost use Rattle.judy_many.specs.Nets.Act.{Closed, Reported, Warned};
 ghost use Rattle.judy_many.specs.Comes.{HasCome};
 
 use crate::queue::Queue;
@@ -125,4 +125,8 @@ pub trait Network {
     /// Answers what was asked last. What the asker does not take at once is dropped.
     fn report(&mut self, text: &[u8])
         ensures { DidLog (log self.old) (Reported text.now ∷ []) (log self.new) };
+
+    /// Tells a line to the operator, on standard error.
+    fn warn(&mut self, text: &[u8])
+        ensures { DidLog (log self.old) (Warned text.now ∷ []) (log self.new) };
 }

@@ -24,6 +24,16 @@ pub trait Shows: Served {
     fn note(&mut self, asked: &Result<Line<'_>, Refusal>, answer: &[u8])
         ensures { noted self.old (as_heard asked.now) answer.now self.new };
 
+    /// How many log-ins were refused.
+    fn refused_logins(&self) -> u64;
+
+    /// The tenant's name of the log-in that was refused last. Empty if no tenant has the name that was
+    /// given.
+    fn last_refused(&self) -> &[u8];
+
+    /// How many requests were refused for memory.
+    fn refused_requests(&self) -> u64;
+
     /// Counting changes nothing that a connection relies on.
     ghost unseen: { (before after : Self) (line : Heard) (answer : List ℕ)
         → noted before line answer after → Self.seen after ≡ Self.seen before };

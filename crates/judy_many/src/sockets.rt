@@ -9,7 +9,7 @@ use mio::net::{UnixListener, UnixStream};
 use mio::{Events, Interest, Poll, Token};
 use std::alloc::Global;
 use std::fs::Files;
-use std::io::{self, ErrorKind, Read, Write};
+use std::io::{self, Eprint, ErrorKind, Read, Write};
 use std::net::Net;
 use std::rt::Clock;
 use std::time::{Duration, Instant};
@@ -35,6 +35,7 @@ pub struct Sockets<'a, F> {
     fault: Option<io::Error>,
     desk: Option<Desk>,
     counts: Counts,
+    warned: Option<u64>,
 }
 
 /// A connection, and whether it waits for room to write.
@@ -46,7 +47,7 @@ pub struct Connection {
     blocked: bool,
 }
 
-impl<'a, F: Files + Net + Clock> Sockets<'a, F> {
+impl<'a, F: Files + Net + Clock + Eprint> Sockets<'a, F> {
     /// Makes a socket at a path.
     pub fn bind(rt: &'a F, alloc: Global, path: &str) -> io::Result<Self> {
         let mut listener = UnixListener::bind(rt, path)?;
@@ -65,6 +66,7 @@ impl<'a, F: Files + Net + Clock> Sockets<'a, F> {
             fault: None,
             desk: None,
             counts: Counts::new(),
+            warned: None,
         })
     }
 
@@ -78,6 +80,17 @@ impl<'a, F: Files + Net + Clock> Sockets<'a, F> {
     pub fn fault(&self) -> Option<io::Error> {
         self.fault
     }
+
+    /// Counts an accept that failed, and tells the reason, at most once a second.
+    fn fail(&mut self, reason: io::Error) {
+        self.counts.fail();
+        let now = self.seconds();
+        if now.is_some() && self.warned == now {
+            return;
+        }
+        self.warned = now;
+        let _ = eprintln!(self.rt; "judyd: accept failed: {reason}");
+    }
 }
 
 /// Whether a later accept may succeed.
@@ -88,7 +101,7 @@ fn is_passing(e: &io::Error) -> bool {
     LATER.contains(&number)
 }
 
-impl<'a, F: Files + Net + Clock> Network for Sockets<'a, F> {
+impl<'a, F: Files + Net + Clock + Eprint> Network for Sockets<'a, F> {
     type Connection = Connection;
 
     ghost log = { λ _. None };
@@ -109,8 +122,8 @@ impl<'a, F: Files + Net + Clock> Network for Sockets<'a, F> {
                             blocked: false,
                         })
                     }
-                    Err(_) => {
-                        self.counts.fail();
+                    Err(e) => {
+                        self.fail(e);
                         Accept::Later
                     }
                 }
@@ -120,7 +133,7 @@ impl<'a, F: Files + Net + Clock> Network for Sockets<'a, F> {
                     return Accept::Nothing;
                 }
                 if is_passing(&e) {
-                    self.counts.fail();
+                    self.fail(e);
                     return Accept::Later;
                 }
                 self.fault = Some(e);
@@ -243,6 +256,12 @@ impl<'a, F: Files + Net + Clock> Network for Sockets<'a, F> {
         let first = self.counts.text(seconds);
         if let Some(desk) = &mut self.desk {
             desk.answer(first.as_slice(), text);
+        }
+    }
+
+    fn warn(&mut self, text: &[u8]) {
+        if let Ok(text) = str::from_utf8(text) {
+            let _ = eprintln!(self.rt; "judyd: {text}");
         }
     }
 }
