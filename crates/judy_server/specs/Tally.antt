@@ -5,7 +5,7 @@
 --     no_counts                        nothing was counted yet
 --     counted tenants line answer t    the counts after one more line
 --     Tallied                          a service with its counts
-use Rattle.std.specs.Prelude.{ℕ, ◌+◌, List, [], ◌∷◌, Option, Some, None, codes, if◌then◌else◌, is_some, length, replicate, slice_index, slice_set, unwrap_or, ◌==◌}
+use Rattle.std.specs.Prelude.{ℕ, List, [], ◌∷◌, Option, Some, None, codes, if◌then◌else◌, replicate, slice_index, slice_set, unwrap_or, ◌==◌}
 use Rattle.judy_arena.specs.Blocks.{count_up}
 use Rattle.judy_model.specs.Grammar.{at_command}
 use Rattle.judy_model.specs.Replies.{line}
@@ -15,7 +15,6 @@ use Rattle.judy_model.specs.declared.calls.BytesCall.{BytesCall}
 use Rattle.judy_model.specs.declared.calls.BytesCall.TheVariants as bytes
 use Rattle.judy_model.specs.declared.calls.Call.{Call}
 use Rattle.judy_model.specs.declared.calls.Call.TheVariants.{One, Long, Str, Bytes, Used}
-use Rattle.judy_model.specs.declared.calls.Given.{Given}
 use Rattle.judy_model.specs.declared.calls.Given.TheVariants.{Nothing, Value, Plus}
 use Rattle.judy_model.specs.declared.calls.LongCall.{LongCall}
 use Rattle.judy_model.specs.declared.calls.LongCall.TheVariants as long

@@ -1,9 +1,9 @@
 -- A line that is a request is counted by its own command.
 --     counted-by-its-command    the name at the place of a request is the first field of its line
 --     counted-as-none           a line that is no request is counted by `none`
-use Rattle.std.specs.Prelude.{◌≡◌, ℕ, Bool, true, false, cond, List, [], ◌∷◌, Option, Some, None, codes, nat_eq, option_and_then, slice_get}
+use Rattle.std.specs.Prelude.{◌≡◌, ℕ, Bool, true, false, cond, List, [], ◌∷◌, Option, Some, None, codes, option_and_then, slice_get}
 use Rattle.std.proofs.Common.{◌∙◌, ap, refl, sym}
-use Rattle.std.specs.Cmp.Lexicographic.{pointwise, texts_ties}
+use Rattle.std.specs.Cmp.Lexicographic.{texts_ties}
 use Rattle.std.specs.Ordering.{eq_by_cmp}
 use Rattle.std.proofs.lemmas.Slice.Eq.{bytes_eq-Decides}
 use Rattle.judy_model.specs.Contents.{string_order}
@@ -33,15 +33,16 @@ named : {C : Type 0} (place : C → ℕ) (command : List ℕ) (table : List (Lis
     → slice_get call_names (place c) ≡ Some command
 unfolding AreNamed
 named place command [] c all e = cc
-named place command (entry ∷ table) c all e = by (eq_by_cmp string_order command entry.0) refl e
+named place command (entry ∷ table) c all e = by (λ found. named place command table c all.1 found) (eq_by_cmp string_order command entry.0) refl e
   where
-    by : (b : Bool) → eq_by_cmp string_order command entry.0 ≡ b → cond b (Some entry.1) (at_command command table) ≡ Some c
+    by : (at_command command table ≡ Some c → slice_get call_names (place c) ≡ Some command)
+        → (b : Bool) → eq_by_cmp string_order command entry.0 ≡ b → cond b (Some entry.1) (at_command command table) ≡ Some c
         → slice_get call_names (place c) ≡ Some command
-    by true same found =
+    by later true same found =
         let is : entry.1 ≡ c = cc in
         let text : command ≡ entry.0 = (bytes_eq-Decides command entry.0).0 (texts_ties command entry.0 ∙ same) in
         ap (λ v. slice_get call_names (place v)) (sym is) ∙ all.0 ∙ ap Some (sym text)
-    by false other found = named place command table c all.1 found
+    by later false other found = later found
 
 -- with the numbers of further fields
 with_numbers : {C : Type 0} (place : C → ℕ) (table : List ℕ → List (List ℕ × C)) (command : List ℕ) (c : C) (o : Option (List ℕ))

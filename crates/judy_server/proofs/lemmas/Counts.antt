@@ -4,22 +4,27 @@
 --     logins-counted     refused log-ins, by tenant
 --     unknown-counted    refused log-ins with a name that no tenant has
 --     counted-from-start so it is for a server since its start, from 0
-use Rattle.std.specs.Prelude.{◌≡◌, ◌+◌, ◌-◌, ◌^◌, ◌<◌, ◌≤◌, ◌==◌, ℕ, Bool, true, false, cond, List, [], ◌∷◌, Option, Some, None, count_by, length, min, slice_index, slice_set}
+use Rattle.std.specs.Prelude.{◌≡◌, ◌+◌, ◌-◌, ◌^◌, ◌<◌, ◌≤◌, ◌==◌, ℕ, zero, suc, Bool, true, false, cond, List, [], ◌∷◌, Option, Some, None, count_by, length, replicate, slice_index}
 use Rattle.std.proofs.Common.{◌∙◌, ap, arith, refl, subst, sym}
 use Rattle.std.proofs.lemmas.Bool.Decides.{nat_tests}
+use Rattle.std.proofs.lemmas.List.Sums.{sum_by-cons}
 use Rattle.std.proofs.lemmas.List.{get_or-set_other, get_or-set_same, length-set}
 use Rattle.judy_arena.specs.Blocks.{count_up}
 use Rattle.judy_many.specs.Sessions.{AreTurns, IsTurn, Turn, text_of}
+use Rattle.judy_many.specs.Stories.{turns_in}
+use Rattle.judy_many.specs.declared.serve.Ending.{Ending}
+use Rattle.judy_many.specs.declared.serve.Limits.{Limits}
 use Rattle.judy_model.specs.Speakers.{Event}
-use Rattle.judy_model.specs.Stream.{Heard}
 use Rattle.judy_model.specs.declared.replies.Reply.{Reply}
+use Rattle.judy_programs.specs.Asking.{Log}
+use Rattle.judy_programs.specs.Hosting.{HasServedAll}
 use Rattle.judy_protocol.specs.Services.{AreMade}
 use Rattle.judy_table.specs.Tenants.{place_of}
 use Rattle.judy_table.specs.declared.tenant.Tenant.{Tenant}
-use Rattle.judy_server.specs.Counts.{answers, asks, is_place, is_refused_to, refuses, risen}
+use Rattle.judy_server.specs.Counts.{AreCounted, answers, asks, is_place, is_refused_to, refuses, risen}
 use Rattle.judy_server.specs.Rules.{server_rules}
-use Rattle.judy_server.specs.Served.{IsServedStep}
-use Rattle.judy_server.specs.Tally.{Tallied, bumped, call_place, counted, refused_at, refused_name, refused_to, reply_place, with_line}
+use Rattle.judy_server.specs.Served.{IsNewService, IsServedStep}
+use Rattle.judy_server.specs.Tally.{Tallied, bumped, call_place, counted, no_counts, refused_at, refused_name, refused_to, reply_place, with_line}
 use Rattle.judy_server.specs.declared.tally.Tally.{Tally}
 
 -- ---- one counter of a list
@@ -97,6 +102,7 @@ module _ (count : Tally → ℕ) (fits : Tally → Type 0) (test : List Tenant �
       ∙ ap (λ ts. risen (count mid.tally) (count_by (test ts) turns)) line.0
       ∙ ap (λ c. risen c (count_by (test before.held.tenants) turns)) now
       ∙ risen-step (test before.held.tenants t) (count before.tally) (count_by (test before.held.tenants) turns)
+      ∙ ap (risen (count before.tally)) (sym (sum_by-cons (λ x. cond (test before.held.tenants x) 1 0) t turns))
 
 -- ---- each counter
 
@@ -166,22 +172,71 @@ unknown-rise tenants t tally few = (refused-unknown tenants (refused_name t.line
 pub lines-counted : (place : ℕ) (before : Tallied) (turns : List Turn) (after : Tallied) → place < length before.tally.lines
     → slice_index before.tally.lines place ≤ 2 ^ 64 - 1 → AreTurns server_rules before turns after
     → slice_index after.tally.lines place ≡ risen (slice_index before.tally.lines place) (count_by (asks place) turns)
-lines-counted place = turns-counted _ _ _ (lines-rise place)
+lines-counted place =
+    turns-counted (λ tally. slice_index tally.lines place) (λ tally. place < length tally.lines) (λ tenants. asks place) (lines-rise place)
 
 -- replies, by their kind
 pub replies-counted : (place : ℕ) (before : Tallied) (turns : List Turn) (after : Tallied) → place < length before.tally.replies
     → slice_index before.tally.replies place ≤ 2 ^ 64 - 1 → AreTurns server_rules before turns after
     → slice_index after.tally.replies place ≡ risen (slice_index before.tally.replies place) (count_by (answers place) turns)
-replies-counted place = turns-counted _ _ _ (replies-rise place)
+replies-counted place =
+    turns-counted (λ tally. slice_index tally.replies place) (λ tally. place < length tally.replies) (λ tenants. answers place) (replies-rise place)
 
 -- refused log-ins, by the place of their tenant
 pub logins-counted : (place : ℕ) (before : Tallied) (turns : List Turn) (after : Tallied) → place < length before.tally.refused
     → slice_index before.tally.refused place ≤ 2 ^ 64 - 1 → AreTurns server_rules before turns after
     → slice_index after.tally.refused place ≡ risen (slice_index before.tally.refused place) (count_by (refuses before.held.tenants (Some place)) turns)
-logins-counted place = turns-counted _ _ _ (logins-rise place)
+logins-counted place =
+    turns-counted (λ tally. slice_index tally.refused place) (λ tally. place < length tally.refused) (λ tenants. refuses tenants (Some place)) (logins-rise place)
 
 -- refused log-ins with a name that no tenant has
 pub unknown-counted : (before : Tallied) (turns : List Turn) (after : Tallied) → before.tally.unknown ≤ 2 ^ 64 - 1
     → AreTurns server_rules before turns after
     → after.tally.unknown ≡ risen before.tally.unknown (count_by (refuses before.held.tenants None) turns)
-unknown-counted before turns after = turns-counted _ _ _ unknown-rise before turns after tt
+unknown-counted before turns after =
+    turns-counted (λ tally. tally.unknown) (λ tally. Unit {0}) (λ tenants. refuses tenants None) unknown-rise before turns after tt
+
+-- ---- since the start
+
+zeros : (n place : ℕ) → slice_index (replicate n 0) place ≡ 0
+zeros zero place = refl
+zeros (suc n) zero = refl
+zeros (suc n) (suc place) = zeros n place
+
+none-yet : ((place : ℕ) → slice_index no_counts.lines place ≡ 0) × ((place : ℕ) → slice_index no_counts.replies place ≡ 0)
+    × ((place : ℕ) → slice_index no_counts.refused place ≡ 0) × (no_counts.unknown ≡ 0)
+unfolding no_counts
+none-yet = (zeros 47, zeros 7, zeros 128, refl)
+
+counters : (length no_counts.lines ≡ 47) × (length no_counts.replies ≡ 7) × (length no_counts.refused ≡ 128)
+unfolding no_counts
+counters = (refl, refl, refl)
+
+-- the counters of a server, however it ended
+pub counted-from-start : (secret config socket : List ℕ) (watch : Option (List ℕ)) (reserve : Option ℕ) (limits : Limits) (how : Ending) (log log' : Log)
+    → (h : HasServedAll server_rules (IsNewService secret reserve) config socket watch limits how log log')
+    → AreCounted h.begun.opened.tenants (turns_in h.hosted.story) h.after.tally
+counted-from-start secret config socket watch reserve limits how log log' h =
+    let new = h.begun.opened.fresh in let turns = turns_in h.hosted.story in
+    let none : (count : Tally → ℕ) → count no_counts ≡ 0 → count h.before.tally ≡ 0 = λ count e. ap count new.counts ∙ e in
+    let low : (n : ℕ) → n ≡ 0 → n ≤ 2 ^ 64 - 1 = λ n e. omega (arith, e) in record {
+      lines = λ place few.
+          let zero = none (λ tally. slice_index tally.lines place) (none-yet.0 place) in
+          let fits : place < length h.before.tally.lines = omega (arith, few, ap (λ (c : Tally). length c.lines) new.counts, counters.0) in
+          lines-counted place h.before turns h.after fits (low _ zero) h.hosted.run ∙ ap (λ c. risen c (count_by (asks place) turns)) zero;
+      replies = λ place few.
+          let zero = none (λ tally. slice_index tally.replies place) (none-yet.1 place) in
+          let fits : place < length h.before.tally.replies = omega (arith, few, ap (λ (c : Tally). length c.replies) new.counts, counters.1) in
+          replies-counted place h.before turns h.after fits (low _ zero) h.hosted.run ∙ ap (λ c. risen c (count_by (answers place) turns)) zero;
+      logins = λ place few.
+          let zero = none (λ tally. slice_index tally.refused place) (none-yet.2 place) in
+          let fits : place < length h.before.tally.refused = omega (arith, few, ap (λ (c : Tally). length c.refused) new.counts, counters.2) in
+          logins-counted place h.before turns h.after fits (low _ zero) h.hosted.run
+          ∙ ap (λ c. risen c (count_by (refuses h.before.held.tenants (Some place)) turns)) zero
+          ∙ ap (λ ts. risen 0 (count_by (refuses ts (Some place)) turns)) new.tenants;
+      unknown =
+          let zero = none (λ tally. tally.unknown) none-yet.3 in
+          unknown-counted h.before turns h.after (low _ zero) h.hosted.run
+          ∙ ap (λ c. risen c (count_by (refuses h.before.held.tenants None) turns)) zero
+          ∙ ap (λ ts. risen 0 (count_by (refuses ts None) turns)) new.tenants;
+    }

@@ -4,7 +4,7 @@
 --     turns-served      nor is any line of any connection
 --     never-memory      so it is for a server that began with so many megabytes
 use Rattle.std.specs.Prelude.{◌≡◌, ◌+◌, ◌-◌, ◌*◌, ◌^◌, ◌<◌, ℕ, List, [], ◌∷◌, Option, Some, length, zip}
-use Rattle.std.proofs.Common.{ap, arith, ◌∙◌, refl, sym, subst}
+use Rattle.std.proofs.Common.{ap, arith, sym, subst}
 use Rattle.judy_many.specs.Sessions.{AreTurns, Turn}
 use Rattle.judy_many.specs.Stories.{turns_in}
 use Rattle.judy_many.specs.declared.serve.Ending.{Ending}
