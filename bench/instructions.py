@@ -13,7 +13,9 @@ The first table also has what the arrays alone take (of judyd the layers arena, 
 of libjudy its calls), and what judy_lines.c takes in vsnprintf, which writes its replies. The
 second splits judyd's instructions by the symbol that they stand under. The compiler puts small
 functions into their callers, so a layer has what was put into it. The C library's functions (as
-memset and memcpy) count where they are called.
+memset and memcpy) count where they are called. callgrind counts each byte of the processor's
+instructions that fill and copy as an instruction of its own (a block of 512 words as 4,096), so
+both programs run with a C library that does without these.
 
 FOLDER (bench/out) gets instructions.md and instructions.json. --show prints the tables of such a
 file; bench/instructions.json has the figures that the pages show. valgrind, libjudy-dev and a C
@@ -42,8 +44,8 @@ LAYERS = (
     ("SHA-256", ("sha2::", "judy_bytes::hash::")),
     ("read, cut, hold, send", ("judy_protocol::connection::", "judy_protocol::gathering::", "judy_protocol::held::", "judy_programs::", "judy_stream::", "std_io::")),
     ("parse: numbers", ("judy_protocol::numbers::",)),
+    ("parse: fields, name, command", ("judy_protocol::turns::hear", "judy_protocol::requests::read_line", "judy_protocol::fields::", "judy_protocol::commands::")),
     ("parse: request of a key, with its digits", ("judy_protocol::requests::", "hex::")),
-    ("parse: fields, name, command", ("judy_protocol::turns::hear", "judy_protocol::fields::", "judy_protocol::commands::")),
     ("text of the reply", ("judy_protocol::replies::", "itoa::")),
     ("right, place, quota, account", ("judy_protocol::turns::", "judy_tenants::", "judy_server::", "judy_table::")),
     ("directory", ("judy_directory::",)),
@@ -54,6 +56,9 @@ LAYERS = (
 )
 REST = "the rest"
 ARRAYS = ("SHA-256", "arena (blocks, clearing)", "strings, chains", "tree, leaf, branch")
+
+# The C library's memset and memcpy use `rep stosb` and `rep movsb` for no block.
+NO_REPEATS = "glibc.cpu.x86_rep_stosb_threshold=0x10000000:glibc.cpu.x86_rep_movsb_threshold=0x10000000"
 
 # The instructions of a line of a load: of judyd, of judy_lines.c, of this in libjudy's calls and in
 # vsnprintf, and of judyd by layer.
@@ -98,7 +103,7 @@ class Callgrind:
                 file.write(data)
             with open(given, "rb") as file:
                 command = ["valgrind", "-q", "--tool=callgrind", "--callgrind-out-file=" + out, *words]
-                subprocess.run(command, stdin=file, stdout=subprocess.DEVNULL, check=True)
+                subprocess.run(command, stdin=file, stdout=subprocess.DEVNULL, env=dict(os.environ, GLIBC_TUNABLES=NO_REPEATS), check=True)
             with open(out, encoding="utf-8", errors="replace") as file:
                 self.kept[words[0], data] = read_costs(file)
         return self.kept[words[0], data]
