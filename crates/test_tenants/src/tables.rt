@@ -290,7 +290,11 @@ fn places_after_another_table(rt: HostRuntime) -> Result<(), Fail> {
     assert_eq!(rt; login(&second, b"dave", b"abc"), Some((3, Right::Change)));
     let bob = second.find(b"bob").ok_or("bob")?;
     assert_eq!(rt; second.quota(bob).entries, 0);
-    let third = seated(a, &second, &table_of(a, &["alice", "dave", "erin", "fred"])?)?;
+    let third = seated(
+        a,
+        &second,
+        &table_of(a, &["alice", "dave", "erin", "fred"])?,
+    )?;
     assert_eq!(rt; third.len(), 5);
     assert_eq!(rt; place(&third, b"alice"), Some(0));
     assert_eq!(rt; place(&third, b"bob"), None);

@@ -93,10 +93,10 @@ sound-moments (t ∷ done) turns before after s (mid, one, rest) =
     let first = sound-turn before t mid s one in
     let (now, did, more, left) = sound-moments done turns mid after first.sound rest in
     let both = record {
-        sound = more.sound;
-        tenants = more.tenants ∙ first.tenants;
-        granted = more.granted ∙ first.granted;
-        reserved = more.reserved ∙ first.reserved;
+      sound = more.sound;
+      tenants = more.tenants ∙ first.tenants;
+      granted = more.granted ∙ first.granted;
+      reserved = more.reserved ∙ first.reserved;
     } in
     (now, (mid, one, did), both, left)
 
