@@ -1,5 +1,6 @@
 -- The places, including that of the name used last, and how they change.
 use Rattle.std.proofs.Common.{◌≡◌, ℕ, ◌+◌, Bool, true, false, cond, List, Option, Some, None, is_some, IsTrue, ap, sym, ◌∙◌, refl}
+use Rattle.std.proofs.lemmas.Bool.{false≢true}
 use Rattle.std.specs.Option.{option_or}
 use Rattle.std.specs.Cmp.Lexicographic.{bytes_decides, nat_list_eq_equiv}
 use Rattle.std.specs.Ordering.{eq_by_cmp}
@@ -156,3 +157,20 @@ module _ (m : FinMap string_order Stand) (k : List ℕ) where
       is_it : (b : Bool) → alike r.spot k ≡ b → has_recent (cond b None (Some r)) (remove m k) ≡ true
       is_it true e = refl
       is_it false e = ap is_some (get-remove total m k r.spot ∙ ap (λ b. cond b None (get m r.spot)) (sym (alike-tied r.spot k) ∙ e)) ∙ h
+
+-- a key that is present is present with that of the name used last
+pub with-key : (r : Option Recent) (m : FinMap string_order Stand) (q : List ℕ) → IsTrue (contains_key m q) → IsTrue (contains_key (with_recent r m) q)
+with-key r m q h = ap is_some (get-recent r m q) ∙ either (recent_at r q) (get m q) h
+  where
+    either : (o p : Option Stand) → is_some p ≡ true → is_some (option_or o p) ≡ true
+    either None p g = g
+    either (Some v) p g = refl
+
+-- a key that is absent is absent with that of the name used last
+pub with-none : (r : Option Recent) (m : FinMap string_order Stand) (q : List ℕ) → IsTrue (has_recent r m) → get m q ≡ None
+    → get (with_recent r m) q ≡ None
+with-none r m q h e = get-recent r m q ∙ ap (λ o. option_or o (get m q)) (none_of (recent_at r q) (by (is_some (recent_at r q)) refl)) ∙ e
+  where
+    by : (b : Bool) → is_some (recent_at r q) ≡ b → is_some (recent_at r q) ≡ false
+    by false g = g
+    by true g = let there = has-recent m q r h g in let absent = ap is_some e in absurd (false≢true (sym absent ∙ there))

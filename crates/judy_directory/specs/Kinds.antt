@@ -1,5 +1,5 @@
--- The numbers of the four kinds of array.
-use Rattle.std.specs.Prelude.{ℕ, ◌+◌, ◌*◌, List, ◌∷◌}
+-- The numbers of the four kinds of array, and the keys of arrays.
+use Rattle.std.specs.Prelude.{◌≡◌, ℕ, zero, suc, ◌+◌, ◌*◌, ◌/◌, ◌==◌, Bool, false, List, [], ◌∷◌}
 use Rattle.judy_directory.specs.declared.spot.ArrayKind.{ArrayKind}
 use Rattle.judy_directory.specs.declared.spot.ArrayKind.TheVariants.{One, Long, Str, Bytes}
 
@@ -10,10 +10,26 @@ array_kind_number Long = 1
 array_kind_number Str = 2
 array_kind_number Bytes = 3
 
--- the byte of a tenant and a kind
+-- the kind of a number
+abbrev pub kind_with : ℕ → ArrayKind
+kind_with zero = One
+kind_with (suc zero) = Long
+kind_with (suc (suc zero)) = Str
+kind_with (suc (suc (suc n))) = Bytes
+
+-- the number of a tenant and a kind
 abbrev pub owner_byte : ℕ → ArrayKind → ℕ
 owner_byte tenant kind = 4 * tenant + array_kind_number kind
 
--- the key of an array: the byte of its tenant and kind, then its name
+-- the key of an array: the number of its tenant and kind, then the bytes of its name
 abbrev pub spot_of : ℕ → ArrayKind → List ℕ → List ℕ
 spot_of tenant kind name = owner_byte tenant kind ∷ name
+
+-- the key is that of an array of this tenant
+abbrev pub IsOf : ℕ → List ℕ → Type 0
+IsOf tenant key = (kind : ArrayKind) × (name : List ℕ) × (key ≡ spot_of tenant kind name)
+
+-- the test of it
+abbrev pub is_of : ℕ → List ℕ → Bool
+is_of tenant [] = false
+is_of tenant (owner ∷ name) = owner / 4 == tenant

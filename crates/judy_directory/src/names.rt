@@ -1,11 +1,13 @@
 //! The names that have a place: a hash table, and a short list beside it.
-ghost use Rattle.std.specs.Prelude.{◌≡◌, ◌≤◌, IfOk, OnOk, OnErr, IsTrue, None, [], max};
+ghost use Rattle.std.specs.Prelude.{◌≡◌, ◌≤◌, ℕ, List, IfOk, IfSome, IfNone, OnOk, OnErr, IsTrue, None, [], max};
 ghost use Rattle.std.specs.FinMap as map;
 ghost use Rattle.std.specs.HashMap.{hasher_of, spare};
+ghost use Rattle.judy_directory.specs.Kinds.{IsOf};
 ghost use Rattle.judy_directory.specs.Places.{at, nothing};
+ghost use Rattle.judy_directory.specs.Rooms.{own_key};
 ghost use Rattle.judy_directory.specs.Secrets.{start_of};
 
-use crate::kept::{drop_kept, find_kept, push_kept, reserve_kept};
+use crate::kept::{drop_kept, find_kept, own_kept, push_kept, reserve_kept};
 use crate::keyed::Keyed;
 use crate::spot::{Place, Spot};
 use judy_arena::NoMemory;
@@ -40,6 +42,18 @@ fn empty_table(alloc: Global, secret: &[u8]) -> Result<HashMap<Spot, Place, Keye
         return Err(NoMemory);
     }
     Ok(table)
+}
+
+/// The first name of a tenant in the table of names.
+fn own_listed(table: &HashMap<Spot, Place, Keyed>, tenant: u8) -> Option<Spot>
+    ensures { result ≡ own_key tenant table.now.entries }
+{
+    for (spot, _) in table.iter() {
+        if spot.is_of(tenant) {
+            return Some(spot.copied());
+        }
+    }
+    None
 }
 
 /// The place of each tenant, kind and name. Contracts see a finite map, the start of every hash, and
@@ -98,6 +112,19 @@ impl Names {
             return Some(place);
         }
         find_kept(self.kept.as_slice(), spot)
+    }
+
+    /// Some name of a tenant that has a place. None if no name of the tenant has one.
+    pub fn some_spot(&self, tenant: u8) -> Option<Spot>
+        ensures some { IfSome result (λ key. IsTrue (map.contains_key self.now.0 key)
+            × IsOf tenant key) }
+        ensures none { IfNone result ((key : List ℕ) → IsOf tenant key
+            → map.get self.now.0 key ≡ None) }
+    {
+        if let Some(spot) = own_listed(&self.table, tenant) {
+            return Some(spot);
+        }
+        own_kept(self.kept.as_slice(), tenant)
     }
 
     /// The number of names that have a place.

@@ -1,9 +1,9 @@
 //! The key of an array in the directory, and its place.
-ghost use Rattle.std.specs.Prelude.{◌≡◌, ℕ, ◌∷◌, ◌<◌, [], take, drop, nat_eq};
-ghost use Rattle.judy_directory.specs.Kinds.{array_kind_number, spot_of};
+ghost use Rattle.std.specs.Prelude.{◌≡◌, ℕ, ◌∷◌, ◌<◌, [], drop, nat_eq, slice_index};
+ghost use Rattle.judy_directory.specs.Kinds.{array_kind_number, kind_with, spot_of, is_of, IsOf};
 ghost use Rattle.std.specs.Cmp.{partial_equiv_from_equiv};
 ghost use Rattle.std.specs.Cmp.Lexicographic.{pointwise, nat_list_eq_equiv, bytes_decides};
-ghost use Rattle.std.specs.Hash.{same_Alike};
+ghost use Rattle.std.specs.Hash.{same_Alike, le_bytes};
 
 use judy_arena::Ref;
 use judy_model::Name;
@@ -36,13 +36,26 @@ impl ArrayKind {
             ArrayKind::Bytes => 3,
         }
     }
+
+    /// The kind of this number.
+    fn with(number: u16) -> ArrayKind
+        requires { number < 4 }
+        ensures { result ≡ kind_with number }
+    {
+        match number {
+            0 => ArrayKind::One,
+            1 => ArrayKind::Long,
+            2 => ArrayKind::Str,
+            _ => ArrayKind::Bytes,
+        }
+    }
 }
 
-/// A tenant, a kind of array and a name. Contracts see a list of bytes: one byte for tenant and
-/// kind, then the name.
+/// A tenant, a kind of array and a name. Contracts see a list of numbers: one for tenant and kind,
+/// then the bytes of the name.
 #[derive(Drop)]
 pub struct Spot {
-    owner: u8,
+    owner: u16,
     name: Name,
 }
 
@@ -55,15 +68,29 @@ impl Model for Spot {
 }
 
 impl Spot {
-    /// The key of this tenant's array of this kind and name. There are at most 64 tenants.
+    /// The key of this tenant's array of this kind and name.
     pub fn new(tenant: u8, kind: ArrayKind, name: Name) -> Spot
-        requires { tenant < 64 }
         ensures { result ≡ spot_of tenant kind name }
     {
         Spot {
-            owner: 4 * tenant + kind.number(),
+            owner: 4 * tenant as u16 + kind.number() as u16,
             name,
         }
+    }
+
+    /// Whether the array belongs to this tenant.
+    pub fn is_of(&self, tenant: u8) -> bool
+        ensures { result ≡ is_of tenant self.now }
+    {
+        self.owner / 4 == tenant as u16
+    }
+
+    /// The kind and the name of the array.
+    pub fn array(&self) -> (ArrayKind, Name)
+        ensures { (tenant : ℕ) → IsOf tenant self.now
+            → spot_of tenant result.0 result.1 ≡ self.now }
+    {
+        (ArrayKind::with(self.owner % 4), self.name.copied())
     }
 
     /// A copy of the key.
@@ -92,12 +119,12 @@ impl Eq for Spot {
 }
 
 impl Hash for Spot {
-    ghost hash_input = { λ s. take 1 s ∷ drop 1 s ∷ [] };
+    ghost hash_input = { λ s. le_bytes 2 (slice_index s 0) ∷ drop 1 s ∷ [] };
 
-    ghost respects_eq = { (same_Alike (λ s. take 1 s ∷ drop 1 s ∷ []) bytes_decides).fed };
+    ghost respects_eq = { (same_Alike (λ s. le_bytes 2 (slice_index s 0) ∷ drop 1 s ∷ []) bytes_decides).fed };
 
     fn hash<H: Hasher>(&self, state: &mut H) {
-        state.write_u8(self.owner);
+        state.write_u16(self.owner);
         state.write(self.name.as_bytes());
     }
 }

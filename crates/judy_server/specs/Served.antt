@@ -16,7 +16,7 @@ use Rattle.judy_protocol.specs.Services.{IsCalled, Seen}
 use Rattle.judy_table.specs.declared.tenant.Tenant.{Tenant}
 use Rattle.judy_table.specs.Tenants.{login_of}
 use Rattle.judy_directory.specs.Secrets.{start_of}
-use Rattle.judy_tenants.specs.Held.{HasCause, IsSoundService, Keeps, quotas_of, states_of}
+use Rattle.judy_tenants.specs.Held.{HasCause, IsSoundService, Keeps, quotas_of, states_of, words_for}
 use Rattle.judy_server.specs.Tally.{Tallied, counted, no_counts}
 
 -- the visible state of the service: names and tokens are those of the table
@@ -68,6 +68,8 @@ pub record IsNewService (secret : List ℕ) (reserve : Option ℕ) (table : List
   -- so much memory was taken from the machine
   pub taken : IsTaken reserve t.held.region t.held.room
   pub reserved : t.held.reserved ≡ t.held.region
+  -- its quotas allow so many words to be live at once
+  pub granted : t.held.granted ≡ words_for t.held.tenants
   -- so the blocks have few words for what the arrays hold
   pub sound : IsSoundService t.held
   -- names are looked up by hashes that begin with the secret

@@ -1,29 +1,29 @@
 -- The invariant of the service at each time of a run, and of the n of `WORDS n`.
 -- proofs/lemmas/Space.antt proves both.
 --     IsSoundOf before after      the invariant of a service holds; it keeps its tenants
---     IsBoundedBy tenants n held  the words live at once, and those taken from the machine, are bounded
---                                 by the quotas of a table, or by those taken beforehand
+--     IsBoundedBy granted n held  the words live at once, and those taken from the machine, are bounded
+--                                 by what the quotas allow, or by those taken beforehand
 --     TellsFew tenants after ..   `WORDS n` was written, and n is few for what the tenants hold
-use Rattle.std.specs.Prelude.{◌≡◌, ◌≤◌, ◌*◌, ◌+◌, ℕ, List, max}
+use Rattle.std.specs.Prelude.{◌≡◌, ◌≤◌, ◌*◌, ◌+◌, ℕ, max}
 use Rattle.std.specs.Io.KnownBytes.{Appends}
 use Rattle.judy_model.specs.Service.{all_pieces}
 use Rattle.judy_protocol.specs.Serving.{MaybeBytes}
 use Rattle.judy_programs.specs.Program.{words_line}
-use Rattle.judy_table.specs.declared.tenant.Tenant.{Tenant}
-use Rattle.judy_tenants.specs.Held.{Held, IsSoundService, all_arrays, states_of, words_for}
+use Rattle.judy_tenants.specs.Held.{Held, IsSoundService, all_arrays, states_of}
 
 -- The invariant of a service holds, the service has the tenants that it had, and nothing was taken
 -- beforehand.
 pub record IsSoundOf (before after : Held) : Type 0 where
   pub sound : IsSoundService after
   pub tenants : after.tenants ≡ before.tenants
+  pub granted : after.granted ≡ before.granted
   pub reserved : after.reserved ≡ before.reserved
 
--- The words that were ever live at once are at most 16 for each piece of the quotas and 194,560. Those
--- taken from the machine are at most 128 times as many, and 512, or as many as were taken beforehand.
-pub record IsBoundedBy (tenants : List Tenant) (beforehand : ℕ) (held : Held) : Type 0 where
-  pub peak : held.peak ≤ words_for tenants
-  pub region : held.region ≤ max beforehand (128 * words_for tenants + 512)
+-- The words that were ever live at once are at most those that the quotas allow. Those taken from the
+-- machine are at most 128 times as many, and 512, or as many as were taken beforehand.
+pub record IsBoundedBy (granted beforehand : ℕ) (held : Held) : Type 0 where
+  pub peak : held.peak ≤ granted
+  pub region : held.region ≤ max beforehand (128 * granted + 512)
 
 -- `WORDS n` follows the answers. There are at most 16 words for each piece of all tenants at that
 -- time, so 0 if no tenant has an entry, and at least 4 for each array that has entries.

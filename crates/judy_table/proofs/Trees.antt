@@ -23,7 +23,16 @@ use Rattle.hex.specs.Hex.{decode_sized}
 use Rattle.hex.specs.declared.FromHexError.{FromHexError}
 use Rattle.judy_model.specs.Grammar.{is_name}
 use Rattle.judy_table.specs.Tenants.{with_pieces, with_entries, with_look, with_digest, pieces_for, look_digest, up_to, HasRisingNames, IsLimited, AreLimited}
-use Rattle.std.specs.Str.{is_utf8, IsUtf8}
+use Rattle.std.specs.Str.{is_utf8, IsUtf8, bytes_eq}
+use Rattle.std.proofs.Common.{◌||◌, not, Bool, is_eq, ne_eqb}
+use Rattle.std.proofs.lemmas.Bool.{and_parts, and_from, or_from, or_right, not_from_false, false_from_ne_true, false≢true, both_ways}
+use Rattle.std.proofs.lemmas.List.Elements.{All-from_recursion}
+use Rattle.std.proofs.lemmas.List.Sums.{count_by-le-length}
+use Rattle.std.proofs.lemmas.Map.Text.{is_eq-slice_cmp}
+use Rattle.std.proofs.lemmas.Slice.Eq.{bytes_eq-Decides}
+use Rattle.judy_model.specs.Grammar.{is_name_byte}
+use Rattle.judy_table.specs.Tenants.{is_vacant, vacant}
+use Rattle.judy_table.specs.Seats.{has_name, are_distinct, AreRows}
 use Rattle.std.proofs.lemmas.Str.{IsUtf8-from_is_utf8, is_utf8-from_IsUtf8}
 use Rattle.toml.specs.Parse.{parse_document}
 use Rattle.toml.specs.Data.{Data, Members, no_members, member}
@@ -201,3 +210,101 @@ pub limited-tenants_in : (ms : Members) (ts : List Tenant) → tenants_in ms ≡
 limited-tenants_in no_members ts e = let p : [] ≡ ts = cc in subst AreLimited p (All-nil IsLimited)
 limited-tenants_in (member name d ms) ts e =
     more_limited (tenant_if_written name (written d)) (tenants_in ms) ts (limited-tenant_if_written name (written d)) (limited-tenants_in ms) e
+
+-- ---- rows
+
+spelled-tenant_of : (name : List ℕ) (w : Written) (t : Tenant) → tenant_of name w ≡ Ok t → is_name name ≡ true
+spelled-tenant_of name w t = by (is_name name)
+  where
+    by : (b : Bool) → (if b then with_digest name (decode_sized w.digest 32) w else Err fault.Name) ≡ Ok t → b ≡ true
+    by true e = refl
+    by false e = cc
+
+spelled-tenant_if_written : (name : List ℕ) (o : Option Written) (t : Tenant) → tenant_if_written name o ≡ Ok t → is_name name ≡ true
+spelled-tenant_if_written name (Some w) t e = spelled-tenant_of name w t e
+spelled-tenant_if_written name None t e = cc
+
+-- a name of the grammar is not empty
+spelled-named : (name : List ℕ) (t : Tenant) → is_name name ≡ true → t.name ≡ name → is_vacant t ≡ false
+spelled-named name t h e =
+    let most = (and_parts (nat_le 1 (length name) && nat_le (length name) 32) (list_all is_name_byte name) h).0 in
+    let least : 1 ≤ length name = leb-true 1 (length name) (and_parts (nat_le 1 (length name)) (nat_le (length name) 32) most).0 in
+    let some : length t.name ≡ 0 → ⊥ = (λ (z : length t.name ≡ 0). let same = ap length e in absurd (omega (arith, least, same, z))) in
+    ne_eqb (length t.name) 0 some
+
+-- what holds of each row that is not vacant, in a recursion over the list
+more_named : (t : Result Tenant TableFault) (r : Result (List Tenant) TableFault) (ts : List Tenant) → ((u : Tenant) → t ≡ Ok u → is_vacant u ≡ false)
+    → ((ys : List Tenant) → r ≡ Ok ys → AllByRecursion (λ u. is_vacant u ≡ false) ys) → and_more t r ≡ Ok ts
+    → AllByRecursion (λ u. is_vacant u ≡ false) ts
+more_named (Ok t) (Ok ys) ts first ih e =
+    let p : t ∷ ys ≡ ts = cc in subst (AllByRecursion (λ (u : Tenant). is_vacant u ≡ false)) p (first t refl, ih ys refl)
+more_named (Ok t) (Err f) ts first ih e = cc
+more_named (Err f) r ts first ih e = cc
+
+-- the tenants of a document have names
+pub named-tenants_in : (ms : Members) (ts : List Tenant) → tenants_in ms ≡ Ok ts → AllByRecursion (λ t. is_vacant t ≡ false) ts
+named-tenants_in no_members ts e = let p : [] ≡ ts = cc in subst (AllByRecursion (λ (u : Tenant). is_vacant u ≡ false)) p tt
+named-tenants_in (member name d ms) ts e =
+    more_named (tenant_if_written name (written d)) (tenants_in ms) ts
+    (λ u h. spelled-named name u (spelled-tenant_if_written name (written d) u h) (name-tenant_if_written name (written d) u h)) (named-tenants_in ms) e
+
+-- a name that is below each of these is none of them
+below-apart : (name : List ℕ) (ts : List Tenant) → AllByRecursion (λ y. slice_cmp nat_cmp name y ≡ Less) (map (λ (u : Tenant). u.name) ts)
+    → has_name name ts ≡ false
+below-apart name [] h = refl
+below-apart name (t ∷ ts) h =
+    or_from (bytes_eq t.name name) (has_name name ts) (false_from_ne_true (bytes_eq t.name name) (λ e. apart (same e))) (below-apart name ts h.1)
+  where
+    same : bytes_eq t.name name ≡ true → bytes_eq name t.name ≡ true
+    same e = (bytes_eq-Decides name t.name).1 (sym ((bytes_eq-Decides t.name name).0 e))
+
+    apart : bytes_eq name t.name ≡ true → ⊥
+    apart e = false≢true (ap is_eq (sym h.0) ∙ is_eq-slice_cmp name t.name ∙ e)
+
+-- no two tenants with rising names have one name
+pub distinct-rising : (ts : List Tenant) → HasRisingNames ts → are_distinct ts ≡ true
+unfolding IsStrictlySortedBy
+distinct-rising [] h = refl
+distinct-rising (t ∷ ts) h =
+    and_from (is_vacant t || not (has_name t.name ts)) (are_distinct ts)
+    (or_right (is_vacant t) (not (has_name t.name ts)) (not_from_false (has_name t.name ts) (below-apart t.name ts h.0))) (distinct-rising ts h.1)
+
+-- what holds of every table's rows holds of the tenants of a document
+pub tree-rows : (ms : Members) (ts : List Tenant) → tenants_in ms ≡ Ok ts → size ms ≤ 64 → HasRisingNames ts → AreRows ts
+tree-rows ms ts e fits rising =
+    let many = length-tenants_in ms ts e in
+    let most = count_by-le-length (λ (t : Tenant). not (is_vacant t)) ts in record {
+      few = omega (arith, many, fits);
+      few_named = omega (arith, many, fits, most);
+      limited = limited-tenants_in ms ts e;
+      empty = All-from_recursion (λ t. is_vacant t ≡ true → t ≡ vacant) ts (none ts (named-tenants_in ms ts e));
+      distinct = distinct-rising ts rising;
+    }
+  where
+    none : (us : List Tenant) → AllByRecursion (λ t. is_vacant t ≡ false) us → AllByRecursion (λ t. is_vacant t ≡ true → t ≡ vacant) us
+    none [] h = tt
+    none (u ∷ us) h = (λ v. absurd (both_ways (is_vacant u) h.0 v), none us h.1)
+
+-- the tenants of a text are those of a document with at most 64 keys
+pub read-tenants : (text : List ℕ) (ts : List Tenant) → read_table text ≡ Ok ts → (ms : Members) × (tenants_in ms ≡ Ok ts) × (size ms ≤ 64)
+read-tenants text ts = by_utf8 (is_utf8 text)
+  where
+    Tenants : Type 0
+    Tenants = (ms : Members) × (tenants_in ms ≡ Ok ts) × (size ms ≤ 64)
+
+    by_count : (ms : Members) (b : Bool) → (nat_le 1 (size ms) && nat_le (size ms) 64) ≡ b → (if b then tenants_in ms else Err fault.Count) ≡ Ok ts → Tenants
+    by_count ms true c e = (ms, e, leb-true (size ms) 64 (and_parts (nat_le 1 (size ms)) (nat_le (size ms) 64) c).1)
+    by_count ms false c e = cc
+
+    by_shape : (ms : Members) (b : Bool)
+        → (if b then (if nat_le 1 (size ms) && nat_le (size ms) 64 then tenants_in ms else Err fault.Count) else Err fault.Shape) ≡ Ok ts → Tenants
+    by_shape ms true e = by_count ms (nat_le 1 (size ms) && nat_le (size ms) 64) refl e
+    by_shape ms false e = cc
+
+    by_document : (o : Option Members) → read_document o ≡ Ok ts → Tenants
+    by_document (Some ms) e = by_shape ms (have_shape ms) e
+    by_document None e = cc
+
+    by_utf8 : (b : Bool) → (if b then read_document (parse_document text) else Err fault.Toml) ≡ Ok ts → Tenants
+    by_utf8 true e = by_document (parse_document text) e
+    by_utf8 false e = cc

@@ -1,4 +1,5 @@
 pub mod Tenants
+pub mod Seats
 pub mod Shown
 pub mod Meaning
 pub mod Faults

@@ -1,7 +1,7 @@
 -- The tenants of a table's text, by its `toml` tree, and the first fault of a text.
-use Rattle.std.specs.Prelude.{◌≡◌, ℕ, suc, ℤ, pos, negsuc, ◌+◌, ◌*◌, ◌<◌, ◌≤◌, ◌==◌, ◌&&◌, Bool, true, false, List, [], ◌∷◌}
+use Rattle.std.specs.Prelude.{ℕ, suc, ℤ, pos, negsuc, ◌+◌, ◌*◌, ◌≤◌, ◌==◌, ◌&&◌, Bool, true, false, List, [], ◌∷◌}
 use Rattle.std.specs.Prelude.{length, Option, Some, None, is_some, Result, Ok, Err, nat_le, if◌then◌else◌, codes, option_and_then}
-use Rattle.std.specs.Prelude.{option_map, position, map, slice_get}
+use Rattle.std.specs.Prelude.{option_map, position, map, slice_get, replicate}
 use Rattle.std.specs.Ordering.{nat_cmp}
 use Rattle.std.specs.Cmp.Lexicographic.{slice_cmp}
 use Rattle.std.specs.List.{All}
@@ -14,7 +14,6 @@ use Rattle.hex.specs.declared.error.FromHexError.{FromHexError}
 use Rattle.sha2.specs.Sha256.{sha256}
 use Rattle.judy_model.specs.Grammar.{is_name}
 use Rattle.judy_model.specs.Speakers.{Speaker}
-use Rattle.judy_model.specs.declared.quotas.Quota.{Quota}
 use Rattle.judy_model.specs.declared.quotas.Right.{Right}
 use Rattle.judy_model.specs.declared.quotas.TheConstants.{ENTRIES_LIMIT, PIECES_LIMIT}
 use Rattle.judy_model.specs.declared.quotas.Right.TheVariants.{Change, Look}
@@ -153,10 +152,19 @@ abbrev pub is_digest : Option (List ℕ) → List ℕ → Bool
 is_digest None shown = false
 is_digest (Some digest) shown = bytes_eq digest shown
 
+-- whether a row has no tenant: its name is empty, which no request can spell
+abbrev pub is_vacant : Tenant → Bool
+is_vacant t = length t.name == 0
+
+-- the row of a place without a tenant
+abbrev pub vacant : Tenant
+vacant = record { name = []; digest = replicate 32 0; look = None; quota = record { entries = 0; pieces = 0 } }
+
 -- the right of a token with this SHA-256: to read and write for the tenant's own token, only to
--- read for its read-only token
+-- read for its read-only token. A vacant row gives none.
 abbrev pub right_of : List ℕ → Tenant → Option Right
-right_of shown t = if bytes_eq t.digest shown then Some Change else if is_digest t.look shown then Some Look else None
+right_of shown t =
+    if is_vacant t then None else if bytes_eq t.digest shown then Some Change else if is_digest t.look shown then Some Look else None
 
 -- the speaker at this place, with this right
 abbrev pub speaker_at : ℕ → Option Right → Option Speaker

@@ -2,6 +2,7 @@
 #![tactic(auto)]
 
 mod fault;
+mod seating;
 mod table;
 mod tenant;
 mod written;

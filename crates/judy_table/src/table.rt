@@ -1,35 +1,41 @@
 //! The table of tenants.
 ghost use Rattle.std.specs.Prelude.{◌≡◌, ◌⊎◌, ◌≤◌, ◌<◌, ◌&&◌, nat_le, IfOk, IfErr, Some, option_map, length, map, slice_get};
 ghost use Rattle.toml.specs.View.{table_view};
-ghost use Rattle.judy_table.specs.Tenants.{size, have_shape, tenants_in, read_table, read_tree, place_of, login_of, HasRisingNames};
+ghost use Rattle.judy_table.specs.Tenants.{size, have_shape, tenants_in, read_table, read_tree, place_of, login_of, HasRisingNames, is_vacant};
+ghost use Rattle.judy_table.specs.Seats.{seated, AreRows, knows};
 ghost use Rattle.judy_table.specs.Shown.{seen};
 
 use crate::fault::TableFault;
+use crate::seating::{fresh_in, placed};
 use crate::tenant::{Speaker, Tenant, TenantId};
 use crate::written::{is_written, read_written, size};
 use judy_model::{ENTRIES_LIMIT, PIECES_LIMIT, Quota};
-use std::alloc::Global;
+use std::alloc::{AllocError, Global};
 use std::marker::Model;
 
 /// The most tenants of a table.
 pub const TENANTS_LIMIT: usize = 64;
 
-/// Up to 64 tenants in the byte order of their names.
+/// The most rows of a table: places of tenants that left with the last table, and of all tenants.
+pub const ROWS_LIMIT: usize = 128;
+
+/// The tenants by their places: at most 64 tenants, and vacant places. A table that was read has one
+/// place for each tenant, in the byte order of their names.
 #[derive(Drop)]
 pub struct Table {
     tenants: Vec<Tenant>,
 }
 
 impl Model for Table {
-    ghost use Rattle.std.specs.Prelude.{List, ◌≤◌, length};
+    ghost use Rattle.std.specs.Prelude.{List};
     ghost use Rattle.judy_table.specs.declared.tenant.Tenant.{Tenant};
-    ghost use Rattle.judy_table.specs.Tenants.{AreLimited};
+    ghost use Rattle.judy_table.specs.Seats.{AreRows};
 
     ghost Value = { List Tenant };
 
     ghost view = { λ t. t.tenants.items };
 
-    ghost invariant = { λ t. (length t.tenants.items ≤ 64) × AreLimited t.tenants.items };
+    ghost invariant = { λ t. AreRows t.tenants.items };
 }
 
 // Whether each value is a tenant's table.
@@ -122,12 +128,21 @@ impl Table {
         }
     }
 
-    /// The number of tenants: 1 to 64.
+    /// The number of rows: at most 128.
     pub fn len(&self) -> usize
         ensures count { result ≡ length self.now }
-        ensures most { result ≤ TENANTS_LIMIT }
+        ensures most { result ≤ ROWS_LIMIT }
     {
         self.tenants.len()
+    }
+
+    /// What holds of the rows of every table. The function is empty: the contract is the law, for
+    /// callers to cite.
+    pub fn rows_are_sound(&self)
+        ensures { AreRows self.now }
+    {
+        // The invariant of a table is known once its field is read.
+        let _tenants = &self.tenants;
     }
 
     /// The tenant at a place.
@@ -184,5 +199,35 @@ impl Table {
         ensures pieces { result.pieces ≤ PIECES_LIMIT }
     {
         self.tenants[tenant.place() as usize].quota
+    }
+    /// Whether no tenant has this place.
+    pub fn is_vacant(&self, tenant: TenantId) -> bool
+        requires { tenant < length self.now }
+        ensures { slice_get (map is_vacant self.now) tenant ≡ Some result }
+    {
+        self.tenants[tenant.place() as usize].is_vacant()
+    }
+
+    /// Whether the speaker's place has a tenant with a token for the speaker's right.
+    pub fn knows(&self, speaker: Speaker) -> bool
+        ensures { result ≡ knows self.now (seen speaker) }
+    {
+        match self.tenants.get(speaker.tenant.place() as usize) {
+            Some(row) => !row.is_vacant() && row.has_token(speaker.right),
+            None => false,
+        }
+    }
+
+    /// The rows in force, `self`, after another table is read. A tenant that stays keeps its place.
+    /// The place of one that is gone becomes vacant. The other tenants of the table take the places
+    /// that were vacant before, and then new ones.
+    ///
+    /// Err: out of memory.
+    pub fn seated(&self, alloc: Global, table: &Table) -> Result<Table, AllocError>
+        ensures { IfOk result (λ t. t ≡ seated self.now table.now) }
+    {
+        let fresh = fresh_in(alloc, &self.tenants, &table.tenants)?;
+        let tenants = placed(alloc, &self.tenants, &table.tenants, fresh)?;
+        Ok(Table { tenants })
     }
 }

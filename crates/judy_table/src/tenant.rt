@@ -1,7 +1,8 @@
 //! One tenant of the table, and its log-in.
 ghost use Rattle.std.specs.Prelude.{◌≡◌, ◌<◌, ◌≤◌, ◌^◌, option_map};
 ghost use Rattle.judy_table.specs.Shown.{told_of};
-ghost use Rattle.judy_table.specs.Tenants.{tenant_of, up_to, pieces_for, right_of, is_digest, look_digest};
+ghost use Rattle.judy_table.specs.Tenants.{tenant_of, up_to, pieces_for, right_of, is_digest, look_digest, is_vacant, vacant};
+ghost use Rattle.judy_table.specs.Seats.{has_token};
 ghost use Rattle.sha2.specs.Sha256.{sha256};
 
 use crate::fault::TableFault;
@@ -124,6 +125,40 @@ impl Tenant {
         })
     }
 
+    /// The row of a place without a tenant.
+    pub(crate) fn vacant() -> Tenant
+        ensures { result ≡ vacant }
+    {
+        Tenant {
+            name: Name::of(&[]),
+            digest: [0; 32],
+            look: None,
+            quota: Quota {
+                entries: 0,
+                pieces: 0,
+            },
+        }
+    }
+
+    /// Whether the row has no tenant: its name is empty.
+    pub(crate) fn is_vacant(&self) -> bool
+        ensures { result ≡ is_vacant self.now }
+    {
+        self.name.as_bytes().is_empty()
+    }
+
+    /// A copy of the row.
+    pub(crate) fn copied(&self) -> Tenant
+        ensures { result ≡ self.now }
+    {
+        Tenant {
+            name: self.name.copied(),
+            digest: self.digest,
+            look: self.look,
+            quota: self.quota,
+        }
+    }
+
     /// Whether this is the digest of the read-only token.
     fn is_look(&self, shown: &[u8; 32]) -> bool
         ensures { result ≡ is_digest self.now.look shown.now }
@@ -134,11 +169,24 @@ impl Tenant {
         }
     }
 
+    /// Whether the tenant has a token for this right.
+    pub(crate) fn has_token(&self, right: Right) -> bool
+        ensures { result ≡ has_token right self.now }
+    {
+        match right {
+            Right::Change => true,
+            Right::Look => self.look.is_some(),
+        }
+    }
+
     /// The right of this token: to read and write with the tenant's own token, or only to read with
-    /// its read-only token.
+    /// its read-only token. A vacant row gives none.
     pub(crate) fn right(&self, token: &[u8]) -> Option<Right>
         ensures { result ≡ right_of (sha256 token.now) self.now }
     {
+        if self.is_vacant() {
+            return None;
+        }
         let shown: [u8; 32] = Sha256::digest(token);
         if self.digest == shown {
             return Some(Right::Change);

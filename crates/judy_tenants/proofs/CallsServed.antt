@@ -29,7 +29,7 @@ use Rattle.judy_directory.specs.declared.spot.ArrayKind.TheVariants.{One, Long, 
 use Rattle.judy_tenants.specs.declared.accounts.Account.{Account}
 use Rattle.judy_tenants.specs.declared.stock.Stock.{Stock}
 use Rattle.judy_tenants.specs.declared.stock.Answered.{Answered}
-use Rattle.judy_tenants.specs.Held.{Held, states_of, quotas_of, NamesNothing, IsQuiet, IsShortService, IsUnplaced, HasCause, is_refusal, Keeps, blocks_of_event}
+use Rattle.judy_tenants.specs.Held.{Held, states_of, quotas_of, NamesNothing, IsQuiet, IsShortService, IsUnplaced, HasCause, Keeps, blocks_of_event}
 use Rattle.judy_tenants.proofs.Steps.{HasWay}
 use Rattle.judy_tenants.specs.States.{state_in, sizes_in, key_of_call}
 use Rattle.judy_tenants.proofs.Owners.{kind_at-owner_byte}
@@ -87,6 +87,7 @@ whole-keeps event held r = record {
   tenants = refl;
   start = refl;
   room = refl;
+  granted = refl;
   refused = λ h. refl;
   counts = λ h. refl;
   memory = record { words = omega arith; peak = omega arith; rises = omega arith; region = omega arith; kept = omega arith; reserved = refl; refused = inl refl };
@@ -271,6 +272,7 @@ module _ {H : List ℕ → ℕ} {tenants : List Tenant} {old : Stock} {t : ℕ} 
           tenants = refl;
           start = ap (λ f. f.start) y.footing;
           room = ap (λ f. f.room) y.footing;
+          granted = y.granted;
           refused = λ h. absurd (unlike h);
           counts = λ h. absurd (unlike (ap (λ d. asks_at old.arena.blocks (at old.directory.0 (key_of_call t c)).root d) (sym h) ∙ asked));
           memory = takes-are new.arena takes;
@@ -361,7 +363,7 @@ module _ {H : List ℕ → ℕ} {tenants : List Tenant} {old : Stock} {t : ℕ} 
         module _ (takes : Takes (blocks_of_call old.arena.blocks (at old.directory.0 key).root c) old.arena new.arena)
             (last : Stock) (n : IsStocked H tenants last) (arena : last.arena ≡ new.arena)
             (places : last.directory.0 ≡ new.directory.0) (footing : last.directory.1 ≡ new.directory.1)
-            (unplaced : last.unplaced ≡ new.unplaced) where
+            (unplaced : last.unplaced ≡ new.unplaced) (granted : last.granted ≡ new.granted) where
           same-state : (u : ℕ) → state_in last.arena.blocks last.directory.0 u ≡ state_in new.arena.blocks new.directory.0 u
           same-state u = ap (λ a. state_in a.blocks last.directory.0 u) arena ∙ ap (λ d. state_in new.arena.blocks d u) places
 
@@ -388,6 +390,7 @@ module _ {H : List ℕ → ℕ} {tenants : List Tenant} {old : Stock} {t : ℕ} 
             tenants = refl;
             start = ap (λ f. f.start) (footing ∙ z.footing);
             room = ap (λ f. f.room) (footing ∙ z.footing);
+            granted = granted ∙ z.granted;
             refused = λ h. absurd (not-refused m.full m.looks (quotas_of tenants t) was
                 (state_in new.arena.blocks new.directory.0 t) right c answer.reply m.allowed
                 (own-step m.laws m.stocked t c m.known answer x m.adds way)

@@ -17,4 +17,6 @@ mod CallsServed
 mod Runs
 mod Fresh
 mod Sound
+mod Frees
+mod Carried
 pub mod lemmas

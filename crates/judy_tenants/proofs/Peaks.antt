@@ -1,6 +1,7 @@
 -- The words that are ever live at once, by the tenants' quotas.
---     peak-within    no call raises the peak above this bound
-use Rattle.std.proofs.Common.{◌≡◌, ℕ, zero, suc, ◌+◌, ◌*◌, ◌≤◌, Bool, true, false, cond, List, length, subst, arith}
+--     peak-within      no call raises the peak above this bound, or above that of an earlier table
+--     still-granted    so the bound is kept
+use Rattle.std.proofs.Common.{◌≡◌, ℕ, zero, suc, ◌*◌, ◌≤◌, Bool, true, false, cond, List, length, subst, arith}
 use Rattle.judy_arena.specs.Blocks.{Blocks, ArenaState, total_words}
 use Rattle.judy_arena.specs.Takes.{Takes}
 use Rattle.judy_arena.specs.Totals.{TotalsOver}
@@ -13,10 +14,10 @@ use Rattle.judy_table.specs.declared.tenant.Tenant.{Tenant}
 use Rattle.judy_kinds.specs.Calls.{kind_of_call, asks_at, blocks_of_kind, blocks_of_call}
 use Rattle.judy_kinds.specs.Laws.{PlacesAreSmall}
 use Rattle.judy_tenants.specs.declared.stock.Stock.{Stock}
-use Rattle.judy_tenants.specs.Held.{quotas_of, all_quotas, words_for}
+use Rattle.judy_tenants.specs.Held.{quotas_of, all_quotas}
 use Rattle.judy_tenants.specs.Growth.{KindLaws}
 use Rattle.judy_tenants.specs.States.{state_in}
-use Rattle.judy_tenants.specs.Stocks.{IsStocked}
+use Rattle.judy_tenants.specs.Stocks.{IsGranted, IsStocked}
 use Rattle.judy_tenants.proofs.Space.{IsCompact, space-in}
 
 -- if each tenant is within its quota, all of them are
@@ -49,7 +50,13 @@ module _ {H : List ℕ → ℕ} (laws : KindLaws H) (small : PlacesAreSmall) (to
       (λ t. subst (λ n. n ≤ (quotas_of tenants t).pieces) (s.pieces t) (s.pieces_within t)) in
       let most = compact.most in omega (arith, most, within)
 
-  pub peak-within : old.arena.live ≡ total_words old.arena.blocks → old.arena.peak ≤ words_for tenants → (w : ℕ) (c : Call) (new : ArenaState)
-      → Takes (blocks_of_call old.arena.blocks w c) old.arena new → new.peak ≤ words_for tenants
-  peak-within live below w c new t =
-      let few = few-blocks old.arena.blocks w c in let within = live-within in let peak = t.peak in omega (arith, live, below, few, within, peak)
+  pub peak-within : old.arena.live ≡ total_words old.arena.blocks → IsGranted tenants old → (w : ℕ) (c : Call) (new : ArenaState)
+      → Takes (blocks_of_call old.arena.blocks w c) old.arena new → new.peak ≤ old.granted
+  peak-within live granted w c new t =
+      let few = few-blocks old.arena.blocks w c in let within = live-within in let peak = t.peak in
+      let below = granted.peak in let table = granted.table in omega (arith, live, below, table, few, within, peak)
+
+-- so the bound is kept by a call
+pub still-granted : (tenants : List Tenant) (old new : Stock) → IsGranted tenants old → new.granted ≡ old.granted → new.arena.peak ≤ old.granted
+    → IsGranted tenants new
+still-granted tenants old new s same peak = let table = s.table in record { peak = omega (arith, same, peak); table = omega (arith, same, table) }

@@ -1,7 +1,7 @@
 -- What holds of a service at all times: the form, the quota and the words of each tenant.
-use Rattle.std.proofs.Common.{max, ◌≡◌, ℕ, ◌+◌, ◌*◌, ◌≤◌, ◌<◌, Bool, true, false, cond, ◌&&◌, List, [], ◌∷◌, length, map, Option, Some}
+use Rattle.std.proofs.Common.{max, ◌≡◌, ℕ, ◌+◌, ◌*◌, ◌≤◌, ◌<◌, Bool, true, false, cond, ◌&&◌, List, [], ◌∷◌, length, Option, Some}
 use Rattle.std.proofs.Common.{None, is_some, ap, sym, ◌∙◌, refl, subst, arith}
-use Rattle.std.specs.Prelude.{unwrap_or, option_map, sum_by, IsTrue}
+use Rattle.std.specs.Prelude.{unwrap_or, option_map}
 use Rattle.std.specs.List.{list_all}
 use Rattle.std.specs.Ordering.{eq_by_cmp}
 use Rattle.std.specs.FinMap.{find, get, is_sorted}
@@ -10,14 +10,14 @@ use Rattle.std.proofs.lemmas.Bool.{and_from}
 use Rattle.std.proofs.lemmas.List.Sums.{sum_by-cons}
 use Rattle.std.proofs.lemmas.Option.{none-some}
 use Rattle.judy_arena.specs.Blocks.{Blocks, total_words}
-use Rattle.judy_arena.specs.Totals.{words_over, TotalsOver}
+use Rattle.judy_arena.specs.Totals.{TotalsOver}
 use Rattle.judy_model.specs.Contents.{Entries, word_order, string_order}
 use Rattle.judy_model.specs.Pieces.{word_pieces, string_pieces, pieces_of}
 use Rattle.judy_model.proofs.lemmas.StateLemmas.{not_found}
 use Rattle.judy_model.proofs.lemmas.TestLemmas.{and_left, and_right, from_T}
-use Rattle.judy_model.specs.Tenant.{Arrays, State, content_of, used, pieces, pieces_in}
+use Rattle.judy_model.specs.Tenant.{Arrays, State, content_of, pieces, pieces_in}
 use Rattle.judy_model.specs.WellFormed.{is_one_entry, is_long_entry, is_string_entry, is_bytes_entry, is_content, has_entries}
-use Rattle.judy_model.specs.WellFormed.{are_arrays, IsWellFormed, IsWithin}
+use Rattle.judy_model.specs.WellFormed.{IsWellFormed, IsWithin}
 use Rattle.judy_model.proofs.lemmas.EntryLemmas.{same_string, string_is}
 use Rattle.judy_directory.specs.Places.{Stand, at, nothing}
 use Rattle.judy_directory.specs.Kinds.{owner_byte, spot_of}
@@ -27,14 +27,14 @@ use Rattle.judy_directory.specs.Shelf.{Places}
 use Rattle.judy_directory.proofs.lemmas.Changes.{total}
 use Rattle.judy_directory.proofs.lemmas.Named.{find-arrays_of, sorted-arrays_of}
 use Rattle.judy_table.specs.declared.tenant.Tenant.{Tenant}
-use Rattle.judy_kinds.specs.Kinds.{IsPlaceOf, numbers_of_array}
+use Rattle.judy_kinds.specs.Kinds.{IsPlaceOf}
 use Rattle.judy_kinds.specs.Laws.{AreFewWords, IsSmall, PlacesAreSmall, IsInForm, ContentsAreInForm}
 use Rattle.judy_tenants.specs.declared.stock.Stock.{Stock}
-use Rattle.judy_tenants.specs.Held.{Held, states_of, sizes_of, quotas_of, words_for, words_named, summed_words, tenant_words, HasLeastOf, HasLeast, IsShare, IsSoundService}
+use Rattle.judy_tenants.specs.Held.{Held, states_of, quotas_of, words_named, summed_words, tenant_words, HasLeastOf, HasLeast, IsShare, IsSoundService}
 use Rattle.judy_tenants.specs.States.{state_in, words_at, sized, sizes_in, IsHeld}
 use Rattle.judy_tenants.specs.Growth.{KindLaws}
-use Rattle.judy_tenants.proofs.StateLaws.{KeyOf, content_at, size_at, arrays_at, arrays_at-state_in, place-in, named-in, entries-in}
-use Rattle.judy_tenants.specs.Stocks.{held_of, IsStocked}
+use Rattle.judy_tenants.proofs.StateLaws.{KeyOf, content_at, size_at, arrays_at, arrays_at-state_in, place-in, entries-in}
+use Rattle.judy_tenants.specs.Stocks.{held_of, IsGranted, IsStocked}
 use Rattle.judy_tenants.proofs.Names.{has_some}
 use Rattle.judy_tenants.proofs.Seen.{seen-state, seen-sizes, seen-sum, seen-space, seen-names}
 
@@ -239,8 +239,8 @@ module _ {H : List ℕ → ℕ} (laws : KindLaws H) (small : PlacesAreSmall) (to
   }
 
   pub seen-sound : stock.arena.live ≡ total_words stock.arena.blocks → total_words stock.arena.blocks ≤ stock.arena.peak
-      → stock.arena.region ≤ max stock.arena.reserved (128 * stock.arena.peak + 512) → stock.arena.peak ≤ words_for tenants → IsSoundService held
-  seen-sound count live region peak = record {
+      → stock.arena.region ≤ max stock.arena.reserved (128 * stock.arena.peak + 512) → IsGranted tenants stock → IsSoundService held
+  seen-sound count live region granted = record {
     form = λ t. subst IsWellFormed (sym (seen-state tenants stock s t)) (form-in laws stock.arena.blocks stock.directory.0 s.held t formed);
     within = λ t. subst (IsWithin (quotas_of tenants t)) (sym (seen-state tenants stock s t)) (within-in t);
     sum = count ∙ seen-sum laws small totals tenants stock s;
@@ -251,6 +251,7 @@ module _ {H : List ℕ → ℕ} (laws : KindLaws H) (small : PlacesAreSmall) (to
     names = seen-names laws tenants stock s;
     live = omega (arith, count, live);
     region = region;
-    peak = peak;
-    machine = omega (arith, region, peak);
+    peak = granted.peak;
+    machine = (let peak = granted.peak in omega (arith, region, peak));
+    granted = granted.table;
   }

@@ -11,7 +11,8 @@
 --                                    quota
 --     all_words n sizes              the words of all arrays of the first n tenants
 --     HasLeast s z                   each array with entries has at least 4 words
---     words_for tenants              the most words that are ever live at once, by the quotas
+--     words_for tenants              the most words that the quotas of a table allow to be live at
+--                                    once
 --     blocks_of_event s event        the blocks that a call takes at most
 --     ServiceTakes n old new         a call takes at most n blocks
 --     IsSoundService held            what holds of a service at all times
@@ -77,6 +78,8 @@ pub record Held : Type 0 where
   pub start : ℕ
   -- names that are sure to get a place
   pub room : ℕ
+  -- the most words that the quotas of a table so far allow to be live at once
+  pub granted : ℕ
 
 -- the arrays of each tenant
 abbrev pub states_of : Held → States
@@ -120,8 +123,8 @@ abbrev pub all_quotas : ℕ → Quotas → ℕ
 all_quotas zero quotas = 0
 all_quotas (suc n) quotas = all_quotas n quotas + (quotas n).pieces
 
--- the most words that are ever live at once: 16 for each piece of the tenants' quotas, and those of
--- the 380 blocks that one call takes at most
+-- the most words that are ever live at once under these quotas: 16 for each piece of them, and those
+-- of the 380 blocks that one call takes at most
 abbrev pub words_for : List Tenant → ℕ
 words_for tenants = 16 * all_quotas (length tenants) (quotas_of tenants) + 194560
 
@@ -185,9 +188,10 @@ pub record IsSoundService (held : Held) : Type 0 where
   -- that were taken beforehand
   pub live : held.words ≤ held.peak
   pub region : held.region ≤ max held.reserved (128 * held.peak + 512)
-  -- and so by the quotas, for ever
-  pub peak : held.peak ≤ words_for held.tenants
-  pub machine : held.region ≤ max held.reserved (128 * words_for held.tenants + 512)
+  -- and so by the quotas of the tables so far, for ever
+  pub peak : held.peak ≤ held.granted
+  pub machine : held.region ≤ max held.reserved (128 * held.granted + 512)
+  pub granted : words_for held.tenants ≤ held.granted
 
 -- the array that the call names has no entries
 abbrev pub NamesNothing : State → Call → Type 0
@@ -233,8 +237,8 @@ blocks_of_event s event = if asks_for_new event.speaker.right s event.call then 
 abbrev pub ServiceTakes : ℕ → Held → Held → Type 0
 ServiceTakes n old new = Rise n old.refusals old.words old.peak old.region old.reserved new.refusals new.words new.peak new.region new.reserved
 
--- What a call leaves unchanged. Every call keeps the table, the start of the hashes, the room for
--- names, and the words of each array of the other tenants. A call refused for its right or for the quota keeps the whole
+-- What a call leaves unchanged. Every call keeps the table, what its quotas allow, the start of the
+-- hashes, the room for names, and the words of each array of the other tenants. A call refused for its right or for the quota keeps the whole
 -- service, and so does a call that asks for the counts. The words taken from the machine are part of
 -- the service; a call takes at most a run of 512 words for each of its blocks, and none if it asks for
 -- no new entry.
@@ -242,6 +246,7 @@ pub record Keeps (event : Event) (old : Held) (reply : Reply) (new : Held) : Typ
   pub tenants : new.tenants ≡ old.tenants
   pub start : new.start ≡ old.start
   pub room : new.room ≡ old.room
+  pub granted : new.granted ≡ old.granted
   pub refused : IsTrue (is_refusal reply) → new ≡ old
   pub counts : event.call ≡ Used → new ≡ old
   pub memory : ServiceTakes (blocks_of_event (states_of old event.speaker.tenant) event) old new

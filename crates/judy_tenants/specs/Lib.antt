@@ -4,3 +4,5 @@ pub mod Growth
 pub mod Accounts
 pub mod Stocks
 pub mod Runs
+pub mod Frees
+pub mod Changes

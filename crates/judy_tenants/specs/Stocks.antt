@@ -1,6 +1,7 @@
 -- The arrays of all tenants with their counts, and how a call changes them.
 --     held_of tenants stock                  the value of a service
 --     IsStocked H tenants stock              the invariant of a service
+--     IsGranted tenants stock                the words live at once are bounded by the quotas
 --     IsExchange H key call old new answer   a call of the array at the key was answered, and the
 --                                            directory has the array's new place
 --     IsRefusedIn key call old new           a call of the array at the key was refused for memory
@@ -14,7 +15,7 @@ use Rattle.judy_table.specs.declared.tenant.Tenant.{Tenant}
 use Rattle.judy_kinds.specs.Calls.{kind_of_call, asks_at, AnswersAt, ArrayBecomes}
 use Rattle.judy_tenants.specs.declared.stock.Stock.{Stock}
 use Rattle.judy_tenants.specs.declared.stock.Answered.{Answered}
-use Rattle.judy_tenants.specs.Held.{Held, firsts}
+use Rattle.judy_tenants.specs.Held.{Held, firsts, words_for}
 use Rattle.judy_tenants.specs.States.{state_in, sizes_in}
 use Rattle.judy_tenants.specs.Accounts.{IsServer}
 
@@ -33,11 +34,18 @@ held_of tenants stock = record {
   reserved = stock.arena.reserved;
   start = stock.directory.1.start;
   room = stock.directory.1.room;
+  granted = stock.granted;
 }
 
 -- the invariant of a service; H is the hash of the JudyHS arrays
 abbrev pub IsStocked : (List ℕ → ℕ) → List Tenant → Stock → Type 0
 IsStocked H tenants stock = IsServer H stock.arena.blocks stock.directory.0 stock.accounts.items tenants
+
+-- the words that were ever live at once are bounded by the quotas of the tables so far, of which the
+-- table in force is one
+pub record IsGranted (tenants : List Tenant) (stock : Stock) : Type 0 where
+  pub peak : stock.arena.peak ≤ stock.granted
+  pub table : words_for tenants ≤ stock.granted
 
 -- a call of the array at the key was answered, and the directory has the array's new place
 pub record IsExchange (H : List ℕ → ℕ) (key : List ℕ) (call : Call) (old new : Stock) (answer : Answered) : Type 0 where
@@ -48,6 +56,7 @@ pub record IsExchange (H : List ℕ → ℕ) (key : List ℕ) (call : Call) (old
   pub step : AnswersAt old.arena.blocks answer.before.root call answer.reply new.arena.blocks answer.after.root
   pub refusals : new.arena.refusals ≡ old.arena.refusals
   pub unplaced : new.unplaced ≡ old.unplaced
+  pub granted : new.granted ≡ old.granted
   pub accounts : new.accounts.items ≡ old.accounts.items
 
 -- the arena refused a block
@@ -68,6 +77,7 @@ pub record IsRefusedIn (key : List ℕ) (call : Call) (old new : Stock) : Type 0
   pub blocks : new.arena.blocks ≡ old.arena.blocks
   pub places : new.directory.0 ≡ old.directory.0
   pub footing : new.directory.1 ≡ old.directory.1
+  pub granted : new.granted ≡ old.granted
   pub accounts : new.accounts.items ≡ old.accounts.items
   pub asked : IsTrue (asks_at old.arena.blocks (at old.directory.0 key).root call)
   pub cause : IsShortIn old new ⊎ IsUnplacedIn key old new

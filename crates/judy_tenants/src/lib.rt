@@ -3,12 +3,16 @@
 #![tactic(auto)]
 
 mod accounts;
+mod changing;
+mod freeing;
+mod grants;
 mod laws;
 mod replay;
 mod service;
 mod serving;
 mod stock;
 
+pub use changing::Unchanged;
 pub use judy_bytes::{KeyHash, Sha256Hash};
 pub use judy_kinds::is_callable;
 pub use judy_model::{BytesCall, Call, Key, LongCall, Name, OneCall, Quota, Reply, Right, StrCall};

@@ -1,15 +1,19 @@
 //! Many tenants, their arrays and their quotas.
-ghost use Rattle.std.specs.Prelude.{◌≡◌, ◌<◌, ◌≤◌, ℕ, IfOk, IsTrue, nat_lt, length, map, slice_get, option_map, OnOk, OnErr, max, ◌+◌};
+ghost use Rattle.std.specs.Prelude.{◌≡◌, ◌<◌, ◌≤◌, ℕ, IfErr, IfOk, IsTrue, Some, nat_lt, length, map, slice_get, option_map, OnOk, OnErr, max, ◌+◌};
 ghost use Rattle.judy_model.specs.Tenant.{used, pieces, no_arrays};
 ghost use Rattle.judy_model.specs.Service.{IsServed};
 ghost use Rattle.judy_model.specs.Solo.{is_memory};
 ghost use Rattle.judy_directory.specs.Secrets.{start_of};
 ghost use Rattle.judy_kinds.specs.Calls.{has_string};
 ghost use Rattle.judy_table.specs.Shown.{seen};
-ghost use Rattle.judy_table.specs.Tenants.{login_of, place_of};
-ghost use Rattle.judy_tenants.specs.Held.{states_of, quotas_of, HasCause, HasNoReserve, HasServiceSpace, HasNames, IsReserved, IsSoundService, Keeps};
+ghost use Rattle.judy_table.specs.Seats.{knows, seated};
+ghost use Rattle.judy_table.specs.Tenants.{is_vacant, login_of, place_of};
+ghost use Rattle.judy_tenants.specs.Changes.{HasChanged, HasReason};
+ghost use Rattle.judy_tenants.specs.Held.{states_of, quotas_of, words_for, HasCause, HasNoReserve, HasServiceSpace, HasNames, IsReserved, IsSoundService, Keeps};
 
 use crate::accounts::{account_of, no_accounts};
+use crate::changing::{Unchanged, put_in_force};
+use crate::grants::words_for;
 use crate::laws;
 use crate::serving::serve;
 use crate::stock::{Stock, prepare};
@@ -31,16 +35,14 @@ pub struct Service<H: KeyHash> {
 }
 
 impl<H: KeyHash> Model for Service<H> {
-    ghost use Rattle.std.specs.Prelude.{◌≤◌};
-    ghost use Rattle.judy_tenants.specs.Held.{Held, words_for};
-    ghost use Rattle.judy_tenants.specs.Stocks.{held_of, IsStocked};
+    ghost use Rattle.judy_tenants.specs.Held.{Held};
+    ghost use Rattle.judy_tenants.specs.Stocks.{held_of, IsGranted, IsStocked};
 
     ghost Value = { Held };
 
     ghost view = { λ s. held_of s.table s.stock };
 
-    ghost invariant = { λ s. IsStocked H.hashed s.table s.stock
-        × (s.stock.arena.peak ≤ words_for s.table) };
+    ghost invariant = { λ s. IsStocked H.hashed s.table s.stock × IsGranted s.table s.stock };
 }
 
 impl<H: KeyHash> Service<H> {
@@ -57,6 +59,7 @@ impl<H: KeyHash> Service<H> {
         ensures region { IfOk result (λ s. s.region ≡ 0) }
         ensures reserved { IfOk result (λ s. s.reserved ≡ 0) }
         ensures room { IfOk result (λ s. s.room ≡ 256) }
+        ensures granted { IfOk result (λ s. s.granted ≡ words_for table) }
         ensures secret { IfOk result (λ s. s.start ≡ start_of secret.now) }
         ensures sound { IfOk result (λ s. IsSoundService s) }
     {
@@ -70,6 +73,7 @@ impl<H: KeyHash> Service<H> {
             directory,
             accounts,
             unplaced: 0,
+            granted: words_for(&table),
         };
         let service = Service { stock, table, hash };
         service.is_at_all_times();
@@ -104,7 +108,7 @@ impl<H: KeyHash> Service<H> {
         self.table.login(name, token)
     }
 
-    /// How many tenants there are: 1 to 64.
+    /// How many places for tenants there are: at most 128. Vacant ones are among them.
     pub fn tenants(&self) -> usize
         ensures { result ≡ length self.now.tenants }
     {
@@ -173,6 +177,45 @@ impl<H: KeyHash> Service<H> {
         ensures within { result ≤ (quotas_of self.now.tenants tenant).pieces }
     {
         account_of(&self.stock.accounts, tenant).pieces
+    }
+
+    /// Whether no tenant has this place.
+    pub fn is_vacant(&self, tenant: TenantId) -> bool
+        requires { tenant < length self.now.tenants }
+        ensures { slice_get (map is_vacant self.now.tenants) tenant ≡ Some result }
+    {
+        self.table.is_vacant(tenant)
+    }
+
+    /// Whether the speaker's place has a tenant with a token for the speaker's right.
+    pub fn knows(&self, speaker: Speaker) -> bool
+        ensures { result ≡ knows self.now.tenants (seen speaker) }
+    {
+        self.table.knows(speaker)
+    }
+
+    /// Puts another table in force. A tenant that stays keeps its place and its arrays. The arrays of
+    /// one that is gone are freed, and its place becomes vacant. The other tenants of the table take
+    /// the places that were vacant before, and then new ones.
+    ///
+    /// Err: out of memory, or the new quota of a tenant is less than what it holds. Nothing changed.
+    pub fn change(&mut self, alloc: Global, table: Table) -> Result<(), Unchanged>
+        ensures tenants { OnOk result (self.new.tenants ≡ seated self.old.tenants table) }
+        ensures changed { OnOk result (HasChanged self.old self.new) }
+        ensures refused { OnErr result (self.new ≡ self.old) }
+        ensures reason { IfErr result (HasReason self.old (seated self.old.tenants table)) }
+        ensures sound { IsSoundService self.new }
+    {
+        let Ok(later) = self.table.seated(alloc, &table) else {
+            self.is_at_all_times();
+            return Err(Unchanged::Memory);
+        };
+        let changed = put_in_force(alloc, &mut self.stock, self.hash, &self.table, &later);
+        if changed.is_ok() {
+            self.table = later;
+        }
+        self.is_at_all_times();
+        changed
     }
 
     /// Answers a call as if its tenant were alone, with one exception: `Memory`, if a new entry is

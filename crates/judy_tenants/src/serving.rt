@@ -1,11 +1,11 @@
 //! One call of one tenant.
-ghost use Rattle.std.specs.Prelude.{◌≡◌, ◌<◌, ◌≤◌, IsTrue, length};
+ghost use Rattle.std.specs.Prelude.{◌≡◌, ◌<◌, IsTrue, length};
 ghost use Rattle.judy_model.specs.Service.{IsServed};
 ghost use Rattle.judy_model.specs.Solo.{is_memory};
 ghost use Rattle.judy_kinds.specs.Calls.{has_string};
 ghost use Rattle.judy_table.specs.Shown.{seen};
-ghost use Rattle.judy_tenants.specs.Held.{states_of, quotas_of, words_for, HasCause, Keeps};
-ghost use Rattle.judy_tenants.specs.Stocks.{held_of, IsStocked};
+ghost use Rattle.judy_tenants.specs.Held.{states_of, quotas_of, HasCause, Keeps};
+ghost use Rattle.judy_tenants.specs.Stocks.{held_of, IsGranted, IsStocked};
 
 use crate::accounts::{account_of, settle};
 use crate::laws;
@@ -29,11 +29,11 @@ pub fn serve<'a, H: KeyHash>(
     found: &'a mut ArrayVec<u8, KEY_LIMIT>,
 ) -> Reply<'a>
     requires stocked { IsStocked H.hashed table.now stock.old }
-    requires peak { stock.old.arena.peak ≤ words_for table.now }
+    requires granted { IsGranted table.now stock.old }
     requires known { speaker.tenant < length table.now }
     requires string { IsTrue (has_string call.now) }
     ensures stocked { IsStocked H.hashed table.now stock.new }
-    ensures peak { stock.new.arena.peak ≤ words_for table.now }
+    ensures granted { IsGranted table.now stock.new }
     ensures served { IsServed (quotas_of table.now) (states_of (held_of table.now stock.old))
         (record { speaker = seen speaker; call = call.now }) result
         (states_of (held_of table.now stock.new)) }

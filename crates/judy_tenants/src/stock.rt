@@ -17,14 +17,16 @@ use judy_kinds::{answer, asks, is_insertion};
 use judy_model::{Call, KEY_LIMIT, Quota, Reply};
 use std::alloc::Global;
 
-/// All arrays, the directory of their places, each tenant's account, and how many new names the
-/// directory had no memory for.
+/// All arrays, the directory of their places, each tenant's account, how many new names the
+/// directory had no memory for, and the most words that the quotas of a table so far allow to be live
+/// at once.
 #[derive(Drop)]
 pub struct Stock {
     pub arena: Arena,
     pub directory: Directory,
     pub accounts: Vec<Account>,
     pub unplaced: u64,
+    pub granted: u64,
 }
 
 /// The reply to a call of an array, and the array's place before and after the call.
@@ -46,6 +48,7 @@ pub fn prepare(alloc: Global, stock: &mut Stock, words: u64, names: usize) -> Re
     ensures start { stock.new.directory.1.start ≡ stock.old.directory.1.start }
     ensures accounts { stock.new.accounts ≡ stock.old.accounts }
     ensures unplaced { stock.new.unplaced ≡ stock.old.unplaced }
+    ensures granted { stock.new.granted ≡ stock.old.granted }
     ensures region { OnOk result (words ≤ stock.new.arena.region) }
     ensures room { OnOk result (names ≤ stock.new.directory.1.room) }
     ensures refusals { OnOk result (stock.new.arena.refusals ≡ stock.old.arena.refusals) }

@@ -31,7 +31,7 @@ pub reserved-enough : (secret : List ℕ) (megabytes : ℕ) (tenants : List Tena
     → IsMuch megabytes tenants → HasEnough t.held × HasRoom t.held
 reserved-enough secret megabytes tenants t new much =
     let same = ap (λ ts. all_quotas (length ts) (quotas_of ts)) new.tenants in let region = new.taken.0 in let room = new.taken.1 in
-    (omega (arith, same, region, much), omega (arith, same, room, much))
+    let granted = new.granted in (omega (arith, same, granted, region, much), omega (arith, same, room, much))
 
 -- the calls of a service, one after another
 calls-of : (before : Tallied) (ps : List (Event × Reply)) (after : Tallied) → AreMade IsServedStep before ps after → AreCallsOf before.held ps after.held

@@ -38,6 +38,7 @@ same-sound : (before after : Tallied) → IsSoundService before.held → after �
 same-sound before after s same = record {
   sound = subst (λ (t : Tallied). IsSoundService t.held) (sym same) s;
   tenants = ap (λ (t : Tallied). t.held.tenants) same;
+  granted = ap (λ (t : Tallied). t.held.granted) same;
   reserved = ap (λ (t : Tallied). t.held.reserved) same;
 }
 
@@ -47,7 +48,12 @@ pub sound-calls : (before after : Tallied) (answered : List (Event × Reply)) �
 sound-calls before after [] h same = same-sound before after h same
 sound-calls before after (p ∷ ps) h (mid, made, rest) =
     let later : IsSoundOf mid.held after.held = sound-calls mid after ps made.sound rest in
-    record { sound = later.sound; tenants = later.tenants ∙ made.keeps.tenants; reserved = later.reserved ∙ made.keeps.memory.reserved }
+    record {
+      sound = later.sound;
+      tenants = later.tenants ∙ made.keeps.tenants;
+      granted = later.granted ∙ made.keeps.granted;
+      reserved = later.reserved ∙ made.keeps.memory.reserved;
+    }
 
 -- a connection keeps it, however it ends
 pub sound-end : (end : End) (left left' : MaybeBytes) (before after : Tallied) (taken taken' : MaybeBytes) → IsSoundService before.held
@@ -65,6 +71,15 @@ sound-turn before t after s one =
     let kept : after.held ≡ one.mid.held = ap (λ (x : Tallied). x.held) one.noted in
     subst (IsSoundOf before.held) (sym kept) (sound-calls before one.mid _ s one.calls)
 
+-- first one, then the other
+joined : (a b c : Tallied) → IsSoundOf a.held b.held → IsSoundOf b.held c.held → IsSoundOf a.held c.held
+joined a b c first more = record {
+  sound = more.sound;
+  tenants = more.tenants ∙ first.tenants;
+  granted = more.granted ∙ first.granted;
+  reserved = more.reserved ∙ first.reserved;
+}
+
 -- lines one after another keep it, whatever their connections
 pub sound-turns : (turns : List Turn) (before after : Tallied) → IsSoundService before.held → AreTurns server_rules before turns after
     → IsSoundOf before.held after.held
@@ -72,16 +87,16 @@ sound-turns [] before after s same = same-sound before after s same
 sound-turns (t ∷ turns) before after s (mid, one, rest) =
     let first = sound-turn before t mid s one in
     let more : IsSoundOf mid.held after.held = sound-turns turns mid after first.sound rest in
-    record { sound = more.sound; tenants = more.tenants ∙ first.tenants; reserved = more.reserved ∙ first.reserved }
+    joined before mid after first more
 
 -- at each moment, after some of the lines and before the others, the service is sound
 pub sound-moments : (done turns : List Turn) (before after : Tallied) → IsSoundService before.held → AreTurns server_rules before (done ++ turns) after
     → (mid : Tallied) × AreTurns server_rules before done mid × IsSoundOf before.held mid.held × AreTurns server_rules mid turns after
-sound-moments [] turns before after s run = (before, refl, record { sound = s; tenants = refl; reserved = refl }, run)
+sound-moments [] turns before after s run = (before, refl, same-sound before before s refl, run)
 sound-moments (t ∷ done) turns before after s (mid, one, rest) =
     let first = sound-turn before t mid s one in
     let (now, did, more, left) = sound-moments done turns mid after first.sound rest in
-    (now, (mid, one, did), record { sound = more.sound; tenants = more.tenants ∙ first.tenants; reserved = more.reserved ∙ first.reserved }, left)
+    (now, (mid, one, did), joined before mid now first more, left)
 
 turns_in-append : (p q : Story) → turns_in (p ++ q) ≡ turns_in p ++ turns_in q
 turns_in-append [] q = refl
@@ -96,44 +111,51 @@ sound-server secret config socket watch reserve limits how log log' h p q e =
     sound-moments (turns_in p) (turns_in q) h.before h.after h.begun.opened.fresh.sound
     (subst (λ ts. AreTurns server_rules h.before ts h.after) (ap turns_in e ∙ turns_in-append p q) h.hosted.run)
 
--- a sound service is bounded by the quotas of its table, or by what was taken beforehand
-bounded : (before after : Held) → IsSoundOf before after → IsBoundedBy before.tenants before.reserved after
+-- a sound service is bounded by what its quotas allow, or by what was taken beforehand
+bounded : (before after : Held) → IsSoundOf before after → IsBoundedBy before.granted before.reserved after
 bounded before after s = record {
-  peak = subst (λ ts. after.peak ≤ words_for ts) s.tenants s.sound.peak;
-  region = subst (λ ts. after.region ≤ max before.reserved (128 * words_for ts + 512)) s.tenants
-      (subst (λ n. after.region ≤ max n (128 * words_for after.tenants + 512)) s.reserved s.sound.machine);
+  peak = subst (λ n. after.peak ≤ n) s.granted s.sound.peak;
+  region = subst (λ n. after.region ≤ max before.reserved (128 * n + 512)) s.granted
+      (subst (λ n. after.region ≤ max n (128 * after.granted + 512)) s.reserved s.sound.machine);
 }
 
--- at each moment, after some calls and before the others, the memory is bounded by the quotas
+-- at each moment, after some calls and before the others, the memory is bounded by what the quotas
+-- allow
 pub calls-are-bounded : (done rest : List (Event × Reply)) (before after : Tallied) → IsSoundService before.held → AreMade IsServedStep before (done ++ rest) after
-    → (mid : Tallied) × AreMade IsServedStep before done mid × IsBoundedBy before.held.tenants before.held.reserved mid.held × AreMade IsServedStep mid rest after
-calls-are-bounded [] rest before after s run =
-    (before, refl, bounded before.held before.held (record { sound = s; tenants = refl; reserved = refl }), run)
+    → (mid : Tallied) × AreMade IsServedStep before done mid × IsBoundedBy before.held.granted before.held.reserved mid.held × AreMade IsServedStep mid rest after
+calls-are-bounded [] rest before after s run = (before, refl, bounded before.held before.held (same-sound before before s refl), run)
 calls-are-bounded (p ∷ done) rest before after s (mid, made, run) =
     let (now, did, bound, left) = calls-are-bounded done rest mid after made.sound run in (
       now,
       (mid, made, did),
-      subst (λ n. IsBoundedBy before.held.tenants n now.held) made.keeps.memory.reserved
-          (subst (λ ts. IsBoundedBy ts mid.held.reserved now.held) made.keeps.tenants bound),
+      subst (λ n. IsBoundedBy before.held.granted n now.held) made.keeps.memory.reserved
+          (subst (λ n. IsBoundedBy n mid.held.reserved now.held) made.keeps.granted bound),
       left,
     )
 
 -- so it is where a script ends, however it ends; both numbers never fall, so they were no greater before
 pub run-is-bounded : (secret : List ℕ) (words : Bool) (end : End) (left left' taken taken' : MaybeBytes) (told told' : ℕ)
     → (h : HasServed IsServedStep seen_of held_words (IsNewService secret None) words (ran.Served end) left left' taken taken' told told')
-    → IsBoundedBy h.tenants 0 h.after.held
+    → IsBoundedBy (words_for h.tenants) 0 h.after.held
 run-is-bounded secret words end left left' taken taken' told told' h =
-    subst (λ n. IsBoundedBy h.tenants n h.after.held) (h.fresh.reserved ∙ h.fresh.taken.0) (subst (λ ts. IsBoundedBy ts h.before.held.reserved h.after.held) h.fresh.tenants
+    subst (λ n. IsBoundedBy (words_for h.tenants) n h.after.held) (h.fresh.reserved ∙ h.fresh.taken.0)
+    (subst (λ n. IsBoundedBy n h.before.held.reserved h.after.held) (h.fresh.granted ∙ ap words_for h.fresh.tenants)
     (bounded h.before.held h.after.held (sound-end end _ _ h.before h.after _ _ h.fresh.sound h.run.script.served)))
 
 -- and at each moment of a server's story, but for what was taken at its start
 pub server-is-bounded : (secret config socket : List ℕ) (watch : Option (List ℕ)) (reserve : Option ℕ) (limits : Limits) (how : Ending) (log log' : Log)
     → (h : HasServedAll server_rules (IsNewService secret reserve) config socket watch limits how log log')
     → (p q : Story) → h.hosted.story ≡ p ++ q
-    → (mid : Tallied) × AreTurns server_rules h.before (turns_in p) mid × IsBoundedBy h.before.held.tenants h.before.held.region mid.held × AreTurns server_rules mid (turns_in q) h.after
+    → (mid : Tallied) × AreTurns server_rules h.before (turns_in p) mid × IsBoundedBy (words_for h.before.held.tenants) h.before.held.region mid.held × AreTurns server_rules mid (turns_in q) h.after
 server-is-bounded secret config socket watch reserve limits how log log' h p q e =
     let (mid, did, sound, left) = sound-server secret config socket watch reserve limits how log log' h p q e in
-    (mid, did, subst (λ n. IsBoundedBy h.before.held.tenants n mid.held) h.begun.opened.fresh.reserved (bounded h.before.held mid.held sound), left)
+    let fresh = h.begun.opened.fresh in (
+      mid,
+      did,
+      subst (λ n. IsBoundedBy (words_for h.before.held.tenants) n mid.held) fresh.reserved
+          (subst (λ n. IsBoundedBy n h.before.held.reserved mid.held) fresh.granted (bounded h.before.held mid.held sound)),
+      left,
+    )
 
 -- if a script was served to its end and the words are wanted, the words that are reported are few
 pub few-words : (secret : List ℕ) (words : Bool) (end : End) (left left' taken taken' : MaybeBytes) (told told' : ℕ) → tells_words words end ≡ true

@@ -1,5 +1,5 @@
 -- When the arena refuses no call any more: once more words were taken from the machine than 128 for
--- each word that the quotas allow to be live. A request is refused only while every run of 512 words
+-- each word that the quotas of the tables so far allow to be live. A request is refused only while every run of 512 words
 -- has a live block, and there are never that many. Counters saturate; a service whose count of
 -- refusals is saturated is left out.
 --     HasEnough held    so many words were taken from the machine
@@ -8,11 +8,10 @@
 --     enough-for-run    so in any run of calls each `ERR MEMORY` is for a name without a place
 --     HasRoom held      there is room for more names than the quotas allow pieces
 --     room-for-run      with both, no call of any run is refused for memory
-use Rattle.std.proofs.Common.{◌≡◌, ◌⊎◌, inl, inr, ℕ, ◌+◌, ◌-◌, ◌*◌, ◌^◌, ◌<◌, ◌≤◌, List, [], ◌∷◌, length, ap, sym, ◌∙◌, subst, refl, arith}
+use Rattle.std.proofs.Common.{◌≡◌, ◌⊎◌, inl, inr, ℕ, ◌-◌, ◌*◌, ◌^◌, ◌<◌, ◌≤◌, List, [], ◌∷◌, length, ap, sym, ◌∙◌, subst, refl, arith}
 use Rattle.std.specs.Prelude.{MatchBool, IsTrue}
 use Rattle.std.proofs.Common.{Bool, true, false, cond, zero, suc}
 use Rattle.std.proofs.lemmas.List.Sums.{sum_by-cons}
-use Rattle.judy_arena.specs.Blocks.{count_up}
 use Rattle.judy_model.specs.declared.replies.Reply.{Reply}
 use Rattle.judy_model.specs.Solo.{is_memory}
 use Rattle.judy_model.specs.Speakers.{Event}
@@ -21,30 +20,27 @@ use Rattle.judy_model.specs.Pieces.{pieces_of, word_pieces, string_pieces}
 use Rattle.judy_model.specs.Service.{Quotas, States}
 use Rattle.judy_model.specs.Tenant.{Arrays, State, pieces, pieces_in}
 use Rattle.judy_model.specs.WellFormed.{has_entries}
-use Rattle.judy_tenants.specs.Held.{Held, IsQuiet, IsShortService, IsUnplaced, IsSoundService, IsCallOf, HasCause, words_for}
+use Rattle.judy_tenants.specs.Held.{Held, IsQuiet, IsShortService, IsUnplaced, IsSoundService, IsCallOf}
 use Rattle.judy_tenants.specs.Held.{all_arrays, all_quotas, arrays_in, filled_in, quotas_of, states_of}
 use Rattle.judy_tenants.specs.Runs.{AreCallsOf, AreForNames, NoneForMemory}
 
--- more words were taken from the machine than 128 for each that the quotas allow to be live
+-- more words were taken from the machine than 128 for each that the quotas of the tables so far allow
+-- to be live
 abbrev pub HasEnough : Held → Type 0
-HasEnough held = 128 * words_for held.tenants < held.region
+HasEnough held = 128 * held.granted < held.region
 
 module _ (old : Held) (event : Event) (r : Reply) (new : Held) (call_of : IsCallOf old event r new) (enough : HasEnough old) where
-  -- the bound after the call is the bound before it
-  same-bound : words_for new.tenants ≡ words_for old.tenants
-  same-bound = ap words_for call_of.keeps.tenants
-
   -- the arena refused nothing
   pub enough-for-call : new.refusals ≡ old.refusals
   enough-for-call = by call_of.keeps.memory.refused
     where
       by : (new.refusals ≡ old.refusals) ⊎ (old.region ≤ 128 * new.peak) → new.refusals ≡ old.refusals
       by (inl same) = same
-      by (inr tight) = let peak = call_of.sound.peak in let same = same-bound in absurd (omega (arith, enough, tight, peak, same))
+      by (inr tight) = let peak = call_of.sound.peak in let same = call_of.keeps.granted in absurd (omega (arith, enough, tight, peak, same))
 
   -- so it will refuse nothing later
   pub enough-stays : HasEnough new
-  enough-stays = let kept = call_of.keeps.memory.kept in let same = same-bound in omega (arith, enough, kept, same)
+  enough-stays = let kept = call_of.keeps.memory.kept in let same = call_of.keeps.granted in omega (arith, enough, kept, same)
 
   -- and a reply `ERR MEMORY` is for a name without a place
   pub enough-names : old.refusals < 2 ^ 64 - 1 → IsTrue (is_memory r) → IsUnplaced event old new

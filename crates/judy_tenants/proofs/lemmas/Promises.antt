@@ -11,8 +11,9 @@
 --                       entries
 --     words-are-some    an array with entries has at least 4 words
 --     memory-is-bounded the words ever live at once, and those taken from the machine, are bounded by
---                       the tenants' quotas, for ever
-use Rattle.std.proofs.Common.{◌≡◌, ◌≢◌, ◌⊎◌, inl, inr, ℕ, zero, suc, ◌+◌, ◌*◌, ◌<◌, ◌≤◌, Bool, true, false, cond, List, [], ◌∷◌, length, ap, sym, ◌∙◌, subst, refl, arith}
+--                       what the tenants' quotas allow, for ever
+--     one-table         which are those of the table, if it is the only one so far
+use Rattle.std.proofs.Common.{◌≡◌, ◌≢◌, ◌⊎◌, inl, inr, ℕ, zero, suc, ◌+◌, ◌*◌, ◌<◌, ◌≤◌, Bool, true, false, cond, List, [], length, ap, sym, ◌∙◌, subst, refl, arith}
 use Rattle.std.specs.Prelude.{max, MatchBool}
 use Rattle.judy_arena.specs.Blocks.{count_up}
 use Rattle.judy_model.specs.declared.calls.OneCall.{OneCall}
@@ -23,14 +24,13 @@ use Rattle.judy_model.specs.declared.calls.Call.TheVariants as call
 use Rattle.judy_model.specs.declared.quotas.Quota.{Quota}
 use Rattle.judy_model.specs.declared.replies.Reply.{Reply}
 use Rattle.judy_model.specs.declared.replies.Reply.TheVariants as reply
-use Rattle.judy_model.specs.Contents.{Entries}
 use Rattle.judy_model.specs.Tenant.{State, Attempt, content_of, used, pieces, asks_for_new, attempt_step}
 use Rattle.judy_model.specs.WellFormed.{has_entries}
-use Rattle.judy_model.specs.Solo.{is_memory, IsAnswered, MayLackMemory}
+use Rattle.judy_model.specs.Solo.{is_memory, MayLackMemory}
 use Rattle.judy_model.specs.Speakers.{Event, Speaker}
 use Rattle.judy_kinds.specs.Laws.{AreFewWords}
 use Rattle.judy_kinds.specs.Calls.{kind_of_call, blocks_of_kind}
-use Rattle.judy_tenants.specs.Held.{Held, ServiceTakes, all_quotas, words_for, Sizes, states_of, sizes_of, quotas_of, tenant_words, words_named, all_words, all_arrays}
+use Rattle.judy_tenants.specs.Held.{Held, ServiceTakes, all_quotas, words_for, states_of, sizes_of, quotas_of, tenant_words, words_named, all_words, all_arrays}
 use Rattle.judy_tenants.specs.Held.{IsQuiet, IsShortService, IsUnplaced, IsSoundService, IsCallOf, is_refusal}
 
 -- ---- one call
@@ -80,9 +80,10 @@ module _ (old : Held) (event : Event) (r : Reply) (new : Held) (call_of : IsCall
   pub counts-keep : event.call ≡ call.Used → ((t : ℕ) → states_of new t ≡ states_of old t) × (new.region ≡ old.region) × (new ≡ old)
   counts-keep h = let same = call_of.keeps.counts h in (λ t. ap (λ (s : Held). states_of s t) same, ap (λ (s : Held). s.region) same, same)
 
-  -- names are looked up by the same hashes, and by the same table, and there is room for as many
-  pub start-stays : (new.start ≡ old.start) × (new.tenants ≡ old.tenants) × (new.room ≡ old.room)
-  start-stays = (call_of.keeps.start, call_of.keeps.tenants, call_of.keeps.room)
+  -- names are looked up by the same hashes, and by the same table, and there is room for as many; the
+  -- quotas allow as many words
+  pub start-stays : (new.start ≡ old.start) × (new.tenants ≡ old.tenants) × (new.room ≡ old.room) × (new.granted ≡ old.granted)
+  start-stays = (call_of.keeps.start, call_of.keeps.tenants, call_of.keeps.room, call_of.keeps.granted)
 
   -- the other tenants keep their arrays, and the words of each
   pub others-rest : (t : ℕ) → t ≢ event.speaker.tenant → (states_of new t ≡ states_of old t) × (sizes_of new t ≡ sizes_of old t)
@@ -161,8 +162,13 @@ pub words-add-up : (held : Held) → IsSoundService held
     → (held.words ≡ all_words (length held.tenants) (sizes_of held)) × (held.words ≤ held.peak) × (held.region ≤ max held.reserved (128 * held.peak + 512))
 words-add-up held sound = (sound.sum, sound.live, sound.region)
 
--- the words ever live at once are bounded by the tenants' quotas, and so are the words taken from the
--- machine: for ever, whatever was called
+-- the words ever live at once are bounded by what the tenants' quotas allow, and so are the words taken
+-- from the machine: for ever, whatever was called
 pub memory-is-bounded : (held : Held) → IsSoundService held
+    → (held.peak ≤ held.granted) × (held.region ≤ max held.reserved (128 * held.granted + 512)) × (words_for held.tenants ≤ held.granted)
+memory-is-bounded held sound = (sound.peak, sound.machine, sound.granted)
+
+-- with one table so far, its quotas bound them
+pub one-table : (held : Held) → IsSoundService held → held.granted ≡ words_for held.tenants
     → (held.peak ≤ 16 * all_quotas (length held.tenants) (quotas_of held.tenants) + 194560) × (held.region ≤ max held.reserved (128 * words_for held.tenants + 512))
-memory-is-bounded held sound = (sound.peak, sound.machine)
+one-table held sound one = (subst (λ n. held.peak ≤ n) one sound.peak, subst (λ n. held.region ≤ max held.reserved (128 * n + 512)) one sound.machine)

@@ -1,15 +1,13 @@
-use Rattle.std.proofs.Common.{◌≡◌, ◌≤◌, ◌∙◌, sym, length, nat_le}
+use Rattle.std.proofs.Common.{◌≤◌, ◌∙◌, sym, nat_le}
 use Rattle.std.proofs.lemmas.Bool.{and_parts, leb-true}
 use Rattle.toml.specs.View.{table_view}
 use Rattle.judy_table.specs.Tenants.{size}
-use Rattle.judy_table.proofs.Trees.{length-tenants_in, limited-tenants_in}
+use Rattle.judy_table.proofs.Trees.{tree-rows}
 use Rattle.judy_table.proofs.table.read_tree.Goals as goal
 
 pub invariant_of-result : goal.invariant_of-result
 invariant_of-result c =
-    let many : length c.in-Ok.tenants.items ≡ size (table_view c.args.tree.now) = length-tenants_in (table_view c.args.tree.now)
-    c.in-Ok.tenants.items c.in-Ok.ensures.ok in
     let n = size (table_view c.args.tree.now) in
     let counted = (and_parts (nat_le 1 n) (nat_le n 64) (◌∙◌ (sym c.has_count.ensures) c.if-not-has_count.false)).1 in
     let fits : n ≤ 64 = leb-true n 64 counted in
-    (rw many fits, limited-tenants_in (table_view c.args.tree.now) c.in-Ok.tenants.items c.in-Ok.ensures.ok)
+    tree-rows (table_view c.args.tree.now) c.in-Ok.tenants.items c.in-Ok.ensures.ok fits c.in-Ok.ensures.sorted

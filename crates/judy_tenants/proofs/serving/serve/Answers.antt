@@ -12,8 +12,7 @@ use Rattle.judy_tenants.specs.States.{key_of_call}
 use Rattle.judy_tenants.proofs.CallsServed.{Premises, Ends, AtKey, CanSettle, key-is, used-served, full-served, at-key, short}
 use Rattle.judy_tenants.proofs.CallsServed.{can-settle, settled-stocked, answered, whole-keeps}
 use Rattle.judy_tenants.proofs.Rooms.{pieces-fit}
-use Rattle.judy_tenants.proofs.Peaks.{peak-within}
-use Rattle.judy_tenants.specs.Held.{words_for}
+use Rattle.judy_tenants.proofs.Peaks.{peak-within, still-granted}
 use Rattle.judy_tenants.proofs.serving.serve.Goals as goal
 use Rattle.judy_tenants.proofs.serving.serve.Goals.{After-quota-quota, After-new-spot, After-spot-1}
 
@@ -85,19 +84,21 @@ refused g c =
 -- the peak stays within what the quotas allow
 within : (g : _) (c : After-spot-1 g) (last : ArenaState)
     → Takes (blocks_of_call c.args.stock.now.arena.blocks (at c.args.stock.now.directory.0 c.new-spot.result).root c.args.call.now) c.args.stock.now.arena last
-    → last.peak ≤ words_for c.args.table.now
+    → last.peak ≤ c.args.stock.now.granted
 within g c last takes =
     peak-within (c.kinds_are_lawful.ensures g.H.KeyHash.hashed) c.places_are_small.ensures c.sizes_add_up_over_the_numbers.ensures
-    c.args.table.now c.args.stock.now c.requires.stocked c.the_region_is_bounded.ensures.sum c.requires.peak
+    c.args.table.now c.args.stock.now c.requires.stocked c.the_region_is_bounded.ensures.sum c.requires.granted
     (at c.args.stock.now.directory.0 c.new-spot.result).root c.args.call.now last takes
 
-pub returns-in_default-exchange-clause-peak : goal.returns-in_default-exchange-clause-peak
-returns-in_default-exchange-clause-peak g c =
-    within g (goal.at.returns-in_default-exchange-clause-peak g c).After-spot-1 c.exchange.new.stock.arena c.in_default-exchange.ensures.memory
+pub returns-in_default-exchange-clause-granted : goal.returns-in_default-exchange-clause-granted
+returns-in_default-exchange-clause-granted g c =
+    still-granted c.args.table.now c.args.stock.now c.exchange.new.stock c.requires.granted c.in_default-exchange.ensures.refused.granted
+    (within g (goal.at.returns-in_default-exchange-clause-granted g c).After-spot-1 c.exchange.new.stock.arena c.in_default-exchange.ensures.memory)
 
-pub returns-clause-peak : goal.returns-clause-peak
-returns-clause-peak g c =
-    within g (goal.at.returns-clause-peak g c).After-spot-1 c.exchange.new.stock.arena c.in-Ok.ensures.memory
+pub returns-clause-granted : goal.returns-clause-granted
+returns-clause-granted g c =
+    still-granted c.args.table.now c.args.stock.now _ c.requires.granted c.in-Ok.ensures.ok.granted
+    (within g (goal.at.returns-clause-granted g c).After-spot-1 c.exchange.new.stock.arena c.in-Ok.ensures.memory)
 
 pub returns-in_default-exchange-clause-stocked : goal.returns-in_default-exchange-clause-stocked
 returns-in_default-exchange-clause-stocked g c = (refused g c).stocked
@@ -160,12 +161,13 @@ done : (g : _) (c : goal.After-stock-1 g) → Ends g.H.KeyHash.hashed c.args.tab
   directory = c.exchange.new.stock.directory;
   accounts = with_items c.exchange.new.stock.accounts c.settle.new.accounts;
   unplaced = c.exchange.new.stock.unplaced;
+  granted = c.exchange.new.stock.granted;
 }) (record { speaker = record { tenant = c.args.speaker.tenant; right = c.args.speaker.right }; call = c.args.call.now }) c.in-Ok.answered.reply
 done g c =
     let w = goal.at.returns-clause-stocked g c in
     answered (known g w.After-quota-quota) (key g w.After-new-spot)
     c.is_full.result c.is_full.ensures c.if-is_full.false c.exchange.new.stock c.in-Ok.answered c.in-Ok.ensures.ok
-    c.in-Ok.ensures.memory _ (stocked-end g c) refl refl refl refl
+    c.in-Ok.ensures.memory _ (stocked-end g c) refl refl refl refl refl
 
 pub returns-clause-served : goal.returns-clause-served
 returns-clause-served g c = (done g c).served

@@ -15,6 +15,7 @@ returns-in-Err-clause-refused g c =
       places = c.put-in-Err.ensures.places ∙ c.in-Ok.ensures.same c.in-Ok.before ∙ ap (with_place d k) c.in-Ok.ensures.found
           ∙ put_back d k (c.requires.held.filled k);
       footing = c.put-in-Err.ensures.footing ∙ c.place.ensures.footing;
+      granted = refl;
       accounts = refl;
       asked = subst (λ (p : Stand). IsTrue (asks_at c.args.stock.now.arena.blocks p.root c.args.call.now)) c.in-Ok.ensures.found c.in-Err.ensures.asked;
       cause = inl (record { refusals = c.in-Err.ensures.refused.refusals; unplaced = refl });

@@ -35,6 +35,7 @@ returns-then-eq-clause-ok g c =
       step = c.in_ok-reply.ensures.step;
       refusals = c.in_ok-reply.ensures.quiet;
       unplaced = refl;
+      granted = refl;
       accounts = refl;
     }
 
@@ -47,5 +48,6 @@ returns-clause-ok g c = record {
   step = c.in_ok-reply.ensures.step;
   refusals = c.in_ok-reply.ensures.quiet;
   unplaced = refl;
+  granted = refl;
   accounts = refl;
 }

@@ -1,0 +1,250 @@
+-- The places of tenants after another table is read.
+--     seated-rows     what holds of every table's rows holds afterwards
+--     longer          there are no fewer rows
+--     stays-at        a row with a tenant becomes the table's row of its name, or vacant
+--     new-at          another place is vacant, or has a tenant whose name no row had
+--     has-seated      the names are those of the table
+--     row-seated      each has the table's row
+--     has-place       so it has a place, with this row
+--     no-place        another name has none
+--     one-place       no name has two places
+--     keeps-place     a tenant that stays keeps its place
+--     left-vacant     the place of a tenant that is gone is vacant
+--     same-right      a log-in gives the right that the table gives
+--     no-name         no log-in finds a vacant row
+--     knows-place     a speaker that is known has a place, with a tenant
+--     read-rows       what holds of the rows of a table that was read
+use Rattle.std.proofs.Common.{◌≡◌, ◌≢◌, ◌⊎◌, inl, inr, ℕ, zero, suc, ◌≤◌, ◌<◌, ◌&&◌, ◌||◌, Bool, true, false, not, cond, List, [], ◌∷◌, length}
+use Rattle.std.proofs.Common.{◌==◌, if◌then◌else◌, Option, Some, None, Ok, ap, sym, ◌∙◌, refl, subst, get_or, drop, slice_get, option_map, option_and_then, arith}
+use Rattle.std.proofs.lemmas.Bool.{and_parts, both_ways, not-true}
+use Rattle.std.proofs.lemmas.List.Elements.{All-from_recursion, recursion_from_All}
+use Rattle.std.proofs.lemmas.Option.{slice_get_within}
+use Rattle.std.specs.List.{AllByRecursion}
+use Rattle.std.specs.Str.{bytes_eq}
+use Rattle.sha2.specs.Sha256.{sha256}
+use Rattle.judy_model.specs.Speakers.{Speaker}
+use Rattle.judy_model.specs.declared.quotas.Right.{Right}
+use Rattle.judy_model.specs.declared.quotas.Right.TheVariants.{Change, Look}
+use Rattle.judy_table.specs.declared.tenant.Tenant.{Tenant}
+use Rattle.judy_table.specs.Tenants.{is_vacant, vacant, place_of, right_of, is_digest, speaker_at, login_at, login_of, IsLimited}
+use Rattle.judy_table.specs.Tenants.{read_table, HasRisingNames}
+use Rattle.judy_table.proofs.Trees.{named-tenants_in, read-tenants, tree-rows}
+use Rattle.judy_table.specs.Seats.{has_name, row_of, is_fresh, fresh_in, placed, seated, are_distinct, AreRows, knows, knows_row, has_token}
+use Rattle.judy_table.proofs.Placing.{one-name, unnamed-vacant, row-named, row-absent, place-absent, place-here, fresh-are-fresh}
+use Rattle.judy_table.proofs.Placing.{fresh-each, has-fresh-old, has-fresh-new, row-fresh, distinct-fresh, placed-each, has-placed, row-placed-new}
+use Rattle.judy_table.proofs.Placing.{row-placed-old, place-kept, distinct-placed, length-placed, few-placed, named-seated, few-fresh}
+
+-- a vacant row is one that a table may have
+vacant-limited : IsLimited vacant
+vacant-limited = record { entries = omega arith; pieces = omega arith }
+
+-- what holds of every table's rows holds afterwards
+pub seated-rows : (rows table : List Tenant) → AreRows rows → AreRows table → AreRows (seated rows table)
+seated-rows rows table r t = record {
+  few = few-placed table rows (fresh_in rows table) r.few r.few_named (let most = few-fresh rows table in let few = t.few_named in omega (arith, most, few));
+  few_named = let most = named-seated rows table r.distinct in let few = t.few_named in omega (arith, most, few);
+  limited = every IsLimited vacant-limited (recursion_from_All IsLimited table t.limited);
+  empty = every (λ u. is_vacant u ≡ true → u ≡ vacant) (λ _. refl) (recursion_from_All (λ u. is_vacant u ≡ true → u ≡ vacant) table t.empty);
+  distinct = distinct-placed table rows (fresh_in rows table) r.distinct (distinct-fresh rows table t.distinct) (λ name _. has-fresh-old name rows table);
+}
+  where
+    every : (P : Tenant → Type 0) → P vacant → AllByRecursion P table → (k : ℕ) (d : Tenant) → k < length (seated rows table) → P (get_or (seated rows table) k d)
+    every P v h = All-from_recursion P (seated rows table) (placed-each P table v h rows (fresh_in rows table) (fresh-each P rows table h))
+
+-- there are no fewer rows
+pub longer : (rows table : List Tenant) → length rows ≤ length (seated rows table)
+longer rows table = let total = length-placed table rows (fresh_in rows table) in omega (arith, total)
+
+stays-in : (table : List Tenant) (r : Tenant) → is_vacant r ≡ false → (rs fs : List Tenant) (p : ℕ) → slice_get rs p ≡ Some r
+    → slice_get (placed table rs fs) p ≡ Some (row_of r.name table)
+stays-in table r v [] fs p g = cc
+stays-in table r v (s ∷ rs) fs zero g = let same : s ≡ r = cc in at s same
+  where
+    at : (s : Tenant) → s ≡ r → slice_get (placed table (s ∷ rs) fs) zero ≡ Some (row_of r.name table)
+    at s same =
+        ap (λ (u : Tenant). slice_get (placed table (u ∷ rs) fs) zero) same
+        ∙ ap (λ b. slice_get (cond b (get_or fs 0 vacant ∷ placed table rs (drop 1 fs)) (row_of r.name table ∷ placed table rs fs)) zero) v
+stays-in table r v (s ∷ rs) fs (suc p) g = by (λ gs. stays-in table r v rs gs p g) (is_vacant s)
+  where
+    by : ((gs : List Tenant) → slice_get (placed table rs gs) p ≡ Some (row_of r.name table)) → (b : Bool)
+        → slice_get (cond b (get_or fs 0 vacant ∷ placed table rs (drop 1 fs)) (row_of s.name table ∷ placed table rs fs)) (suc p)
+        ≡ Some (row_of r.name table)
+    by rest true = rest (drop 1 fs)
+    by rest false = rest fs
+
+-- a row with a tenant becomes the table's row of its name, or vacant
+pub stays-at : (rows table : List Tenant) (p : ℕ) (r : Tenant) → slice_get rows p ≡ Some r → is_vacant r ≡ false
+    → slice_get (seated rows table) p ≡ Some (row_of r.name table)
+stays-at rows table p r h v = stays-in table r v rows (fresh_in rows table) p h
+
+-- a place that has no row, or a vacant one
+abbrev pub IsFree : Option Tenant → Type 0
+IsFree None = Unit {0}
+IsFree (Some r) = is_vacant r ≡ true
+
+among : (P : Tenant → Type 0) (t : Tenant) (fs : List Tenant) (p : ℕ) → AllByRecursion P fs → slice_get fs p ≡ Some t → P t
+among P t [] p f g = cc
+among P t (u ∷ us) zero f g = let same : u ≡ t = cc in subst P same f.0
+among P t (u ∷ us) (suc p) f g = among P t us p f.1 g
+
+new-in : (P : Tenant → Type 0) (table : List Tenant) (t : Tenant) (rs fs : List Tenant) (p : ℕ) → AllByRecursion P fs → IsFree (slice_get rs p)
+    → slice_get (placed table rs fs) p ≡ Some t → (t ≡ vacant) ⊎ P t
+new-in P table t [] fs p f h g = inr (among P t fs p f g)
+new-in P table t (s ∷ rs) fs zero f h g = first fs f
+    (sym (ap (λ b. slice_get (cond b (get_or fs 0 vacant ∷ placed table rs (drop 1 fs)) (row_of s.name table ∷ placed table rs fs)) zero) h) ∙ g)
+  where
+    first : (fs : List Tenant) → AllByRecursion P fs → Some (get_or fs 0 vacant) ≡ Some t → (t ≡ vacant) ⊎ P t
+    first [] f g = let same : vacant ≡ t = cc in inl (sym same)
+    first (u ∷ us) f g = let same : u ≡ t = cc in inr (subst P same f.0)
+new-in P table t (s ∷ rs) fs (suc p) f h g = by (λ gs k. new-in P table t rs gs p k h) (is_vacant s) g
+  where
+    rest : (fs : List Tenant) → AllByRecursion P fs → AllByRecursion P (drop 1 fs)
+    rest [] f = tt
+    rest (u ∷ us) f = f.1
+
+    by : ((gs : List Tenant) → AllByRecursion P gs → slice_get (placed table rs gs) p ≡ Some t → (t ≡ vacant) ⊎ P t) → (b : Bool)
+        → slice_get (cond b (get_or fs 0 vacant ∷ placed table rs (drop 1 fs)) (row_of s.name table ∷ placed table rs fs)) (suc p) ≡ Some t
+        → (t ≡ vacant) ⊎ P t
+    by later true e = later (drop 1 fs) (rest fs f) e
+    by later false e = later fs f e
+
+-- such a place is vacant afterwards, or has a tenant whose name no row had
+pub new-at : (rows table : List Tenant) (p : ℕ) (t : Tenant) → IsFree (slice_get rows p) → slice_get (seated rows table) p ≡ Some t
+    → (t ≡ vacant) ⊎ (is_fresh rows t ≡ true)
+new-at rows table p t = new-in (λ u. is_fresh rows u ≡ true) table t rows (fresh_in rows table) p (fresh-are-fresh rows table)
+
+-- the names are those of the table
+pub has-seated : (name : List ℕ) (rows table : List Tenant) → name ≢ [] → has_name name (seated rows table) ≡ has_name name table
+has-seated name rows table n = has-placed name table rows (fresh_in rows table) n ∙ by (has_name name rows) refl
+  where
+    by : (b : Bool) → has_name name rows ≡ b → ((b && has_name name table) || has_name name (fresh_in rows table)) ≡ has_name name table
+    by true h = ap (λ x. has_name name table || x) (has-fresh-old name rows table h) ∙ same (has_name name table)
+      where
+        same : (x : Bool) → (x || false) ≡ x
+        same true = refl
+        same false = refl
+    by false h = has-fresh-new name rows table n h
+
+-- each has the table's row
+pub row-seated : (name : List ℕ) (rows table : List Tenant) → name ≢ [] → row_of name (seated rows table) ≡ row_of name table
+row-seated name rows table n = by (has_name name rows) refl
+  where
+    by : (b : Bool) → has_name name rows ≡ b → row_of name (seated rows table) ≡ row_of name table
+    by true h = row-placed-old name table rows (fresh_in rows table) n h (has-fresh-old name rows table h)
+    by false h = row-placed-new name table rows (fresh_in rows table) n h ∙ row-fresh name rows table n h
+
+-- so it has a place, with this row
+pub has-place : (name : List ℕ) (rows table : List Tenant) → name ≢ [] → has_name name table ≡ true
+    → (p : ℕ) × (place_of name (seated rows table) ≡ Some p) × (slice_get (seated rows table) p ≡ Some (row_of name table))
+has-place name rows table n h =
+    let (p, is, there) = place-here name (seated rows table) (has-seated name rows table n ∙ h) in
+    (p, is, there ∙ ap Some (row-seated name rows table n))
+
+-- another name has none
+pub no-place : (name : List ℕ) (rows table : List Tenant) → name ≢ [] → has_name name table ≡ false → place_of name (seated rows table) ≡ None
+no-place name rows table n h = place-absent name (seated rows table) (has-seated name rows table n ∙ h)
+
+-- a name is that of a row at some place
+has-at : (name : List ℕ) (ts : List Tenant) (q : ℕ) (b : Tenant) → slice_get ts q ≡ Some b → b.name ≡ name → has_name name ts ≡ true
+has-at name [] q b h e = cc
+has-at name (t ∷ ts) zero b h e =
+    let same : t ≡ b = cc in ap (λ x. x || has_name name ts) (one-name t.name name (ap (λ (u : Tenant). u.name) same ∙ e))
+has-at name (t ∷ ts) (suc q) b h e = ap (λ x. bytes_eq t.name name || x) (has-at name ts q b h e) ∙ always (bytes_eq t.name name)
+  where
+    always : (x : Bool) → (x || true) ≡ true
+    always true = refl
+    always false = refl
+
+-- a tenant's name is that of no row after it
+alone : (t : Tenant) (ts : List Tenant) → are_distinct (t ∷ ts) ≡ true → is_vacant t ≡ false → (q : ℕ) (b : Tenant) → slice_get ts q ≡ Some b
+    → t.name ≡ b.name → ⊥
+alone t ts d v q b h e =
+    let apart = (and_parts (is_vacant t || not (has_name t.name ts)) (are_distinct ts) d).0 in
+    both_ways (has_name t.name ts) (not-true (has_name t.name ts) (sym (ap (λ x. x || not (has_name t.name ts)) v) ∙ apart))
+    (has-at t.name ts q b h (sym e))
+
+-- no name has two places
+pub one-place : (ts : List Tenant) → are_distinct ts ≡ true → (p q : ℕ) (a b : Tenant) → slice_get ts p ≡ Some a → slice_get ts q ≡ Some b
+    → is_vacant a ≡ false → a.name ≡ b.name → p ≡ q
+one-place [] d p q a b g h v e = cc
+one-place (t ∷ ts) d zero zero a b g h v e = refl
+one-place (t ∷ ts) d zero (suc q) a b g h v e =
+    let same : t ≡ a = cc in absurd (alone t ts d (ap is_vacant same ∙ v) q b h (ap (λ (u : Tenant). u.name) same ∙ e))
+one-place (t ∷ ts) d (suc p) zero a b g h v e =
+    let same : t ≡ b = cc in
+    absurd (alone t ts d (ap is_vacant same ∙ ap (λ n. length n == 0) (sym e) ∙ v) p a g (ap (λ (u : Tenant). u.name) same ∙ sym e))
+one-place (t ∷ ts) d (suc p) (suc q) a b g h v e =
+    ap suc (one-place ts (and_parts (is_vacant t || not (has_name t.name ts)) (are_distinct ts) d).1 p q a b g h v e)
+
+-- a tenant that stays keeps its place
+pub keeps-place : (name : List ℕ) (rows table : List Tenant) → name ≢ [] → has_name name rows ≡ true → has_name name table ≡ true
+    → place_of name (seated rows table) ≡ place_of name rows
+keeps-place name rows table n h t = place-kept name table rows (fresh_in rows table) n h t (has-fresh-old name rows table h)
+
+-- the place of a tenant that is gone is vacant
+pub left-vacant : (rows table : List Tenant) (p : ℕ) (r : Tenant) → slice_get rows p ≡ Some r → is_vacant r ≡ false → has_name r.name table ≡ false
+    → slice_get (seated rows table) p ≡ Some vacant
+left-vacant rows table p r h v g = stays-at rows table p r h v ∙ ap Some (row-absent r.name table g)
+
+-- ---- log-ins
+
+-- the right that a name and a token have
+abbrev pub right_in : List ℕ → List ℕ → List Tenant → Option Right
+right_in name token ts = option_map (λ (s : Speaker). s.right) (login_of name token ts)
+
+right-at : (p : ℕ) (o : Option Right) → option_map (λ (s : Speaker). s.right) (speaker_at p o) ≡ o
+right-at p None = refl
+right-at p (Some right) = refl
+
+-- it is that of the row of the name
+pub right-of-row : (name token : List ℕ) (ts : List Tenant) → right_in name token ts ≡ right_of (sha256 token) (row_of name ts)
+right-of-row name token ts = by (has_name name ts) refl
+  where
+    by : (b : Bool) → has_name name ts ≡ b → right_in name token ts ≡ right_of (sha256 token) (row_of name ts)
+    by false h =
+        ap (λ o. option_map (λ (s : Speaker). s.right) (login_at ts o token)) (place-absent name ts h)
+        ∙ ap (right_of (sha256 token)) (sym (row-absent name ts h))
+    by true h =
+        let (p, is, there) = place-here name ts h in
+        ap (λ o. option_map (λ (s : Speaker). s.right) (login_at ts o token)) is
+        ∙ right-at p (option_and_then (right_of (sha256 token)) (slice_get ts p))
+        ∙ ap (option_and_then (right_of (sha256 token))) there
+
+-- no log-in finds a vacant row
+pub no-name : (token : List ℕ) (ts : List Tenant) → right_in [] token ts ≡ None
+no-name token ts = right-of-row [] token ts ∙ by (has_name [] ts) refl
+  where
+    unnamed : (t : Tenant) → is_vacant t ≡ true → right_of (sha256 token) t ≡ None
+    unnamed t v = ap
+        (λ b. if b then None else if bytes_eq t.digest (sha256 token) then Some Change else if is_digest t.look (sha256 token) then Some Look else None) v
+
+    by : (b : Bool) → has_name [] ts ≡ b → right_of (sha256 token) (row_of [] ts) ≡ None
+    by true h = unnamed (row_of [] ts) (unnamed-vacant (row_of [] ts) (row-named [] ts h))
+    by false h = ap (right_of (sha256 token)) (row-absent [] ts h)
+
+-- a log-in gives the right that the table gives
+pub same-right : (name token : List ℕ) (rows table : List Tenant) → right_in name token (seated rows table) ≡ right_in name token table
+same-right [] token rows table = no-name token (seated rows table) ∙ sym (no-name token table)
+same-right (x ∷ xs) token rows table =
+    right-of-row (x ∷ xs) token (seated rows table) ∙ ap (right_of (sha256 token)) (row-seated (x ∷ xs) rows table some)
+    ∙ sym (right-of-row (x ∷ xs) token table)
+  where
+    some : x ∷ xs ≢ []
+    some e = cc
+
+-- a speaker that is known has a place, with a tenant
+pub knows-place : (ts : List Tenant) (who : Speaker) → knows ts who ≡ true
+    → (t : Tenant) × (slice_get ts who.tenant ≡ Some t) × (is_vacant t ≡ false) × (who.tenant < length ts)
+knows-place ts who h = by (slice_get ts who.tenant) refl h
+  where
+    by : (o : Option Tenant) → slice_get ts who.tenant ≡ o → knows_row o who.right ≡ true
+        → (t : Tenant) × (slice_get ts who.tenant ≡ Some t) × (is_vacant t ≡ false) × (who.tenant < length ts)
+    by None e g = cc
+    by (Some t) e g = (t, e, not-true (is_vacant t) (and_parts (not (is_vacant t)) (has_token who.right t) g).0, slice_get_within ts who.tenant t e)
+
+-- ---- a table that was read
+
+-- what holds of the rows of a table that was read
+pub read-rows : (text : List ℕ) (ts : List Tenant) → read_table text ≡ Ok ts → HasRisingNames ts
+    → AreRows ts × AllByRecursion (λ t. is_vacant t ≡ false) ts
+read-rows text ts e rising = let (ms, in', few) = read-tenants text ts e in (tree-rows ms ts in' few rising, named-tenants_in ms ts in')

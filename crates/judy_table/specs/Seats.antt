@@ -1,0 +1,80 @@
+-- The rows in force after another table is read. A tenant that stays keeps its place. The place of
+-- one that is gone is vacant, and the next table may give it away.
+--     has_name name ts     some row has this name
+--     row_of name ts       the first row of this name, or a vacant one
+--     fresh_in rows ts     the tenants of a table whose names no row has
+--     seated rows ts       the rows after the table is read
+--     named ts             how many rows have a tenant
+--     AreRows ts           what holds of the rows of every table
+--     knows ts who         the speaker's place has a tenant with a token for the speaker's right
+use Rattle.std.specs.Prelude.{◌≡◌, ℕ, ◌≤◌, ◌&&◌, ◌||◌, Bool, true, false, not, List, [], ◌∷◌, length, Option, Some, None, is_some}
+use Rattle.std.specs.Prelude.{if◌then◌else◌, filter, count_by, get_or, drop, slice_get}
+use Rattle.std.specs.List.{All, list_any}
+use Rattle.std.specs.Str.{bytes_eq}
+use Rattle.judy_model.specs.Speakers.{Speaker}
+use Rattle.judy_model.specs.declared.quotas.Right.{Right}
+use Rattle.judy_model.specs.declared.quotas.Right.TheVariants.{Change, Look}
+use Rattle.judy_table.specs.declared.table.TheConstants.{TENANTS_LIMIT, ROWS_LIMIT}
+use Rattle.judy_table.specs.declared.tenant.Tenant.{Tenant}
+use Rattle.judy_table.specs.Tenants.{is_vacant, vacant, AreLimited}
+
+-- some row has this name
+abbrev pub has_name : List ℕ → List Tenant → Bool
+has_name name ts = list_any (λ t. bytes_eq t.name name) ts
+
+-- the first row of this name, or a vacant one
+abbrev pub row_of : List ℕ → List Tenant → Tenant
+row_of name [] = vacant
+row_of name (t ∷ ts) = if bytes_eq t.name name then t else row_of name ts
+
+-- a row with a tenant whose name none of the others has
+abbrev pub is_fresh : List Tenant → Tenant → Bool
+is_fresh rows t = not (is_vacant t) && not (has_name t.name rows)
+
+-- the tenants of a table whose names no row has
+abbrev pub fresh_in : List Tenant → List Tenant → List Tenant
+fresh_in rows table = filter (is_fresh rows) table
+
+-- The rows, one after another: a vacant one takes the next fresh tenant, if there is one; another
+-- one becomes the table's row of its name, or vacant. The other fresh tenants come after all rows.
+abbrev pub placed : List Tenant → List Tenant → List Tenant → List Tenant
+placed table [] fresh = fresh
+placed table (r ∷ rows) fresh =
+    if is_vacant r then get_or fresh 0 vacant ∷ placed table rows (drop 1 fresh) else row_of r.name table ∷ placed table rows fresh
+
+-- the rows after the table is read
+abbrev pub seated : List Tenant → List Tenant → List Tenant
+seated rows table = placed table rows (fresh_in rows table)
+
+-- how many rows have a tenant
+abbrev pub named : List Tenant → ℕ
+named ts = count_by (λ t. not (is_vacant t)) ts
+
+-- no two tenants have one name
+abbrev pub are_distinct : List Tenant → Bool
+are_distinct [] = true
+are_distinct (t ∷ ts) = (is_vacant t || not (has_name t.name ts)) && are_distinct ts
+
+-- what holds of the rows of every table
+pub record AreRows (ts : List Tenant) : Type 0 where
+  pub few : length ts ≤ ROWS_LIMIT
+  pub few_named : named ts ≤ TENANTS_LIMIT
+  -- the quota of each tenant is one that a table can grant
+  pub limited : AreLimited ts
+  -- all vacant rows are alike, so each has a quota of 0
+  pub empty : All (λ t. is_vacant t ≡ true → t ≡ vacant) ts
+  pub distinct : are_distinct ts ≡ true
+
+-- whether a tenant has a token for this right
+abbrev pub has_token : Right → Tenant → Bool
+has_token Change t = true
+has_token Look t = is_some t.look
+
+-- whether there is a tenant at a place, with a token for this right
+abbrev pub knows_row : Option Tenant → Right → Bool
+knows_row None right = false
+knows_row (Some t) right = not (is_vacant t) && has_token right t
+
+-- the speaker's place has a tenant with a token for the speaker's right
+abbrev pub knows : List Tenant → Speaker → Bool
+knows ts who = knows_row (slice_get ts who.tenant) who.right

@@ -1,0 +1,16 @@
+use Rattle.std.proofs.Common.{List, subst}
+use Rattle.std.proofs.lemmas.Result.{IfErr-weaker}
+use Rattle.judy_table.specs.Seats.{seated}
+use Rattle.judy_table.specs.declared.tenant.Tenant.{Tenant}
+use Rattle.judy_tenants.specs.Changes.{HasReason}
+use Rattle.judy_tenants.specs.Held.{Held}
+use Rattle.judy_tenants.specs.Stocks.{held_of}
+use Rattle.judy_tenants.proofs.Carried.{reason-seen}
+use Rattle.judy_tenants.proofs.service.Service.change.Goals as goal
+
+pub returns-clause-reason : goal.returns-clause-reason
+returns-clause-reason g c =
+    IfErr-weaker c.put_in_force-changed.result _ _ (λ e h.
+    subst (λ (s : Held). HasReason s (seated s.tenants c.args.table) e) c.self.view_is
+    (subst (λ (ts : List Tenant). HasReason (held_of c.self.inside.table c.self.inside.stock) ts e) c.in-Ok.ensures
+    (reason-seen c.self.inside.table c.in-Ok.later c.self.inside.stock c.self.invariant.0 e h))) c.put_in_force-changed.ensures.reason

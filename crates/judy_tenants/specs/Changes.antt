@@ -1,0 +1,59 @@
+-- How a service changes when later rows of a table are put in force.
+--     has_tenant rows t            a tenant has this place
+--     stays_at rows later t        it has the place before and after, so it stays
+--     HasChanged old new           the later rows were put in force
+--     IsCarried rows later ..      what the account of a place becomes
+--     HasReasonIn, HasReason       why the rows were not put in force, by the accounts and by the arrays
+use Rattle.std.specs.Prelude.{◌≡◌, ◌⊎◌, ◌<◌, ◌≤◌, ℕ, Bool, false, ◌&&◌, not, List, IsTrue, IsFalse, MatchBool, map, max, option_map, unwrap_or, slice_get}
+use Rattle.judy_model.specs.Tenant.{no_arrays, used, pieces}
+use Rattle.judy_table.specs.declared.tenant.Tenant.{Tenant}
+use Rattle.judy_table.specs.Tenants.{is_vacant}
+use Rattle.judy_tenants.specs.declared.accounts.Account.{Account}
+use Rattle.judy_tenants.specs.declared.changing.Unchanged.{Unchanged}
+use Rattle.judy_tenants.specs.declared.changing.Unchanged.TheVariants.{Memory, Quota}
+use Rattle.judy_tenants.specs.Accounts.{entries_at, account_pieces}
+use Rattle.judy_tenants.specs.Held.{Held, states_of, sizes_of, quotas_of, words_for}
+
+-- whether a tenant has this place
+abbrev pub has_tenant : List Tenant → ℕ → Bool
+has_tenant rows t = unwrap_or (option_map not (slice_get (map is_vacant rows) t)) false
+
+-- whether the tenant of a place stays when later rows come in force: a place that is given to another
+-- tenant was vacant before
+abbrev pub stays_at : List Tenant → List Tenant → ℕ → Bool
+stays_at rows later t = has_tenant rows t && has_tenant later t
+
+-- Later rows were put in force. A tenant that stays keeps its arrays, and every other place has none:
+-- the arrays of those that are gone were freed. What was counted stays, and so does the memory that
+-- was taken.
+pub record HasChanged (old new : Held) : Type 0 where
+  pub stays : (t : ℕ) → IsTrue (stays_at old.tenants new.tenants t) → (states_of new t ≡ states_of old t) × (sizes_of new t ≡ sizes_of old t)
+  pub gone : (t : ℕ) → IsFalse (stays_at old.tenants new.tenants t) → states_of new t ≡ no_arrays
+  pub refusals : new.refusals ≡ old.refusals
+  pub unplaced : new.unplaced ≡ old.unplaced
+  pub region : new.region ≡ old.region
+  pub reserved : new.reserved ≡ old.reserved
+  pub peak : new.peak ≡ old.peak
+  pub start : new.start ≡ old.start
+  pub room : new.room ≡ old.room
+  pub granted : new.granted ≡ max old.granted (words_for new.tenants)
+
+-- What the account of a place becomes: a tenant that stays keeps its numbers, and every other place
+-- has none. They are within the quota of the later row.
+pub record IsCarried (rows later : List Tenant) (before : List Account) (t entries pieces : ℕ) : Type 0 where
+  pub numbers : MatchBool (stays_at rows later t) ((entries ≡ entries_at before t) × (pieces ≡ account_pieces before t)) ((entries ≡ 0) × (pieces ≡ 0))
+  pub entries_within : entries ≤ (quotas_of later t).entries
+  pub pieces_within : pieces ≤ (quotas_of later t).pieces
+
+-- out of memory, or the account of a tenant that stays exceeds its new quota
+abbrev pub HasReasonIn : List Tenant → List Tenant → List Account → Unchanged → Type 0
+HasReasonIn rows later accounts Memory = Unit {0}
+HasReasonIn rows later accounts (Quota t) =
+    IsTrue (stays_at rows later t) × (((quotas_of later t).entries < entries_at accounts t) ⊎ ((quotas_of later t).pieces < account_pieces accounts t))
+
+-- out of memory, or a tenant that stays holds more than its new quota
+abbrev pub HasReason : Held → List Tenant → Unchanged → Type 0
+HasReason old later Memory = Unit {0}
+HasReason old later (Quota t) =
+    IsTrue (stays_at old.tenants later t)
+    × (((quotas_of later t).entries < used (states_of old t)) ⊎ ((quotas_of later t).pieces < pieces (states_of old t)))
