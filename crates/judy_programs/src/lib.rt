@@ -16,5 +16,5 @@ pub use hosts::Hosts;
 pub use opens::{Opens, Unopened};
 pub use program::{Ran, run_on, run_with};
 pub use socket::{Hosted, begin_on, check_on, host_on};
-pub use statuses::{finish, finish_hosted};
+pub use statuses::{fault_name, finish, finish_hosted};
 pub use system::{Failed, System, Unserved, read_secret};

@@ -1,11 +1,27 @@
 //! The status of the program, and its line on standard error.
 ghost use Rattle.std.specs.Prelude.{◌≡◌, option_map};
-ghost use Rattle.judy_programs.specs.Finish.{fault_text, host_status, host_text, run_status, run_text};
+ghost use Rattle.judy_programs.specs.Finish.{fault_name, fault_text, host_status, host_text, run_status, run_text};
 
 use crate::program::Ran;
 use crate::socket::Hosted;
 use judy_protocol::End;
 use judy_table::TableFault;
+
+/// The name of a fault of the table.
+pub fn fault_name(fault: TableFault) -> &'static str
+    ensures { result.now ≡ fault_name fault }
+{
+    match fault {
+        TableFault::Memory => "Memory",
+        TableFault::Toml => "Toml",
+        TableFault::Shape => "Shape",
+        TableFault::Count => "Count",
+        TableFault::Name => "Name",
+        TableFault::Digest => "Digest",
+        TableFault::Quota => "Quota",
+        TableFault::Pieces => "Pieces",
+    }
+}
 
 /// The line for a fault of the table.
 fn table_text(fault: TableFault) -> &'static str

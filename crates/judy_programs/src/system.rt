@@ -188,6 +188,12 @@ impl<'a, F: Files + Net + Clock + Eprint> Network for System<'a, F> {
             sockets.report(text);
         }
     }
+
+    fn warn(&mut self, text: &[u8]) {
+        if let Some(sockets) = &mut self.sockets {
+            sockets.warn(text);
+        }
+    }
 }
 
 impl<'a, F: Files + Net + Clock + Eprint> Hosts for System<'a, F> {

@@ -1,3 +1,4 @@
 pub mod lemmas
 mod Asked
+mod Forgetting
 mod Texting

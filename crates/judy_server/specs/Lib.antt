@@ -1,6 +1,7 @@
 pub mod Counts
 pub mod Jobs
 pub mod Metrics
+pub mod Reloads
 pub mod Rules
 pub mod Served
 pub mod Space

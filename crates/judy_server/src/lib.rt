@@ -5,6 +5,7 @@
 mod calls;
 mod jobs;
 mod metrics;
+mod reload;
 mod server;
 mod status;
 mod tally;

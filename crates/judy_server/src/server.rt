@@ -17,7 +17,7 @@ use judy_model::{Call, KEY_LIMIT, Reply};
 use judy_programs::{Opens, Ran, Unopened, run_with};
 use judy_protocol::{Line, Refusal, Served};
 use judy_stream::{Sink, Source};
-use judy_table::{Speaker, Table};
+use judy_table::{Speaker, Table, TenantId};
 use judy_tenants::{KeyHash, Service, Sha256Hash};
 use std::alloc::{AllocError, Global};
 use std::marker::Model;
@@ -41,12 +41,38 @@ impl Chosen for Sha256Hash {
     }
 }
 
+/// The refused log-ins, as the operator is told of them.
+#[derive(Clone, Copy, Debug)]
+struct Logins {
+    /// How many were refused. The count saturates.
+    refused: u64,
+    /// The tenant whose name the last of them had, if it had one.
+    last: Option<TenantId>,
+}
+
+impl Logins {
+    /// None yet.
+    fn new() -> Logins {
+        Logins {
+            refused: 0,
+            last: None,
+        }
+    }
+
+    /// One was refused.
+    fn refuse(&mut self, tenant: Option<TenantId>) {
+        self.refused = self.refused.saturating_add(1);
+        self.last = tenant;
+    }
+}
+
 /// The tenants of a table, each with its own arrays, in one arena, and the counts of their lines.
 /// JudyHS hashes keys by H.
 #[derive(Drop)]
 pub struct Server<H: Chosen> {
     service: Service<H>,
     tally: Tally,
+    logins: Logins,
 }
 
 impl<H: Chosen> Model for Server<H> {
@@ -96,7 +122,27 @@ impl<H: Chosen> Shows for Server<H> {
         self.tally.count(asked, answer);
         if let Some(name) = refused_name(asked, answer) {
             self.tally.refuse(self.service.find(name));
+            self.logins.refuse(self.service.find(name));
         }
+    }
+
+    fn refused_logins(&self) -> u64 {
+        self.logins.refused
+    }
+
+    fn last_refused(&self) -> &[u8] {
+        let Some(tenant) = self.logins.last else {
+            return b"";
+        };
+        if self.service.has(tenant) {
+            self.service.name(tenant)
+        } else {
+            b""
+        }
+    }
+
+    fn refused_requests(&self) -> u64 {
+        self.tally.refused_requests()
     }
 
     ghost unseen = { λ before after line answer noted. ap seen_of noted };
@@ -116,6 +162,7 @@ impl<H: Chosen> Opens for Server<H> {
             Ok(service) => Ok(Server {
                 service,
                 tally: Tally::new(),
+                logins: Logins::new(),
             }),
             Err(_) => Err(Unopened::Memory),
         }

@@ -1,6 +1,6 @@
 //! What a service counts: lines by what they ask for, replies by their kind, and refused log-ins by
 //! tenant. The counts saturate.
-ghost use Rattle.std.specs.Prelude.{◌≡◌, ◌<◌, length, option_map, slice_index};
+ghost use Rattle.std.specs.Prelude.{◌≡◌, ◌<◌, if◌then◌else◌, option_map, slice_index, slice_set};
 ghost use Rattle.std.specs.Ordering.{eq_by_cmp};
 ghost use Rattle.judy_arena.specs.Blocks.{count_up};
 ghost use Rattle.judy_model.specs.Contents.{string_order};
@@ -57,6 +57,15 @@ fn bump(counts: &mut [u64], place: usize)
 {
     if place < counts.len() {
         counts[place] = up(counts[place]);
+    }
+}
+
+/// Sets the count at a place to 0, if it is one.
+fn clear(counts: &mut [u64], place: usize)
+    ensures { counts.new ≡ slice_set counts.old place 0 }
+{
+    if place < counts.len() {
+        counts[place] = 0;
     }
 }
 
@@ -144,6 +153,25 @@ impl Tally {
     {
         bump(&mut self.lines, call_place(asked));
         bump(&mut self.replies, reply_place(answer));
+    }
+
+    /// Forgets the refused log-ins of a place, if it is vacant.
+    pub fn forget_if(&mut self, tenant: TenantId, vacant: bool)
+        ensures { self.new ≡ record self.old {
+          refused =
+              (if vacant then slice_set self.old.refused tenant 0 else self.old.refused);
+        } }
+    {
+        if vacant {
+            clear(&mut self.refused, tenant.place() as usize);
+        }
+    }
+
+    /// How many replies were `ERR MEMORY`.
+    pub fn refused_requests(&self) -> u64
+        ensures { result ≡ slice_index self.now.replies 2 }
+    {
+        count_at(&self.replies, 2)
     }
 
     /// Counts a log-in that was refused: the tenant with its name, if there is one.

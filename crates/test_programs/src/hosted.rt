@@ -105,6 +105,8 @@ impl<'a> Network for Play<'a> {
     }
 
     fn report(&mut self, _text: &[u8]) {}
+
+    fn warn(&mut self, _text: &[u8]) {}
 }
 
 impl<'a> Hosts for Play<'a> {

@@ -71,6 +71,15 @@ sound-turn before t after s one =
     let kept : after.held ≡ one.mid.held = ap (λ (x : Tallied). x.held) one.noted in
     subst (IsSoundOf before.held) (sym kept) (sound-calls before one.mid _ s one.calls)
 
+-- first one, then the other
+joined : (a b c : Tallied) → IsSoundOf a.held b.held → IsSoundOf b.held c.held → IsSoundOf a.held c.held
+joined a b c first more = record {
+  sound = more.sound;
+  tenants = more.tenants ∙ first.tenants;
+  granted = more.granted ∙ first.granted;
+  reserved = more.reserved ∙ first.reserved;
+}
+
 -- lines one after another keep it, whatever their connections
 pub sound-turns : (turns : List Turn) (before after : Tallied) → IsSoundService before.held → AreTurns server_rules before turns after
     → IsSoundOf before.held after.held
@@ -78,27 +87,16 @@ sound-turns [] before after s same = same-sound before after s same
 sound-turns (t ∷ turns) before after s (mid, one, rest) =
     let first = sound-turn before t mid s one in
     let more : IsSoundOf mid.held after.held = sound-turns turns mid after first.sound rest in
-    record {
-      sound = more.sound;
-      tenants = more.tenants ∙ first.tenants;
-      granted = more.granted ∙ first.granted;
-      reserved = more.reserved ∙ first.reserved;
-    }
+    joined before mid after first more
 
 -- at each moment, after some of the lines and before the others, the service is sound
 pub sound-moments : (done turns : List Turn) (before after : Tallied) → IsSoundService before.held → AreTurns server_rules before (done ++ turns) after
     → (mid : Tallied) × AreTurns server_rules before done mid × IsSoundOf before.held mid.held × AreTurns server_rules mid turns after
-sound-moments [] turns before after s run = (before, refl, record { sound = s; tenants = refl; granted = refl; reserved = refl }, run)
+sound-moments [] turns before after s run = (before, refl, same-sound before before s refl, run)
 sound-moments (t ∷ done) turns before after s (mid, one, rest) =
     let first = sound-turn before t mid s one in
     let (now, did, more, left) = sound-moments done turns mid after first.sound rest in
-    let both = record {
-      sound = more.sound;
-      tenants = more.tenants ∙ first.tenants;
-      granted = more.granted ∙ first.granted;
-      reserved = more.reserved ∙ first.reserved;
-    } in
-    (now, (mid, one, did), both, left)
+    (now, (mid, one, did), joined before mid now first more, left)
 
 turns_in-append : (p q : Story) → turns_in (p ++ q) ≡ turns_in p ++ turns_in q
 turns_in-append [] q = refl
@@ -125,8 +123,7 @@ bounded before after s = record {
 -- allow
 pub calls-are-bounded : (done rest : List (Event × Reply)) (before after : Tallied) → IsSoundService before.held → AreMade IsServedStep before (done ++ rest) after
     → (mid : Tallied) × AreMade IsServedStep before done mid × IsBoundedBy before.held.granted before.held.reserved mid.held × AreMade IsServedStep mid rest after
-calls-are-bounded [] rest before after s run =
-    (before, refl, bounded before.held before.held (record { sound = s; tenants = refl; granted = refl; reserved = refl }), run)
+calls-are-bounded [] rest before after s run = (before, refl, bounded before.held before.held (same-sound before before s refl), run)
 calls-are-bounded (p ∷ done) rest before after s (mid, made, run) =
     let (now, did, bound, left) = calls-are-bounded done rest mid after made.sound run in (
       now,
@@ -149,8 +146,7 @@ run-is-bounded secret words end left left' taken taken' told told' h =
 pub server-is-bounded : (secret config socket : List ℕ) (watch : Option (List ℕ)) (reserve : Option ℕ) (limits : Limits) (how : Ending) (log log' : Log)
     → (h : HasServedAll server_rules (IsNewService secret reserve) config socket watch limits how log log')
     → (p q : Story) → h.hosted.story ≡ p ++ q
-    → (mid : Tallied) × AreTurns server_rules h.before (turns_in p) mid
-    × IsBoundedBy (words_for h.before.held.tenants) h.before.held.region mid.held × AreTurns server_rules mid (turns_in q) h.after
+    → (mid : Tallied) × AreTurns server_rules h.before (turns_in p) mid × IsBoundedBy (words_for h.before.held.tenants) h.before.held.region mid.held × AreTurns server_rules mid (turns_in q) h.after
 server-is-bounded secret config socket watch reserve limits how log log' h p q e =
     let (mid, did, sound, left) = sound-server secret config socket watch reserve limits how log log' h p q e in
     let fresh = h.begun.opened.fresh in (

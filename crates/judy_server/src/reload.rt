@@ -1,0 +1,87 @@
+//! Another table is put in force, and what is told of it.
+ghost use Rattle.std.specs.Prelude.{◌≡◌, MatchBool};
+ghost use Rattle.judy_server.specs.Reloads.{IsReload, forgotten};
+ghost use Rattle.judy_server.specs.Tally.{tallied};
+
+use crate::tally::Tally;
+use itoa::Buffer;
+use judy_programs::fault_name;
+use judy_table::{Table, TableFault};
+use judy_tenants::{KeyHash, Service, Unchanged};
+use std::alloc::Global;
+
+/// Appends bytes. Without memory for them nothing is told.
+fn tell(told: &mut Vec<u8>, part: &[u8]) {
+    let _ = told.extend_from_slice(part);
+}
+
+/// Tells how many tenants a table has.
+fn tell_tenants(told: &mut Vec<u8>, count: usize) {
+    let mut buffer = Buffer::new();
+    tell(told, buffer.format(count as u64).as_bytes());
+    tell(told, b" tenants");
+}
+
+/// Tells the fault of a table.
+fn tell_fault(told: &mut Vec<u8>, fault: TableFault) {
+    tell(told, b"the table: ");
+    tell(told, fault_name(fault).as_bytes());
+}
+
+/// Tells why a table was not put in force.
+fn tell_reason<H: KeyHash>(told: &mut Vec<u8>, service: &Service<H>, why: Unchanged) {
+    match why {
+        Unchanged::Memory => tell_fault(told, TableFault::Memory),
+        Unchanged::Quota(tenant) => {
+            tell(told, b"the quota of ");
+            if service.has(tenant) {
+                tell(told, service.name(tenant));
+            }
+            tell(told, b" is less than what it holds");
+        }
+    }
+}
+
+/// Forgets the refused log-ins of places that have no tenant.
+fn forget<H: KeyHash>(service: &Service<H>, tally: &mut Tally)
+    ensures { tally.new ≡ record tally.old { refused = forgotten 0 service.now.tenants tally.old.refused } }
+{
+    for place in 0..service.tenants() {
+        let tenant = service.tenant(place);
+        tally.forget_if(tenant, service.is_vacant(tenant));
+    }
+}
+
+/// Puts the table of a text in force. False if it is not, and then nothing has changed. Tells how many
+/// tenants it has, or why it is not put in force.
+pub fn change<H: KeyHash>(
+    alloc: Global,
+    service: &mut Service<H>,
+    tally: &mut Tally,
+    text: &[u8],
+    told: &mut Vec<u8>,
+) -> bool
+    ensures { MatchBool result
+        (IsReload (tallied service.old tally.old) text.now (tallied service.new tally.new))
+        (tallied service.new tally.new ≡ tallied service.old tally.old) }
+{
+    let table = match Table::parse(alloc, text) {
+        Ok(table) => table,
+        Err(fault) => {
+            tell_fault(told, fault);
+            return false;
+        }
+    };
+    let count = table.len();
+    match service.change(alloc, table) {
+        Ok(()) => {
+            forget(&*service, tally);
+            tell_tenants(told, count);
+            true
+        }
+        Err(why) => {
+            tell_reason(told, &*service, why);
+            false
+        }
+    }
+}
