@@ -15,8 +15,8 @@ use Rattle.std.proofs.lemmas.Slice.Eq.{bytes_eq-Decides}
 use Rattle.judy_model.specs.Tenant.{no_arrays}
 use Rattle.judy_table.specs.declared.tenant.Tenant.{Tenant}
 use Rattle.judy_table.specs.Tenants.{is_vacant, vacant}
-use Rattle.judy_table.specs.Seats.{has_name, row_of, seated}
-use Rattle.judy_table.proofs.lemmas.Seats.{right_in, same-right, stays-at, left-vacant}
+use Rattle.judy_table.specs.Seats.{has_name, row_of, seated, right_in}
+use Rattle.judy_table.proofs.lemmas.Seats.{same-right, stays-at, left-vacant}
 use Rattle.judy_tenants.specs.Held.{Held, states_of, sizes_of, words_for}
 use Rattle.judy_tenants.specs.Changes.{has_tenant, stays_at, HasChanged}
 
