@@ -3,6 +3,7 @@ the report of the first difference."""
 
 import os
 import random
+import re
 import select
 import socket
 import subprocess
@@ -12,6 +13,7 @@ import time
 
 TOP = os.path.dirname(os.path.dirname(os.path.abspath(__file__)))
 SHOWN = 200
+LOGGED = re.compile(rb"judyd: (?:\S+ started: table .*, socket .*, \d+ clients|stopping|accept failed: .*|log-in refused: .*|out of memory: .*)\n")
 
 
 def program():
@@ -52,6 +54,11 @@ def run(table, script, *words):
     return ran.stdout
 
 
+def unlogged(told):
+    """What a server told on standard error, without the lines that tests/loglines checks."""
+    return LOGGED.sub(b"", told)
+
+
 def compare(what, lines, wanted, got):
     """Ends the test at the first reply that differs, and prints the line that it answers."""
     if wanted == got:
@@ -76,7 +83,7 @@ class Server:
         with open(self.config, "wb") as file:
             file.write(table)
         self.words = words
-        self.process = None
+        self.process = self.said = None
 
     def __enter__(self):
         self.start()
@@ -90,7 +97,9 @@ class Server:
         """Starts the server and waits until it listens, at most half an hour. The program may have
         to be built first."""
         words = [program(), "serve", "--config", self.config, "--socket", self.path, *self.words]
-        self.process = subprocess.Popen(words, stderr=subprocess.PIPE if self.heard else None)
+        self._tell()
+        self.said = None if self.heard else tempfile.TemporaryFile()
+        self.process = subprocess.Popen(words, stderr=self.said or subprocess.PIPE)
         until = time.monotonic() + 1800
         while not is_listening(self.path):
             if self.process.poll() is not None:
@@ -120,6 +129,16 @@ class Server:
             self.process.wait()
             if self.process.stderr is not None:
                 self.process.stderr.close()
+        self._tell()
+
+    def _tell(self):
+        """Prints what the server told on standard error, without the lines that tell nothing wrong."""
+        if self.said is not None:
+            self.said.seek(0)
+            sys.stderr.buffer.write(unlogged(self.said.read()))
+            sys.stderr.flush()
+            self.said.close()
+            self.said = None
 
 
 def is_listening(path):

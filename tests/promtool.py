@@ -19,12 +19,9 @@ def promtool(*words, data=None, folder=TOP):
 
 
 def faults_of(text):
-    """What is wrong with a status text. If it has no HELP lines, promtool may tell that of each metric, and
-    nothing else."""
-    names = sorted(re.findall(r"(?m)^# TYPE (\w+) ", text.decode()))
-    if names != sorted(metric.name for metric in METRICS):
+    """What is wrong with a status text."""
+    names = re.findall(r"(?m)^# TYPE (\w+) ", text.decode())
+    if names != [metric.name for metric in METRICS]:
         return "its metrics with a type: %r" % names
-    given = sorted(set(re.findall(r"(?m)^(\w+)[ {]", text.decode())))
-    wanted = (0, []) if b"# HELP " in text else (3, ["%s no help text" % name for name in given])
     status, said = promtool("check", "metrics", data=text)
-    return None if (status, sorted(said.splitlines())) == wanted else "promtool check metrics: status %d, %s" % (status, said)
+    return None if (status, said) == (0, "") else "promtool check metrics: status %d, %s" % (status, said)

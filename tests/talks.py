@@ -30,13 +30,13 @@ LONG_KEY = b"x" + b"7a" * 1000
 def want(what, wanted, got):
     """Ends the test if two values differ."""
     if wanted != got:
-        sys.exit("many: %s: wanted %r, got %r" % (what, wanted, got))
+        sys.exit("%s: %s: wanted %r, got %r" % (os.path.basename(sys.argv[0]), what, wanted, got))
 
 
 def must(what, truth):
     """Ends the test if a condition does not hold."""
     if not truth:
-        sys.exit("many: " + what)
+        sys.exit("%s: %s" % (os.path.basename(sys.argv[0]), what))
 
 
 def log_in_as(tenant):

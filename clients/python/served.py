@@ -5,6 +5,7 @@ The program is what the environment's JUDYD names, else ./judyd at the top of th
 
 import hashlib
 import os
+import re
 import signal
 import socket
 import subprocess
@@ -23,6 +24,7 @@ sys.path.insert(0, HERE)
 from judyd import Client, Closed  # noqa: E402
 
 PROGRAM = os.environ.get("JUDYD") or os.path.join(HERE, "..", "..", "judyd")
+EXPECTED = re.compile(r"judyd: (\S+ started: |stopping$|log-in refused: |accept failed: )")
 TENANTS = [("alice", "abc", 1000000, "look"), ("bob", "hello", 3, None), ("empty", "abc", 0, None)]
 
 
@@ -55,7 +57,8 @@ class Served:
         """Starts the server, and waits until it serves. The program may have to be built first."""
         if os.path.exists(self.path):
             os.remove(self.path)
-        self.process = subprocess.Popen(self._words)
+        self._said = tempfile.TemporaryFile()
+        self.process = subprocess.Popen(self._words, stderr=self._said)
         until = time.monotonic() + 1800
         while True:
             try:
@@ -67,9 +70,14 @@ class Served:
                 time.sleep(0.01)
 
     def kill(self) -> None:
-        """Ends the server. Its path stays."""
+        """Ends the server, and prints what it told but of its start and of clients. Its path stays."""
         self.process.kill()
         self.process.wait()
+        if not self._said.closed:
+            self._said.seek(0)
+            told = [line for line in self._said.read().decode("utf-8", "replace").splitlines() if not EXPECTED.match(line)]
+            print("".join("%s\n" % line for line in told), end="", file=sys.stderr, flush=True)
+            self._said.close()
 
     def freeze(self) -> None:
         """Stops the server where it is, so that what is sent to it waits."""

@@ -7,8 +7,11 @@ import threading
 from contextlib import suppress
 from typing import Dict, List, NamedTuple, Optional, Tuple
 
+from judyd import wording
+
 CAUSES = ("quit", "end", "fault", "idle", "turn", "memory")
-REPLIES = ("FULL", "MEMORY", "READONLY", "OK")
+CALLS = ("AUTH", "QUIT", "USED", *sorted(wording.CALLS), "none")
+KINDS = {b"FULL": "full", b"ERR MEMORY": "memory", b"ERR AUTH": "auth", b"ERR READONLY": "readonly", b"ERR SYNTAX": "syntax", b"ERR LONG": "long"}
 
 
 class Metric(NamedTuple):
@@ -38,13 +41,12 @@ METRICS = [
     Metric("judyd_tenant_quota_entries", "gauge", "tenant", "The most entries of a tenant."),
     Metric("judyd_tenant_pieces", "gauge", "tenant", "Pieces of a tenant."),
     Metric("judyd_tenant_quota_pieces", "gauge", "tenant", "The most pieces of a tenant."),
+    Metric("judyd_lines_total", "counter", "call", "Lines by what they ask for."),
+    Metric("judyd_replies_total", "counter", "kind", "Replies by kind."),
+    Metric("judyd_logins_refused_total", "counter", "tenant", "Refused log-ins by tenant."),
+    Metric("judyd_logins_unknown_total", "counter", "", "Log-ins with a name that no tenant has."),
 ]
-
-# What a later judyd may tell besides. `judy top` shows it.
-MORE = [
-    Metric("judyd_calls_total", "counter", "call", "Calls by their word."),
-    Metric("judyd_replies_total", "counter", "reply", "Replies to calls by their kind."),
-]
+TENANTS = ("judyd_tenant_entries", "judyd_tenant_quota_entries", "judyd_tenant_pieces", "judyd_tenant_quota_pieces")
 
 
 class Tenant(NamedTuple):
@@ -62,16 +64,19 @@ class Numbers:
     def __init__(self, tenants: Optional[Dict[str, Tenant]] = None) -> None:
         self.tenants = tenants or {"alice": Tenant(2, 1000, 2, 126000)}
         self.plain = {metric.name: 0 for metric in METRICS if not metric.label}
-        self.labelled: Dict[str, Dict[str, int]] = {metric.name: {} for metric in MORE}
-        self.labelled["judyd_connections_ended_total"] = dict.fromkeys(CAUSES, 0)
         self.plain.update({"judyd_live_words": 4, "judyd_machine_words": 512, "judyd_peak_words": 512, "judyd_arrays": 1, "judyd_uptime_seconds": 1})
+        self.labelled: Dict[str, Dict[str, int]] = {
+            "judyd_connections_ended_total": dict.fromkeys(CAUSES, 0),
+            "judyd_lines_total": dict.fromkeys(CALLS, 0),
+            "judyd_replies_total": dict.fromkeys(("ok", *KINDS.values()), 0),
+            "judyd_logins_refused_total": dict.fromkeys(self.tenants, 0),
+        }
 
-    def text(self, has_help: bool = False) -> bytes:
+    def text(self) -> bytes:
         """The status text."""
         lines: List[str] = []
-        for metric in METRICS + [it for it in MORE if self.labelled[it.name]]:
-            lines += ["# HELP %s %s" % (metric.name, metric.help)] if has_help else []
-            lines.append("# TYPE %s %s" % (metric.name, metric.type))
+        for metric in METRICS:
+            lines += ["# HELP %s %s" % (metric.name, metric.help), "# TYPE %s %s" % (metric.name, metric.type)]
             for label, number in self._numbers(metric):
                 lines.append("%s%s %d" % (metric.name, '{%s="%s"}' % (metric.label, label) if metric.label else "", number))
         return ("\n".join(lines) + "\n").encode()
@@ -79,10 +84,9 @@ class Numbers:
     def _numbers(self, metric: Metric) -> List[Tuple[str, int]]:
         if not metric.label:
             return [("", self.plain[metric.name])]
-        if metric.label != "tenant":
-            return sorted(self.labelled[metric.name].items())
-        at = ("judyd_tenant_entries", "judyd_tenant_quota_entries", "judyd_tenant_pieces", "judyd_tenant_quota_pieces").index(metric.name)
-        return [(name, tenant[at]) for name, tenant in sorted(self.tenants.items())]
+        if metric.name not in TENANTS:
+            return list(self.labelled[metric.name].items())
+        return [(name, tenant[TENANTS.index(metric.name)]) for name, tenant in sorted(self.tenants.items())]
 
 
 class StatusServer:
@@ -92,7 +96,7 @@ class StatusServer:
         self.numbers = numbers or Numbers()
         self.asked: List[bytes] = []
         self.fixed: Optional[bytes] = None  # what it answers, if not the text
-        self.step: Dict[str, int] = {}  # how much calls rise with each answer
+        self.step: Dict[str, int] = {}  # how much the lines of a call rise with each answer
         self.is_silent, self.keeps_socket = False, False
         self._folder = tempfile.TemporaryDirectory(prefix="judyd-status-")
         self.path = os.path.join(self._folder.name, "status")
@@ -144,6 +148,5 @@ class StatusServer:
         if line.startswith(b"GET "):
             text = b"HTTP/1.0 200 OK\r\nContent-Type: text/plain; version=0.0.4\r\nConnection: close\r\nContent-Length: %d\r\n\r\n%b" % (len(text), text)
         client.sendall(text)
-        calls = self.numbers.labelled["judyd_calls_total"]
         for call, number in self.step.items():
-            calls[call] = calls.get(call, 0) + number
+            self.numbers.labelled["judyd_lines_total"][call] += number

@@ -23,10 +23,11 @@ from status_server import METRICS, Numbers, StatusServer, Tenant  # noqa: E402
 LONG = "a-very-long-name-of-32-characters"[:32]
 
 
-def sample(at=0.0, calls=None, tenants=None, **plain):
+def sample(at=0.0, lines=None, tenants=None, replies=None, refused=None, **plain):
     """A status with these numbers."""
     numbers = Numbers(tenants)
-    numbers.labelled["judyd_calls_total"].update(calls or {})
+    for name, given in (("lines", lines), ("replies", replies), ("logins_refused", refused)):
+        numbers.labelled["judyd_%s_total" % name].update(given or {})
     numbers.plain.update(plain)
     return Sample(Metrics(numbers.text()), at)
 
@@ -44,13 +45,25 @@ class Lines(unittest.TestCase):
         before = sample(10.0, {"J1S": 1000, "JLI": 50}, judyd_uptime_seconds=100, judyd_bytes_received_total=5000)
         now = sample(12.0, {"J1S": 1400, "JLI": 50, "USED": 2}, judyd_uptime_seconds=102, judyd_bytes_received_total=9000)
         lines = lines_of(now, before, 80)
-        self.assertIn("a second   in 2.00kB  out 0B  calls 201", lines)
-        self.assertEqual(lines[lines.index("CALLS A SECOND") + 1], "J1S     200  USED      1")
+        self.assertIn("a second   in 2.00kB  out 0B  lines 201", lines)
+        self.assertEqual(lines[lines.index("LINES A SECOND") + 1], "J1S     200  USED      1")
         lines = lines_of(before, None, 80)
-        self.assertIn("a second   in 50B  out 0B  calls 10.5", lines)
-        self.assertEqual(lines[lines.index("CALLS A SECOND") + 1], "J1S      10  JLI    0.50")
+        self.assertIn("a second   in 50B  out 0B  lines 10.5", lines)
+        self.assertEqual(lines[lines.index("LINES A SECOND") + 1], "J1S      10  JLI    0.50")
         self.assertEqual(lines_of(before, now, 80), lines, "a server that was started anew")
-        self.assertEqual(lines_of(now, now, 80)[lines.index("CALLS A SECOND") + 1], "none")
+        self.assertEqual(lines_of(now, now, 80)[lines.index("LINES A SECOND") + 1], "nothing")
+
+    def test_replies_and_log_ins(self):
+        tenants = {"alice": Tenant(5, 10, 5, 20), "bob": Tenant(1, 10, 1, 20)}
+        before = sample(10.0, None, tenants, {"ok": 10, "full": 2, "auth": 3}, {"alice": 3}, judyd_uptime_seconds=100)
+        now = sample(12.0, {"none": 4}, tenants, {"ok": 30, "full": 3, "auth": 3, "syntax": 8}, {"alice": 1204, "bob": 1}, judyd_uptime_seconds=102, judyd_logins_unknown_total=7)
+        lines = lines_of(now, before, 80)
+        self.assertIn("replies/s  ok 10  FULL 0.50  ERR AUTH 0  ERR SYNTAX 4", lines)
+        self.assertIn("log-ins    1.21k refused  7 as no tenant", lines)
+        self.assertEqual(lines[lines.index("LINES A SECOND") + 1], "none      2")
+        rows = [line.split() for line in lines if line.startswith(("TENANT", "alice", "bob"))]
+        self.assertEqual([row[-1] for row in rows], ["REFUSED", "1.20k", "1"])
+        self.assertIn("replies/s  ok 0  FULL 0", lines_of(sample(), None, 80))
 
     def test_memory_and_clients(self):
         text = "\n".join(lines_of(sample(judyd_live_words=1000, judyd_machine_words=2000000, judyd_peak_words=3000000, judyd_connections=7, judyd_connections_accepted_total=4711, judyd_accepts_failed_total=2, judyd_refused_requests_total=3, judyd_refused_names_total=4, judyd_uptime_seconds=3 * 86400 + 4 * 3600 + 5 * 60 + 6), None, 80))
@@ -59,19 +72,22 @@ class Lines(unittest.TestCase):
 
     def test_what_is_not_told(self):
         lines = lines_of(sample(), None, 80)
-        self.assertEqual([line.split()[0] for line in lines[: lines.index("")]], ["judyd", "a", "memory", "refused", "clients", "ended"])
-        self.assertEqual(lines[lines.index("") + 1].split()[0], "TENANT")
+        self.assertEqual([line.split()[0] for line in lines[: lines.index("")]], ["judyd", "a", "replies/s", "memory", "no", "log-ins", "clients", "ended"])
+        older = Numbers().text().split(b"# HELP judyd_lines_total")[0]
+        lines = lines_of(Sample(Metrics(older), 0.0), None, 80)
+        self.assertEqual([line.split()[0] for line in lines[: lines.index("")]], ["judyd", "a", "memory", "no", "clients", "ended"])
+        self.assertEqual(lines[lines.index("") + 1].split(), ["TENANT", "ENTRIES", "QUOTA", "%", "PIECES", "QUOTA", "%"])
         text = re.sub(rb"(?m)^judyd_(live|machine|peak|arrays|refused|tenant)\w* .*\n", b"", re.sub(rb"(?m)^judyd_tenant.*\n", b"", Numbers().text()))
         lines = lines_of(Sample(Metrics(text), 0.0), None, 80)
         self.assertIn("memory     none is left to tell it", lines)
-        self.assertEqual([line.split()[0] for line in lines[: lines.index("")]], ["judyd", "a", "memory", "clients", "ended"])
+        self.assertEqual([line.split()[0] for line in lines[: lines.index("")]], ["judyd", "a", "replies/s", "memory", "log-ins", "clients", "ended"])
 
     def test_tenants(self):
         tenants = {"a-low": Tenant(1, 100, 1, 200), "full": Tenant(5, 100, 200, 200), "half": Tenant(50, 100, 50, 200), "none": Tenant(0, 0, 0, 0)}
         lines = lines_of(sample(tenants=tenants), None, 80)
-        rows = [line.split() for line in lines[lines.index("") + 1 :]]
-        self.assertEqual(rows[0], ["TENANT", "ENTRIES", "QUOTA", "%", "PIECES", "QUOTA", "%"])
-        self.assertEqual(rows[1], ["full", "5", "100", "5%", "200", "200", "100%"])
+        rows = [line.split() for line in lines[lines.index("nothing") + 2 :]]
+        self.assertEqual(rows[0], ["TENANT", "ENTRIES", "QUOTA", "%", "PIECES", "QUOTA", "%", "REFUSED"])
+        self.assertEqual(rows[1], ["full", "5", "100", "5%", "200", "200", "100%", "0"])
         self.assertEqual([row[0] for row in rows[1:]], ["full", "half", "a-low", "none"])
         narrow = lines_of(sample(tenants=tenants), None, 40)[-4].split()
         self.assertEqual(narrow, ["full", "5", "5%", "200", "100%"])
@@ -88,7 +104,7 @@ class Lines(unittest.TestCase):
                 self.assertLessEqual(len(lines), height or len(lines))
         for width in (39, 40, 80):
             text = "\n".join(lines_of(full, None, width))
-            for wanted in ("calls ", "up ", "machine 148EB", "peak 148EB", "turn 0", "JHSFA", "ENTRIES", "16.8M", "100%", "2.11G", "99%", LONG[:10]):
+            for wanted in ("lines ", "up ", "machine 148EB", "peak 148EB", "turn 0", "JHSFA", "ENTRIES", "16.8M", "100%", "2.11G", "99%", LONG[:10]):
                 self.assertIn(wanted, text)
         lines = lines_of(full, None, 80, 24)
         shown = len(lines) - 2 - lines.index(next(line for line in lines if line.startswith("TENANT")))
@@ -99,8 +115,8 @@ class Lines(unittest.TestCase):
         for text in (b"", b"\n", b"hello\n", good[:-1], good.replace(b"judyd_live_words ", b"judyd_live_words -"), b"judyd_live_words 0\n", good.replace(b'{tenant="alice"', b"{alice"), b"<html>\n", b"\xff\xfe\n"):
             with self.assertRaises(Error, msg=repr(text[:40])):
                 Metrics(text)
-        shown = [metric.name for metric in METRICS if not metric.label and metric.name not in ("judyd_arrays", "judyd_live_words")]
-        self.assertEqual(len(shown), 10)
+        shown = [metric.name for metric in METRICS if not metric.label and metric.name not in ("judyd_arrays", "judyd_live_words", "judyd_logins_unknown_total")]
+        self.assertEqual(len(shown), 10)  # those that each server tells
         for name in shown:
             with self.assertRaisesRegex(Error, "the status has no " + name):
                 lines_of(Sample(Metrics(re.sub(rb"(?m)^%b .*\n" % name.encode(), b"", good)), 0.0), None, 80)
@@ -132,7 +148,7 @@ class Status(WithStatus):
         self.assertEqual(self.server.asked, [b"STATUS\n"])
 
     def test_one_table(self):
-        self.server.numbers.labelled["judyd_calls_total"]["J1S"] = 42
+        self.server.numbers.labelled["judyd_lines_total"]["J1S"] = 42
         status, said, wrong = self.judy("top", "--once")
         self.assertEqual((status, wrong), (0, ""))
         self.assertEqual(said.splitlines(), lines_of(Sample(Metrics(self.server.numbers.text()), 0.0), None, 80))
