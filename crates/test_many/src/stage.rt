@@ -71,6 +71,8 @@ pub struct Stage<'a> {
     pub questions: &'a [Question],
     /// What was reported, one text after another.
     pub reported: ArrayVec<u8, REPORTED_LIMIT>,
+    /// What the operator was told, each line with a line feed.
+    pub warned: ArrayVec<u8, REPORTED_LIMIT>,
     asked: ArrayVec<u8, ASKED_LIMIT>,
     waits: usize,
     offered: usize,
@@ -89,6 +91,7 @@ impl<'a> Stage<'a> {
             times: &[],
             questions: &[],
             reported: ArrayVec::new(),
+            warned: ArrayVec::new(),
             asked: ArrayVec::new(),
             waits: 0,
             offered: 0,
@@ -262,5 +265,10 @@ impl<'a> Network for Stage<'a> {
     fn report(&mut self, text: &[u8]) {
         self.note(b'=');
         let _fits = self.reported.try_extend_from_slice(text);
+    }
+
+    fn warn(&mut self, text: &[u8]) {
+        let _fits = self.warned.try_extend_from_slice(text);
+        let _fits = self.warned.try_extend_from_slice(b"\n");
     }
 }

@@ -6,7 +6,7 @@ use judy_programs::{Hosted, Hosts, Opens, System, Unopened, host_on, read_secret
 use judy_table::TableFault;
 use std::alloc::Global;
 use std::fs::{self, Files};
-use std::io::{self, Write};
+use std::io::{self, Eprint, Write};
 use std::net::{Net, Shutdown};
 use std::os::unix::net::UnixStream;
 use std::process::Abort;
@@ -74,7 +74,7 @@ fn limits(connections: u32, idle: Option<u32>, turn: Option<u32>) -> Limits {
 
 // Serves as many clients as there are scripts, with these limits in seconds. Compares what each
 // client reads.
-fn check_served<R: Abort + Files + Net + Clock>(
+fn check_served<R: Abort + Files + Net + Clock + Eprint>(
     rt: &R,
     alloc: Global,
     path: &str,
