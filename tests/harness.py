@@ -13,7 +13,7 @@ import time
 
 TOP = os.path.dirname(os.path.dirname(os.path.abspath(__file__)))
 SHOWN = 200
-LOGGED = re.compile(rb"judyd: (?:\S+ started: table .*, socket .*, \d+ clients|stopping|accept failed: .*|log-in refused: .*|out of memory: .*)\n")
+LOGGED = re.compile(rb"judyd: (?:\S+ started: table .*, socket .*, \d+ clients(?:, journal .*)?|\S+: cut off \d+ bytes of a commit that was not finished|stopping|accept failed: .*|log-in refused: .*|out of memory: .*|table (?:not )?read again: .*)\n")
 
 
 def program():

@@ -42,11 +42,11 @@ int posix_memalign(void **at, unsigned long to, unsigned long size) { return (*a
 """
 
 
-def build(folder):
-    """Builds the shim in a folder."""
+def build(folder, text=SHIM):
+    """Builds the shim, or another library of this text, in a folder."""
     source, made = os.path.join(folder, "shim.c"), os.path.join(folder, "shim.so")
     with open(source, "w", encoding="utf-8") as file:
-        file.write(SHIM)
+        file.write(text)
     kit = os.path.dirname(os.path.dirname(os.path.realpath(shutil.which("rt") or "/opt/rattle/bin/rt")))
     own = os.path.join(kit, "toolchain", "bin", "clang")
     words = ["cc"] if shutil.which("cc") else [own, "-fuse-ld=lld", "-B" + os.path.dirname(own)]

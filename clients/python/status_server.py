@@ -9,7 +9,7 @@ from typing import Dict, List, NamedTuple, Optional, Tuple
 
 from judyd import wording
 
-CAUSES = ("quit", "end", "fault", "idle", "turn", "memory")
+CAUSES = ("quit", "end", "fault", "idle", "turn", "memory", "gone")
 CALLS = ("AUTH", "QUIT", "USED", *sorted(wording.CALLS), "none")
 KINDS = {b"FULL": "full", b"ERR MEMORY": "memory", b"ERR AUTH": "auth", b"ERR READONLY": "readonly", b"ERR SYNTAX": "syntax", b"ERR LONG": "long"}
 

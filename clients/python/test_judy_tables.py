@@ -71,7 +71,7 @@ class Tables(JudyTest):
 
     def test_a_table_is_changed(self):
         path = os.path.join(self.folder(), "new.toml")
-        changed = (0, path + ": changed; judyd reads it when it starts\n", "")
+        changed = (0, path + ": changed; judyd reads it when it starts, and at a reload\n", "")
         self.assertEqual(run_judy(b"abc\n", "table", path, "add", "alice", "--quota", "1000"), changed)
         self.assertEqual(os.stat(path).st_mode & 0o777, 0o600)
         self.assertEqual(run_judy(b"hello\nlook\n", "table", path, "add", "b.ob", "--quota", "5", "--pieces", "9", "--look"), changed)

@@ -168,21 +168,41 @@ class Status(WithStatus):
         for it in words:
             self.fails(4, "no answer for 0.3 s", *it, "--timeout", "0.3")
         self.server.close()
-        for it in (*words, ("stop",)):
+        for it in (*words, ("stop",), ("reload",)):
             self.fails(4, "no server listens there, and one that ended left the socket", *it)
         os.remove(self.server.path)
-        for it in (*words, ("stop",)):
+        for it in (*words, ("stop",), ("reload",)):
             self.fails(4, "no server has made that socket (judyd serve --status %s)" % self.server.path, *it)
 
     def test_the_socket_of_clients(self):
-        for words in (("status",), ("top", "--once"), ("stop",)):
+        for words in (("status",), ("top", "--once"), ("stop",), ("reload",)):
             status, said, wrong = run_judy(b"", *words, self.path())
             self.assertEqual((status, said), (1, ""))
             self.assertIn("answers ERR SYNTAX: it is not the socket of --status", wrong)
 
     def test_command_lines(self):
-        for words in (("top",), ("stop",), ("top", "--twice", "x"), ("stop", "x", "y"), ("stop", "--timeout", "-1", "x")):
+        for words in (("top",), ("stop",), ("reload",), ("top", "--twice", "x"), ("stop", "x", "y"), ("stop", "--timeout", "-1", "x")):
             self.assertEqual(run_judy(b"", *words)[0], 2, words)
+
+
+class Reload(WithStatus):
+    """judy reload."""
+
+    def test_reload(self):
+        self.server.fixed = b"OK\n"
+        self.assertEqual(self.judy("reload"), (0, "", ""))
+        self.assertEqual(self.server.asked, [b"RELOAD\n"])
+
+    def test_refused(self):
+        for answer, said in ((b"ERR fault Digest\n", "the table is not read again: fault Digest"), (b"ERR\n", "answers ERR: it is not the socket of --status"), (b"hello\n", "answers hello: it is not the socket of --status")):
+            self.server.fixed = answer
+            self.fails(1, said, "reload")
+
+    def test_no_answer(self):
+        self.server.fixed = b""
+        self.fails(4, "the server closed without an answer", "reload")
+        self.server.is_silent = True
+        self.fails(4, "no answer for 0.3 s", "reload", "--timeout", "0.3")
 
 
 class Stop(WithStatus):

@@ -156,6 +156,12 @@ def run_stop(options: argparse.Namespace) -> int:
     return 0
 
 
+def run_reload(options: argparse.Namespace) -> int:
+    """judy reload"""
+    metrics.reload(options.path, options.timeout or None)
+    return 0
+
+
 def run_wait(options: argparse.Namespace) -> int:
     """judy wait"""
     address, tls = address_of(options)
@@ -204,7 +210,7 @@ def change_table(options: argparse.Namespace) -> int:
     else:
         raise ValueError("set what? --quota N, --pieces N, --token, --look")
     tables.put(options.file, text)
-    print("%s: changed; judyd reads it when it starts" % options.file)
+    print("%s: changed; judyd reads it when it starts, and at a reload" % options.file)
     return 0
 
 
@@ -225,6 +231,7 @@ SUBCOMMANDS = {
     "status": run_status,
     "top": run_top,
     "stop": run_stop,
+    "reload": run_reload,
     "wait": run_wait,
     "dump": run_dump,
     "load": run_load,

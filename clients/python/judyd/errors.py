@@ -29,7 +29,8 @@ class NoServer(Closed):
 class ConnectionLost(Closed):
     """The connection ended before the reply came. If `may_have_run` is false, no call without a
     reply has run. If it is true, each of them may have run, or not. A server that was started anew
-    has empty arrays."""
+    has empty arrays; with a journal it has what each call with a reply left, and perhaps what calls
+    without one did."""
 
     def __init__(self, text: str, may_have_run: bool = True) -> None:
         super().__init__(text)
@@ -43,11 +44,11 @@ class TimedOut(ConnectionLost):
 
 class Restarted(ConnectionLost):
     """A walk, an `update` or another job of several windows met two servers: the one that it began on
-    ended, and another took its place. What the first one had is lost, and the job is not done: begin it
-    again."""
+    ended, and another took its place. Without a journal, what the first one had is lost. The job is not
+    done: begin it again."""
 
     def __init__(self, replies: Sequence[bytes] = ()) -> None:
-        super().__init__("the server was started anew in the middle of this job: what the arrays had before is lost, so begin the job again")
+        super().__init__("the server was started anew in the middle of this job: without a journal its arrays were lost, so begin the job again")
         self.replies = list(replies)
 
 

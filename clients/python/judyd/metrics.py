@@ -75,14 +75,20 @@ class Question:
         """The number of the file to wait for."""
         return self._sock.fileno()
 
-    def answer(self) -> Optional[bytes]:
-        """The whole answer, once the server has closed. None if more may come."""
+    def piece(self) -> Optional[bytes]:
+        """What came, or nothing once the server has closed. None if more may come."""
         try:
-            piece = self._sock.recv(65536)
+            return self._sock.recv(65536)
         except BlockingIOError:
             return None
         except OSError as e:
             raise ConnectionLost("%s: the connection was lost: %s" % (self._path, e)) from None
+
+    def answer(self) -> Optional[bytes]:
+        """The whole answer, once the server has closed. None if more may come."""
+        piece = self.piece()
+        if piece is None:
+            return None
         self._got += piece
         if not self._got:
             raise ConnectionLost("%s: the server closed without an answer" % self._path)
@@ -124,6 +130,25 @@ def stop(path: str, seconds: Optional[float]) -> None:
         if until is not None and time.monotonic() >= until:
             raise Error("the server was told to stop, and after %g s its socket is still there: %s" % (seconds or 0, path))
         time.sleep(0.02)
+
+
+def reload(path: str, seconds: Optional[float]) -> None:
+    """Tells a server to read its table again. An error has the reason if it does not."""
+    until = None if seconds is None else time.monotonic() + seconds
+    with Question(path, "RELOAD", seconds) as question:
+        got = b""
+        while not got.endswith(b"\n"):
+            left = None if until is None else max(until - time.monotonic(), 0)
+            if not select.select([question], [], [], left)[0]:
+                raise TimedOut("%s: no answer for %g s" % (path, seconds or 0))
+            piece = question.piece()
+            if piece == b"":
+                raise ConnectionLost("%s: the server closed without an answer" % path)
+            got += piece or b""
+    if got.startswith(b"ERR ") and got not in (b"ERR SYNTAX\n", b"ERR AUTH\n", b"ERR LONG\n"):
+        raise Error("the table is not read again: %s" % got[4:-1].decode("ascii", "replace"))
+    if got != b"OK\n":
+        raise Error("%s answers %s: it is not the socket of --status" % (path, got[:-1].decode("ascii", "replace")))
 
 
 def _identity(path: str) -> Optional[Tuple[int, int, int]]:

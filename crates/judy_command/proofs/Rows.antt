@@ -1,14 +1,16 @@
 -- The value of a number's text, and worked rows of command lines.
 use Rattle.std.proofs.Common.{ℕ, ◌≡◌, ◌≤◌, ◌<◌, ◌^◌, true, false, arith, refl}
 use Rattle.std.specs.Prelude.{Option, List, Bool, IfSome, option_map, unwrap_or, if◌then◌else◌}
+use Rattle.std.specs.Option.{option_map_or}
 use Rattle.std.specs.Str.{bytes_eq}
 use Rattle.std.specs.Str.Parse.{digits_value, without_leading_plus, IsNumeral}
 use Rattle.clap.specs.Words.{Text}
 use Rattle.clap.specs.ValueTests.{is_unsigned_in}
 use Rattle.clap.specs.declared.builder.value_parser.ValueParser.TheVariants as parser
 use Rattle.clap.proofs.ValueTestLemmas.{accepts-Accepts, Accepts-accepts}
-use Rattle.judy_command.specs.CommandLine.{number_in, most_count, most_megabytes, StopsBy, judyd_app, job_of, IsCount, IsInRange, job_at, is_set}
-use Rattle.std.proofs.Common.{◌∷◌, [], inl, inr, subst, sym, Some, None, codes}
+use Rattle.judy_command.specs.CommandLine.{IsSync, seconds_in, sync_in, number_in, most_count, most_megabytes, IsUsage, StopsBy, judyd_app, job_of, IsCount, IsInRange, job_at, served, words_fault}
+use Rattle.clap.specs.Kinds.{or_else}
+use Rattle.std.proofs.Common.{◌⊎◌, ◌∷◌, [], inl, inr, subst, sym, Some, None, codes}
 use Rattle.clap.specs.Words.{Row, first_of, Kinds, IsAmong, takes, subcommand_of, fault_of}
 use Rattle.clap.proofs.OnLiterals.{clap_on_literals}
 use Rattle.clap.specs.declared.error.ErrorKind.{ErrorKind}
@@ -16,7 +18,9 @@ use Rattle.clap.specs.declared.error.ErrorKind.TheVariants as kind
 use Rattle.judy_command.specs.declared.words.Refusal.{Refusal}
 use Rattle.judy_command.specs.declared.words.Refusal.TheVariants.{Help, Usage, Memory}
 use Rattle.judy_command.specs.declared.words.Job.{Job}
-use Rattle.judy_command.specs.declared.words.Job.TheVariants.{Run, Serve}
+use Rattle.judy_command.specs.declared.words.Job.TheVariants.{Run, Serve, Compact, Journal}
+use Rattle.judy_command.specs.declared.words.Sync.{Sync}
+use Rattle.judy_command.specs.declared.words.Sync.TheVariants.{Round, Seconds, Never}
 
 pub number_of-in : (most : ℕ) → most < 2 ^ 32 → (t : Text) → IsNumeral 10 (without_leading_plus t) → digits_value 10 (without_leading_plus t) ≤ most
     → 1 ≤ digits_value 10 (without_leading_plus t)
@@ -32,6 +36,27 @@ number_of-out most t never =
     elim (is_unsigned_in 1 most t) as (λ b. is_unsigned_in 1 most t ≡ b → most ≡ number_in most t) [
       | true ↦ λ e. let h = accepts-Accepts false (parser.Unsigned 1 most) t e in absurd (never h.0 h.3 h.2)
       | false ↦ λ e. rw e refl
+    ] refl
+
+pub seconds-in : (t : Text) → IsNumeral 10 (without_leading_plus t) → digits_value 10 (without_leading_plus t) ≤ most_count
+    → 1 ≤ digits_value 10 (without_leading_plus t) → is_unsigned_in 1 most_count t ≡ true
+seconds-in t numeral fits some = Accepts-accepts false (parser.Unsigned 1 most_count) t (numeral, omega (arith, fits), some, fits)
+
+pub seconds-out : (t : Text) → (IsNumeral 10 (without_leading_plus t) → digits_value 10 (without_leading_plus t) ≤ most_count
+    → 1 ≤ digits_value 10 (without_leading_plus t) → ⊥)
+    → is_unsigned_in 1 most_count t ≡ false
+seconds-out t never =
+    elim (is_unsigned_in 1 most_count t) as (λ b. is_unsigned_in 1 most_count t ≡ b → b ≡ false) [
+      | true ↦ λ e. let h = accepts-Accepts false (parser.Unsigned 1 most_count) t e in absurd (never h.0 h.3 h.2)
+      | false ↦ λ e. refl
+    ] refl
+
+-- seconds are 1 to the greatest number
+seconds_of : (t : Text) → IfSome (seconds_in t) IsSync
+seconds_of t =
+    elim (is_unsigned_in 1 most_count t) as (λ b. is_unsigned_in 1 most_count t ≡ b → IfSome (seconds_in t) IsSync) [
+      | true ↦ λ e. let read = accepts-Accepts false (parser.Unsigned 1 most_count) t e in rw e (read.2, read.3)
+      | false ↦ λ e. rw e tt
     ] refl
 
 -- an option's number is 1 to the greatest that it may be
@@ -50,26 +75,47 @@ counts_given : (most : ℕ) → 1 ≤ most → (o : Option Text) → IfSome (opt
 counts_given most some None = tt
 counts_given most some (Some t) = count_of most some t
 
-in_range : (run words : Bool) (config socket : Text) (status : Option Text) (clients connections idle turn reserve : Option Text) (check : Bool)
-    → IsInRange (if run then Run words else Serve config socket status (unwrap_or (option_map (number_in 1024) clients) 64)
-    (unwrap_or (option_map (number_in most_count) connections) most_count)
-    (option_map (number_in most_count) idle) (option_map (number_in most_count) turn) (option_map (number_in most_megabytes) reserve) check)
-in_range true words config socket status clients connections idle turn reserve check = tt
-in_range false words config socket status clients connections idle turn reserve check = (
-  count_given 1024 64 (omega arith, omega arith) clients,
-  count_given most_count most_count (omega arith, omega arith) connections,
-  counts_given most_count (omega arith) idle,
-  counts_given most_count (omega arith) turn,
-  counts_given most_megabytes (omega arith) reserve,
+-- when the journal is synced, as a word says it
+sync_of : (t : Text) → IfSome (sync_in t) IsSync
+sync_of t =
+    elim (bytes_eq t (codes "round")) as (λ b. IfSome (if b then Some Round else if bytes_eq t (codes "never") then Some Never else seconds_in t) IsSync) [
+      | true ↦ tt
+      | false ↦ elim (bytes_eq t (codes "never")) as (λ b. IfSome (if b then Some Never else seconds_in t) IsSync) [
+        | true ↦ tt
+        | false ↦ seconds_of t
+      ]
+    ]
+
+or_round : (o : Option Sync) → IfSome o IsSync → IsSync (unwrap_or o Round)
+or_round None h = tt
+or_round (Some s) h = h
+
+sync_word : (o : Option Text) → IsSync (option_map_or (λ t. unwrap_or (sync_in t) Round) o Round)
+sync_word None = tt
+sync_word (Some t) = or_round (sync_in t) (sync_of t)
+
+served-in_range : (rows : List Row) → IsInRange (served rows)
+served-in_range rows = (
+  count_given 1024 64 (omega arith, omega arith) (first_of (codes "clients") rows),
+  count_given most_count most_count (omega arith, omega arith) (first_of (codes "connections") rows),
+  counts_given most_count (omega arith) (first_of (codes "idle") rows),
+  counts_given most_count (omega arith) (first_of (codes "turn") rows),
+  counts_given most_megabytes (omega arith) (first_of (codes "reserve") rows),
+  sync_word (first_of (codes "sync") rows),
 )
+
+in_range : (run compact journal : Bool) (a b c d : Job) → IsInRange a → IsInRange b → IsInRange c → IsInRange d
+    → IsInRange (if run then a else if compact then b else if journal then c else d)
+in_range true compact journal a b c d h i j k = h
+in_range false true journal a b c d h i j k = i
+in_range false false true a b c d h i j k = j
+in_range false false false a b c d h i j k = k
 
 pub job_at-in_range : (job : Job) (name : Text) (rows : List Row) → job ≡ job_at name rows → IsInRange job
 job_at-in_range job name rows e =
     let P : Job → Type 0 = λ j. IsInRange j in
-    subst P (sym e) (in_range (bytes_eq name (codes "run")) (is_set (codes "words") rows)
-    (unwrap_or (first_of (codes "config") rows) []) (unwrap_or (first_of (codes "socket") rows) []) (first_of (codes "status") rows)
-    (first_of (codes "clients") rows) (first_of (codes "connections") rows) (first_of (codes "idle") rows) (first_of (codes "turn") rows)
-    (first_of (codes "reserve") rows) (is_set (codes "check") rows))
+    subst P (sym e) (in_range (bytes_eq name (codes "run")) (bytes_eq name (codes "compact")) (bytes_eq name (codes "journal"))
+    _ _ _ _ tt tt tt (served-in_range rows))
 
 among_moved : (j k : ErrorKind) (kinds : Kinds) → IsAmong k kinds → IsAmong j (k ∷ []) → IsAmong j kinds
 among_moved j k kinds h (inl e) = let P : ErrorKind → Type 0 = λ i. IsAmong i kinds in subst P (sym e) h
@@ -85,6 +131,24 @@ StopsBy-among k kinds Memory h s = tt
 pub StopsBy-memory : (kinds : Kinds) (s : Refusal) → s ≡ Memory → StopsBy kinds s
 StopsBy-memory kinds s e = let P : Refusal → Type 0 = λ t. StopsBy kinds t in subst P (sym e) tt
 
+-- what stops for the first faults stops for these or otherwise others
+pub StopsBy-first : (a b : Kinds) (s : Refusal) → StopsBy a s → StopsBy (or_else a b) s
+StopsBy-first [] b (Help text) (inl bad) = absurd bad
+StopsBy-first [] b (Help text) (inr bad) = absurd bad
+StopsBy-first [] b (Usage text) s = absurd s.1
+StopsBy-first [] b Memory s = tt
+StopsBy-first (k ∷ ks) b s h = h
+
+-- a usage text stops for the faults of `--sync`
+pub usage-stops : (kinds : Kinds) (s : Refusal) → IsUsage s → (kinds ≡ kind.ValueValidation ∷ []) ⊎ (kinds ≡ kind.MissingRequiredArgument ∷ [])
+    → StopsBy kinds s
+usage-stops kinds (Help text) bad h = absurd bad
+usage-stops kinds (Usage text) u (inl e) =
+    let P : Kinds → Type 0 = λ k. StopsBy k (Usage text) in subst P (sym e) (kind.ValueValidation, inl refl, (λ auto. cc), (λ auto. cc))
+usage-stops kinds (Usage text) u (inr e) =
+    let P : Kinds → Type 0 = λ k. StopsBy k (Usage text) in subst P (sym e) (kind.MissingRequiredArgument, inl refl, (λ auto. cc), (λ auto. cc))
+usage-stops kinds Memory u h = tt
+
 -- worked rows: two command lines that give jobs, and one that does not
 taken-run : takes judyd_app (codes "run" ∷ codes "--words" ∷ []) ≡ true
 unfolding clap_on_literals
@@ -99,17 +163,17 @@ unfolding clap_on_literals
 taken-serve = refl
 
 job-serve : job_of (subcommand_of judyd_app (codes "serve" ∷ codes "--config" ∷ codes "c" ∷ codes "--socket" ∷ codes "s" ∷ []))
-    ≡ Some (Serve (codes "c") (codes "s") None 64 4294967295 None None None false)
+    ≡ Some (Serve (codes "c") (codes "s") None 64 4294967295 None None None None Round false)
 unfolding clap_on_literals
 job-serve = refl
 
 job-status : job_of (subcommand_of judyd_app (codes "serve" ∷ codes "--config" ∷ codes "c" ∷ codes "--socket" ∷ codes "s" ∷ codes "--status" ∷ codes "t" ∷ []))
-    ≡ Some (Serve (codes "c") (codes "s") (Some (codes "t")) 64 4294967295 None None None false)
+    ≡ Some (Serve (codes "c") (codes "s") (Some (codes "t")) 64 4294967295 None None None None Round false)
 unfolding clap_on_literals
 job-status = refl
 
 job-reserve : job_of (subcommand_of judyd_app (codes "serve" ∷ codes "--config" ∷ codes "c" ∷ codes "--socket" ∷ codes "s" ∷ codes
-    "--reserve" ∷ codes "64" ∷ [])) ≡ Some (Serve (codes "c") (codes "s") None 64 4294967295 None None (Some 64) false)
+    "--reserve" ∷ codes "64" ∷ [])) ≡ Some (Serve (codes "c") (codes "s") None 64 4294967295 None None (Some 64) None Round false)
 unfolding clap_on_literals
 job-reserve = refl
 
@@ -126,3 +190,34 @@ refused-zero = refl
 refused-nothing : fault_of judyd_app [] ≡ kind.MissingSubcommand ∷ []
 unfolding clap_on_literals
 refused-nothing = refl
+
+-- with a journal
+abbrev serve-words : Text → Text → List Text
+serve-words dir when = codes "serve" ∷ codes "--config" ∷ codes "c" ∷ codes "--socket" ∷ codes "s" ∷ codes "--journal" ∷ dir ∷ codes "--sync" ∷ when ∷ []
+
+job-journal : job_of (subcommand_of judyd_app (serve-words (codes "d") (codes "5")))
+    ≡ Some (Serve (codes "c") (codes "s") None 64 4294967295 None None None (Some (codes "d")) (Seconds 5) false)
+unfolding clap_on_literals
+job-journal = refl
+
+refused-sync : words_fault (serve-words (codes "d") (codes "0")) ≡ kind.ValueValidation ∷ []
+unfolding clap_on_literals
+refused-sync = refl
+
+refused-sync-alone : words_fault (codes "serve" ∷ codes "--config" ∷ codes "c" ∷ codes "--socket" ∷ codes "s" ∷ codes "--sync" ∷ codes "never" ∷ [])
+    ≡ kind.MissingRequiredArgument ∷ []
+unfolding clap_on_literals
+refused-sync-alone = refl
+
+job-compact : job_of (subcommand_of judyd_app (codes "compact" ∷ codes "d" ∷ [])) ≡ Some (Compact (codes "d"))
+unfolding clap_on_literals
+job-compact = refl
+
+job-print : job_of (subcommand_of judyd_app (codes "journal" ∷ codes "--tenant" ∷ codes "alice" ∷ codes "d" ∷ []))
+    ≡ Some (Journal (codes "d") (Some (codes "alice")))
+unfolding clap_on_literals
+job-print = refl
+
+refused-no-directory : fault_of judyd_app (codes "compact" ∷ []) ≡ kind.MissingRequiredArgument ∷ []
+unfolding clap_on_literals
+refused-no-directory = refl

@@ -1,12 +1,13 @@
 -- The command line in terms of `clap`'s definitions of a simple command, and the job that its words
 -- ask for.
-use Rattle.std.specs.Prelude.{ℕ, ◌⊎◌, ◌≢◌, ◌≤◌, Bool, true, false, List, [], ◌∷◌, Option, Some, codes, unwrap_or}
-use Rattle.std.specs.Prelude.{IfSome, option_map, pos, if◌then◌else◌}
+use Rattle.std.specs.Prelude.{ℕ, ◌⊎◌, ◌≢◌, ◌≤◌, Bool, true, false, List, [], ◌∷◌, Option, Some, codes, not, unwrap_or}
+use Rattle.std.specs.Prelude.{IfSome, None, is_some, option_map, pos, if◌then◌else◌}
 use Rattle.std.specs.Option.{option_map_or}
 use Rattle.std.specs.Str.{bytes_eq}
 use Rattle.std.specs.Str.Parse.{digits_value, without_leading_plus}
 use Rattle.clap.specs.Words.{App, Kinds, IsAmong, Row, Rule, Text, first_of, new_app, new_rule}
-use Rattle.clap.specs.Words.{with_rule, with_subcommand}
+use Rattle.clap.specs.Words.{fault_of, subcommand_of, with_rule, with_subcommand}
+use Rattle.clap.specs.Kinds.{or_else}
 use Rattle.clap.specs.ValueTests.{is_unsigned_in}
 use Rattle.clap.specs.declared.builder.ArgAction.TheVariants.{Set, SetTrue}
 use Rattle.clap.specs.declared.builder.value_parser.ValueParser.TheVariants as parser
@@ -15,9 +16,11 @@ use Rattle.clap.specs.declared.error.ErrorKind.TheVariants as kind
 use Rattle.judy_command.specs.declared.words.Refusal.{Refusal}
 use Rattle.judy_command.specs.declared.words.Refusal.TheVariants.{Help, Usage, Memory}
 use Rattle.judy_command.specs.declared.words.Job.{Job}
-use Rattle.judy_command.specs.declared.words.Job.TheVariants.{Run, Serve}
+use Rattle.judy_command.specs.declared.words.Job.TheVariants.{Run, Serve, Compact, Journal}
+use Rattle.judy_command.specs.declared.words.Sync.{Sync}
+use Rattle.judy_command.specs.declared.words.Sync.TheVariants.{Round, Seconds, Never}
 
--- ---- the arguments and the two commands
+-- ---- the arguments and the four commands
 
 abbrev pub flag_rule : Text → Rule
 flag_rule name = record (new_rule name) { long = Some name; action = Some SetTrue }
@@ -27,6 +30,10 @@ valued_rule name = record (new_rule name) { long = Some name; action = Some Set;
 
 abbrev pub needed_rule : Text → Rule
 needed_rule name = record (valued_rule name) { required = true }
+
+-- a value that must be given, without a name
+abbrev pub placed_rule : Text → Rule
+placed_rule name = record (new_rule name) { required = true; action = Some Set; value_names = 1 }
 
 -- a number from 1 to 4294967295
 abbrev pub number_rule : Text → Rule
@@ -60,19 +67,31 @@ with_places a = with_rule (with_rule (with_rule a (needed_rule (codes "config"))
 abbrev pub with_limits : App → App
 with_limits a = with_rule (with_rule (with_rule (with_rule a clients_rule) connections_rule) (number_rule (codes "idle"))) (number_rule (codes "turn"))
 
--- `serve --config FILE --socket PATH [--status PATH] [--clients N] [--connections N]
--- [--idle SECONDS] [--turn SECONDS] [--reserve MB] [--check]`
-abbrev pub serve_app : App
-serve_app = with_rule (with_rule (with_limits (with_places (new_app (codes "serve")))) reserve_rule) (flag_rule (codes "check"))
+-- `[--journal DIR] [--sync WHEN]`
+abbrev pub with_journal : App → App
+with_journal a = with_rule (with_rule a (valued_rule (codes "journal"))) (valued_rule (codes "sync"))
 
--- one of the two commands is required; the words do not include the program's name
+-- `serve --config FILE --socket PATH [--status PATH] [--clients N] [--connections N]
+-- [--idle SECONDS] [--turn SECONDS] [--reserve MB] [--journal DIR] [--sync WHEN] [--check]`
+abbrev pub serve_app : App
+serve_app = with_rule (with_journal (with_rule (with_limits (with_places (new_app (codes "serve")))) reserve_rule)) (flag_rule (codes "check"))
+
+-- `compact DIR`
+abbrev pub compact_app : App
+compact_app = with_rule (new_app (codes "compact")) (placed_rule (codes "directory"))
+
+-- `journal DIR [--tenant NAME]`
+abbrev pub journal_app : App
+journal_app = with_rule (with_rule (new_app (codes "journal")) (placed_rule (codes "directory"))) (valued_rule (codes "tenant"))
+
+-- one of the four commands is required; the words do not include the program's name
 abbrev pub bare_app : App
 bare_app = record (new_app (codes "judyd")) {
   top = record (new_app (codes "judyd")).top { has_version = true; no_binary_name = true; subcommand_required = true };
 }
 
 abbrev pub judyd_app : App
-judyd_app = with_subcommand (with_subcommand bare_app run_app.top) serve_app.top
+judyd_app = with_subcommand (with_subcommand (with_subcommand (with_subcommand bare_app run_app.top) serve_app.top) compact_app.top) journal_app.top
 
 -- ---- what the words ask for
 
@@ -98,16 +117,49 @@ number_in most t = if is_unsigned_in 1 most t then digits_value 10 (without_lead
 abbrev pub number_given : ℕ → Text → List Row → Option ℕ
 number_given most id rows = option_map (number_in most) (first_of id rows)
 
--- the job of the subcommand of this name with these matches
-abbrev pub job_at : Text → List Row → Job
-job_at name rows =
-    if bytes_eq name (codes "run")
-    then Run (is_set (codes "words") rows)
-    else Serve (unwrap_or (first_of (codes "config") rows) []) (unwrap_or (first_of (codes "socket") rows) []) (first_of (codes "status") rows)
+-- when the journal is synced: every so many seconds
+abbrev pub seconds_in : Text → Option Sync
+seconds_in t = if is_unsigned_in 1 most_count t then Some (Seconds (digits_value 10 (without_leading_plus t))) else None
+
+-- when the journal is synced, as a word says it: `round`, `never`, or every so many seconds
+abbrev pub sync_in : Text → Option Sync
+sync_in t = if bytes_eq t (codes "round") then Some Round else if bytes_eq t (codes "never") then Some Never else seconds_in t
+
+-- in each round, unless something else is given
+abbrev pub sync_given : List Row → Sync
+sync_given rows = option_map_or (λ t. unwrap_or (sync_in t) Round) (first_of (codes "sync") rows) Round
+
+abbrev pub served : List Row → Job
+served rows = Serve (unwrap_or (first_of (codes "config") rows) []) (unwrap_or (first_of (codes "socket") rows) []) (first_of (codes "status") rows)
     (unwrap_or (number_given most_clients (codes "clients") rows) 64)
     (unwrap_or (number_given most_count (codes "connections") rows) most_count)
     (number_given most_count (codes "idle") rows) (number_given most_count (codes "turn") rows)
-    (number_given most_megabytes (codes "reserve") rows) (is_set (codes "check") rows)
+    (number_given most_megabytes (codes "reserve") rows)
+    (first_of (codes "journal") rows) (sync_given rows) (is_set (codes "check") rows)
+
+-- the job of the subcommand of this name with these matches
+abbrev pub job_at : Text → List Row → Job
+job_at name rows =
+    if bytes_eq name (codes "run") then Run (is_set (codes "words") rows)
+    else if bytes_eq name (codes "compact") then Compact (unwrap_or (first_of (codes "directory") rows) [])
+    else if bytes_eq name (codes "journal") then Journal (unwrap_or (first_of (codes "directory") rows) []) (first_of (codes "tenant") rows)
+    else served rows
+
+-- what clap does not see: a word after `--sync` that is none, and `--sync` without `--journal`
+abbrev pub word_fault : Text → Option Text → Kinds
+word_fault t journal =
+    if not (is_some (sync_in t)) then kind.ValueValidation ∷ []
+    else if is_some journal then [] else kind.MissingRequiredArgument ∷ []
+
+abbrev pub sync_fault : List Row → Kinds
+sync_fault rows = option_map_or (λ t. word_fault t (first_of (codes "journal") rows)) (first_of (codes "sync") rows) []
+
+abbrev pub sync_fault_of : Option (Text × List Row) → Kinds
+sync_fault_of found = option_map_or (λ p. sync_fault p.1) found []
+
+-- the fault of the words: of clap, or otherwise of `--sync`
+abbrev pub words_fault : List Text → Kinds
+words_fault words = or_else (fault_of judyd_app words) (sync_fault_of (subcommand_of judyd_app words))
 
 abbrev pub job_of : Option (Text × List Row) → Option Job
 job_of = option_map (λ p. job_at p.0 p.1)
@@ -116,12 +168,19 @@ job_of = option_map (λ p. job_at p.0 p.1)
 abbrev pub IsCount : ℕ → ℕ → Type 0
 IsCount most n = (1 ≤ n) × (n ≤ most)
 
+abbrev pub IsSync : Sync → Type 0
+IsSync Round = Unit {0}
+IsSync (Seconds n) = IsCount most_count n
+IsSync Never = Unit {0}
+
 abbrev pub IsInRange : Job → Type 0
 IsInRange (Run words) = Unit {0}
-IsInRange (Serve config socket status clients connections idle turn reserve check) =
+IsInRange (Serve config socket status clients connections idle turn reserve journal sync check) =
     IsCount most_clients clients × IsCount most_count connections
     × IfSome idle (IsCount most_count) × IfSome turn (IsCount most_count)
-    × IfSome reserve (IsCount most_megabytes)
+    × IfSome reserve (IsCount most_megabytes) × IsSync sync
+IsInRange (Compact directory) = Unit {0}
+IsInRange (Journal directory tenant) = Unit {0}
 
 -- a `Help` refusal comes from a request for help or the version, a `Usage` refusal from any other
 -- fault
@@ -129,3 +188,9 @@ abbrev pub StopsBy : Kinds → Refusal → Type 0
 StopsBy kinds (Help text) = IsAmong kind.DisplayHelp kinds ⊎ IsAmong kind.DisplayVersion kinds
 StopsBy kinds (Usage text) = (k : ErrorKind) × IsAmong k kinds × (k ≢ kind.DisplayHelp) × (k ≢ kind.DisplayVersion)
 StopsBy kinds Memory = Unit {0}
+
+-- a usage text, or there was no memory for one
+abbrev pub IsUsage : Refusal → Type 0
+IsUsage (Help text) = ⊥
+IsUsage (Usage text) = Unit {0}
+IsUsage Memory = Unit {0}

@@ -1,10 +1,11 @@
 //! The command line, as it is given to `clap`.
 ghost use Rattle.std.specs.Prelude.{◌≡◌, false, true, IfOk};
-ghost use Rattle.clap.specs.Words.{app_of, new_app, rule_of, with_rule};
+ghost use Rattle.clap.specs.Words.{app_of, new_app, rule_of, with_rule, with_subcommand};
 ghost use Rattle.clap.specs.declared.builder.Command.TheViews.{out-Command as fields_of};
-ghost use Rattle.judy_command.specs.CommandLine.{clients_rule, connections_rule, flag_rule, judyd_app};
-ghost use Rattle.judy_command.specs.CommandLine.{limited_rule, number_rule, reserve_rule, run_app};
-ghost use Rattle.judy_command.specs.CommandLine.{serve_app, valued_rule, with_limits, with_places};
+ghost use Rattle.judy_command.specs.CommandLine.{bare_app, clients_rule, compact_app, connections_rule, flag_rule};
+ghost use Rattle.judy_command.specs.CommandLine.{journal_app, judyd_app, limited_rule, number_rule, placed_rule};
+ghost use Rattle.judy_command.specs.CommandLine.{reserve_rule, run_app, serve_app, valued_rule};
+ghost use Rattle.judy_command.specs.CommandLine.{with_journal, with_limits, with_places};
 
 use clap::{Arg, ArgAction, Command};
 use std::alloc::{AllocError, Global};
@@ -21,6 +22,7 @@ const RUN_EXAMPLES: &str = "Examples:
 const SERVE_EXAMPLES: &str = "Examples:
   judyd serve --config samples/tenants.toml --socket judyd.sock
   judyd serve --config samples/tenants.toml --socket judyd.sock --connections 1
+  judyd serve --config samples/tenants.toml --socket judyd.sock --journal /var/lib/judyd/journal
 
 A session with it:
   printf 'AUTH alice abc\\nJ1S a 5\\nQUIT\\n' | nc -U judyd.sock";
@@ -42,7 +44,31 @@ const TURN_HELP: &str = "Close a connection that has lasted so long";
 
 const RESERVE_HELP: &str = "Take MB times 1,048,576 bytes for the arrays before the socket is made";
 
-const CHECK_HELP: &str = "Read the table, tell its fault if it has one, and serve nothing";
+const CHECK_HELP: &str =
+    "Read the table, and the journal if there is one, tell the fault, and serve nothing";
+
+const JOURNAL_HELP: &str = "The directory of the journal: what was answered is there after a crash";
+
+const SYNC_HELP: &str =
+    "When the journal is secured: round (before each answer), never, or a number of seconds";
+
+const DIRECTORY_HELP: &str = "The directory of the journal";
+
+const TENANT_HELP: &str = "Print only the requests of this tenant, without its name";
+
+/// The text below the help of `compact`.
+const COMPACT_EXAMPLES: &str = "Examples:
+  judyd compact /var/lib/judyd/journal
+
+All files of the journal but the last one become one, in which each entry is written once. A server
+may use the directory meanwhile.";
+
+/// The text below the help of `journal`.
+const PRINT_EXAMPLES: &str = "Examples:
+  judyd journal /var/lib/judyd/journal
+  (echo 'AUTH alice abc'; judyd journal /var/lib/judyd/journal --tenant alice; echo QUIT) | nc -U judyd.sock
+
+A server may use the directory meanwhile.";
 
 /// The text below the help.
 const EXAMPLES: &str = "Examples:
@@ -119,6 +145,18 @@ fn connections<'a>(alloc: Global) -> Arg<'a>
     numbered(alloc, "connections", "N", CONNECTIONS_HELP).default_value("4294967295")
 }
 
+/// A value that must be given, without the argument's name.
+fn placed<'a>(alloc: Global, name: &'a str, value: &'a str, help: &'a str) -> Arg<'a>
+    ensures rule { rule_of result ≡ placed_rule name.entry.now }
+    ensures local { result.global ≡ false }
+{
+    Arg::new(alloc, name)
+        .required(true)
+        .action(ArgAction::Set)
+        .value_name(value)
+        .help(help)
+}
+
 /// A command with its purpose and the text below its help.
 fn described<'a>(alloc: Global, name: &'a str, about: &'a str, examples: &'a str) -> Command<'a>
     ensures app { app_of result ≡ new_app name.entry.now }
@@ -178,6 +216,16 @@ fn with_limits<'a>(alloc: Global, command: Command<'a>) -> Result<Command<'a>, A
     with(command, numbered(alloc, "turn", "SECONDS", TURN_HELP))
 }
 
+/// A command with the options for the journal.
+fn with_journal<'a>(alloc: Global, command: Command<'a>) -> Result<Command<'a>, AllocError>
+    requires local { (fields_of command).has_globals ≡ false }
+    ensures app { IfOk result (λ c. app_of c ≡ with_journal (app_of command.entry)) }
+    ensures local { IfOk result (λ c. (fields_of c).has_globals ≡ false) }
+{
+    let command = with(command, valued(alloc, "journal", "DIR", JOURNAL_HELP))?;
+    with(command, valued(alloc, "sync", "WHEN", SYNC_HELP))
+}
+
 /// `serve` with its options.
 fn serve_command<'a>(alloc: Global) -> Result<Command<'a>, AllocError>
     ensures app { IfOk result (λ c. app_of c ≡ serve_app) }
@@ -190,7 +238,61 @@ fn serve_command<'a>(alloc: Global) -> Result<Command<'a>, AllocError>
     let command = with_places(alloc, command)?;
     let command = with_limits(alloc, command)?;
     let command = with(command, reserve(alloc))?;
+    let command = with_journal(alloc, command)?;
     with(command, flag(alloc, "check", CHECK_HELP))
+}
+
+/// `compact DIR`.
+fn compact_command<'a>(alloc: Global) -> Result<Command<'a>, AllocError>
+    ensures app { IfOk result (λ c. app_of c ≡ compact_app) }
+    ensures local { IfOk result (λ c. (fields_of c).has_globals ≡ false) }
+{
+    let about = "Makes the files of a journal smaller";
+    let command = described(alloc, "compact", about, COMPACT_EXAMPLES);
+    with(
+        command.override_usage("judyd compact <DIR>"),
+        placed(alloc, "directory", "DIR", DIRECTORY_HELP),
+    )
+}
+
+/// `journal DIR [--tenant NAME]`.
+fn journal_command<'a>(alloc: Global) -> Result<Command<'a>, AllocError>
+    ensures app { IfOk result (λ c. app_of c ≡ journal_app) }
+    ensures local { IfOk result (λ c. (fields_of c).has_globals ≡ false) }
+{
+    let about = "Prints the requests of a journal, each with its tenant's name";
+    let command = described(alloc, "journal", about, PRINT_EXAMPLES);
+    let command = with(
+        command.override_usage("judyd journal [OPTIONS] <DIR>"),
+        placed(alloc, "directory", "DIR", DIRECTORY_HELP),
+    )?;
+    with(command, valued(alloc, "tenant", "NAME", TENANT_HELP))
+}
+
+/// A command with one more command below it.
+fn below<'a>(command: Command<'a>, inner: Command<'a>) -> Result<Command<'a>, AllocError>
+    requires local { (fields_of command).has_globals ≡ false }
+    requires own { (fields_of inner).has_globals ≡ false }
+    ensures app { IfOk result
+        (λ c. app_of c ≡ with_subcommand (app_of command.entry) (app_of inner.entry).top) }
+    ensures local { IfOk result (λ c. (fields_of c).has_globals ≡ false) }
+    ensures required { IfOk result (λ c.
+        (fields_of c).subcommand_required ≡ (fields_of command.entry).subcommand_required) }
+{
+    command.subcommand(inner)
+}
+
+/// The command line without its commands.
+fn bare_command<'a>(alloc: Global) -> Command<'a>
+    ensures app { app_of result ≡ bare_app }
+    ensures local { (fields_of result).has_globals ≡ false }
+    ensures required { (fields_of result).subcommand_required ≡ true }
+{
+    let about = "Judy arrays for many tenants, behind a line protocol";
+    described(alloc, "judyd", about, EXAMPLES)
+        .version(VERSION)
+        .no_binary_name(true)
+        .subcommand_required(true)
 }
 
 /// The whole command line, without the program's name.
@@ -199,13 +301,9 @@ pub fn judyd_command<'a>(alloc: Global) -> Result<Command<'a>, AllocError>
     ensures local { IfOk result (λ c. (fields_of c).has_globals ≡ false) }
     ensures required { IfOk result (λ c. (fields_of c).subcommand_required ≡ true) }
 {
-    let run = run_command(alloc)?;
-    let serve = serve_command(alloc)?;
-    let about = "Judy arrays for many tenants, behind a line protocol";
-    described(alloc, "judyd", about, EXAMPLES)
-        .version(VERSION)
-        .no_binary_name(true)
-        .subcommand_required(true)
-        .subcommand(run)?
-        .subcommand(serve)
+    let command = bare_command(alloc);
+    let command = below(command, run_command(alloc)?)?;
+    let command = below(command, serve_command(alloc)?)?;
+    let command = below(command, compact_command(alloc)?)?;
+    below(command, journal_command(alloc)?)
 }

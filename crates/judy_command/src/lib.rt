@@ -5,4 +5,4 @@ mod commands;
 mod words;
 
 pub use commands::VERSION;
-pub use words::{Job, Refusal, Word, parse_words};
+pub use words::{Job, Refusal, Sync, Word, parse_words};

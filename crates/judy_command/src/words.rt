@@ -1,9 +1,10 @@
 //! Reads the words of a command line.
-ghost use Rattle.std.specs.Prelude.{◌≡◌, Some, true, IfOk, OnOk, IfErr, ◌∷◌, map, string_bytes, unwrap_or, []};
+ghost use Rattle.std.specs.Prelude.{◌≡◌, ◌⊎◌, Some, None, true, IfOk, IfSome, OnOk, IfErr, ◌∷◌, map, string_bytes, unwrap_or, []};
 ghost use Rattle.std.specs.Prelude.{option_map};
-ghost use Rattle.clap.specs.Words.{takes, subcommand_of, rows_of, found_of, first_of, kind_of, fault_of};
-ghost use Rattle.judy_command.specs.CommandLine.{IsInRange, StopsBy, is_set, job_at, job_of, judyd_app};
-ghost use Rattle.judy_command.specs.CommandLine.{most_clients, most_count, number_given, number_in};
+ghost use Rattle.clap.specs.Words.{takes, subcommand_of, rows_of, found_of, first_of, kind_of};
+ghost use Rattle.judy_command.specs.CommandLine.{IsInRange, IsUsage, StopsBy, is_set, job_at, job_of, judyd_app, served, seconds_in};
+ghost use Rattle.judy_command.specs.CommandLine.{most_clients, most_count, number_given, number_in, sync_fault, sync_fault_of};
+ghost use Rattle.judy_command.specs.CommandLine.{sync_given, sync_in, words_fault};
 
 use crate::commands::judyd_command;
 use clap::ArgMatches;
@@ -21,6 +22,17 @@ impl Model for Word {
     ghost Value = { List ℕ };
 
     ghost view = { λ w. string_bytes w.0 };
+}
+
+/// When a server secures its journal.
+#[derive(Clone, Copy, Debug, PartialEq, Eq)]
+pub enum Sync {
+    /// In each round that changed something, before its answers are written.
+    Round,
+    /// When so many seconds have passed since the last time: 1 to 4294967295.
+    Seconds(u32),
+    /// Never: the system chooses.
+    Never,
 }
 
 /// The job that a command line asks for.
@@ -51,8 +63,24 @@ pub enum Job {
         turn: Option<u32>,
         /// How many megabytes to take for the arrays before the socket is made: 1 to 131072.
         reserve: Option<u32>,
+        /// The directory of the journal, if there is one.
+        journal: Option<Word>,
+        /// When the journal is secured.
+        sync: Sync,
         /// Whether to only read the table and report its fault.
         check: bool,
+    },
+    /// Make the files of a journal smaller.
+    Compact {
+        /// The directory of the journal.
+        directory: Word,
+    },
+    /// Print the requests of a journal.
+    Journal {
+        /// The directory of the journal.
+        directory: Word,
+        /// The only tenant whose requests are wanted, if there is one.
+        tenant: Option<Word>,
     },
 }
 
@@ -72,6 +100,21 @@ const MOST_CLIENTS: u32 = 1024;
 
 /// The most megabytes that are taken before the socket is made: an arena has at most 2^37 bytes.
 const MOST_MEGABYTES: u32 = 131_072;
+
+/// What is wrong with a command line whose `--sync` is followed by none of its words.
+const NO_SYNC: &str =
+    "error: invalid value for '--sync <WHEN>': it is round, never, or a number of seconds from 1 to 4294967295
+
+For more information, try '--help'.
+";
+
+/// What is wrong with a command line that has `--sync` and no journal.
+const NO_JOURNAL: &str = "error: the argument '--sync <WHEN>' needs '--journal <DIR>'
+
+Usage: judyd serve [OPTIONS] --config <FILE> --socket <PATH>
+
+For more information, try '--help'.
+";
 
 /// The number of a text, from 1 to `most`, or `most` if the text is no such number.
 fn number(text: &str, most: u32) -> u32
@@ -132,18 +175,47 @@ fn number_given(matches: &ArgMatches<'_>, id: &str, most: u32) -> Option<u32>
     }
 }
 
-/// The job of a subcommand with this name and these matches.
-fn job_of(alloc: Global, name: &str, matches: &ArgMatches<'_>) -> Result<Job, AllocError>
-    ensures { IfOk result (λ job. job ≡ job_at name.now (rows_of (found_of matches.now))) }
+/// Seconds from 1 to 4294967295, as a text says them.
+fn seconds_in(text: &str) -> Option<Sync>
+    ensures { result ≡ seconds_in text.now }
 {
-    if name == "run" {
-        return Ok(Job::Run {
-            words: is_set(matches, "words"),
-        });
+    match text.parse::<u32>() {
+        Ok(n) => { if n >= 1 { Some(Sync::Seconds(n)) } else { None } }
+        Err(_) => None,
     }
+}
+
+/// When the journal is secured, as a text says it.
+fn sync_in(text: &str) -> Option<Sync>
+    ensures { result ≡ sync_in text.now }
+{
+    if text == "round" {
+        return Some(Sync::Round);
+    }
+    if text == "never" {
+        return Some(Sync::Never);
+    }
+    seconds_in(text)
+}
+
+/// When the journal is secured, as it is given.
+fn sync_given(matches: &ArgMatches<'_>) -> Sync
+    ensures { result ≡ sync_given (rows_of (found_of matches.now)) }
+{
+    match text_of(matches, "sync") {
+        Some(text) => sync_in(text).unwrap_or(Sync::Round),
+        None => Sync::Round,
+    }
+}
+
+/// The job of `serve` with these matches.
+fn served(alloc: Global, matches: &ArgMatches<'_>) -> Result<Job, AllocError>
+    ensures { IfOk result (λ job. job ≡ served (rows_of (found_of matches.now))) }
+{
     let config = word_of(alloc, matches, "config")?;
     let socket = word_of(alloc, matches, "socket")?;
     let status = word_given(alloc, matches, "status")?;
+    let journal = word_given(alloc, matches, "journal")?;
     Ok(Job::Serve {
         config,
         socket,
@@ -153,8 +225,57 @@ fn job_of(alloc: Global, name: &str, matches: &ArgMatches<'_>) -> Result<Job, Al
         idle: number_given(matches, "idle", u32::MAX),
         turn: number_given(matches, "turn", u32::MAX),
         reserve: number_given(matches, "reserve", MOST_MEGABYTES),
+        journal,
+        sync: sync_given(matches),
         check: is_set(matches, "check"),
     })
+}
+
+/// The job of a subcommand with this name and these matches.
+fn job_of(alloc: Global, name: &str, matches: &ArgMatches<'_>) -> Result<Job, AllocError>
+    ensures { IfOk result (λ job. job ≡ job_at name.now (rows_of (found_of matches.now))) }
+{
+    if name == "run" {
+        return Ok(Job::Run {
+            words: is_set(matches, "words"),
+        });
+    }
+    if name == "compact" {
+        let directory = word_of(alloc, matches, "directory")?;
+        return Ok(Job::Compact { directory });
+    }
+    if name == "journal" {
+        let directory = word_of(alloc, matches, "directory")?;
+        let tenant = word_given(alloc, matches, "tenant")?;
+        return Ok(Job::Journal { directory, tenant });
+    }
+    served(alloc, matches)
+}
+
+/// What is wrong with `--sync`, if it is given. `clap` does not see it.
+fn sync_fault(matches: &ArgMatches<'_>) -> Option<&'static str>
+    ensures none { result ≡ None → sync_fault (rows_of (found_of matches.now)) ≡ [] }
+    ensures some { IfSome result (λ text. (sync_fault (rows_of (found_of matches.now)) ≡ ErrorKind.ValueValidation ∷ [])
+        ⊎ (sync_fault (rows_of (found_of matches.now)) ≡ ErrorKind.MissingRequiredArgument ∷ [])) }
+{
+    let text = text_of(matches, "sync")?;
+    if sync_in(text).is_none() {
+        return Some(NO_SYNC);
+    }
+    match text_of(matches, "journal") {
+        Some(_) => None,
+        None => Some(NO_JOURNAL),
+    }
+}
+
+/// A usage text.
+fn usage(alloc: Global, text: &str) -> Refusal
+    ensures { IsUsage result }
+{
+    match String::from_str(alloc, text) {
+        Ok(text) => Refusal::Usage(text),
+        Err(_) => Refusal::Memory,
+    }
 }
 
 /// The refusal for an error of `clap`.
@@ -177,6 +298,22 @@ fn refusal_of(alloc: Global, e: &clap::Error) -> Refusal
     }
 }
 
+/// The job of a subcommand with this name and these matches, or what is wrong with it.
+fn obtain(alloc: Global, name: &str, matches: &ArgMatches<'_>) -> Result<Job, Refusal>
+    ensures job { IfOk result (λ job. job ≡ job_at name.now (rows_of (found_of matches.now))) }
+    ensures faultless { OnOk result (sync_fault (rows_of (found_of matches.now)) ≡ []) }
+    ensures refused { IfErr result (StopsBy (sync_fault (rows_of (found_of matches.now)))) }
+    ensures taken { IfErr result (λ why. sync_fault (rows_of (found_of matches.now)) ≡ [] → why ≡ Refusal.Memory) }
+{
+    if let Some(text) = sync_fault(matches) {
+        return Err(usage(alloc, text));
+    }
+    match job_of(alloc, name, matches) {
+        Ok(job) => Ok(job),
+        Err(_) => Err(Refusal::Memory),
+    }
+}
+
 /// Reads the words of a command line, without the program's name.
 ///
 /// Returns the job that the words ask for. If they ask for a job, the only refusal is `Memory`.
@@ -185,12 +322,11 @@ pub fn parse_words(alloc: Global, words: &[String]) -> Result<Job, Refusal>
     ensures job { IfOk result (λ job.
         job_of (subcommand_of judyd_app (map (λ w. string_bytes w) words.now)) ≡ Some job) }
     ensures range { IfOk result IsInRange }
-    ensures faultless { OnOk result
-        (fault_of judyd_app (map (λ w. string_bytes w) words.now) ≡ []) }
-    ensures refused { IfErr result
-        (StopsBy (fault_of judyd_app (map (λ w. string_bytes w) words.now))) }
-    ensures taken { IfErr result (λ why.
-        takes judyd_app (map (λ w. string_bytes w) words.now) ≡ true → why ≡ Refusal.Memory) }
+    ensures faultless { OnOk result (words_fault (map (λ w. string_bytes w) words.now) ≡ []) }
+    ensures refused { IfErr result (StopsBy (words_fault (map (λ w. string_bytes w) words.now))) }
+    ensures taken { IfErr result (λ why. takes judyd_app (map (λ w. string_bytes w) words.now) ≡ true
+        → sync_fault_of (subcommand_of judyd_app (map (λ w. string_bytes w) words.now)) ≡ []
+        → why ≡ Refusal.Memory) }
 {
     let command = match judyd_command(alloc) {
         Ok(command) => command,
@@ -199,9 +335,9 @@ pub fn parse_words(alloc: Global, words: &[String]) -> Result<Job, Refusal>
     match command.try_get_matches_from(words) {
         Ok(matches) => {
             let (name, inner) = matches.subcommand().unwrap();
-            match job_of(alloc, name, inner) {
+            match obtain(alloc, name, inner) {
                 Ok(job) => Ok(job),
-                Err(_) => Err(Refusal::Memory),
+                Err(refusal) => Err(refusal),
             }
         }
         Err(e) => Err(refusal_of(alloc, &e)),

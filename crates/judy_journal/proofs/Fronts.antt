@@ -1,13 +1,10 @@
 -- The fronts of a journal's lines, and what is read of them.
-use Rattle.std.proofs.Common.{◌≡◌, ℕ, suc, ◌<◌, ◌^◌, Bool, true, false, not, ◌&&◌, List, [], ◌∷◌, ◌++◌, length, sym, ◌∙◌, ap, subst, refl, arith, append_assoc, append-nil}
+use Rattle.std.proofs.Common.{◌≡◌, ℕ, true, false, not, List, [], ◌∷◌, ◌++◌, sym, ◌∙◌, ap, subst, refl, append_assoc}
 use Rattle.std.specs.Prelude.{IsTrue}
 use Rattle.std.specs.List.{list_all}
-use Rattle.std.proofs.lemmas.List.{append_cancel_left}
 use Rattle.std.proofs.lemmas.Bool.{not-true}
-use Rattle.judy_model.specs.Stream.{lines_of, rest_of}
-use Rattle.judy_model.proofs.lemmas.LineLemmas.{lines_of-append}
 use Rattle.judy_model.proofs.lemmas.TestLemmas.{and_left, and_right}
-use Rattle.judy_journal.specs.Journals.{Commit, AreCommits, joined, is_line, is_mark, is_record, is_commit, mark, header, commits_lines, journal_text, sum_at, sum_after}
+use Rattle.judy_journal.specs.Journals.{Commit, AreCommits, is_line, is_mark, is_record, is_commit, mark, commits_lines, sum_at, sum_after}
 use Rattle.judy_journal.proofs.Lines.{both, lines-append, records-lines, joined-append, lines_of-joined, few, mark-line, mark-marks, header-line}
 
 abbrev pub Line : Type 0

@@ -1,3 +1,4 @@
+pub mod lemmas
 mod Lines
 mod Fronts
 mod Recovering
@@ -5,3 +6,8 @@ mod Pushing
 mod Writing
 mod Stepping
 mod Damaging
+mod Crashing
+mod Gathering
+mod Unpacking
+mod Standing
+pub mod Steps

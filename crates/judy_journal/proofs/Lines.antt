@@ -6,11 +6,11 @@ use Rattle.std.proofs.lemmas.Fmt.{decimal_by_steps}
 use Rattle.std.proofs.lemmas.Bool.{not-true}
 use Rattle.std.proofs.lemmas.List.Folds.{list_all-append}
 use Rattle.hex.specs.Hex.{encode_with, lower_digits}
-use Rattle.sha2.specs.Sha256.{sha256}
+use Rattle.std.specs.Int.{w64, to_be_bytes}
 use Rattle.judy_model.specs.Stream.{lines_of, rest_of}
 use Rattle.judy_model.proofs.lemmas.LineLemmas.{lines_of-line, lines_of-push, rest_of-push, lines_of-more_bytes, rest_of-more_bytes}
 use Rattle.judy_model.proofs.lemmas.TestLemmas.{and_left, and_right}
-use Rattle.judy_journal.specs.Journals.{joined, is_line, is_mark, is_record, is_commit, Commit, numbered, sum_of, mark, header}
+use Rattle.judy_journal.specs.Journals.{joined, is_line, is_mark, is_record, is_commit, Commit, number_after, numbered, sum_of, mark, header}
 
 -- ---- tests
 
@@ -94,7 +94,7 @@ encoded (b ∷ bytes) = rw (at_no_feed lower_digits (b / 16) refl, at_no_feed lo
 
 pub sum-line : (sum text : List ℕ) → IsTrue (is_line (sum_of sum text))
 unfolding sum_of
-sum-line sum text = encoded (sha256 (sum ++ text))
+sum-line sum text = encoded (to_be_bytes w64 (number_after (number_after 0 sum) text))
 
 no_feed : (d : ℕ) → 10 < d → IsTrue (is_line (d ∷ []))
 no_feed d h = let no : (d == 10) ≡ false = grind (arith, Rattle.std.proofs.lemmas.Bool.Decides.nat_tests, h) in rw no refl

@@ -1,5 +1,5 @@
 -- One more record in a commit that is open.
-use Rattle.std.proofs.Common.{◌≡◌, ℕ, suc, ◌<◌, ◌≤◌, ◌+◌, ◌^◌, Bool, true, false, not, ◌&&◌, List, [], ◌∷◌, ◌++◌, length, sym, ◌∙◌, ap, subst, refl, arith, append_assoc, append-nil}
+use Rattle.std.proofs.Common.{◌≡◌, ℕ, ◌≤◌, ◌+◌, true, List, [], ◌∷◌, ◌++◌, length, sym, ◌∙◌, ap, subst, refl, arith, append-nil}
 use Rattle.std.specs.Prelude.{IsTrue, nat_le}
 use Rattle.std.specs.List.{list_all}
 use Rattle.std.proofs.lemmas.Bool.Decides.{nat_tests}
@@ -7,7 +7,7 @@ use Rattle.std.proofs.lemmas.List.{length-append}
 use Rattle.judy_model.specs.Stream.{lines_of, rest_of}
 use Rattle.judy_model.proofs.lemmas.LineLemmas.{lines_of-push, rest_of-push}
 use Rattle.judy_model.proofs.lemmas.TestLemmas.{and_left, and_right}
-use Rattle.judy_journal.specs.Journals.{Commit, joined, is_line, is_mark, is_record, is_commit}
+use Rattle.judy_journal.specs.Journals.{joined, is_line, is_record, is_commit}
 use Rattle.judy_journal.proofs.Lines.{both, lines-append, record-line, joined-append, text_is, length-joined}
 
 -- whole lines are their text

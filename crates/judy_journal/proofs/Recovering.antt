@@ -1,16 +1,15 @@
 -- After a crash exactly the front of the commits is found, and no damage.
-use Rattle.std.proofs.Common.{◌≡◌, ◌≢◌, ℕ, suc, ◌<◌, ◌≤◌, ◌+◌, ◌^◌, Bool, true, false, not, ◌&&◌, List, [], ◌∷◌, ◌++◌, length, sym, ◌∙◌, ap, subst, refl, arith, append_assoc, append-nil}
+use Rattle.std.proofs.Common.{◌≡◌, ℕ, ◌<◌, ◌^◌, List, [], ◌∷◌, ◌++◌, sym, ◌∙◌, ap, subst, refl, append_assoc, append-nil}
 use Rattle.std.specs.Prelude.{IsTrue}
 use Rattle.std.specs.List.{list_all}
 use Rattle.std.proofs.lemmas.List.{append_cancel_left, length-append}
 use Rattle.judy_model.specs.Stream.{lines_of, rest_of}
 use Rattle.judy_model.proofs.lemmas.LineLemmas.{lines_of-append}
 use Rattle.judy_model.proofs.lemmas.TestLemmas.{and_left, and_right}
-use Rattle.judy_journal.specs.Disks.{MayLeave}
-use Rattle.judy_journal.specs.Journals.{Commit, AreCommits, joined, is_line, is_mark, is_record, is_commit, mark, header, commits_lines, journal_text, sum_at, sum_after}
-use Rattle.judy_journal.specs.Recoveries.{IsUnended, Found, RecoveryIsExact}
-use Rattle.judy_journal.proofs.Lines.{both, lines-append, records-lines, joined-append, lines_of-joined, few, mark-line, mark-marks, header-line}
-use Rattle.judy_journal.proofs.Fronts.{Line, Cut, cut, commits_are_lines, commits_lines-append, one_reading}
+use Rattle.judy_journal.specs.Journals.{Commit, AreCommits, joined, is_line, is_commit, header, commits_lines, journal_text, sum_at}
+use Rattle.judy_journal.specs.Recoveries.{RecoveryIsExact}
+use Rattle.judy_journal.proofs.Lines.{both, joined-append, lines_of-joined, header-line}
+use Rattle.judy_journal.proofs.Fronts.{cut, commits_are_lines, commits_lines-append, one_reading}
 
 -- the lines of a segment's text, and of what comes after it
 pub text_lines : (segment : ℕ) (sum : List ℕ) (cs : List Commit) (tail : List ℕ) → segment < 2 ^ 64 → IsTrue (is_line sum) → AreCommits cs

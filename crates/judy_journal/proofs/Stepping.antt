@@ -1,12 +1,12 @@
 -- One more line of a journal that is being read.
-use Rattle.std.proofs.Common.{◌≡◌, ◌≢◌, ℕ, suc, ◌<◌, ◌≤◌, ◌+◌, Bool, true, false, ◌&&◌, List, [], ◌∷◌, ◌++◌, length, sym, ◌∙◌, ap, subst, refl, arith, append_assoc, append-nil, inl, inr}
-use Rattle.std.specs.Prelude.{IsTrue, codes, if◌then◌else◌, ◌⊎◌}
+use Rattle.std.proofs.Common.{◌≡◌, ◌≢◌, ℕ, ◌<◌, ◌+◌, Bool, true, false, List, [], ◌∷◌, ◌++◌, length, sym, ◌∙◌, ap, subst, refl, arith, append_assoc, append-nil, inl, inr}
+use Rattle.std.specs.Prelude.{IsTrue, codes, if◌then◌else◌}
 use Rattle.std.specs.List.{list_all}
 use Rattle.std.proofs.lemmas.List.{length-append}
 use Rattle.std.proofs.lemmas.List.Folds.{list_all-append}
 use Rattle.judy_model.specs.Stream.{lines_of, rest_of}
-use Rattle.judy_journal.specs.Journals.{Commit, AreCommits, joined, is_commit, is_line, is_mark, is_record, numbered, sum_of, sum_after, sum_at, mark, header, commits_lines, journal_text}
-use Rattle.std.specs.Prelude.{Result, Ok, Err}
+use Rattle.judy_journal.specs.Journals.{Commit, joined, is_commit, is_line, is_mark, is_record, numbered, sum_of, sum_after, sum_at, mark, header, journal_text}
+use Rattle.std.specs.Prelude.{OnErr, Result, Ok, Err}
 use Rattle.judy_journal.specs.declared.damage.Damage.{Damage}
 use Rattle.judy_journal.specs.declared.damage.Damage.TheVariants as damage
 use Rattle.judy_journal.specs.Readings.{ReadingIsFound, HasEnded, HasTaken, Reading, IsRead, forgotten, front, tail_of}
@@ -317,3 +317,8 @@ reading_is_found segment first text commits r h has = record {
         let lines : lines_of (tail_of r) ≡ r.records = ap lines_of tail ∙ lines_of-joined r.records r.line (records-lines r.records h.records_are)
         ∙ ap (λ v. r.records ++ v) (lines_of-bytes r.line h.line_is) ∙ append-nil r.records in
         subst (λ ls. IsTrue (list_all is_record ls)) (sym lines) h.records_are
+
+-- what holds after an error, and so something else
+pub on_err : {T E P Q : Type 0} (r : Result T E) → (P → Q) → OnErr r P → OnErr r Q
+on_err (Ok x) f h = h
+on_err (Err e) f h = f h

@@ -2,11 +2,11 @@
 --     Commit                              the records of a round, or of a part of it
 --     journal_text segment sum commits    the whole text of a segment
 --     sum_at sum commits                  the checksum that its last commit ends with
-use Rattle.std.specs.Prelude.{◌≡◌, ℕ, Bool, true, false, not, ◌&&◌, List, [], ◌∷◌, ◌++◌, length, IsTrue, nat_le, ◌==◌, codes, decimal}
+use Rattle.std.specs.Prelude.{ℕ, Bool, false, not, ◌&&◌, List, [], ◌∷◌, ◌++◌, length, IsTrue, nat_le, ◌==◌, codes, decimal, ◌+◌, ◌*◌, ◌%◌, ◌^◌}
 use Rattle.std.specs.List.{list_all}
 use Rattle.hex.specs.Hex.{encode_lower}
-use Rattle.sha2.specs.Sha256.{sha256}
-use Rattle.judy_journal.specs.declared.format.TheConstants.{COMMIT_LIMIT}
+use Rattle.std.specs.Int.{w64, to_be_bytes}
+use Rattle.judy_journal.specs.declared.format.TheConstants.{COMMIT_LIMIT, FACTOR}
 
 -- the records of a commit, each a line without its line feed
 abbrev pub Commit : Type 0
@@ -34,6 +34,10 @@ is_record line = is_line line && not (is_mark line)
 abbrev pub record_of : List ℕ → List ℕ → List ℕ
 record_of tenant request = tenant ++ 32 ∷ request
 
+-- the bytes have no space
+abbrev pub HasNoSpace : List ℕ → Type 0
+HasNoSpace bytes = IsTrue (list_all (λ b. not (b == 32)) bytes)
+
 -- records of at most so many bytes
 abbrev pub is_commit : Commit → Bool
 is_commit commit = list_all is_record commit && nat_le (length (joined commit)) COMMIT_LIMIT
@@ -41,9 +45,15 @@ is_commit commit = list_all is_record commit && nat_le (length (joined commit)) 
 abbrev pub AreCommits : List Commit → Type 0
 AreCommits commits = IsTrue (list_all is_commit commits)
 
--- the checksum after these records' text: the digits of the SHA-256 of the checksum before and the text
+-- bytes as digits of a number, the greatest first, after a number, modulo 2^64
+abbrev pub number_after : ℕ → List ℕ → ℕ
+number_after number [] = number
+number_after number (b ∷ bytes) = number_after (((number * FACTOR) % 2 ^ 64 + b) % 2 ^ 64) bytes
+
+-- the checksum after these records' text: the checksum before and the text as digits of a number, in
+-- hexadecimal digits
 unfoldable pub sum_of : List ℕ → List ℕ → List ℕ
-sum_of sum text = encode_lower (sha256 (sum ++ text))
+sum_of sum text = encode_lower (to_be_bytes w64 (number_after (number_after 0 sum) text))
 
 abbrev pub sum_after : List ℕ → Commit → List ℕ
 sum_after sum commit = sum_of sum (joined commit)

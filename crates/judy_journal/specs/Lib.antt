@@ -1,6 +1,9 @@
+pub mod Acts
+pub mod Crashes
 pub mod Disks
 pub mod Journals
-pub mod Memories
 pub mod Readings
+pub mod Recovered
 pub mod Recoveries
+pub mod Replays
 pub mod Writes

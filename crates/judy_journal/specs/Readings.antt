@@ -1,7 +1,7 @@
 -- A journal that is being read.
 --     Reading                        what a reader shows
 --     IsRead segment first text commits r   this text was read, and these commits are whole
-use Rattle.std.specs.Prelude.{◌≡◌, ◌<◌, ℕ, Bool, true, false, if◌then◌else◌, List, [], ◌∷◌, ◌++◌, length, IsTrue, Result, Ok, Err}
+use Rattle.std.specs.Prelude.{◌≡◌, ◌<◌, ℕ, Bool, true, false, if◌then◌else◌, List, [], ◌∷◌, ◌++◌, ◌+◌, length, IsTrue, Result, Ok, Err}
 use Rattle.std.specs.List.{list_all}
 use Rattle.judy_journal.specs.declared.reader.Read.{Read}
 use Rattle.judy_journal.specs.declared.reader.Read.TheVariants.{More, Whole}
@@ -53,6 +53,11 @@ HasEnded (Ok true) segment first text commits records r =
     IsRead segment first (text ++ 10 ∷ []) (commits ++ records ∷ []) r × (r.whole ≡ true) × (r.records ≡ records)
 HasEnded (Err damage) segment first text commits records r = (more : List ℕ) → IsDamaged damage segment first (text ++ 10 ∷ more)
 
+-- Damage was found while a line was read, and of these bytes a front was taken. The line, or a front of
+-- it, is held behind the records of its commit.
+abbrev pub HasStopped : List ℕ → ℕ → List ℕ → List ℕ → List Commit → Reading → Type 0
+HasStopped bytes segment first text commits r = (used : List ℕ) × (rest : List ℕ) × (used ++ rest ≡ bytes) × IsRead segment first (text ++ used) commits r
+
 -- what was read of these bytes: all of them, and no commit became whole; or the bytes up to the end of
 -- a commit, whose records the reader holds; or damage
 abbrev pub HasRead : Result Read Damage → ℕ → List ℕ → List ℕ → List Commit → List ℕ → Reading → Type 0
@@ -67,6 +72,27 @@ HasTaken (Ok false) segment first text commits chunk r = IsRead segment first (t
 HasTaken (Ok true) segment first text commits chunk r =
     IsRead segment first (text ++ (chunk ++ 10 ∷ [])) (commits ++ r.records ∷ []) r × (r.whole ≡ true)
 HasTaken (Err damage) segment first text commits chunk r = (more : List ℕ) → IsDamaged damage segment first (text ++ (chunk ++ 10 ∷ more))
+
+-- the text is whole, and the next one begins; or it is torn
+abbrev pub HasClosed : Result (Unit {0}) Damage → ℕ → List ℕ → List ℕ → List Commit → Reading → Type 0
+HasClosed (Ok done) segment first text commits r = Found segment first text commits [] × IsRead (segment + 1) (sum_at first commits) [] [] r
+HasClosed (Err damage) segment first text commits r = IsDamaged damage segment first text
+
+-- the reader of the segment after this one
+abbrev pub next_of : Reading → Reading
+next_of r = record {
+  segment = r.segment + 1;
+  first = r.sum;
+  sum = r.sum;
+  begun = false;
+  whole = false;
+  records = [];
+  line = [];
+}
+
+-- the same, from where this one continued
+abbrev pub restarted : Reading → Reading
+restarted r = next_of (record r { sum = r.first })
 
 -- a commit that became whole took at least a byte
 abbrev pub LeavesLess : Read → ℕ → Type 0

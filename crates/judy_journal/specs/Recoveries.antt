@@ -3,12 +3,12 @@
 --     IsDamaged damage segment sum text       the text is damaged
 --     RecoveryIsExact                         after a crash: the synced commits and the first of the others
 --     CrashesKeepMarks                        a crash alone leaves no other header and no other mark
-use Rattle.std.specs.Prelude.{◌≡◌, ◌≢◌, ◌⊎◌, ℕ, ◌<◌, ◌^◌, true, List, [], ◌∷◌, ◌++◌, length, IsTrue}
+use Rattle.std.specs.Prelude.{◌≡◌, ◌≢◌, ◌⊎◌, ℕ, ◌<◌, ◌≤◌, ◌^◌, true, List, [], ◌∷◌, ◌++◌, length, IsTrue}
 use Rattle.std.specs.List.{list_all}
 use Rattle.judy_model.specs.Stream.{lines_of}
 use Rattle.judy_journal.specs.declared.damage.Damage.{Damage}
 use Rattle.judy_journal.specs.declared.damage.Damage.TheVariants as damage
-use Rattle.judy_journal.specs.declared.format.TheConstants.{COMMIT_LIMIT}
+use Rattle.judy_journal.specs.declared.format.TheConstants.{COMMIT_LIMIT, LAST_SEGMENT}
 use Rattle.judy_journal.specs.Disks.{MayLeave}
 use Rattle.judy_journal.specs.Journals.{Commit, AreCommits, joined, is_line, is_mark, is_record, header, mark, journal_text, sum_at}
 
@@ -66,12 +66,19 @@ pub record HasNoHeader (text : List ℕ) : Type 0 where
   pub one : IsTrue (is_line front)
   pub long : COMMIT_LIMIT < length front
 
+-- after these commits comes a part of another one, or not even the first line is whole
+abbrev pub IsTorn : ℕ → List ℕ → List ℕ → Type 0
+IsTorn segment sum text = ((commits : List Commit) × (tail : List ℕ) × Found segment sum text commits tail × (0 < length tail)) ⊎ IsTrue (is_line text)
+
 -- what each kind of damage says
 abbrev pub IsDamaged : Damage → ℕ → List ℕ → List ℕ → Type 0
 IsDamaged damage.Header segment sum text = HasOtherHeader segment sum text
 IsDamaged damage.Mark segment sum text = HasOtherMark segment sum text
 IsDamaged damage.Long segment sum text = HasNoMark segment sum text
 IsDamaged damage.NoHeader segment sum text = HasNoHeader text
+IsDamaged damage.Torn segment sum text = IsTorn segment sum text
+IsDamaged damage.Number segment sum text = LAST_SEGMENT ≤ segment
+IsDamaged damage.Size segment sum text = 2 ^ 64 ≤ length text
 
 -- After a crash, whatever is found is the commits that were synced and the first of the others.
 abbrev pub RecoveryIsExact : Type 0

@@ -11,4 +11,10 @@ pub enum Damage {
     Mark,
     /// A commit does not end, or a line does not.
     Long,
+    /// Another file follows, and this one ends in the middle of a commit or of its first line.
+    Torn,
+    /// Another file follows the last segment that there may be.
+    Number,
+    /// The file has 2^64 bytes or more.
+    Size,
 }

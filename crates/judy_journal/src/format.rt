@@ -1,14 +1,13 @@
 //! The lines of a journal that are no records.
 ghost use Rattle.std.specs.Prelude.{◌≡◌, ◌≤◌, ◌<◌, ◌+◌, ◌++◌, ◌≢◌, ◌∷◌, length, true, false};
 ghost use Rattle.hex.specs.Hex.{encode_lower};
-ghost use Rattle.judy_journal.specs.Journals.{numbered, sum_of as sum_of_bytes};
+ghost use Rattle.judy_journal.specs.Journals.{number_after, numbered, sum_of as sum_of_bytes};
 
 use arrayvec::ArrayVec;
 use itoa::Buffer;
-use sha2::{Digest, Sha256};
 
-/// The bytes of a checksum: the digits of 32 bytes.
-pub const SUM_LEN: usize = 64;
+/// The bytes of a checksum: the digits of 8 bytes.
+pub const SUM_LEN: usize = 16;
 
 /// The most bytes of a commit, with the line that ends it.
 pub const TEXT_LIMIT: usize = 16384;
@@ -16,30 +15,61 @@ pub const TEXT_LIMIT: usize = 16384;
 /// The most bytes of the records of a commit.
 pub const COMMIT_LIMIT: usize = 16282;
 
+/// The most bytes of a record with its line feed: a name of 32 bytes and a request of 4,096.
+pub const RECORD_LIMIT: usize = 4130;
+
+/// A segment with at least this many bytes is full: the next commit begins the next one.
+pub const SEGMENT_LIMIT: u64 = 67108864;
+
+/// The number of the last segment. There is none after it, however many bytes it has.
+pub const LAST_SEGMENT: u64 = 999999999999;
+
+/// What comes before the number in a segment's first line.
+pub const HEADER: &[u8; 16] = b"judyd journal 1 ";
+
+/// What comes before the number in a snapshot's first line.
+pub const SNAPSHOT: &[u8; 17] = b"judyd snapshot 1 ";
+
+/// What comes before the count in the line that ends a commit.
+pub const MARK: &[u8; 2] = b"# ";
+
 /// The most bytes of a line with a number and a checksum.
-pub const LINE_ROOM: usize = 102;
+pub const LINE_ROOM: usize = 103;
 
 /// The most bytes of such a line before its number.
-pub const FRONT_LIMIT: usize = 16;
+pub const FRONT_LIMIT: usize = 17;
 
-/// The digits of a digest.
-fn digits_of(digest: [u8; 32]) -> [u8; SUM_LEN]
-    ensures { result ≡ encode_lower digest }
+/// What a checksum is multiplied by before each byte. It is odd, so the checksum is another one if a
+/// single byte is changed.
+pub const FACTOR: u64 = 1_099_511_628_211;
+
+/// The bytes as digits of a number modulo 2^64, after a number.
+fn number_after(number: u64, bytes: &[u8]) -> u64
+    ensures { result ≡ number_after number bytes.now }
+{
+    let mut sum = number;
+    for byte in bytes {
+        sum = sum.wrapping_mul(FACTOR).wrapping_add(*byte as u64);
+    }
+    sum
+}
+
+/// The hexadecimal digits of eight bytes.
+fn digits_of(bytes: [u8; 8]) -> [u8; SUM_LEN]
+    ensures { result ≡ encode_lower bytes }
 {
     let mut digits = [0u8; SUM_LEN];
-    let _fits = hex::encode_to_slice(digest, &mut digits);
+    let _fits = hex::encode_to_slice(bytes, &mut digits);
     digits
 }
 
-/// The checksum after the text of some records: the digits of the SHA-256 of the checksum before it
-/// and the text.
+/// The checksum after the text of some records, as hexadecimal digits: the checksum before it and the
+/// text as digits of a number.
 pub fn sum_of(sum: &[u8; SUM_LEN], text: &[u8]) -> [u8; SUM_LEN]
     ensures { result ≡ sum_of_bytes sum.now text.now }
 {
-    let mut hasher = Sha256::new();
-    hasher.update(sum.as_slice());
-    hasher.update(text);
-    digits_of(hasher.finalize())
+    let number = number_after(number_after(0, sum.as_slice()), text);
+    digits_of(number.to_be_bytes())
 }
 
 /// Puts bytes behind others.
@@ -54,7 +84,7 @@ pub fn put<const N: usize>(line: &mut ArrayVec<u8, N>, bytes: &[u8])
 pub fn numbered_line(front: &[u8], number: u64, sum: &[u8; SUM_LEN]) -> ArrayVec<u8, LINE_ROOM>
     requires { length front.now ≤ FRONT_LIMIT }
     ensures text { result.items ≡ numbered front.now number sum.now }
-    ensures short { length result.items + 1 ≤ LINE_ROOM }
+    ensures short { length result.items ≤ length front.now + 85 }
 {
     let mut line = ArrayVec::new();
     let mut digits = Buffer::new();

@@ -1,5 +1,5 @@
-//! The journal: the text of the calls that changed arrays, commit by commit, on a disk that may
-//! crash.
+//! The journal: the text of the calls that changed arrays, commit by commit, and how it is read
+//! again after a crash.
 //!
 //! A *record* is the line `TENANT REQUEST`. A *commit* is the records of one round of the server, or
 //! of a part of it, and ends with a line of their count and a checksum. The checksum covers the
@@ -7,20 +7,28 @@
 #![tactic(auto)]
 
 mod damage;
-mod disk;
 mod format;
 mod laws;
-mod memory;
 mod reader;
+mod records;
+mod recovery;
+mod replays;
 mod writer;
 
 pub use damage::Damage;
-pub use disk::Disk;
-pub use format::{COMMIT_LIMIT, SUM_LEN, TEXT_LIMIT};
-pub use laws::{crashes_keep_marks, recovery_is_exact, what_is_read_is_found};
-pub use memory::Memory;
+pub use format::{COMMIT_LIMIT, LAST_SEGMENT, RECORD_LIMIT, SEGMENT_LIMIT, SUM_LEN, TEXT_LIMIT};
+pub use laws::{
+    crashes_keep_marks, journal_is_exact, recovery_is_exact, what_is_read_is_found,
+    what_is_recovered_is_found, what_is_recovered_is_whole,
+};
 pub use reader::{Read, Reader};
-pub use writer::{Writer, start};
+pub use records::{read_record, snapshot_sum};
+pub use recovery::{Position, Recovery};
+pub use replays::{
+    Unplayed, recorded_calls_tell_all, records_tell_all, records_tell_one_change,
+    replays_are_exact, unrecorded_calls_keep_all,
+};
+pub use writer::Writer;
 
 #[cfg(test)]
 mod tests;

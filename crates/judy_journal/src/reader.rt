@@ -1,13 +1,16 @@
 //! Reads a journal's text in pieces.
-ghost use Rattle.std.specs.Prelude.{◌≡◌, ◌≢◌, ◌≤◌, ◌<◌, ◌+◌, ◌++◌, ℕ, List, [], ◌∷◌, length, true, false, IfOk, IsTrue, if◌then◌else◌};
+ghost use Rattle.std.specs.Prelude.{◌≡◌, ◌≢◌, ◌≤◌, ◌<◌, ◌+◌, ◌++◌, ℕ, List, [], ◌∷◌, length, true, false, IfOk, OnErr, IsTrue, if◌then◌else◌};
 ghost use Rattle.judy_protocol.specs.Talks.{HasNoLf};
 ghost use Rattle.judy_journal.specs.declared.damage.Damage.TheVariants as damage;
 ghost use Rattle.judy_journal.specs.Journals.{Commit, header, is_mark as marks, is_record, joined, mark, sum_after};
-ghost use Rattle.judy_journal.specs.Readings.{HasEnded, HasRead, HasTaken, IsRead, LeavesLess, forgotten, tail_of};
+ghost use Rattle.judy_journal.specs.Readings.{HasClosed, HasEnded, HasRead, HasStopped, HasTaken, IsRead, LeavesLess, forgotten, next_of, restarted, tail_of};
+ghost use Rattle.judy_journal.specs.Writes.{header_text};
 
 use crate::damage::Damage;
-use crate::format::{COMMIT_LIMIT, SUM_LEN, are_same, numbered_line, put, sum_of};
-use crate::writer::{HEADER, MARK};
+use crate::format::{
+    COMMIT_LIMIT, HEADER, LAST_SEGMENT, LINE_ROOM, MARK, SUM_LEN, are_same, numbered_line, put,
+    sum_of,
+};
 use arrayvec::ArrayVec;
 use judy_protocol::cut_line;
 use std::marker::Model;
@@ -172,9 +175,10 @@ impl Reader {
 
     /// Reads the line that is held, once it is whole. Returns whether a commit became whole.
     fn end_line(&mut self) -> Result<bool, Damage>
-        ensures { (segment : ℕ) (first text : List ℕ) (commits : List Commit)
+        ensures ended { (segment : ℕ) (first text : List ℕ) (commits : List Commit)
             → IsRead segment first text commits self.old → self.old.whole ≡ false
             → HasEnded result segment first text commits self.old.records self.new }
+        ensures same { OnErr result (self.new ≡ self.old) }
     {
         if !self.begun {
             if self.begin() {
@@ -207,9 +211,12 @@ impl Reader {
     /// Reads the rest of a line and its line feed. Returns whether a commit became whole.
     fn take_line(&mut self, chunk: &[u8]) -> Result<bool, Damage>
         requires { HasNoLf chunk.now }
-        ensures { (segment : ℕ) (first text : List ℕ) (commits : List Commit)
+        ensures taken { (segment : ℕ) (first text : List ℕ) (commits : List Commit)
             → IsRead segment first text commits self.old → self.old.whole ≡ false
             → HasTaken result segment first text commits chunk.now self.new }
+        ensures stopped { OnErr result ((segment : ℕ) (first text : List ℕ) (commits : List Commit)
+            → IsRead segment first text commits self.old → self.old.whole ≡ false
+            → HasStopped chunk.now segment first text commits self.new) }
     {
         if !self.hold(chunk) {
             return Err(self.too_long());
@@ -223,6 +230,9 @@ impl Reader {
         ensures read { (segment : ℕ) (first text : List ℕ) (commits : List Commit)
             → IsRead segment first text commits self.old
             → HasRead result segment first text commits bytes.now self.new }
+        ensures stopped { OnErr result ((segment : ℕ) (first text : List ℕ) (commits : List Commit)
+            → IsRead segment first text commits self.old
+            → HasStopped bytes.now segment first text commits self.new) }
         ensures left { IfOk result (λ read. LeavesLess read (length bytes.now)) }
     {
         self.forget();
@@ -255,5 +265,105 @@ impl Reader {
             return 0;
         }
         self.body.len() + self.line.len()
+    }
+
+    /// A reader of what comes after a first line.
+    pub fn begun(segment: u64, sum: &[u8; SUM_LEN]) -> Reader
+        ensures read { IsRead segment sum.now (header_text segment sum.now) [] result }
+        ensures unended { result.whole ≡ false }
+    {
+        let mut reader = Reader::new(segment, sum);
+        reader.begun = true;
+        reader
+    }
+
+    /// Goes on to the segment after this one, which continues from where this one did.
+    pub fn restart(&mut self)
+        requires { self.old.segment < LAST_SEGMENT }
+        ensures { self.new ≡ restarted self.old }
+    {
+        self.sum = self.first;
+        self.go_on();
+    }
+
+    /// Whether a commit without records became whole, and nothing came after it.
+    pub fn is_at_end(&self) -> bool
+        ensures end { result ≡ true → self.now.whole ≡ true }
+        ensures none { result ≡ true → self.now.records ≡ [] }
+        ensures other { result ≡ false → self.now.whole ≡ true → 0 < length self.now.records }
+    {
+        self.whole && self.count == 0
+    }
+
+    /// Goes on to the next segment.
+    fn go_on(&mut self)
+        requires { self.old.segment < LAST_SEGMENT }
+        ensures { self.new ≡ next_of self.old }
+    {
+        self.segment += 1;
+        self.first = self.sum;
+        self.begun = false;
+        self.whole = false;
+        self.body.clear();
+        self.count = 0;
+        self.line.clear();
+    }
+
+    /// Ends the text, which must be whole. The next bytes are of the segment after it.
+    pub fn end(&mut self) -> Result<(), Damage>
+        ensures { (segment : ℕ) (first text : List ℕ) (commits : List Commit)
+            → IsRead segment first text commits self.old
+            → HasClosed result segment first text commits self.new }
+    {
+        if self.segment >= LAST_SEGMENT {
+            return Err(Damage::Number);
+        }
+        if !self.begun {
+            return Err(Damage::Torn);
+        }
+        if self.unended() > 0 {
+            return Err(Damage::Torn);
+        }
+        self.go_on();
+        Ok(())
+    }
+
+    /// The number of the segment.
+    pub fn segment(&self) -> u64
+        ensures { result ≡ self.now.segment }
+    {
+        self.segment
+    }
+
+    /// The checksum after the last whole commit.
+    pub fn sum(&self) -> &[u8; SUM_LEN]
+        ensures { result.now ≡ self.now.sum }
+    {
+        &self.sum
+    }
+
+    /// How many bytes the records of the commit have that is not whole.
+    pub fn open_len(&self) -> usize
+        ensures { result ≡ (if self.now.whole then 0 else length (joined self.now.records)) }
+    {
+        if self.whole {
+            return 0;
+        }
+        self.body.len()
+    }
+
+    /// Whether the first line was read.
+    pub fn is_begun(&self) -> bool
+        ensures { result ≡ self.now.begun }
+    {
+        self.begun
+    }
+
+    /// How many bytes the first line has, with its line feed.
+    pub fn header_len(&self) -> usize
+        ensures exact { result ≡ length (header_text self.now.segment self.now.first) }
+        ensures short { result ≤ LINE_ROOM }
+    {
+        numbered_line(HEADER, self.segment, &self.first).len() + 1
     }
 }

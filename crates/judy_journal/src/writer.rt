@@ -1,26 +1,26 @@
-//! Writes a journal: the records of a round into a buffer, and then the buffer to the disk.
-ghost use Rattle.std.specs.Prelude.{◌≡◌, ◌≤◌, ◌<◌, ◌+◌, ◌++◌, ℕ, List, [], ◌∷◌, length, true, false, None, IfSome, codes};
-ghost use Rattle.std.specs.Io.KnownBytes.{append_known};
-ghost use Rattle.judy_journal.specs.Journals.{Commit, commits_lines, joined, journal_text, numbered, record_of, sum_of as sum_of_bytes};
-ghost use Rattle.judy_journal.specs.Writes.{HasText, IsShortRecord, IsWritten, commits_of};
+//! Makes the text of a journal: gathers the records of a round, and ends them as a commit.
+ghost use Rattle.std.specs.Prelude.{◌≡◌, ◌≤◌, ◌<◌, ◌+◌, ◌++◌, [], ◌∷◌, length, true, false, codes, IsTrue, nat_le};
+ghost use Rattle.judy_journal.specs.Journals.{is_commit, joined, numbered, record_of, sum_of as sum_of_bytes};
+ghost use Rattle.judy_journal.specs.Writes.{IsShortRecord, begun, ended, has_room as has_room_for, snapshot_line};
 
-use crate::disk::Disk;
-use crate::format::{COMMIT_LIMIT, SUM_LEN, TEXT_LIMIT, numbered_line, put, sum_of};
+use crate::format::{
+    COMMIT_LIMIT, HEADER, LAST_SEGMENT, MARK, RECORD_LIMIT, SEGMENT_LIMIT, SNAPSHOT, SUM_LEN,
+    TEXT_LIMIT, numbered_line, put, sum_of,
+};
 use arrayvec::ArrayVec;
 use std::marker::Model;
 
-/// What comes before the number in a segment's first line.
-pub const HEADER: &[u8; 16] = b"judyd journal 1 ";
-
-/// What comes before the count in the line that ends a commit.
-pub const MARK: &[u8; 2] = b"# ";
-
-/// Writes a segment of a journal.
+/// Makes the text of a journal. It knows no disk.
+///
+/// It has some 32 KiB: make one at the start, and put it into a `Box`.
 #[derive(Drop)]
 pub struct Writer {
+    segment: u64,
     sum: [u8; SUM_LEN],
-    text: ArrayVec<u8, TEXT_LIMIT>,
+    size: u64,
+    body: ArrayVec<u8, COMMIT_LIMIT>,
     count: u64,
+    text: ArrayVec<u8, TEXT_LIMIT>,
 }
 
 impl Model for Writer {
@@ -31,133 +31,175 @@ impl Model for Writer {
 
     ghost Value = { Writing };
 
-    ghost view = { λ w. record { sum = w.sum; records = lines_of w.text.items } };
+    ghost view = { λ w. record {
+      segment = w.segment;
+      sum = w.sum;
+      size = w.size;
+      records = lines_of w.body.items;
+      text = w.text.items;
+    } };
 
-    ghost invariant = { λ w. (rest_of w.text.items ≡ []) × (w.count ≡ length (lines_of w.text.items))
-        × IsTrue (is_commit (lines_of w.text.items)) };
+    ghost invariant = { λ w. (rest_of w.body.items ≡ []) × (w.count ≡ length (lines_of w.body.items))
+        × IsTrue (is_commit (lines_of w.body.items)) };
 }
 
 /// Puts the line of a record behind others.
-fn put_record(text: &mut ArrayVec<u8, TEXT_LIMIT>, tenant: &[u8], request: &[u8])
-    requires { length text.old.items + length tenant.now + length request.now + 2 ≤ TEXT_LIMIT }
-    ensures { text.new.items ≡ text.old.items ++ (record_of tenant.now request.now ++ 10 ∷ []) }
+fn put_record(body: &mut ArrayVec<u8, COMMIT_LIMIT>, tenant: &[u8], request: &[u8])
+    requires { length body.old.items + length tenant.now + length request.now + 2 ≤ COMMIT_LIMIT }
+    ensures { body.new.items ≡ body.old.items ++ (record_of tenant.now request.now ++ 10 ∷ []) }
 {
-    put(text, tenant);
-    put(text, b" ");
-    put(text, request);
-    put(text, b"\n");
+    put(body, tenant);
+    put(body, b" ");
+    put(body, request);
+    put(body, b"\n");
 }
 
-impl Writer {
-    /// A writer that goes on after a commit with this checksum.
-    pub fn new(sum: &[u8; SUM_LEN]) -> Writer
-        ensures { result ≡ record { sum = sum.now; records = [] } }
-    {
-        Writer {
-            sum: *sum,
-            text: ArrayVec::new(),
-            count: 0,
-        }
-    }
-
-    /// Adds a record to the commit that is open. False if the commit has no room for it.
-    pub fn add(&mut self, tenant: &[u8], request: &[u8]) -> bool
-        requires { IsShortRecord tenant.now request.now }
-        ensures added { result ≡ true → self.new ≡ record self.old {
-          records = self.old.records ++ record_of tenant.now request.now ∷ [];
-        } }
-        ensures full { result ≡ false → COMMIT_LIMIT
-            < length (joined self.old.records) + length tenant.now + length request.now + 2 }
-        ensures same { result ≡ false → self.new ≡ self.old }
-    {
-        if self.text.len() + tenant.len() + request.len() + 2 > COMMIT_LIMIT {
-            return false;
-        }
-        put_record(&mut self.text, tenant, request);
-        self.count += 1;
-        true
-    }
-}
-
-/// Puts the line that ends a commit behind its records. Returns the checksum that it ends with.
-fn put_mark(text: &mut ArrayVec<u8, TEXT_LIMIT>, count: u64, sum: &[u8; SUM_LEN]) -> [u8; SUM_LEN]
-    requires { length text.old.items ≤ COMMIT_LIMIT }
-    ensures sum { result ≡ sum_of_bytes sum.now text.old.items }
-    ensures text { text.new.items
-        ≡ text.old.items ++ (numbered (codes "# ") count result ++ 10 ∷ []) }
+/// Makes the text of a commit: its records, and the line that ends it. Returns the checksum that it
+/// ends with.
+fn put_commit(
+    text: &mut ArrayVec<u8, TEXT_LIMIT>,
+    body: &[u8],
+    count: u64,
+    sum: &[u8; SUM_LEN],
+) -> [u8; SUM_LEN]
+    requires { length body.now ≤ COMMIT_LIMIT }
+    ensures sum { result ≡ sum_of_bytes sum.now body.now }
+    ensures text { text.new.items ≡ body.now ++ (numbered (codes "# ") count result ++ 10 ∷ []) }
 {
-    let sum = sum_of(sum, text.as_slice());
+    let sum = sum_of(sum, body);
     let mark = numbered_line(MARK, count, &sum);
+    text.clear();
+    put(text, body);
     put(text, mark.as_slice());
     put(text, b"\n");
     sum
 }
 
-/// Begins an empty segment: writes its first line and syncs it. None if the disk failed.
-pub fn start<D: Disk>(disk: &mut D, segment: u64, sum: &[u8; SUM_LEN]) -> Option<Writer>
-    requires empty { HasText (D.written disk.old) [] }
-    ensures written { IfSome result
-        (λ w. IsWritten segment sum.now (D.written disk.new) [] w × (w.records ≡ [])) }
-    ensures synced { IfSome result (λ w. D.synced disk.new ≡ D.written disk.new) }
-    ensures none { result ≡ None → (part : List ℕ) × (missing : List ℕ)
-        × (part ++ missing ≡ journal_text segment sum.now [])
-        × (D.written disk.new ≡ append_known (D.written disk.old) part) }
-    ensures kept { result ≡ None → D.synced disk.new ≡ D.synced disk.old }
-{
-    let mut header = numbered_line(HEADER, segment, sum);
-    put(&mut header, b"\n");
-    if !disk.append(header.as_slice()) {
-        return None;
-    }
-    if !disk.sync() {
-        return None;
-    }
-    Some(Writer::new(sum))
-}
-
 impl Writer {
-    /// Appends the records of the commit that is open, with its mark, if there are any. False if the
-    /// disk failed. Then it may have taken a part of the text.
-    pub fn end<D: Disk>(&mut self, disk: &mut D) -> bool
-        ensures written { result ≡ true → (segment : ℕ) (first : List ℕ) (commits : List Commit)
-            → IsWritten segment first (D.written disk.old) commits self.old
-            → IsWritten segment first (D.written disk.new)
-            (commits ++ commits_of self.old.records) self.new }
-        ensures empty { result ≡ true → self.new.records ≡ [] }
-        ensures whole { result ≡ true → D.written disk.new ≡ append_known (D.written disk.old)
-            (joined (commits_lines self.old.sum (commits_of self.old.records))) }
-        ensures part { result ≡ false → (part : List ℕ) × (missing : List ℕ)
-            × (part ++ missing ≡ joined (commits_lines self.old.sum (commits_of self.old.records)))
-            × (D.written disk.new ≡ append_known (D.written disk.old) part) }
-        ensures synced { D.synced disk.new ≡ D.synced disk.old }
+    /// A writer that goes on in this segment, which has `size` bytes, after this checksum.
+    pub fn new(segment: u64, sum: &[u8; SUM_LEN], size: u64) -> Writer
+        ensures { result ≡ record {
+          segment = segment;
+          sum = sum.now;
+          size = size;
+          records = [];
+          text = [];
+        } }
     {
-        if self.count == 0 {
-            return true;
+        Writer {
+            segment,
+            sum: *sum,
+            size,
+            body: ArrayVec::new(),
+            count: 0,
+            text: ArrayVec::new(),
         }
-        let sum = put_mark(&mut self.text, self.count, &self.sum);
-        let kept = disk.append(self.text.as_slice());
-        self.text.clear();
-        self.count = 0;
-        self.sum = sum;
-        kept
     }
 
-    /// Ends the commit that is open, and syncs. False if the disk failed.
-    pub fn commit<D: Disk>(&mut self, disk: &mut D) -> bool
-        ensures written { result ≡ true → (segment : ℕ) (first : List ℕ) (commits : List Commit)
-            → IsWritten segment first (D.written disk.old) commits self.old
-            → IsWritten segment first (D.written disk.new)
-            (commits ++ commits_of self.old.records) self.new }
-        ensures empty { result ≡ true → self.new.records ≡ [] }
-        ensures synced { result ≡ true → D.synced disk.new ≡ D.written disk.new }
-        ensures part { result ≡ false → (part : List ℕ) × (missing : List ℕ)
-            × (part ++ missing ≡ joined (commits_lines self.old.sum (commits_of self.old.records)))
-            × (D.written disk.new ≡ append_known (D.written disk.old) part) }
-        ensures kept { result ≡ false → D.synced disk.new ≡ D.synced disk.old }
+    /// Whether the commit that is open has room for any record with a name of at most 32 bytes and a
+    /// request of at most 4,096.
+    pub fn has_room(&self) -> bool
+        ensures { result ≡ has_room_for self.now }
     {
-        if !self.end(disk) {
-            return false;
-        }
-        disk.sync()
+        self.body.len() + RECORD_LIMIT <= COMMIT_LIMIT
+    }
+
+    /// Adds a record to the commit that is open.
+    pub fn add(&mut self, tenant: &[u8], request: &[u8])
+        requires short { IsShortRecord tenant.now request.now }
+        requires room { IsTrue (has_room_for self.old) }
+        ensures { self.new ≡ record self.old {
+          records = self.old.records ++ record_of tenant.now request.now ∷ [];
+        } }
+    {
+        put_record(&mut self.body, tenant, request);
+        self.count += 1;
+    }
+
+    /// Whether the commit that is open has no records.
+    pub fn is_empty(&self) -> bool
+        ensures none { result ≡ true → self.now.records ≡ [] }
+        ensures some { result ≡ false → 0 < length self.now.records }
+    {
+        self.count == 0
+    }
+
+    /// Ends the commit that is open, also if it has no records.
+    fn finish(&mut self)
+        ensures ended { self.new ≡ ended self.old }
+        ensures commit { IsTrue (is_commit self.old.records) }
+    {
+        self.sum = put_commit(&mut self.text, self.body.as_slice(), self.count, &self.sum);
+        self.size = self.size.saturating_add(self.text.len() as u64);
+        self.body.clear();
+        self.count = 0;
+    }
+
+    /// Ends the commit that is open: its text is its records and its mark.
+    pub fn end(&mut self)
+        requires some { 0 < length self.old.records }
+        ensures ended { self.new ≡ ended self.old }
+        ensures commit { IsTrue (is_commit self.old.records) }
+    {
+        self.finish();
+    }
+
+    /// The number of the segment.
+    pub fn segment(&self) -> u64
+        ensures { result ≡ self.now.segment }
+    {
+        self.segment
+    }
+
+    /// The text that was made last.
+    pub fn text(&self) -> &[u8]
+        ensures { result.now ≡ self.now.text }
+    {
+        self.text.as_slice()
+    }
+
+    /// Whether the next segment is due: this one has at least `SEGMENT_LIMIT` bytes, and is not the
+    /// last.
+    pub fn is_full(&self) -> bool
+        ensures size { result ≡ true → SEGMENT_LIMIT ≤ self.now.size }
+        ensures number { result ≡ true → self.now.segment < LAST_SEGMENT }
+        ensures room { result ≡ false → self.now.segment < LAST_SEGMENT → self.now.size < SEGMENT_LIMIT }
+    {
+        self.segment < LAST_SEGMENT && self.size >= SEGMENT_LIMIT
+    }
+
+    /// Begins the next segment: its text is the first line.
+    pub fn next_segment(&mut self)
+        requires ended { self.old.records ≡ [] }
+        requires number { self.old.segment < LAST_SEGMENT }
+        ensures { self.new ≡ begun self.old }
+    {
+        self.segment += 1;
+        let header = numbered_line(HEADER, self.segment, &self.sum);
+        self.text.clear();
+        put(&mut self.text, header.as_slice());
+        put(&mut self.text, b"\n");
+        self.size = self.text.len() as u64;
+    }
+
+    /// Begins a snapshot of the segments up to this one: its text is the first line.
+    pub fn begin_snapshot(&mut self)
+        requires { self.old.records ≡ [] }
+        ensures { self.new ≡ record self.old {
+          text = joined (snapshot_line self.old.segment self.old.sum ∷ []);
+        } }
+    {
+        let header = numbered_line(SNAPSHOT, self.segment, &self.sum);
+        self.text.clear();
+        put(&mut self.text, header.as_slice());
+        put(&mut self.text, b"\n");
+    }
+
+    /// Ends a snapshot: its text is the mark of a commit without records.
+    pub fn end_snapshot(&mut self)
+        requires { self.old.records ≡ [] }
+        ensures { self.new ≡ ended self.old }
+    {
+        self.finish();
     }
 }

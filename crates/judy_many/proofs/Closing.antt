@@ -1,46 +1,60 @@
 -- How the serving of many ends.
-use Rattle.std.proofs.Common.{◌≡◌, inl, inr, ◌≤◌, ℕ, Bool, true, false, List, [], ◌∷◌, ◌++◌, length, Option, arith, sym, ◌∙◌, ap, subst, refl, append-nil}
+use Rattle.std.proofs.Common.{◌≡◌, inl, inr, ◌≤◌, ℕ, Bool, true, false, List, [], ◌∷◌, ◌++◌, length, Option, None, Some, arith, sym, ◌∙◌, ap, subst, refl, append-nil}
+use Rattle.std.specs.Prelude.{is_some}
 use Rattle.judy_model.specs.Service.{ServingGoesOn, ServingIsStepwise}
-use Rattle.judy_model.specs.Solo.{SoloIsDetermined}
-use Rattle.judy_model.specs.Worlds.{served-worlds}
-use Rattle.judy_protocol.proofs.Ending.{are_served}
-use Rattle.judy_many.specs.Crowds.{AreFree, Crowd, HasServedMany, IsTold, events_in}
+use Rattle.judy_model.specs.Solo.{SoloGoesOn, SoloIsDetermined}
+use Rattle.judy_journal.specs.Writes.{Writing}
+use Rattle.judy_many.specs.Books.{Journal, opened}
+use Rattle.judy_many.specs.Crowds.{AreFree, Crowd, HasFailed, HasServedMany, IsTold, past_of}
 use Rattle.judy_many.specs.Endings.{IsCaused, IsSpent, lost_in, waits_in}
-use Rattle.judy_many.specs.Queues.{nobody}
+use Rattle.judy_many.specs.Queues.{everybody, nobody}
 use Rattle.judy_many.specs.Lives.{IsServed, View}
-use Rattle.judy_many.specs.Nets.{Acts, DidLog}
-use Rattle.judy_many.specs.Nets.Act.{Lost, Questioned}
+use Rattle.judy_many.specs.Journaling.{AreKept, Carries, IsFailure, MayKeep}
+use Rattle.judy_many.specs.Nets.{Act, Acts, DidLog}
+use Rattle.judy_many.specs.Nets.Act.{Came, Refused, Read, Ended, Broke, Wrote, Failed, Closed, Waited, Lost, Asked, Questioned, Reported, Warned, Tabled, Untabled, Replied, Began, Kept, Unkept, Synced, Unsynced}
 use Rattle.judy_many.specs.Rules.{Rules}
-use Rattle.judy_many.specs.Sessions.{replies_in}
-use Rattle.judy_many.specs.Statuses.{HasAnswered, Passes}
-use Rattle.judy_many.specs.Stories.{AreWithin, Phase, IsPhased, Share, Story, acts_in, came_in, closed_in, own, times, turns_in, writes_since}
+use Rattle.judy_many.specs.Statuses.{HasAnswered, Lasts, Passes}
+use Rattle.judy_many.specs.Stories.{AreRead, AreWithin, Phase, IsPhased, Share, Story, acts_in, came_in, closed_in, own, times, writes_since}
 use Rattle.judy_many.specs.Stories.Moment.{Did}
+use Rattle.judy_many.specs.declared.asking.Next.TheVariants as next
 use Rattle.judy_many.specs.declared.network.Question.TheVariants as question
 use Rattle.judy_many.specs.declared.serve.Ending.{Ending}
 use Rattle.judy_many.specs.declared.serve.Ending.TheVariants as ending
+use Rattle.judy_many.specs.declared.network.Sync.{Sync}
 use Rattle.judy_many.specs.declared.serve.Limits.{Limits}
+use Rattle.judy_many.proofs.Beside.{stays_past}
+use Rattle.judy_many.proofs.Journals.{is_quiet, keeps_quiet}
 use Rattle.judy_many.proofs.Owning.{own-append}
-use Rattle.judy_many.proofs.Seeing.{Called, IsUnseen, KeepsApart, turns_seen}
+use Rattle.judy_many.proofs.Chaining.{Stays, kept_alone, runs_alone}
+use Rattle.judy_many.proofs.Seeing.{IsUnseen, KeepsApart}
 use Rattle.judy_many.proofs.Seats.{free_at, taken_most}
 use Rattle.judy_many.proofs.Turning.{still}
-use Rattle.judy_many.proofs.Passing.{passes_run}
 use Rattle.judy_many.proofs.Living.{no_log}
 use Rattle.judy_many.proofs.Crowding.{crowd_first, told_more}
 
+-- there is a journal only where there is a rule when it is synced
+pub opened_allowed : (limits : Limits) (writer : Option Writing) → MayKeep limits (opened limits.journal writer)
+opened_allowed limits writer = allowed limits.journal writer refl
+  where
+    allowed : (rule : Option Sync) (w : Option Writing) → limits.journal ≡ rule → MayKeep limits (opened rule w)
+    allowed None w e = tt
+    allowed (Some rule) None e = tt
+    allowed (Some rule) (Some w) e = ap is_some e
+
+are_kept : (i j : Option Journal) (story : Story) → Carries i story j → AreKept i story
+are_kept None j story h = tt
+are_kept (Some i) j story h = h.0
+
 -- the server ends, after these last answers
-crowd_ends : {B S : Type 0} (view : B → View) (rules : Rules S) (apart : KeepsApart rules) (unseen : IsUnseen rules)
-    → ServingGoesOn → ServingIsStepwise → SoloIsDetermined
-    → (first : S) (start mid log : Acts) (phase : Phase) (had : ℕ → Type 0) (waits lost : ℕ) (slots : List (Option B)) (count : ℕ) (now : S) (limits : Limits) (how : Ending) (more : Story)
+crowd_ends : {B S : Type 0} (view : B → View) (rules : Rules S) (apart : KeepsApart rules) (unseen : IsUnseen rules) (stays : Stays rules)
+    → ServingGoesOn → ServingIsStepwise → SoloIsDetermined → SoloGoesOn
+    → (first : S) (start mid log : Acts) (writer : Option Writing) (phase : Phase) (had : ℕ → Type 0) (waits : ℕ) (journal : Option Journal) (lost : ℕ) (slots : List (Option B)) (count : ℕ) (now : S) (limits : Limits) (how : Ending) (more : Story)
     → (how ≡ ending.Done → (limits.connections ≤ count) × AreFree slots)
-    → (h : Crowd view rules limits first start phase had waits mid slots count now)
-    → ((n : ℕ) → own n more ≡ []) → IsTold rules limits first start phase lost waits log slots count now (h.story ++ more) → IsCaused how (h.story ++ more)
-    → HasServedMany rules limits how start log first now
-crowd_ends view rules apart unseen goes_on one equal first start mid log phase had waits lost slots count now limits how more done h none told cause =
+    → (h : Crowd view rules limits first start phase had (past_of waits (opened limits.journal writer) journal) mid slots count now)
+    → ((n : ℕ) → own n more ≡ []) → IsTold rules limits first start phase lost (past_of waits (opened limits.journal writer) journal) log slots count now (h.story ++ more) → IsCaused how (h.story ++ more)
+    → HasServedMany rules limits writer how start log first now
+crowd_ends view rules apart unseen stays goes_on one equal steps first start mid log writer phase had waits journal lost slots count now limits how more done h none told cause =
     let story = h.story ++ more in
-    let turns = turns_in story in
-    let ran = passes_run rules first now story told.run in
-    let all = turns_seen rules apart unseen first now turns ran in
-    let run = (are_served Called (λ s. s) (λ before after event reply h. h) goes_on one equal (rules.seen first) (rules.seen now) (events_in turns) (replies_in turns) all.0 all.1).0 in
     record {
       story = story;
       logged = told.logged;
@@ -59,88 +73,141 @@ crowd_ends view rules apart unseen goes_on one equal first start mid log phase h
             | inl q ↦ subst (λ t. closed_in (acts_in t) ≡ 1) (sym (same n)) q
             | inr q ↦ absurd (free_at slots q.i q.b all.1 q.there)
           ];
-      run = ran;
       told = told.run;
-      solo = run;
-      worlds = served-worlds equal (rules.seen first).quotas (rules.seen first).states (events_in turns) (replies_in turns) (rules.seen now).states run;
+      reads = told.reads;
+      lasts = told.lasts;
+      journaled = are_kept (opened limits.journal writer) journal story told.keeps;
+      alone = runs_alone rules apart unseen stays goes_on one equal first now story told.run;
+      kept = kept_alone rules apart unseen stays goes_on one equal steps first now story told.run;
     }
   where
     same : (n : ℕ) → own n (h.story ++ more) ≡ own n h.story
     same n = own-append n h.story more ∙ ap (λ l. own n h.story ++ l) (none n) ∙ append-nil (own n h.story)
 
 -- in a crowd: nothing more is answered, or that something failed for good
-module _ {B S : Type 0} (view : B → View) (rules : Rules S) (apart : KeepsApart rules) (unseen : IsUnseen rules)
-    (goes_on : ServingGoesOn) (one : ServingIsStepwise) (equal : SoloIsDetermined)
-    (first : S) (start : Acts) (limits : Limits) where
-  told_on : (phase : Phase) (had : ℕ → Type 0) (waits lost : ℕ) (mid log : Acts) (slots : List (Option B)) (count : ℕ) (now : S)
-      (h : Crowd view rules limits first start phase had waits mid slots count now) (more : Story)
-      → DidLog mid (acts_in more) log → Passes rules now more now → came_in (acts_in more) ≡ 0 → closed_in (acts_in more) ≡ 0 → AreWithin limits (acts_in more)
+module _ {B S : Type 0} (view : B → View) (rules : Rules S) (apart : KeepsApart rules) (unseen : IsUnseen rules) (stays : Stays rules)
+    (goes_on : ServingGoesOn) (one : ServingIsStepwise) (equal : SoloIsDetermined) (steps : SoloGoesOn)
+    (first : S) (start : Acts) (limits : Limits) (writer : Option Writing) where
+  told_on : (phase : Phase) (had : ℕ → Type 0) (waits : ℕ) (journal : Option Journal) (lost : ℕ) (mid log : Acts) (slots : List (Option B)) (count : ℕ) (now : S)
+      (h : Crowd view rules limits first start phase had (past_of waits (opened limits.journal writer) journal) mid slots count now) (more : Story)
+      → DidLog mid (acts_in more) log → Passes rules now more now → Lasts rules (is_some limits.journal) now more now → came_in (acts_in more) ≡ 0 → closed_in (acts_in more) ≡ 0 → AreWithin limits (acts_in more)
       → ((wrote : Bool) → IsPhased wrote more × (writes_since wrote more ≡ wrote)) → ((share : Share) → times share more ≡ 0)
-      → lost ≡ lost_in (acts_in more) → waits_in (acts_in more) ≡ 0
-      → IsTold rules limits first start phase lost waits log slots count now (h.story ++ more)
-  told_on phase had waits lost mid log slots count now h more k r came closed within phases silent lose wait =
-      told_more rules limits first start phase phase 0 lost waits waits mid log slots slots count count now now h.story more h.is_told k r
+      → lost ≡ lost_in (acts_in more) → waits_in (acts_in more) ≡ 0 → is_quiet more ≡ true → ((last : Option (List ℕ)) → AreRead limits last more)
+      → IsTold rules limits first start phase lost (past_of waits (opened limits.journal writer) journal) log slots count now (h.story ++ more)
+  told_on phase had waits journal lost mid log slots count now h more k r l came closed within phases silent lose wait quiet reads =
+      told_more rules limits first start phase phase 0 lost (past_of waits (opened limits.journal writer) journal) (past_of waits (opened limits.journal writer) journal) mid log slots slots count count now now h.story more h.is_told k r l
       (omega (arith, came)) h.is_told.capped (omega (arith, came, closed))
       (let a = taken_most slots in let b = h.is_told.sized in omega (arith, a, b, came)) h.is_told.sized within
       (phases (writes_since false h.story)).0 (λ e. (phases (writes_since false h.story)).1 ∙ h.is_told.quiet e)
-      (still h.story more h.is_told.fair silent) (omega (arith, lose)) (omega (arith, wait))
+      (still h.story more h.is_told.fair silent) (omega (arith, lose)) (stays_past phase (past_of waits (opened limits.journal writer) journal) more wait (keeps_quiet journal more quiet) h.is_told.settled) reads
 
-  pub ends_here : (log : Acts) (phase : Phase) (had : ℕ → Type 0) (waits : ℕ) (slots : List (Option B)) (count : ℕ) (now : S) (how : Ending)
+  pub ends_here : (log : Acts) (phase : Phase) (had : ℕ → Type 0) (waits : ℕ) (journal : Option Journal) (slots : List (Option B)) (count : ℕ) (now : S) (how : Ending)
       → (how ≡ ending.Done → (limits.connections ≤ count) × AreFree slots)
-      → (h : Crowd view rules limits first start phase had waits log slots count now)
-      → IsCaused how (h.story ++ []) → HasServedMany rules limits how start log first now
-  ends_here log phase had waits slots count now how done h cause =
-      crowd_ends view rules apart unseen goes_on one equal first start log log phase had waits 0 slots count now limits how [] done h (λ n. refl)
-      (told_on phase had waits 0 log log slots count now h [] (no_log log) refl refl refl tt (λ wrote. (tt, refl)) (λ share. refl) refl refl) cause
+      → (h : Crowd view rules limits first start phase had (past_of waits (opened limits.journal writer) journal) log slots count now)
+      → IsCaused how (h.story ++ []) → HasServedMany rules limits writer how start log first now
+  ends_here log phase had waits journal slots count now how done h cause =
+      crowd_ends view rules apart unseen stays goes_on one equal steps first start log log writer phase had waits journal 0 slots count now limits how [] done h (λ n. refl)
+      (told_on phase had waits journal 0 log log slots count now h [] (no_log log) refl refl refl refl tt (λ wrote. (tt, refl)) (λ share. refl) refl refl refl (λ last. tt)) cause
 
   -- before anything was asked of the system
-  pub ends_first : (slots : List (Option B)) → AreFree slots → length slots ≤ limits.clients → HasServedMany rules limits ending.Memory start start first first
+  pub ends_first : (slots : List (Option B)) → AreFree slots → length slots ≤ limits.clients → HasServedMany rules limits writer ending.Memory start start first first
   ends_first slots free sized =
-      let first_of = crowd_first view rules limits first start slots free sized in
-      ends_here start Phase.Reads nobody 0 slots 0 first ending.Memory (λ e. absurd (memory_not e)) first_of.0 (ap (λ t. t ++ []) first_of.1)
+      let first_of = crowd_first view rules limits first start (opened limits.journal writer) slots free sized (opened_allowed limits writer) in
+      ends_here start Phase.Reads nobody 0 (opened limits.journal writer) slots 0 first ending.Memory (λ e. absurd (memory_not e)) first_of.0 (ap (λ t. t ++ []) first_of.1)
     where
       memory_not : ending.Memory ≡ ending.Done → ⊥
       memory_not e = cc
 
   -- in order
-  pub ends_done : (log : Acts) (phase : Phase) (had : ℕ → Type 0) (waits : ℕ) (slots : List (Option B)) (count : ℕ) (now : S)
-      → limits.connections ≤ count → AreFree slots → Crowd view rules limits first start phase had waits log slots count now
-      → HasServedMany rules limits ending.Done start log first now
-  ends_done log phase had waits slots count now enough free h =
-      ends_here log phase had waits slots count now ending.Done (λ e. (enough, free)) h (subst (λ t. lost_in (acts_in t) ≡ 0) (sym (append-nil h.story)) h.is_told.unlost)
+  pub ends_done : (log : Acts) (phase : Phase) (had : ℕ → Type 0) (waits : ℕ) (journal : Option Journal) (slots : List (Option B)) (count : ℕ) (now : S)
+      → limits.connections ≤ count → AreFree slots → Crowd view rules limits first start phase had (past_of waits (opened limits.journal writer) journal) log slots count now
+      → HasServedMany rules limits writer ending.Done start log first now
+  ends_done log phase had waits journal slots count now enough free h =
+      ends_here log phase had waits journal slots count now ending.Done (λ e. (enough, free)) h (subst (λ t. lost_in (acts_in t) ≡ 0) (sym (append-nil h.story)) h.is_told.unlost)
 
   -- after all rounds
-  pub ends_spent : (log : Acts) (phase : Phase) (had : ℕ → Type 0) (waits : ℕ) (slots : List (Option B)) (count : ℕ) (now : S)
-      → waits ≡ 18446744073709551615 → Crowd view rules limits first start phase had waits log slots count now
-      → HasServedMany rules limits ending.Socket start log first now
-  ends_spent log phase had waits slots count now all h =
-      ends_here log phase had waits slots count now ending.Socket (λ e. absurd (socket_not e)) h
+  pub ends_spent : (log : Acts) (phase : Phase) (had : ℕ → Type 0) (waits : ℕ) (journal : Option Journal) (slots : List (Option B)) (count : ℕ) (now : S)
+      → waits ≡ 18446744073709551615 → Crowd view rules limits first start phase had (past_of waits (opened limits.journal writer) journal) log slots count now
+      → HasServedMany rules limits writer ending.Socket start log first now
+  ends_spent log phase had waits journal slots count now all h =
+      ends_here log phase had waits journal slots count now ending.Socket (λ e. absurd (socket_not e)) h
       (inr (subst IsSpent (sym (append-nil h.story)) (record { rounds = h.is_told.waited ∙ all; unlost = h.is_told.unlost })))
     where
       socket_not : ending.Socket ≡ ending.Done → ⊥
       socket_not e = cc
 
   -- where the listener, or the wait, failed for good
-  pub ends_lost : (mid log : Acts) (phase : Phase) (had : ℕ → Type 0) (waits : ℕ) (slots : List (Option B)) (count : ℕ) (now : S)
-      → DidLog mid (Lost ∷ []) log → Crowd view rules limits first start phase had waits mid slots count now
-      → HasServedMany rules limits ending.Socket start log first now
-  ends_lost mid log phase had waits slots count now k h =
-      crowd_ends view rules apart unseen goes_on one equal first start mid log phase had waits 1 slots count now limits ending.Socket (Did Lost ∷ []) (λ e. absurd (socket_not e)) h (λ n. refl)
-      (told_on phase had waits 1 mid log slots count now h (Did Lost ∷ []) k (tt, refl) refl refl (tt, tt) (λ wrote. ((tt, tt), refl)) (λ share. refl) refl refl)
+  pub ends_lost : (mid log : Acts) (phase : Phase) (had : ℕ → Type 0) (waits : ℕ) (journal : Option Journal) (slots : List (Option B)) (count : ℕ) (now : S)
+      → DidLog mid (Lost ∷ []) log → Crowd view rules limits first start phase had (past_of waits (opened limits.journal writer) journal) mid slots count now
+      → HasServedMany rules limits writer ending.Socket start log first now
+  ends_lost mid log phase had waits journal slots count now k h =
+      crowd_ends view rules apart unseen stays goes_on one equal steps first start mid log writer phase had waits journal 1 slots count now limits ending.Socket (Did Lost ∷ []) (λ e. absurd (socket_not e)) h (λ n. refl)
+      (told_on phase had waits journal 1 mid log slots count now h (Did Lost ∷ []) k (tt, refl) refl refl refl (tt, tt) (λ wrote. ((tt, tt), refl)) (λ share. refl) refl refl refl (λ last. tt))
       (inl (record { before = h.story; last = refl; once = h.is_told.unlost }))
     where
       socket_not : ending.Socket ≡ ending.Done → ⊥
       socket_not e = cc
 
   -- where a stop was asked for
-  pub ends_stopped : (mid log : Acts) (phase : Phase) (had : ℕ → Type 0) (waits : ℕ) (slots : List (Option B)) (count : ℕ) (now : S) (watches : Bool) → limits.status ≡ watches
-      → HasAnswered watches true (rules.status now) mid log → Crowd view rules limits first start phase had waits mid slots count now
-      → HasServedMany rules limits ending.Stopped start log first now
-  ends_stopped mid log phase had waits slots count now false e bad h = absurd bad
-  ends_stopped mid log phase had waits slots count now true e k h =
-      crowd_ends view rules apart unseen goes_on one equal first start mid log phase had waits 1 slots count now limits ending.Stopped (Did (Questioned question.Stop) ∷ []) (λ e. absurd (stopped_not e)) h (λ n. refl)
-      (told_on phase had waits 1 mid log slots count now h (Did (Questioned question.Stop) ∷ []) k (tt, refl) refl refl (e, tt) (λ wrote. ((tt, tt), refl)) (λ share. refl) refl refl)
+  pub ends_stopped : (mid log : Acts) (phase : Phase) (had : ℕ → Type 0) (waits : ℕ) (journal : Option Journal) (slots : List (Option B)) (count : ℕ) (now : S) (watches : Bool) → limits.status ≡ watches
+      → HasAnswered watches next.Stop (rules.status now) mid log → Crowd view rules limits first start phase had (past_of waits (opened limits.journal writer) journal) mid slots count now
+      → HasServedMany rules limits writer ending.Stopped start log first now
+  ends_stopped mid log phase had waits journal slots count now false e bad h = absurd bad
+  ends_stopped mid log phase had waits journal slots count now true e k h =
+      crowd_ends view rules apart unseen stays goes_on one equal steps first start mid log writer phase had waits journal 1 slots count now limits ending.Stopped (Did (Questioned question.Stop) ∷ []) (λ e. absurd (stopped_not e)) h (λ n. refl)
+      (told_on phase had waits journal 1 mid log slots count now h (Did (Questioned question.Stop) ∷ []) k (tt, refl) refl refl refl (e, tt) (λ wrote. ((tt, tt), refl)) (λ share. refl) refl refl refl (λ last. tt))
       (record { before = h.story; last = refl; once = h.is_told.unlost })
     where
       stopped_not : ending.Stopped ≡ ending.Done → ⊥
       stopped_not e = cc
+
+  -- where the journal failed
+  pub ends_unkept : (log : Acts) (slots : List (Option B)) (count : ℕ) (now : S) → HasFailed view rules limits first start (opened limits.journal writer) log slots count now
+      → HasServedMany rules limits writer ending.Journal start log first now
+  ends_unkept log slots count now f = failed f.last f.fails f.logged
+    where
+      allowed : (j : Option Journal) → is_some j ≡ true → MayKeep limits j → is_some limits.journal ≡ true
+      allowed None e h = absurd (never e)
+        where
+          never : false ≡ true → ⊥
+          never e = cc
+      allowed (Some j) e h = h
+
+      journal_not : ending.Journal ≡ ending.Done → ⊥
+      journal_not e = cc
+
+      with : is_some limits.journal ≡ true
+      with = allowed f.journal f.some f.crowd.is_told.allowed
+
+      ended : (a : Act) → IsFailure a → lost_in (a ∷ []) ≡ 1 → AreWithin limits (a ∷ []) → DidLog f.mid (a ∷ []) log → ((n : ℕ) → own n (Did a ∷ []) ≡ [])
+          → came_in (a ∷ []) ≡ 0 → closed_in (a ∷ []) ≡ 0 → ((wrote : Bool) → IsPhased wrote (Did a ∷ []) × (writes_since wrote (Did a ∷ []) ≡ wrote))
+          → ((share : Share) → times share (Did a ∷ []) ≡ 0) → waits_in (a ∷ []) ≡ 0 → is_quiet (Did a ∷ []) ≡ true → Passes rules now (Did a ∷ []) now
+          → HasServedMany rules limits writer ending.Journal start log first now
+      ended a fails lost within k none came closed phases silent wait quiet passes =
+          crowd_ends view rules apart unseen stays goes_on one equal steps first start f.mid log writer Phase.Reads everybody f.waits f.journal 1 slots count now limits ending.Journal (Did a ∷ []) (λ e. absurd (journal_not e)) f.crowd none
+          (told_on Phase.Reads everybody f.waits f.journal 1 f.mid log slots count now f.crowd (Did a ∷ []) k passes refl came closed within phases silent (sym lost) wait quiet (λ last. tt))
+          (record { before = f.crowd.story; act = a; fails = fails; last = refl; once = f.crowd.is_told.unlost })
+
+      failed : (a : Act) → IsFailure a → DidLog f.mid (a ∷ []) log → HasServedMany rules limits writer ending.Journal start log first now
+      failed (Came m) e k = absurd e
+      failed Refused e k = absurd e
+      failed (Read m bytes) e k = absurd e
+      failed (Ended m) e k = absurd e
+      failed (Broke m) e k = absurd e
+      failed (Wrote m bytes) e k = absurd e
+      failed (Failed m) e k = absurd e
+      failed (Closed m how) e k = absurd e
+      failed Waited e k = absurd e
+      failed Lost e k = absurd e
+      failed (Asked s) e k = absurd e
+      failed (Questioned q) e k = absurd e
+      failed (Reported text) e k = absurd e
+      failed (Warned text) e k = absurd e
+      failed (Tabled text) e k = absurd e
+      failed Untabled e k = absurd e
+      failed (Replied text) e k = absurd e
+      failed (Began s) e k = absurd e
+      failed (Kept text) e k = absurd e
+      failed Unkept e k = ended Unkept e refl (with, tt) k (λ n. refl) refl refl (λ wrote. ((tt, tt), refl)) (λ share. refl) refl refl (tt, refl)
+      failed Synced e k = absurd e
+      failed Unsynced e k = ended Unsynced e refl (with, tt) k (λ n. refl) refl refl (λ wrote. ((tt, tt), refl)) (λ share. refl) refl refl (tt, refl)

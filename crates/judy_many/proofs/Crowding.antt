@@ -1,52 +1,56 @@
 -- Many clients: what a turn of one does to all.
-use Rattle.std.proofs.Common.{◌≡◌, ◌≢◌, ◌⊎◌, inl, inr, ◌<◌, ◌≤◌, ◌+◌, ℕ, suc, Bool, true, false, List, [], ◌∷◌, ◌++◌, length, Option, None, Some, arith, sym, ◌∙◌, ap, subst, refl, append_assoc, append-nil, slice_set, slice_index_or}
-use Rattle.std.specs.Prelude.{if◌then◌else◌, option_map}
+use Rattle.std.proofs.Common.{◌≡◌, ◌≢◌, ◌⊎◌, inl, inr, ◌<◌, ◌≤◌, ◌+◌, ℕ, Bool, true, false, List, [], ◌∷◌, ◌++◌, length, Option, None, Some, arith, sym, ◌∙◌, ap, subst, refl, append-nil, slice_set, slice_index_or}
+use Rattle.std.specs.Prelude.{if◌then◌else◌, is_some, option_map}
 use Rattle.std.proofs.lemmas.Bool.Decides.{eqb_tells}
-use Rattle.std.proofs.lemmas.List.{length-append}
-use Rattle.judy_many.specs.Crowds.{AreFree, At, Crowd, IsThere, IsTold, taken, taken_by}
-use Rattle.judy_many.specs.Endings.{lost_in, waits_in}
-use Rattle.judy_many.specs.Queues.{nobody}
-use Rattle.judy_protocol.specs.Talks.{Holds}
-use Rattle.judy_many.specs.Lives.{IsLive, IsPart, IsReason, IsServed, Lives, SlotDid, View, is_orderly, read_in, wrote_in}
+use Rattle.judy_many.specs.Books.{Journal}
+use Rattle.judy_many.specs.Changes.{HasChanged, KeepsTenants}
+use Rattle.judy_many.specs.Crowds.{AreFree, At, Crowd, HasFailed, IsThere, IsTold, Past, past_of, taken, taken_by}
+use Rattle.judy_many.specs.Endings.{lost_in}
+use Rattle.judy_many.specs.Journaling.{AreSettled, AreWritten, Carries, MayKeep, Writes}
+use Rattle.judy_many.specs.Queues.{everybody, nobody}
+use Rattle.judy_many.specs.Lives.{IsPart, IsServed, Lives, SlotDid, View}
 use Rattle.judy_many.specs.Nets.{Act, Acts, DidLog}
-use Rattle.judy_many.specs.Nets.Act.{Came, Refused, Closed, Questioned, Reported, Waited, Warned}
+use Rattle.judy_many.specs.Nets.Act.{Closed, Questioned, Replied, Reported, Tabled, Untabled, Waited, Warned}
 use Rattle.judy_many.specs.Arrivals.{Arrives, IsArrival}
 use Rattle.judy_many.specs.Rules.{Rules}
-use Rattle.judy_many.specs.Sessions.{AreTurns, Turn}
-use Rattle.judy_many.specs.Statuses.{HasAnswered, Passes, Tells}
+use Rattle.judy_many.specs.Sessions.{AreTurns, records_in}
+use Rattle.judy_many.specs.Statuses.{HasAnswered, Lasts, Passes, Tells}
 use Rattle.judy_many.specs.Warnings.{HasWarned, warning_acts}
-use Rattle.judy_many.specs.Stories.{AreWithin, Phase, IsAllowed, InPhase, IsPhased, IsPiece, IsWarning, Mine, Share, Story, acts_in, came_in, closed_in, most, own, times, turns_in, turns_since, writes_since}
-use Rattle.judy_many.specs.Stories.Moment.{Did}
+use Rattle.judy_many.specs.Stories.{AreRead, AreWithin, BeginsWith, Phase, InPhase, IsPhased, IsWarning, Mine, Share, Story, acts_in, came_in, closed_in, most, own, times, told, told_head, turns_in, turns_since, writes_since}
+use Rattle.judy_many.specs.Stories.Moment.{Changed, Did}
 use Rattle.judy_many.specs.declared.serve.Limits.{Limits}
 use Rattle.judy_many.specs.declared.network.How.{How}
-use Rattle.judy_many.specs.declared.network.How.TheVariants as how
+use Rattle.judy_many.specs.declared.asking.Next.TheVariants as next
 use Rattle.judy_many.specs.declared.network.Question.TheVariants as question
-use Rattle.judy_many.specs.Fates.{Leaves, Stays}
-use Rattle.judy_many.proofs.Owning.{own-append, own-mine, own-other, same_eq}
+use Rattle.judy_many.proofs.Owning.{own-append, own-mine, own-other}
 use Rattle.judy_many.proofs.Seats.{At-here, At-index, At-keep, At-only, At-set, At-some, free_at, long_set, taken_at, taken_free, taken_most, taken_none}
-use Rattle.judy_many.proofs.Turning.{GoOn, fair-append, lost-append, mine_plain, since-append, since_fresh, since_most, since_other, since_quiet, still, takes_turn, times-append, waits-append}
-use Rattle.judy_many.proofs.Passing.{Passes-append, passes_plain}
-use Rattle.judy_many.proofs.Living.{live_part, no_log, then_log}
-use Rattle.judy_many.proofs.Telling.{AreWithin-append, InPhase-append, IsPhased-append, Mine-append, acts_in-append, came-append, closed-append, leaves_part, left_served, lives_served, piece_none, split, stays_none, writes_since-append}
+use Rattle.judy_many.proofs.Turning.{GoOn, fair-append, lost-append, mine_plain, since-append, since_fresh, since_most, since_other, since_quiet, still, takes_turn, waits-append}
+use Rattle.judy_many.proofs.Passing.{AreRead-append, Lasts-append, Passes-append, lasts_plain, passes_plain, reads_plain}
+use Rattle.judy_many.proofs.Beside.{IsAside, IsBeside, Passed, after_lines, beside, keeping, keeping_passes, later, reads_not_writes, stays_past, told_lasts}
+use Rattle.judy_many.proofs.Journals.{Carries-append, keeps_allowed, keeps_quiet, keeps_turn, settled_turn}
+use Rattle.judy_many.proofs.Recording.{noted_none}
+use Rattle.judy_many.proofs.Living.{no_log, then_log}
+use Rattle.judy_many.proofs.Telling.{AreWithin-append, IsPhased-append, acts_in-append, acts_in-told, came-append, closed-append, lives_served, split, writes_since-append}
 
 -- ---- the whole story
 
 module _ {B S : Type 0} (rules : Rules S) (limits : Limits) (first : S) (start : Acts) where
   -- more happened
-  pub told_more : (phase phase' : Phase) (lost lost' waits waits' : ℕ) (log log' : Acts) (slots slots' : List (Option B)) (count count' : ℕ) (now after : S) (story more : Story)
-      → IsTold rules limits first start phase lost waits log slots count now story
-      → DidLog log (acts_in more) log' → Passes rules now more after
+  pub told_more : (phase phase' : Phase) (lost lost' : ℕ) (past past' : Past) (log log' : Acts) (slots slots' : List (Option B)) (count count' : ℕ) (now after : S) (story more : Story)
+      → IsTold rules limits first start phase lost past log slots count now story
+      → DidLog log (acts_in more) log' → Passes rules now more after → Lasts rules (is_some limits.journal) now more after
       → count' ≡ count + came_in (acts_in more) → count' ≤ limits.connections
       → came_in (acts_in more) + taken slots ≡ closed_in (acts_in more) + taken slots'
       → taken slots + came_in (acts_in more) ≤ limits.clients → length slots' ≤ limits.clients
       → AreWithin limits (acts_in more)
       → IsPhased (writes_since false story) more
       → (phase' ≡ Phase.Reads → writes_since (writes_since false story) more ≡ false)
-      → GoOn story more → lost' ≡ lost + lost_in (acts_in more) → waits' ≡ waits + waits_in (acts_in more)
-      → IsTold rules limits first start phase' lost' waits' log' slots' count' after (story ++ more)
-  told_more phase phase' lost lost' waits waits' log log' slots slots' count count' now after story more h k r counts capped sums room sized within phases quiet turns lose wait = record {
+      → GoOn story more → lost' ≡ lost + lost_in (acts_in more) → Passed phase' past more past' → ((last : Option (List ℕ)) → AreRead limits last more)
+      → IsTold rules limits first start phase' lost' past' log' slots' count' after (story ++ more)
+  told_more phase phase' lost lost' past past' log log' slots slots' count count' now after story more h k r l counts capped sums room sized within phases quiet turns lose passed reads = record {
     logged = subst (λ a. DidLog start a log') (sym (acts_in-append story more)) (then_log start log log' (acts_in story) (acts_in more) h.logged k);
     run = Passes-append rules first now after story more h.run r;
+    lasts = Lasts-append rules (is_some limits.journal) first now after story more h.lasts l;
     total = let e = came-append story more in let f = h.total in omega (arith, e, f, counts);
     capped = capped;
     opened = let e = came-append story more in let f = closed-append story more in let o = h.opened in omega (arith, e, f, o, sums);
@@ -60,7 +64,11 @@ module _ {B S : Type 0} (rules : Rules S) (limits : Limits) (first : S) (start :
     quiet = λ e. writes_since-append false story more ∙ quiet e;
     fair = fair-append story more h.fair turns;
     unlost = let e = lost-append story more in let f = h.unlost in omega (arith, e, f, lose);
-    waited = let e = waits-append story more in let f = h.waited in omega (arith, e, f, wait);
+    waited = let e = waits-append story more in let f = h.waited in let wait = passed.waited in omega (arith, e, f, wait);
+    reads = AreRead-append limits None story more h.reads reads;
+    keeps = subst (λ b. Carries b (story ++ more) past'.journal) (sym passed.began) (Carries-append past.began past.journal past'.journal story more h.keeps passed.keeps);
+    allowed = keeps_allowed limits past.journal past'.journal more h.allowed passed.keeps;
+    settled = passed.settled;
   }
     where
       at_end : (p q r : Story) → p ≡ story ++ r → more ≡ r ++ q → came_in (acts_in p) ≤ closed_in (acts_in p) + limits.clients
@@ -72,33 +80,22 @@ module _ {B S : Type 0} (rules : Rules S) (limits : Limits) (first : S) (start :
           omega (arith, a, b, c, o, room)
 
   -- the moments of one phase of a round
-  told_phase : (phase : Phase) (lost waits : ℕ) (log : Acts) (slots : List (Option B)) (count : ℕ) (now : S) (story more : Story)
-      → IsTold rules limits first start phase lost waits log slots count now story → InPhase phase more
+  told_phase : (phase : Phase) (lost : ℕ) (past : Past) (log : Acts) (slots : List (Option B)) (count : ℕ) (now : S) (story more : Story)
+      → IsTold rules limits first start phase lost past log slots count now story → InPhase phase more
       → IsPhased (writes_since false story) more × (phase ≡ Phase.Reads → writes_since (writes_since false story) more ≡ false)
-  told_phase Phase.Reads lost waits log slots count now story more h part =
+  told_phase Phase.Reads lost past log slots count now story more h part =
       let e = h.quiet refl in
       (subst (λ w. IsPhased w more) (sym e) part.0, λ same. ap (λ w. writes_since w more) e ∙ part.1)
-  told_phase Phase.Writes lost waits log slots count now story more h part = (part (writes_since false story), λ same. absurd (apart same))
+  told_phase Phase.Writes lost past log slots count now story more h part = (part (writes_since false story), λ same. absurd (apart same))
     where
       apart : Phase.Writes ≡ Phase.Reads → ⊥
       apart e = cc
-  told_phase Phase.Sweeps lost waits log slots count now story more h part = (part (writes_since false story), λ same. absurd (apart same))
+  told_phase Phase.Sweeps lost past log slots count now story more h part = (part (writes_since false story), λ same. absurd (apart same))
     where
       apart : Phase.Sweeps ≡ Phase.Reads → ⊥
       apart e = cc
 
 -- ---- the crowd
-
--- what happened is no client's, and no accept, no wait and no end
-record IsAside (limits : Limits) (more : Story) : Type 0 where
-  pub foreign : (n : ℕ) → own n more ≡ []
-  pub came : came_in (acts_in more) ≡ 0
-  pub closed : closed_in (acts_in more) ≡ 0
-  pub within : AreWithin limits (acts_in more)
-  pub phases : (wrote : Bool) → IsPhased wrote more × (writes_since wrote more ≡ wrote)
-  pub silent : (share : Share) → times share more ≡ 0
-  pub unlost : lost_in (acts_in more) ≡ 0
-  pub waited : waits_in (acts_in more) ≡ 0
 
 never : false ≡ true → ⊥
 never e = cc
@@ -109,11 +106,11 @@ reads_most Share.Running = omega arith
 reads_most Share.Writing = omega arith
 
 module _ {B S : Type 0} (view : B → View) (rules : Rules S) (limits : Limits) (first : S) (start : Acts) where
-  abbrev Now : Phase → (ℕ → Type 0) → ℕ → Acts → List (Option B) → ℕ → S → Type 0
+  abbrev Now : Phase → (ℕ → Type 0) → Past → Acts → List (Option B) → ℕ → S → Type 0
   Now = Crowd view rules limits first start
 
-  abbrev Told : Phase → ℕ → Acts → List (Option B) → ℕ → S → Story → Type 0
-  Told phase waits log slots count now story = IsTold rules limits first start phase 0 waits log slots count now story
+  abbrev Told : Phase → Past → Acts → List (Option B) → ℕ → S → Story → Type 0
+  Told phase past log slots count now story = IsTold rules limits first start phase 0 past log slots count now story
 
   -- the slots that had no turn have had none after the moments of another connection
   open_other : (story more : Story) (n m : ℕ) (bound : Share → ℕ) → Mine n more → m ≢ n
@@ -124,8 +121,8 @@ module _ {B S : Type 0} (view : B → View) (rules : Rules S) (limits : Limits) 
       let k = free share in
       omega (arith, e, f, k)
 
-  module _ (phase : Phase) (had had' : ℕ → Type 0) (wider : (j : ℕ) → had j → had' j) (waits : ℕ) (log log' : Acts) (slots : List (Option B)) (count : ℕ) (now after : S)
-      (h : Now phase had waits log slots count now) (n : ℕ) (more : Story) (mine : Mine n more) where
+  module _ (phase : Phase) (had had' : ℕ → Type 0) (wider : (j : ℕ) → had j → had' j) (past past' : Past) (log log' : Acts) (slots : List (Option B)) (count : ℕ) (now after : S)
+      (h : Now phase had past log slots count now) (n : ℕ) (more : Story) (mine : Mine n more) where
     abbrev story' : Story
     story' = h.story ++ more
 
@@ -149,9 +146,9 @@ module _ {B S : Type 0} (view : B → View) (rules : Rules S) (limits : Limits) 
         at_other m d (λ s. s ≡ []) (h.fresh m (omega arith))
 
     -- the client of slot i is gone
-    pub gone : (i : ℕ) (b : B) → At slots i b → (view b).number ≡ n → Told phase waits log' (slice_set slots i None) count after story'
+    pub gone : (i : ℕ) (b : B) → At slots i b → (view b).number ≡ n → Told phase past' log' (slice_set slots i None) count after story'
         → closed_in (acts_in (own n h.story ++ more)) ≡ 1
-        → IsServed (own n h.story ++ more) → Now phase had' waits log' (slice_set slots i None) count after
+        → IsServed (own n h.story ++ more) → Now phase had' past' log' (slice_set slots i None) count after
     gone i b at is told close s = record {
       story = story';
       is_told = told;
@@ -194,9 +191,9 @@ module _ {B S : Type 0} (view : B → View) (rules : Rules S) (limits : Limits) 
     pub seated : (i bound : ℕ) (s : B) → i < length slots → bound ≤ count + 1 → (bound ≡ count + 1 → n ≡ count)
         → ((m : ℕ) (q : IsThere view slots m) → m ≢ n → q.i ≢ i) → (view s).number ≡ n → count ≤ bound → n < bound
         → ((j : ℕ) (c : B) → j ≢ i → At slots j c → (view c).number ≢ n)
-        → Told phase waits log' (slice_set slots i (Some s)) bound after story'
+        → Told phase past' log' (slice_set slots i (Some s)) bound after story'
         → ((had' i → ⊥) → (share : Share) → turns_since n share 0 story' + most phase share ≤ 1)
-        → Lives (own n h.story ++ more) (view s) → Now phase had' waits log' (slice_set slots i (Some s)) bound after
+        → Lives (own n h.story ++ more) (view s) → Now phase had' past' log' (slice_set slots i (Some s)) bound after
     seated i bound s within highest last away is above under alone told free l = record {
       story = story';
       is_told = told;
@@ -252,12 +249,12 @@ module _ {B S : Type 0} (view : B → View) (rules : Rules S) (limits : Limits) 
         both j m c d (inr p) (inr q) e = h.apart j m c d p.1 q.1 e
 
   -- What happened is no connection's. The slots have the same clients.
-  foreign : (phase phase' : Phase) (had had' : ℕ → Type 0) (waits waits' : ℕ) (log log' : Acts) (slots slots' : List (Option B)) (count : ℕ) (now after : S) (h : Now phase had waits log slots count now) (more : Story)
-      → ((n : ℕ) → own n more ≡ []) → Told phase' waits' log' slots' count after (h.story ++ more)
+  foreign : (phase phase' : Phase) (had had' : ℕ → Type 0) (past past' : Past) (log log' : Acts) (slots slots' : List (Option B)) (count : ℕ) (now after : S) (h : Now phase had past log slots count now) (more : Story)
+      → ((n : ℕ) → own n more ≡ []) → Told phase' past' log' slots' count after (h.story ++ more)
       → ((j : ℕ) (c : B) → At slots' j c → At slots j c) → ((j : ℕ) (c : B) → At slots j c → At slots' j c)
       → ((j : ℕ) (c : B) → At slots j c → (had' j → ⊥) → (share : Share) → turns_since (view c).number share 0 (h.story ++ more) + most phase' share ≤ 1)
-      → Now phase' had' waits' log' slots' count after
-  foreign phase phase' had had' waits waits' log log' slots slots' count now after h more none told back forth free = record {
+      → Now phase' had' past' log' slots' count after
+  foreign phase phase' had had' past past' log log' slots slots' count now after h more none told back forth free = record {
     story = h.story ++ more;
     is_told = told;
     below = λ j c there. h.below j c (back j c there);
@@ -276,57 +273,63 @@ module _ {B S : Type 0} (view : B → View) (rules : Rules S) (limits : Limits) 
       same n = own-append n h.story more ∙ ap (λ l. own n h.story ++ l) (none n) ∙ append-nil (own n h.story)
 
   -- the same, where what happened is no share of a turn
-  open_still : (phase : Phase) (had had' : ℕ → Type 0) (waits : ℕ) (log : Acts) (slots : List (Option B)) (count : ℕ) (now : S) (h : Now phase had waits log slots count now) (more : Story)
+  open_still : (phase : Phase) (had had' : ℕ → Type 0) (past : Past) (log : Acts) (slots : List (Option B)) (count : ℕ) (now : S) (h : Now phase had past log slots count now) (more : Story)
       → ((j : ℕ) → had j → had' j) → ((share : Share) → times share more ≡ 0)
       → (j : ℕ) (c : B) → At slots j c → (had' j → ⊥) → (share : Share) → turns_since (view c).number share 0 (h.story ++ more) + most phase share ≤ 1
-  open_still phase had had' waits log slots count now h more wider none j c there not share =
+  open_still phase had had' past log slots count now h more wider none j c there not share =
       let e = since-append (view c).number share 0 h.story more in
       let f = since_most (view c).number share (turns_since (view c).number share 0 h.story) more in
       let k = h.ready j c there (λ k. not (wider j k)) share in
       let n = none share in
       omega (arith, e, f, k, n)
 
-  -- what happened aside: it changes no client and no slot
-  aside : (phase : Phase) (had : ℕ → Type 0) (waits : ℕ) (log log' : Acts) (slots : List (Option B)) (count : ℕ) (now after : S) (more : Story) → IsAside limits more
-      → DidLog log (acts_in more) log' → Passes rules now more after → Now phase had waits log slots count now → Now phase had waits log' slots count after
-  aside phase had waits log log' slots count now after more a k r h =
+  -- what happened beside: it changes no client and no slot
+  aside_to : (phase : Phase) (had : ℕ → Type 0) (past past' : Past) (log log' : Acts) (slots : List (Option B)) (count : ℕ) (now after : S) (more : Story) → IsBeside limits more
+      → Passed phase past more past' → DidLog log (acts_in more) log' → Passes rules now more after → Lasts rules (is_some limits.journal) now more after → Now phase had past log slots count now → Now phase had past' log' slots count after
+  aside_to phase had past past' log log' slots count now after more a passed k r l h =
       let came = a.came in
       let closed = a.closed in
       let lost = a.unlost in
-      let waited = a.waited in
-      foreign phase phase had had waits waits log log' slots slots count now after h more a.foreign
-      (told_more rules limits first start phase phase 0 0 waits waits log log' slots slots count count now after h.story more h.is_told k r (omega (arith, came)) h.is_told.capped
+      foreign phase phase had had past past' log log' slots slots count now after h more a.foreign
+      (told_more rules limits first start phase phase 0 0 past past' log log' slots slots count count now after h.story more h.is_told k r l (omega (arith, came)) h.is_told.capped
       (omega (arith, came, closed)) (let a = taken_most slots in let b = h.is_told.sized in omega (arith, a, b, came)) h.is_told.sized a.within
       (a.phases (writes_since false h.story)).0 (λ e. (a.phases (writes_since false h.story)).1 ∙ h.is_told.quiet e)
-      (still h.story more h.is_told.fair a.silent) (omega (arith, lost)) (omega (arith, waited)))
-      (λ j c at. at) (λ j c at. at) (open_still phase had had waits log slots count now h more (λ j k. k) a.silent)
+      (still h.story more h.is_told.fair a.silent) (omega (arith, lost)) passed a.reads)
+      (λ j c at. at) (λ j c at. at) (open_still phase had had past log slots count now h more (λ j k. k) a.silent)
+
+  aside : (phase : Phase) (had : ℕ → Type 0) (past : Past) (log log' : Acts) (slots : List (Option B)) (count : ℕ) (now after : S) (more : Story) → IsAside limits more
+      → DidLog log (acts_in more) log' → Passes rules now more after → Lasts rules (is_some limits.journal) now more after → Now phase had past log slots count now → Now phase had past log' slots count after
+  aside phase had past log log' slots count now after more a k r l h =
+      aside_to phase had past past log log' slots count now after more (beside limits more a)
+      (stays_past phase past more a.waited (keeps_quiet past.journal more a.quiet) h.is_told.settled) k r l h
 
   -- nothing was asked of the system
-  pub idle : (phase : Phase) (had : ℕ → Type 0) (waits : ℕ) (log log' : Acts) (slots : List (Option B)) (count : ℕ) (now : S) → DidLog log [] log' → Now phase had waits log slots count now
-      → Now phase had waits log' slots count now
-  idle phase had waits log log' slots count now k h =
-      aside phase had waits log log' slots count now now []
-      (record { foreign = λ n. refl; came = refl; closed = refl; within = tt; phases = λ wrote. (tt, refl); silent = λ share. refl; unlost = refl; waited = refl }) k refl h
+  pub idle : (phase : Phase) (had : ℕ → Type 0) (past : Past) (log log' : Acts) (slots : List (Option B)) (count : ℕ) (now : S) → DidLog log [] log' → Now phase had past log slots count now
+      → Now phase had past log' slots count now
+  idle phase had past log log' slots count now k h =
+      aside phase had past log log' slots count now now []
+      (record { foreign = λ n. refl; came = refl; closed = refl; within = tt; phases = λ wrote. (tt, refl); silent = λ share. refl; unlost = refl; waited = refl; reads = λ last. tt; quiet = refl }) k refl refl h
 
   -- the server waited
-  has_waited : (phase : Phase) (had : ℕ → Type 0) (waits : ℕ) (log log' : Acts) (slots : List (Option B)) (count : ℕ) (now : S) → DidLog log (Waited ∷ []) log' → Now phase had waits log slots count now
-      → Now Phase.Reads nobody (waits + 1) log' slots count now
-  has_waited phase had waits log log' slots count now k h =
-      foreign phase Phase.Reads had nobody waits (waits + 1) log log' slots slots count now now h (Did Waited ∷ []) (λ n. refl)
-      (told_more rules limits first start phase Phase.Reads 0 0 waits (waits + 1) log log' slots slots count count now now h.story (Did Waited ∷ []) h.is_told k (tt, refl) (omega arith) h.is_told.capped (omega arith)
+  has_waited : (phase : Phase) (had : ℕ → Type 0) (past : Past) (log log' : Acts) (slots : List (Option B)) (count : ℕ) (now : S) → DidLog log (Waited ∷ []) log' → Now phase had past log slots count now
+      → Now Phase.Reads nobody (later past) log' slots count now
+  has_waited phase had past log log' slots count now k h =
+      foreign phase Phase.Reads had nobody past (later past) log log' slots slots count now now h (Did Waited ∷ []) (λ n. refl)
+      (told_more rules limits first start phase Phase.Reads 0 0 past (later past) log log' slots slots count count now now h.story (Did Waited ∷ []) h.is_told k (tt, refl) refl (omega arith) h.is_told.capped (omega arith)
       (let a = taken_most slots in let b = h.is_told.sized in omega (arith, a, b)) h.is_told.sized (tt, tt) (tt, tt) (λ e. refl)
-      (still h.story (Did Waited ∷ []) h.is_told.fair (λ share. refl)) refl (omega arith))
+      (still h.story (Did Waited ∷ []) h.is_told.fair (λ share. refl)) refl
+      (record { waited = refl; began = refl; keeps = keeps_quiet past.journal (Did Waited ∷ []) refl; settled = λ e. absurd (reads_not_writes e) }) (λ last. tt))
       (λ j c at. at) (λ j c at. at) (λ j c at not share.
       let e : turns_since (view c).number share 0 (h.story ++ Did Waited ∷ []) ≡ 0 = since-append (view c).number share 0 h.story (Did Waited ∷ []) in
       let f = reads_most share in
       omega (arith, e, f))
 
   -- a status was asked for, and told
-  has_told : (phase : Phase) (had : ℕ → Type 0) (waits : ℕ) (log log' : Acts) (slots : List (Option B)) (count : ℕ) (now : S) (text : List ℕ) → limits.status ≡ true
-      → Tells (rules.status now) (Reported text) → DidLog log (Questioned question.Status ∷ Reported text ∷ []) log' → Now phase had waits log slots count now
-      → Now phase had waits log' slots count now
-  has_told phase had waits log log' slots count now text watches tells k h =
-      aside phase had waits log log' slots count now now (Did (Questioned question.Status) ∷ Did (Reported text) ∷ [])
+  has_told : (phase : Phase) (had : ℕ → Type 0) (past : Past) (log log' : Acts) (slots : List (Option B)) (count : ℕ) (now : S) (text : List ℕ) → limits.status ≡ true
+      → Tells (rules.status now) (Reported text) → DidLog log (Questioned question.Status ∷ Reported text ∷ []) log' → Now phase had past log slots count now
+      → Now phase had past log' slots count now
+  has_told phase had past log log' slots count now text watches tells k h =
+      aside phase had past log log' slots count now now (Did (Questioned question.Status) ∷ Did (Reported text) ∷ [])
       (record {
         foreign = λ n. refl;
         came = refl;
@@ -336,39 +339,97 @@ module _ {B S : Type 0} (view : B → View) (rules : Rules S) (limits : Limits) 
         silent = λ share. refl;
         unlost = refl;
         waited = refl;
-      }) k (tt, (tells, refl)) h
+        reads = λ last. tt;
+        quiet = refl;
+      }) k (tt, (tells, refl)) refl h
 
   -- a line was told to the operator, if it was due
-  has_warned : (phase : Phase) (had : ℕ → Type 0) (waits : ℕ) (log log' : Acts) (slots : List (Option B)) (count : ℕ) (now : S) (due : Bool) (line : List ℕ) → IsWarning line
-      → DidLog log (warning_acts due line) log' → Now phase had waits log slots count now → Now phase had waits log' slots count now
-  has_warned phase had waits log log' slots count now true line is k h =
-      aside phase had waits log log' slots count now now (Did (Warned line) ∷ [])
-      (record { foreign = λ n. refl; came = refl; closed = refl; within = (is, tt); phases = λ wrote. ((tt, tt), refl); silent = λ share. refl; unlost = refl; waited = refl }) k (tt, refl) h
-  has_warned phase had waits log log' slots count now false line is k h = idle phase had waits log log' slots count now k h
+  has_warned : (phase : Phase) (had : ℕ → Type 0) (past : Past) (log log' : Acts) (slots : List (Option B)) (count : ℕ) (now : S) (due : Bool) (line : List ℕ) → IsWarning limits line
+      → DidLog log (warning_acts due line) log' → Now phase had past log slots count now → Now phase had past log' slots count now
+  has_warned phase had past log log' slots count now true line is k h =
+      aside phase had past log log' slots count now now (Did (Warned line) ∷ [])
+      (record { foreign = λ n. refl; came = refl; closed = refl; within = (is, tt); phases = λ wrote. ((tt, tt), refl); silent = λ share. refl; unlost = refl; waited = refl; reads = λ last. tt; quiet = refl }) k (tt, refl) refl h
+  has_warned phase had past log log' slots count now false line is k h = idle phase had past log log' slots count now k h
 
-  pub warned : (phase : Phase) (had : ℕ → Type 0) (waits : ℕ) (log log' : Acts) (slots : List (Option B)) (count : ℕ) (now : S) → HasWarned log log'
-      → Now phase had waits log slots count now → Now phase had waits log' slots count now
-  warned phase had waits log log' slots count now w h =
-      has_warned phase had waits w.mid log' slots count now w.due_requests w.requests (inr w.of_requests) w.then_requests
-      (has_warned phase had waits log w.mid slots count now w.due_logins w.logins (inl w.of_logins) w.first h)
+  pub warned : (phase : Phase) (had : ℕ → Type 0) (past : Past) (log log' : Acts) (slots : List (Option B)) (count : ℕ) (now : S) → HasWarned log log'
+      → Now phase had past log slots count now → Now phase had past log' slots count now
+  warned phase had past log log' slots count now w h =
+      has_warned phase had past w.mid log' slots count now w.due_requests w.requests (inr (inl w.of_requests)) w.then_requests
+      (has_warned phase had past log w.mid slots count now w.due_logins w.logins (inl w.of_logins) w.first h)
 
   -- the server goes on after it asked
-  pub answered : (phase : Phase) (had : ℕ → Type 0) (waits : ℕ) (log log' : Acts) (slots : List (Option B)) (count : ℕ) (now : S) (watches : Bool) → limits.status ≡ watches
-      → HasAnswered watches false (rules.status now) log log' → Now phase had waits log slots count now → Now phase had waits log' slots count now
-  answered phase had waits log log' slots count now true e (inl k) h = idle phase had waits log log' slots count now k h
-  answered phase had waits log log' slots count now true e (inr (text, tells, k)) h = has_told phase had waits log log' slots count now text e tells k h
-  answered phase had waits log log' slots count now false e k h = idle phase had waits log log' slots count now k h
+  pub answered : (phase : Phase) (had : ℕ → Type 0) (past : Past) (log log' : Acts) (slots : List (Option B)) (count : ℕ) (now : S) (watches : Bool) → limits.status ≡ watches
+      → HasAnswered watches next.Round (rules.status now) log log' → Now phase had past log slots count now → Now phase had past log' slots count now
+  answered phase had past log log' slots count now true e (inl k) h = idle phase had past log log' slots count now k h
+  answered phase had past log log' slots count now true e (inr (text, tells, k)) h = has_told phase had past log log' slots count now text e tells k h
+  answered phase had past log log' slots count now false e k h = idle phase had past log log' slots count now k h
+
+  -- it is asked to read the table again
+  pub asked_again : (phase : Phase) (had : ℕ → Type 0) (past : Past) (log log' : Acts) (slots : List (Option B)) (count : ℕ) (now : S) (watches : Bool) → limits.status ≡ watches
+      → HasAnswered watches next.Reload (rules.status now) log log' → Now phase had past log slots count now → (limits.status ≡ true) × Now phase had past log' slots count now
+  asked_again phase had past log log' slots count now false e bad h = absurd bad
+  asked_again phase had past log log' slots count now true e k h = (
+    e,
+    aside phase had past log log' slots count now now (Did (Questioned question.Reload) ∷ [])
+        (record { foreign = λ n. refl; came = refl; closed = refl; within = (e, tt); phases = λ wrote. ((tt, tt), refl); silent = λ share. refl; unlost = refl; waited = refl; reads = λ last. tt; quiet = refl }) k (tt, refl) refl h,
+  )
+
+  -- the table was read, and put in force if it could be
+  pub has_changed : (phase : Phase) (had : ℕ → Type 0) (past : Past) (log log' : Acts) (slots : List (Option B)) (count : ℕ) (now after : S) (changed : Bool) → limits.status ≡ true
+      → (changed ≡ true → (is_some limits.journal) ≡ true → KeepsTenants (rules.seen now) (rules.seen after))
+      → HasChanged rules changed log log' now after → Now phase had past log slots count now → Now phase had past log' slots count after
+  has_changed phase had past log log' slots count now after true e keeps (text, k, step) h =
+      aside phase had past log log' slots count now after (Did (Tabled text) ∷ Changed text ∷ [])
+      (record {
+        foreign = λ n. refl;
+        came = refl;
+        closed = refl;
+        within = (e, tt);
+        phases = λ wrote. ((tt, (tt, tt)), refl);
+        silent = λ share. refl;
+        unlost = refl;
+        waited = refl;
+        reads = λ last. (refl, e, tt);
+        quiet = refl;
+      }) k (tt, (after, step, refl)) (after, step, keeps refl, refl) h
+  has_changed phase had past log log' slots count now after false e keeps (same, inl k) h =
+      subst (λ s. Now phase had past log' slots count s) (sym same)
+      (aside phase had past log log' slots count now now (Did Untabled ∷ [])
+      (record { foreign = λ n. refl; came = refl; closed = refl; within = (e, tt); phases = λ wrote. ((tt, tt), refl); silent = λ share. refl; unlost = refl; waited = refl; reads = λ last. tt; quiet = refl }) k (tt, refl) refl h)
+  has_changed phase had past log log' slots count now after false e keeps (same, inr (text, k)) h =
+      subst (λ s. Now phase had past log' slots count s) (sym same)
+      (aside phase had past log log' slots count now now (Did (Tabled text) ∷ [])
+      (record { foreign = λ n. refl; came = refl; closed = refl; within = (e, tt); phases = λ wrote. ((tt, tt), refl); silent = λ share. refl; unlost = refl; waited = refl; reads = λ last. tt; quiet = refl }) k (tt, refl) refl h)
+
+  -- the asker was answered, and the operator told
+  pub has_replied : (phase : Phase) (had : ℕ → Type 0) (past : Past) (log log' : Acts) (slots : List (Option B)) (count : ℕ) (now : S) (changed : Bool) (reply line : List ℕ) → limits.status ≡ true
+      → BeginsWith (told_head changed) line → DidLog log (Replied reply ∷ Warned line ∷ []) log' → Now phase had past log slots count now → Now phase had past log' slots count now
+  has_replied phase had past log log' slots count now changed reply line e is k h =
+      aside phase had past log log' slots count now now (Did (Replied reply) ∷ Did (Warned line) ∷ [])
+      (record {
+        foreign = λ n. refl;
+        came = refl;
+        closed = refl;
+        within = (e, (inr (inr (e, (changed, is))), tt));
+        phases = λ wrote. ((tt, (tt, tt)), refl);
+        silent = λ share. refl;
+        unlost = refl;
+        waited = refl;
+        reads = λ last. tt;
+        quiet = refl;
+      }) k (tt, (tt, refl)) refl h
 
   -- the next phase of a round begins, or more slots are said to have had a turn
-  next : (phase phase' : Phase) (had had' : ℕ → Type 0) (waits : ℕ) (log : Acts) (slots : List (Option B)) (count : ℕ) (now : S) (h : Now phase had waits log slots count now)
-      → (phase' ≡ Phase.Reads → writes_since false h.story ≡ false)
+  next_phase : (phase phase' : Phase) (had had' : ℕ → Type 0) (past : Past) (log : Acts) (slots : List (Option B)) (count : ℕ) (now : S) (h : Now phase had past log slots count now)
+      → (phase' ≡ Phase.Reads → writes_since false h.story ≡ false) → (phase' ≡ Phase.Writes → AreSettled past.journal)
       → ((j : ℕ) (c : B) → At slots j c → (had' j → ⊥) → (share : Share) → turns_since (view c).number share 0 h.story + most phase' share ≤ 1)
-      → Now phase' had' waits log slots count now
-  next phase phase' had had' waits log slots count now h quiet free = record {
+      → Now phase' had' past log slots count now
+  next_phase phase phase' had had' past log slots count now h quiet settled free = record {
     story = h.story;
     is_told = record {
       logged = h.is_told.logged;
       run = h.is_told.run;
+      lasts = h.is_told.lasts;
       total = h.is_told.total;
       capped = h.is_told.capped;
       opened = h.is_told.opened;
@@ -380,6 +441,10 @@ module _ {B S : Type 0} (view : B → View) (rules : Rules S) (limits : Limits) 
       fair = h.is_told.fair;
       unlost = h.is_told.unlost;
       waited = h.is_told.waited;
+      reads = h.is_told.reads;
+      keeps = h.is_told.keeps;
+      allowed = h.is_told.allowed;
+      settled = settled;
     };
     below = h.below;
     live = h.live;
@@ -390,16 +455,49 @@ module _ {B S : Type 0} (view : B → View) (rules : Rules S) (limits : Limits) 
     ends = h.ends;
   }
 
-  pub widen : (phase : Phase) (had had' : ℕ → Type 0) (waits : ℕ) (log : Acts) (slots : List (Option B)) (count : ℕ) (now : S) → ((j : ℕ) → had j → had' j)
-      → Now phase had waits log slots count now → Now phase had' waits log slots count now
-  widen phase had had' waits log slots count now wider h =
-      next phase phase had had' waits log slots count now h h.is_told.quiet (λ j c at not. h.ready j c at (λ k. not (wider j k)))
+  pub widen : (phase : Phase) (had had' : ℕ → Type 0) (past : Past) (log : Acts) (slots : List (Option B)) (count : ℕ) (now : S) → ((j : ℕ) → had j → had' j)
+      → Now phase had past log slots count now → Now phase had' past log slots count now
+  widen phase had had' past log slots count now wider h =
+      next_phase phase phase had had' past log slots count now h h.is_told.quiet h.is_told.settled (λ j c at not. h.ready j c at (λ k. not (wider j k)))
+
+  -- these answers were those of writing the journal
+  written_acts : (had : ℕ → Type 0) (waits : ℕ) (began : Option Journal) (i j : Journal) (log log' : Acts) (slots : List (Option B)) (count : ℕ) (now : S) (acts : List Act) → DidLog log acts log'
+      → Writes i acts j → Now Phase.Reads had (past_of waits began (Some i)) log slots count now → Now Phase.Reads had (past_of waits began (Some j)) log' slots count now
+  written_acts had waits began i j log log' slots count now acts k w h =
+      let b = keeping limits acts h.is_told.allowed w.keeping in
+      let none = b.waited in
+      aside_to Phase.Reads had (past_of waits began (Some i)) (past_of waits began (Some j)) log log' slots count now now (told acts) b
+      (record { waited = omega (arith, none); began = refl; keeps = (w.kept, ap Some w.after_is); settled = λ e. absurd (reads_not_writes e) })
+      (subst (λ a. DidLog log a log') (sym (acts_in-told acts)) k) (keeping_passes rules limits acts now h.is_told.allowed w.keeping) (told_lasts rules (is_some limits.journal) acts now) h
+
+  -- the journal was written, if there is one
+  pub has_written : (had : ℕ → Type 0) (waits : ℕ) (began i j : Option Journal) (log log' : Acts) (slots : List (Option B)) (count : ℕ) (now : S) → AreWritten true i j log log'
+      → Now Phase.Reads had (past_of waits began i) log slots count now → Now Phase.Reads had (past_of waits began j) log' slots count now
+  has_written had waits began None j log log' slots count now w h =
+      subst (λ k. Now Phase.Reads had (past_of waits began k) log' slots count now) (sym w.0) (idle Phase.Reads had (past_of waits began None) log log' slots count now w.1 h)
+  has_written had waits began (Some i) None log log' slots count now w h = absurd w
+  has_written had waits began (Some i) (Some j) log log' slots count now (acts, k, w) h = written_acts had waits began i j log log' slots count now acts k w h
+
+  -- it failed
+  pub has_failed : (had : ℕ → Type 0) (waits : ℕ) (began i j : Option Journal) (log log' : Acts) (slots : List (Option B)) (count : ℕ) (now : S) → AreWritten false i j log log'
+      → Now Phase.Reads had (past_of waits began i) log slots count now → HasFailed view rules limits first start began log' slots count now
+  has_failed had waits began None j log log' slots count now w h = absurd w
+  has_failed had waits began (Some i) j log log' slots count now (acts, mid, reached, last, k, w, fails, logged) h = record {
+    waits = waits;
+    journal = Some reached;
+    mid = mid;
+    last = last;
+    crowd = widen Phase.Reads had everybody (past_of waits began (Some reached)) mid slots count now (λ j k. tt) (written_acts had waits began i reached log mid slots count now acts k w h);
+    some = refl;
+    fails = fails;
+    logged = logged;
+  }
 
   -- the second phase of a round begins: no client was written since the server last waited
-  pub turned : (had : ℕ → Type 0) (waits : ℕ) (log : Acts) (slots : List (Option B)) (count : ℕ) (now : S) → Now Phase.Reads had waits log slots count now
-      → Now Phase.Writes nobody waits log slots count now
-  turned had waits log slots count now h =
-      next Phase.Reads Phase.Writes had nobody waits log slots count now h (λ e. absurd (other e)) (λ j c at not share. unwritten (view c).number share)
+  pub turned : (had : ℕ → Type 0) (past : Past) (log : Acts) (slots : List (Option B)) (count : ℕ) (now : S) → AreSettled past.journal → Now Phase.Reads had past log slots count now
+      → Now Phase.Writes nobody past log slots count now
+  turned had past log slots count now settled h =
+      next_phase Phase.Reads Phase.Writes had nobody past log slots count now h (λ e. absurd (other e)) (λ e. settled) (λ j c at not share. unwritten (view c).number share)
     where
       other : Phase.Writes ≡ Phase.Reads → ⊥
       other e = cc
@@ -410,35 +508,40 @@ module _ {B S : Type 0} (view : B → View) (rules : Rules S) (limits : Limits) 
       unwritten n Share.Writing = let e = since_quiet n false 0 h.story (λ e. refl) (h.is_told.quiet refl) in omega (arith, e)
 
   -- the last phase of a round begins, or goes on
-  pub swept : (phase : Phase) (had : ℕ → Type 0) (waits : ℕ) (log : Acts) (slots : List (Option B)) (count : ℕ) (now : S) → Now phase had waits log slots count now
-      → Now Phase.Sweeps nobody waits log slots count now
-  swept phase had waits log slots count now h =
-      next phase Phase.Sweeps had nobody waits log slots count now h (λ e. absurd (other e))
+  pub swept : (phase : Phase) (had : ℕ → Type 0) (past : Past) (log : Acts) (slots : List (Option B)) (count : ℕ) (now : S) → Now phase had past log slots count now
+      → Now Phase.Sweeps nobody past log slots count now
+  swept phase had past log slots count now h =
+      next_phase phase Phase.Sweeps had nobody past log slots count now h (λ e. absurd (other e)) (λ e. absurd (not_writes e))
       (λ j c at not share. let e = h.is_told.fair h.story [] (sym (append-nil h.story)) (view c).number share in omega (arith, e))
     where
+      not_writes : Phase.Sweeps ≡ Phase.Writes → ⊥
+      not_writes e = cc
+
       other : Phase.Sweeps ≡ Phase.Reads → ⊥
       other e = cc
 
   -- what happened to the client of a slot that had no turn in this phase
-  pub crowd_turn : (phase : Phase) (had had' : ℕ → Type 0) (waits : ℕ) (log log' : Acts) (slots : List (Option B)) (count : ℕ) (now after : S) (i : ℕ) (d s : Option B) (more : Story)
+  pub crowd_turn : (phase : Phase) (had had' : ℕ → Type 0) (past : Past) (log log' : Acts) (slots : List (Option B)) (count : ℕ) (now after : S) (i : ℕ) (d s : Option B) (more : Story)
       → ((j : ℕ) → had j → had' j) → (had i → ⊥) → had' i
-      → Now phase had waits log slots count now → i < length slots → d ≡ slice_index_or slots i d → DidLog log (acts_in more) log' → AreTurns rules now (turns_in more) after
-      → SlotDid limits phase (option_map view d) (option_map view s) more → Now phase had' waits log' (slice_set slots i s) count after
-  crowd_turn phase had had' waits log log' slots count now after i None None more wider new done h within is k r did =
+      → Now phase had past log slots count now → i < length slots → d ≡ slice_index_or slots i d → DidLog log (acts_in more) log' → AreTurns rules now (turns_in more) after
+      → SlotDid limits phase (option_map view d) (option_map view s) more → Now phase had' (after_lines (records_in (turns_in more)) past) log' (slice_set slots i s) count after
+  crowd_turn phase had had' past log log' slots count now after i None None more wider new done h within is k r did =
       let same : after ≡ now = subst (λ m. AreTurns rules now (turns_in m) after) did.1 r in
       let quiet : DidLog log [] log' = subst (λ m. DidLog log (acts_in m) log') did.1 k in
       let free : (b : B) → At slots i b → ⊥ = λ b there. nobody_is b (At-some slots i None b is there) in
       let count_is = taken_free slots i None within free in
-      subst (λ a. Now phase had' waits log' (slice_set slots i None) count a) (sym same)
-      (foreign phase phase had had' waits waits log log' slots (slice_set slots i None) count now now h [] (λ n. refl)
-      (told_more rules limits first start phase phase 0 0 waits waits log log' slots (slice_set slots i None) count count now now h.story [] h.is_told quiet refl (omega arith) h.is_told.capped
+      subst (λ m. Now phase had' (after_lines (records_in (turns_in m)) past) log' (slice_set slots i None) count after) (sym did.1)
+      (subst (λ j. Now phase had' (record past { journal = j }) log' (slice_set slots i None) count after) (noted_none past.journal)
+      (subst (λ a. Now phase had' past log' (slice_set slots i None) count a) (sym same)
+      (foreign phase phase had had' past past log log' slots (slice_set slots i None) count now now h [] (λ n. refl)
+      (told_more rules limits first start phase phase 0 0 past past log log' slots (slice_set slots i None) count count now now h.story [] h.is_told quiet refl refl (omega arith) h.is_told.capped
       (let a = count_is.0 in omega (arith, a))
       (let a = taken_most slots in let b = h.is_told.sized in omega (arith, a, b))
       (let a = long_set slots i None in let b = h.is_told.sized in omega (arith, a, b)) tt tt h.is_told.quiet
-      (still h.story [] h.is_told.fair (λ share. refl)) refl (omega arith))
+      (still h.story [] h.is_told.fair (λ share. refl)) refl (stays_past phase past [] refl (keeps_quiet past.journal [] refl) h.is_told.settled) (λ last. tt))
       (λ j c there. others j c (At-set slots i None j c there))
       (λ j c there. At-keep slots i None j c (λ e. free c (subst (λ j. At slots j c) e there)) there)
-      (open_still phase had had' waits log slots count now h [] wider (λ share. refl)))
+      (open_still phase had had' past log slots count now h [] wider (λ share. refl)))))
     where
       nobody_is : (b : B) → None ≡ Some b → ⊥
       nobody_is b e = cc
@@ -446,77 +549,93 @@ module _ {B S : Type 0} (view : B → View) (rules : Rules S) (limits : Limits) 
       others : (j : ℕ) (c : B) → ((j ≡ i) × (None ≡ Some c)) ⊎ ((j ≢ i) × At slots j c) → At slots j c
       others j c (inl p) = absurd (nobody_is c p.1)
       others j c (inr p) = p.1
-  crowd_turn phase had had' waits log log' slots count now after i None (Some b) more wider new done h within is k r did = absurd (none (view b) did.0)
+  crowd_turn phase had had' past log log' slots count now after i None (Some b) more wider new done h within is k r did = absurd (none (view b) did.0)
     where
       none : (v : View) → Some v ≡ None → ⊥
       none v e = cc
-  crowd_turn phase had had' waits log log' slots count now after i (Some b) None more wider new done h within is k r (mine, came, closing, part, once, (close, goes)) =
+  crowd_turn phase had had' past log log' slots count now after i (Some b) None more wider new done h within is k r (mine, came, closing, part, once, (close, goes)) =
       let at = At-index slots i (Some b) b within is refl in
       let n = (view b).number in
-      let fits = told_phase rules limits first start phase 0 waits log slots count now h.story more h.is_told part in
+      let fits = told_phase rules limits first start phase 0 past log slots count now h.story more h.is_told part in
       let count_is = taken_at slots i b None at in
       let unclosed = (h.live i b at).unclosed in
       let all = closed-append (own n h.story) more in
       let plain = mine_plain n more mine in
       let lost = plain.1 in
       let waited = plain.0 in
-      gone phase had had' wider waits log log' slots count now after h n more mine i b at refl
-      (told_more rules limits first start phase phase 0 0 waits waits log log' slots (slice_set slots i None) count count now after h.story more h.is_told k (passes_plain rules now after more plain.2 r)
+      let later_past = after_lines (records_in (turns_in more)) past in
+      let passed : Passed phase past more later_past
+      = record { waited = omega (arith, waited); began = refl; keeps = keeps_turn phase n past.journal more mine once h.is_told.settled; settled = settled_turn phase past.journal more once h.is_told.settled } in
+      gone phase had had' wider past later_past log log' slots count now after h n more mine i b at refl
+      (told_more rules limits first start phase phase 0 0 past later_past log log' slots (slice_set slots i None) count count now after h.story more h.is_told k (passes_plain rules now after more plain.2 plain.3 r) (lasts_plain rules (is_some limits.journal) now after more plain.3 r)
       (omega (arith, came)) h.is_told.capped (omega (arith, came, close, count_is))
       (let a = taken_most slots in let b = h.is_told.sized in omega (arith, a, b, came))
       (let a = long_set slots i None in let b = h.is_told.sized in omega (arith, a, b)) closing fits.0 fits.1
-      (takes_turn h.story more n (most phase) h.is_told.fair mine once (h.ready i b at new)) (omega (arith, lost)) (omega (arith, waited)))
+      (takes_turn h.story more n (most phase) h.is_told.fair mine once (h.ready i b at new)) (omega (arith, lost)) passed (reads_plain limits more plain.3))
       (omega (arith, all, unclosed, close)) (goes (own n h.story) (h.live i b at))
-  crowd_turn phase had had' waits log log' slots count now after i (Some b) (Some s) more wider new done h within is k r (mine, came, closing, part, once, (same, close, goes)) =
+  crowd_turn phase had had' past log log' slots count now after i (Some b) (Some s) more wider new done h within is k r (mine, came, closing, part, once, (same, close, goes)) =
       let at = At-index slots i (Some b) b within is refl in
       let n = (view b).number in
-      let fits = told_phase rules limits first start phase 0 waits log slots count now h.story more h.is_told part in
+      let fits = told_phase rules limits first start phase 0 past log slots count now h.story more h.is_told part in
       let count_is = taken_at slots i b (Some s) at in
       let plain = mine_plain n more mine in
       let lost = plain.1 in
       let waited = plain.0 in
-      seated phase had had' wider waits log log' slots count now after h n more mine i count s within (omega arith) (λ e. absurd (omega (arith, e)))
+      let later_past = after_lines (records_in (turns_in more)) past in
+      let passed : Passed phase past more later_past
+      = record { waited = omega (arith, waited); began = refl; keeps = keeps_turn phase n past.journal more mine once h.is_told.settled; settled = settled_turn phase past.journal more once h.is_told.settled } in
+      seated phase had had' wider past later_past log log' slots count now after h n more mine i count s within (omega arith) (λ e. absurd (omega (arith, e)))
       (λ m q d e. d (sym q.is ∙ ap (λ c. (view c).number) (At-only slots i q.b b (subst (λ j. At slots j q.b) e q.there) at)))
       same (omega arith) (h.below i b at)
       (λ j c d there e. d (h.apart j i c b there at e))
-      (told_more rules limits first start phase phase 0 0 waits waits log log' slots (slice_set slots i (Some s)) count count now after h.story more h.is_told k (passes_plain rules now after more plain.2 r)
+      (told_more rules limits first start phase phase 0 0 past later_past log log' slots (slice_set slots i (Some s)) count count now after h.story more h.is_told k (passes_plain rules now after more plain.2 plain.3 r) (lasts_plain rules (is_some limits.journal) now after more plain.3 r)
       (omega (arith, came)) h.is_told.capped (omega (arith, came, close, count_is))
       (let a = taken_most slots in let b = h.is_told.sized in omega (arith, a, b, came))
       (let a = long_set slots i (Some s) in let b = h.is_told.sized in omega (arith, a, b)) closing fits.0 fits.1
-      (takes_turn h.story more n (most phase) h.is_told.fair mine once (h.ready i b at new)) (omega (arith, lost)) (omega (arith, waited)))
+      (takes_turn h.story more n (most phase) h.is_told.fair mine once (h.ready i b at new)) (omega (arith, lost)) passed (reads_plain limits more plain.3))
       (λ not. absurd (not done))
       (goes (own n h.story) (h.live i b at))
 
+  -- the same, where no line was run
+  pub crowd_still : (phase : Phase) (had had' : ℕ → Type 0) (past : Past) (log log' : Acts) (slots : List (Option B)) (count : ℕ) (now : S) (i : ℕ) (d s : Option B) (more : Story)
+      → ((j : ℕ) → had j → had' j) → (had i → ⊥) → had' i
+      → Now phase had past log slots count now → i < length slots → d ≡ slice_index_or slots i d → DidLog log (acts_in more) log' → turns_in more ≡ []
+      → SlotDid limits phase (option_map view d) (option_map view s) more → Now phase had' past log' (slice_set slots i s) count now
+  crowd_still phase had had' past log log' slots count now i d s more wider new done h within is k none did =
+      subst (λ p. Now phase had' p log' (slice_set slots i s) count now) (ap (λ t. after_lines (records_in t) past) none ∙ sym (ap (λ j. record past { journal = j }) (noted_none past.journal)))
+      (crowd_turn phase had had' past log log' slots count now now i d s more wider new done h within is k (subst (λ t. AreTurns rules now t now) (sym none) refl) did)
+
   -- what an accept did, for a free slot
-  arrives : (waits : ℕ) (log log' : Acts) (slots : List (Option B)) (count : ℕ) (now : S) (i : ℕ) (s : Option B) (more : Story) (came closed : ℕ)
-      (h : Now Phase.Reads nobody waits log slots count now) → i < length slots → ((b : B) → At slots i b → ⊥) → DidLog log (acts_in more) log'
+  arrives : (past : Past) (log log' : Acts) (slots : List (Option B)) (count : ℕ) (now : S) (i : ℕ) (s : Option B) (more : Story) (came closed : ℕ)
+      (h : Now Phase.Reads nobody past log slots count now) → i < length slots → ((b : B) → At slots i b → ⊥) → DidLog log (acts_in more) log'
       → IsArrival came closed more → came ≡ closed + taken_by s → came ≤ 1 → count + came ≤ limits.connections
-      → Told Phase.Reads waits log' (slice_set slots i s) (count + came) now (h.story ++ more)
-  arrives waits log log' slots count now i s more came closed h within free k a sums one capped =
+      → Told Phase.Reads past log' (slice_set slots i s) (count + came) now (h.story ++ more)
+  arrives past log log' slots count now i s more came closed h within free k a sums one capped =
       let count_is = taken_free slots i s within free in
-      let fits = told_phase rules limits first start Phase.Reads 0 waits log slots count now h.story more h.is_told a.part in
+      let fits = told_phase rules limits first start Phase.Reads 0 past log slots count now h.story more h.is_told a.part in
       let came_is = a.came_is in
       let closed_is = a.closed_is in
       let sized = h.is_told.sized in
       let lost = a.unlost in
       let waited = a.waited in
-      told_more rules limits first start Phase.Reads Phase.Reads 0 0 waits waits log log' slots (slice_set slots i s) count (count + came) now now h.story more h.is_told k
-      (passes_plain rules now now more a.untold (subst (λ t. AreTurns rules now t now) (sym a.none) refl))
+      told_more rules limits first start Phase.Reads Phase.Reads 0 0 past past log log' slots (slice_set slots i s) count (count + came) now now h.story more h.is_told k
+      (passes_plain rules now now more a.untold a.unchanged (subst (λ t. AreTurns rules now t now) (sym a.none) refl))
+      (lasts_plain rules (is_some limits.journal) now now more a.unchanged (subst (λ t. AreTurns rules now t now) (sym a.none) refl))
       (omega (arith, came_is)) capped (let e = count_is.0 in omega (arith, came_is, closed_is, sums, e))
       (let e = count_is.1 in omega (arith, came_is, one, e, sized))
       (let e = long_set slots i s in omega (arith, e, sized)) (a.within limits) fits.0 fits.1
-      (still h.story more h.is_told.fair a.silent) (omega (arith, lost)) (omega (arith, waited))
+      (still h.story more h.is_told.fair a.silent) (omega (arith, lost)) (stays_past Phase.Reads past more waited (a.unkept past.journal) (λ e. absurd (reads_not_writes e))) (reads_plain limits more a.unchanged)
 
-  pub crowd_seat : (waits : ℕ) (log log' : Acts) (slots : List (Option B)) (count : ℕ) (now : S) (i : ℕ) (came : Bool) (s : Option B) (more : Story)
-      → i < length slots → ((b : B) → At slots i b → ⊥) → count < limits.connections → Now Phase.Reads nobody waits log slots count now → DidLog log (acts_in more) log'
+  pub crowd_seat : (past : Past) (log log' : Acts) (slots : List (Option B)) (count : ℕ) (now : S) (i : ℕ) (came : Bool) (s : Option B) (more : Story)
+      → i < length slots → ((b : B) → At slots i b → ⊥) → count < limits.connections → Now Phase.Reads nobody past log slots count now → DidLog log (acts_in more) log'
       → Arrives count came (option_map view s) more
-      → Now Phase.Reads nobody waits log' (slice_set slots i s) (count + (if came then 1 else 0)) now
-  crowd_seat waits log log' slots count now i true (Some s) more within free below h k (arrival, is, mine, live) =
+      → Now Phase.Reads nobody past log' (slice_set slots i s) (count + (if came then 1 else 0)) now
+  crowd_seat past log log' slots count now i true (Some s) more within free below h k (arrival, is, mine, live) =
       let none = h.fresh count (omega arith) in
-      seated Phase.Reads nobody nobody (λ j k. k) waits log log' slots count now now h count more mine i (count + 1) s within (omega arith) (λ e. refl)
+      seated Phase.Reads nobody nobody (λ j k. k) past past log log' slots count now now h count more mine i (count + 1) s within (omega arith) (λ e. refl)
       (λ m q d e. free q.b (subst (λ j. At slots j q.b) e q.there)) is (omega arith) (omega arith)
       (λ j c d there e. let q = h.below j c there in absurd (omega (arith, e, q)))
-      (arrives waits log log' slots count now i (Some s) more 1 0 h within free k arrival refl (omega arith) (omega (arith, below)))
+      (arrives past log log' slots count now i (Some s) more 1 0 h within free k arrival refl (omega arith) (omega (arith, below)))
       (λ not share.
       let e = since-append count share 0 h.story more in
       let f = since_fresh count share 0 h.story none in
@@ -525,23 +644,23 @@ module _ {B S : Type 0} (view : B → View) (rules : Rules S) (limits : Limits) 
       let r = reads_most share in
       omega (arith, e, f, g, q, r))
       (subst (λ t. Lives (t ++ more) (view s)) (sym none) (live))
-  crowd_seat waits log log' slots count now i true None more within free below h k (arrival, mine, done) = record {
-    story = story' Phase.Reads nobody nobody (λ j k. k) waits log log' slots count now now h count more mine;
+  crowd_seat past log log' slots count now i true None more within free below h k (arrival, mine, done) = record {
+    story = story' Phase.Reads nobody nobody (λ j k. k) past past log log' slots count now now h count more mine;
     is_told = told;
     below = λ j c there. let q = h.below j c (others j c there) in omega arith;
     live = λ j c there.
         let q = h.below j c (others j c there) in
-        at_other Phase.Reads nobody nobody (λ j k. k) waits log log' slots count now now h count more mine (view c).number (λ e. absurd (omega (arith, e, q)))
+        at_other Phase.Reads nobody nobody (λ j k. k) past past log log' slots count now now h count more mine (view c).number (λ e. absurd (omega (arith, e, q)))
         (λ t. Lives t (view c)) (h.live j c (others j c there));
     apart = λ j m c d there too e. h.apart j m c d (others j c there) (others m d too) e;
-    fresh = fresh' Phase.Reads nobody nobody (λ j k. k) waits log log' slots count now now h count more mine (count + 1) (omega arith) (omega arith);
-    served = served' Phase.Reads nobody nobody (λ j k. k) waits log log' slots count now now h count more mine kept;
-    ready = λ j c there. open_still Phase.Reads nobody nobody waits log slots count now h more (λ j k. k) arrival.silent j c (others j c there);
+    fresh = fresh' Phase.Reads nobody nobody (λ j k. k) past past log log' slots count now now h count more mine (count + 1) (omega arith) (omega arith);
+    served = served' Phase.Reads nobody nobody (λ j k. k) past past log log' slots count now now h count more mine kept;
+    ready = λ j c there. open_still Phase.Reads nobody nobody past log slots count now h more (λ j k. k) arrival.silent j c (others j c there);
     ends = λ m few. elim (eqb_tells m count) [
-      | inl p ↦ inl (subst (λ l. closed_in (acts_in (own l (story' Phase.Reads nobody nobody (λ j k. k) waits log log' slots count now now h count more mine))) ≡ 1) (sym p.1)
-          (at_own Phase.Reads nobody nobody (λ j k. k) waits log log' slots count now now h count more mine (λ t. closed_in (acts_in t) ≡ 1) closing))
+      | inl p ↦ inl (subst (λ l. closed_in (acts_in (own l (story' Phase.Reads nobody nobody (λ j k. k) past past log log' slots count now now h count more mine))) ≡ 1) (sym p.1)
+          (at_own Phase.Reads nobody nobody (λ j k. k) past past log log' slots count now now h count more mine (λ t. closed_in (acts_in t) ≡ 1) closing))
       | inr p ↦ let q = p.1 in elim (h.ends m (omega (arith, few, q))) [
-        | inl q ↦ inl (at_other Phase.Reads nobody nobody (λ j k. k) waits log log' slots count now now h count more mine m p.1 (λ t. closed_in (acts_in t) ≡ 1) q)
+        | inl q ↦ inl (at_other Phase.Reads nobody nobody (λ j k. k) past past log log' slots count now now h count more mine m p.1 (λ t. closed_in (acts_in t) ≡ 1) q)
         | inr q ↦ inr (record {
           i = q.i;
           b = q.b;
@@ -552,8 +671,8 @@ module _ {B S : Type 0} (view : B → View) (rules : Rules S) (limits : Limits) 
     ];
   }
     where
-      told : Told Phase.Reads waits log' (slice_set slots i None) (count + 1) now (story' Phase.Reads nobody nobody (λ j k. k) waits log log' slots count now now h count more mine)
-      told = arrives waits log log' slots count now i None more 1 1 h within free k arrival refl (omega arith) (omega (arith, below))
+      told : Told Phase.Reads past log' (slice_set slots i None) (count + 1) now (story' Phase.Reads nobody nobody (λ j k. k) past past log log' slots count now now h count more mine)
+      told = arrives past log log' slots count now i None more 1 1 h within free k arrival refl (omega arith) (omega (arith, below))
 
       none : own count h.story ≡ []
       none = h.fresh count (omega arith)
@@ -569,15 +688,15 @@ module _ {B S : Type 0} (view : B → View) (rules : Rules S) (limits : Limits) 
 
       closing : closed_in (acts_in (own count h.story ++ more)) ≡ 1
       closing = subst (λ t. closed_in (acts_in (t ++ more)) ≡ 1) (sym none) arrival.closed_is
-  crowd_seat waits log log' slots count now i false (Some s) more within free below h k bad = absurd bad
-  crowd_seat waits log log' slots count now i false None more within free below h k (arrival, none) =
-      subst (λ c. Now Phase.Reads nobody waits log' (slice_set slots i None) c now) same
-      (foreign Phase.Reads Phase.Reads nobody nobody waits waits log log' slots (slice_set slots i None) count now now h more none
-      (subst (λ c. Told Phase.Reads waits log' (slice_set slots i None) c now (h.story ++ more)) (sym same)
-      (arrives waits log log' slots count now i None more 0 0 h within free k arrival refl (omega arith) (omega (arith, below))))
+  crowd_seat past log log' slots count now i false (Some s) more within free below h k bad = absurd bad
+  crowd_seat past log log' slots count now i false None more within free below h k (arrival, none) =
+      subst (λ c. Now Phase.Reads nobody past log' (slice_set slots i None) c now) same
+      (foreign Phase.Reads Phase.Reads nobody nobody past past log log' slots (slice_set slots i None) count now now h more none
+      (subst (λ c. Told Phase.Reads past log' (slice_set slots i None) c now (h.story ++ more)) (sym same)
+      (arrives past log log' slots count now i None more 0 0 h within free k arrival refl (omega arith) (omega (arith, below))))
       (λ j c there. others j c (At-set slots i None j c there))
       (λ j c there. At-keep slots i None j c (λ e. free c (subst (λ j. At slots j c) e there)) there)
-      (open_still Phase.Reads nobody nobody waits log slots count now h more (λ j k. k) arrival.silent))
+      (open_still Phase.Reads nobody nobody past log slots count now h more (λ j k. k) arrival.silent))
     where
       same : count ≡ count + 0
       same = omega arith
@@ -590,15 +709,15 @@ module _ {B S : Type 0} (view : B → View) (rules : Rules S) (limits : Limits) 
       others j c (inr p) = p.1
 
   -- equal slots, and an equal count
-  pub shown : (phase : Phase) (had : ℕ → Type 0) (waits : ℕ) (log : Acts) (slots slots' : List (Option B)) (count count' : ℕ) (now : S) → slots' ≡ slots → count' ≡ count
-      → Now phase had waits log slots count now → Now phase had waits log slots' count' now
-  shown phase had waits log slots slots' count count' now e f h =
-      subst (λ s. Now phase had waits log s count' now) (sym e) (subst (λ n. Now phase had waits log slots n now) (sym f) h)
+  pub shown : (phase : Phase) (had : ℕ → Type 0) (past : Past) (log : Acts) (slots slots' : List (Option B)) (count count' : ℕ) (now : S) → slots' ≡ slots → count' ≡ count
+      → Now phase had past log slots count now → Now phase had past log slots' count' now
+  shown phase had past log slots slots' count count' now e f h =
+      subst (λ s. Now phase had past log s count' now) (sym e) (subst (λ n. Now phase had past log slots n now) (sym f) h)
 
-  pub waited : (phase : Phase) (had : ℕ → Type 0) (waits : ℕ) (log log' : Acts) (slots slots' : List (Option B)) (count count' : ℕ) (now : S) → DidLog log (Waited ∷ []) log' → slots' ≡ slots → count' ≡ count
-      → Now phase had waits log slots count now → Now Phase.Reads nobody (waits + 1) log' slots' count' now
-  waited phase had waits log log' slots slots' count count' now k e f h =
-      subst (λ s. Now Phase.Reads nobody (waits + 1) log' s count' now) (sym e) (subst (λ n. Now Phase.Reads nobody (waits + 1) log' slots n now) (sym f) (has_waited phase had waits log log' slots count now k h))
+  pub waited : (phase : Phase) (had : ℕ → Type 0) (past : Past) (log log' : Acts) (slots slots' : List (Option B)) (count count' : ℕ) (now : S) → DidLog log (Waited ∷ []) log' → slots' ≡ slots → count' ≡ count
+      → Now phase had past log slots count now → Now Phase.Reads nobody (later past) log' slots' count' now
+  waited phase had past log log' slots slots' count count' now k e f h =
+      subst (λ s. Now Phase.Reads nobody (later past) log' s count' now) (sym e) (subst (λ n. Now Phase.Reads nobody (later past) log' slots n now) (sym f) (has_waited phase had past log log' slots count now k h))
 
 -- ---- the beginning
 
@@ -621,14 +740,15 @@ unserved = record {
         some : m ∷ (p ++ q) ≡ [] → ⊥
         some e = cc
 
-pub crowd_first : {B S : Type 0} (view : B → View) (rules : Rules S) (limits : Limits) (first : S) (start : Acts) (slots : List (Option B)) → AreFree slots
-    → length slots ≤ limits.clients → (h : Crowd view rules limits first start Phase.Reads nobody 0 start slots 0 first) × (h.story ≡ [])
-crowd_first view rules limits first start slots free sized = (
+pub crowd_first : {B S : Type 0} (view : B → View) (rules : Rules S) (limits : Limits) (first : S) (start : Acts) (began : Option Journal) (slots : List (Option B)) → AreFree slots
+    → length slots ≤ limits.clients → MayKeep limits began → (h : Crowd view rules limits first start Phase.Reads nobody (past_of 0 began began) start slots 0 first) × (h.story ≡ [])
+crowd_first view rules limits first start began slots free sized allowed = (
   record {
     story = [];
     is_told = record {
       logged = no_log start;
       run = refl;
+      lasts = refl;
       total = refl;
       capped = omega arith;
       opened = let e = taken_none slots free in omega (arith, e);
@@ -640,6 +760,10 @@ crowd_first view rules limits first start slots free sized = (
       fair = λ p q cut n share. unturned p q n share (sym cut);
       unlost = refl;
       waited = refl;
+      reads = tt;
+      keeps = keeps_quiet began [] refl;
+      allowed = allowed;
+      settled = λ e. absurd (reads_not_writes e);
     };
     below = λ i b there. absurd (free_at slots i b free there);
     live = λ i b there. absurd (free_at slots i b free there);
@@ -666,161 +790,6 @@ crowd_first view rules limits first start slots free sized = (
         some : m ∷ (p ++ q) ≡ [] → ⊥
         some e = cc
 
-pub crowd_none : {B S : Type 0} (view : B → View) (rules : Rules S) (limits : Limits) (first : S) (start : Acts) (slots : List (Option B)) → AreFree slots
-    → length slots ≤ limits.clients → Crowd view rules limits first start Phase.Reads nobody 0 start slots 0 first
-crowd_none view rules limits first start slots free sized = (crowd_first view rules limits first start slots free sized).0
-
--- ---- one slot
-
--- what a piece of a round does to a slot
-module _ {B : Type 0} (view : B → View) (limits : Limits) (phase : Phase) where
-  -- there was no client
-  pub did_none : (s t : Option B) → s ≡ None → t ≡ None → SlotDid limits phase (option_map view s) (option_map view t) []
-  did_none s t e f =
-      subst (λ o. SlotDid limits phase (option_map view o) (option_map view t) []) (sym e)
-      (subst (λ o. SlotDid limits phase None (option_map view o) []) (sym f) (refl, refl))
-
-  -- the client stays
-  pub did_stay : (s : Option B) (b : B) (w : View) (more : Story) → Some b ≡ s → w.number ≡ (view b).number → IsPiece (view b).number phase more
-      → Stays (view b) w more → SlotDid limits phase (option_map view s) (Some w) more
-  did_stay s b w more e same piece stays =
-      subst (λ o. SlotDid limits phase (option_map view o) (Some w) more) e (piece.mine, piece.came, piece.within limits, piece.part, piece.once, (same, piece.unclosed, stays))
-
-  -- the client was closed
-  pub did_left : (h : How) (s t : Option B) (b : B) (more : Story) → Some b ≡ s → t ≡ None → IsPiece (view b).number phase more → IsAllowed limits h
-      → Leaves h (view b) more → SlotDid limits phase (option_map view s) (option_map view t) (more ++ Did (Closed (view b).number h) ∷ [])
-  did_left h s t b more e f piece allowed leaves =
-      let n = (view b).number in
-      let last : Story = Did (Closed n h) ∷ [] in
-      let came = came-append more last in
-      let closed = closed-append more last in
-      let none = piece.came in
-      let unclosed = piece.unclosed in
-      subst (λ o. SlotDid limits phase (option_map view o) (option_map view t) (more ++ last)) e
-      (subst (λ o. SlotDid limits phase (Some (view b)) (option_map view o) (more ++ last)) (sym f) (
-        Mine-append n more last piece.mine (same_eq n, tt),
-        omega (arith, came, none),
-        AreWithin-append limits more last (piece.within limits) (allowed, tt),
-        InPhase-append phase more last piece.part (closing phase n h),
-        (λ share. let e = times-append share more last in let f = piece.once share in omega (arith, e, f)),
-        (omega (arith, closed, unclosed), λ did live. subst (IsServed) (append_assoc did more last) (left_served h n (did ++ more) (leaves did live))),
-      ))
-    where
-      closing : (phase : Phase) (n : ℕ) (h : How) → InPhase phase (Did (Closed n h) ∷ [])
-      closing Phase.Reads n h = ((tt, tt), refl)
-      closing Phase.Writes n h = λ wrote. (tt, tt)
-      closing Phase.Sweeps n h = λ wrote. (tt, tt)
-
-  -- the client was closed without a turn
-  pub did_idle : (h : How) (s t : Option B) (b : B) → is_orderly h ≡ false → ((acts : List Act) (turns : List Turn) → IsReason h acts turns) → IsAllowed limits h → Some b ≡ s → t ≡ None
-      → SlotDid limits phase (option_map view s) (option_map view t) (Did (Closed (view b).number h) ∷ [])
-  did_idle h s t b not why allowed e f =
-      did_left h s t b [] e f (piece_none (view b).number phase) allowed (leaves_part h (view b) (view b) [] not (λ acts turns. why (acts ++ []) turns) (stays_none (view b)))
-
--- a client came
-pub arrived : (n : ℕ) → IsArrival 1 0 (Did (Came n) ∷ [])
-arrived n = record { came_is = refl; closed_is = refl; within = λ limits. (tt, tt); none = refl; silent = λ share. refl; waited = refl; unlost = refl; untold = refl; part = ((tt, tt), refl) }
-
--- none came
-pub came_not : {B : Type 0} (view : B → View) (s : Option B) (n : ℕ) → s ≡ None → Arrives n false (option_map view s) []
-came_not view s n e = subst (λ o. Arrives n false (option_map view o) []) (sym e)
-    (record { came_is = refl; closed_is = refl; within = λ limits. tt; none = refl; silent = λ share. refl; waited = refl; unlost = refl; untold = refl; part = (tt, refl) }, λ m. refl)
-
--- one could not be accepted
-pub refused : {B : Type 0} (view : B → View) (s : Option B) (n : ℕ) → s ≡ None → Arrives n false (option_map view s) (Did Refused ∷ [])
-refused view s n e = subst (λ o. Arrives n false (option_map view o) (Did Refused ∷ [])) (sym e)
-    (record { came_is = refl; closed_is = refl; within = λ limits. (tt, tt); none = refl; silent = λ share. refl; waited = refl; unlost = refl; untold = refl; part = ((tt, tt), refl) }, λ m. refl)
-
--- a client came, and is in the slot
-pub came_in_slot : (v : View) (n : ℕ) → v.number ≡ n → Holds [] v.held → v.who ≡ None → v.waiting ≡ [] → v.pending ≡ [] → v.quits ≡ false
-    → Arrives n true (Some v) (Did (Came n) ∷ [])
-came_in_slot v n is held who waiting pending quits = (
-  arrived n,
-  is,
-  (same_eq n, tt),
-  record { live = live; order = λ p q cut. at_each p q cut; came = refl; unclosed = refl },
-)
-  where
-    live : IsLive (Came n ∷ []) [] v
-    live = record {
-      heard = [];
-      read = sym waiting;
-      ran = refl;
-      holds = held;
-      speaks = who;
-      text = pending;
-      last = refl;
-      asked = quits;
-      stays = refl;
-    }
-
-    at_each : (p q : Story) → Did (Came n) ∷ [] ≡ p ++ q → IsPart (acts_in p) (turns_in p)
-    at_each [] q cut = record { heard = []; unheard = []; missing = []; last_who = None; read = refl; ran = refl; speaks = refl; text = refl; last = refl }
-    at_each (x ∷ []) q cut = subst (λ y. IsPart (acts_in (y ∷ [])) (turns_in (y ∷ []))) (one cut) (live_part (Came n ∷ []) [] v live)
-      where
-        one : Did (Came n) ∷ [] ≡ x ∷ q → Did (Came n) ≡ x
-        one e = cc
-    at_each (x ∷ y ∷ p) q cut = absurd (short (ap length cut))
-      where
-        short : 1 ≡ suc (suc (length (p ++ q))) → ⊥
-        short e = omega (arith, e)
-
--- a client came and was closed
-pub dropped : {B : Type 0} (view : B → View) (s : Option B) (n : ℕ) → s ≡ None
-    → Arrives n true (option_map view s) (Did (Came n) ∷ Did (Closed n how.Memory) ∷ [])
-dropped view s n e = subst (λ o. Arrives n true (option_map view o) (Did (Came n) ∷ Did (Closed n how.Memory) ∷ [])) (sym e) (
-  record { came_is = refl; closed_is = refl; within = λ limits. (tt, (tt, tt)); none = refl; silent = λ share. refl; waited = refl; unlost = refl; untold = refl; part = ((tt, (tt, tt)), refl) },
-  (same_eq n, (same_eq n, tt)),
-  record {
-    order = λ p q cut. at_each p q cut;
-    whole = λ yes. absurd (never yes);
-    why = λ p q m other cut. reason p q m other cut;
-    once = (omega arith, omega arith);
-  },
-)
-  where
-    nothing_yet : (acts : List Act) → read_in acts ≡ [] → wrote_in acts ≡ [] → IsPart acts []
-    nothing_yet acts read wrote = record {
-      heard = [];
-      unheard = [];
-      missing = [];
-      last_who = None;
-      read = read;
-      ran = refl;
-      speaks = refl;
-      text = ap (λ w. w ++ []) wrote;
-      last = refl;
-    }
-
-    reason : (p q : Story) (m : ℕ) (other : How) → Did (Came n) ∷ Did (Closed n how.Memory) ∷ [] ≡ p ++ Did (Closed m other) ∷ q → IsReason other (acts_in p) (turns_in p)
-    reason [] q m other cut = absurd (apart cut)
-      where
-        apart : Did (Came n) ∷ Did (Closed n how.Memory) ∷ [] ≡ Did (Closed m other) ∷ q → ⊥
-        apart e = cc
-    reason (x ∷ []) q m other cut = subst (λ h. IsReason h (acts_in (x ∷ [])) (turns_in (x ∷ []))) (one cut) tt
-      where
-        one : Did (Came n) ∷ Did (Closed n how.Memory) ∷ [] ≡ x ∷ Did (Closed m other) ∷ q → how.Memory ≡ other
-        one e = cc
-    reason (x ∷ y ∷ p) q m other cut = absurd (short (ap length cut ∙ ap (λ k. suc (suc k)) (length-append p (Did (Closed m other) ∷ q))))
-      where
-        short : 2 ≡ suc (suc (length p + suc (length q))) → ⊥
-        short e = omega (arith, e)
-
-    at_each : (p q : Story) → Did (Came n) ∷ Did (Closed n how.Memory) ∷ [] ≡ p ++ q → IsPart (acts_in p) (turns_in p)
-    at_each [] q cut = nothing_yet [] refl refl
-    at_each (x ∷ []) q cut = subst (λ y. IsPart (acts_in (y ∷ [])) (turns_in (y ∷ []))) (one cut) (nothing_yet (Came n ∷ []) refl refl)
-      where
-        one : Did (Came n) ∷ Did (Closed n how.Memory) ∷ [] ≡ x ∷ q → Did (Came n) ≡ x
-        one e = cc
-    at_each (x ∷ y ∷ []) q cut = subst (λ z. IsPart (acts_in (z ∷ y ∷ [])) (turns_in (z ∷ y ∷ []))) (one cut)
-        (subst (λ z. IsPart (acts_in (Did (Came n) ∷ z ∷ [])) (turns_in (Did (Came n) ∷ z ∷ []))) (two cut) (nothing_yet (Came n ∷ Closed n how.Memory ∷ []) refl refl))
-      where
-        one : Did (Came n) ∷ Did (Closed n how.Memory) ∷ [] ≡ x ∷ y ∷ q → Did (Came n) ≡ x
-        one e = cc
-
-        two : Did (Came n) ∷ Did (Closed n how.Memory) ∷ [] ≡ x ∷ y ∷ q → Did (Closed n how.Memory) ≡ y
-        two e = cc
-    at_each (x ∷ y ∷ z ∷ p) q cut = absurd (short (ap length cut))
-      where
-        short : 2 ≡ suc (suc (suc (length (p ++ q)))) → ⊥
-        short e = omega (arith, e)
+pub crowd_none : {B S : Type 0} (view : B → View) (rules : Rules S) (limits : Limits) (first : S) (start : Acts) (began : Option Journal) (slots : List (Option B)) → AreFree slots
+    → length slots ≤ limits.clients → MayKeep limits began → Crowd view rules limits first start Phase.Reads nobody (past_of 0 began began) start slots 0 first
+crowd_none view rules limits first start began slots free sized allowed = (crowd_first view rules limits first start began slots free sized allowed).0

@@ -1,13 +1,21 @@
+mod Beside
+pub mod Chaining
 mod Closing
 mod Crowding
+pub mod Journals
+mod Disk
 mod Known
 mod Living
 pub mod Logins
+mod OneSlot
 mod Owning
-mod Passing
+pub mod Passing
 mod Queueing
 mod Seats
+pub mod Recording
 pub mod Seeing
 pub mod Stepping
 mod Telling
 mod Turning
+pub mod Unchanged
+mod Written

@@ -7,6 +7,7 @@ use Rattle.judy_model.specs.Speakers.{Speaker}
 use Rattle.judy_model.specs.Stream.{is_quit, served, through_quit}
 use Rattle.judy_protocol.specs.Serving.{asks_to_quit}
 use Rattle.judy_protocol.specs.declared.held.Held.{Held}
+use Rattle.judy_many.specs.Books.{Journal}
 use Rattle.judy_many.specs.Nets.{Act, Acts, DidLog}
 use Rattle.judy_many.specs.Rules.{Rules}
 use Rattle.judy_many.specs.Sessions.{Turn, lines_in, texts, Steps}
@@ -69,11 +70,11 @@ module _ (did : List Act) (ran : List Turn) (v : View) (h : IsLive did ran v) wh
 
   -- lines were run
   pub live_hear : {S : Type 0} (rules : Rules S) (used rest : List ℕ) (turns : List Turn) (quit : Bool) (held' : Held) (who' : Option Speaker)
-      (before after : S) (answers' waiting' : List ℕ)
+      (before after : S) (answers' waiting' : List ℕ) (journal journal' : Option Journal)
       → v.quits ≡ false → v.pending ≡ [] → used ++ rest ≡ v.waiting → waiting' ≡ rest
-      → Steps rules used turns quit v.held held' v.who who' before after [] answers'
+      → Steps rules used turns quit v.held held' v.who who' before after [] answers' journal journal'
       → IsLive did (ran ++ turns) (record { number = v.number; waiting = waiting'; held = held'; who = who'; pending = answers'; quits = quit })
-  live_hear rules used rest turns quit held' who' before after answers' waiting' stays none cut is s =
+  live_hear rules used rest turns quit held' who' before after answers' waiting' journal journal' stays none cut is s =
       let goes_on : asks_to_quit (lines_in ran) ≡ false = sym h.asked ∙ stays in
       record {
         heard = h.heard ++ used;

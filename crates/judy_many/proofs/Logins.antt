@@ -11,7 +11,7 @@ use Rattle.judy_many.specs.Lives.{IsWhole, read_in, wrote_in}
 use Rattle.judy_many.specs.Nets.{Act}
 use Rattle.judy_many.specs.Sessions.{Speaks, Turn, UseLogin, lines_in, replies_in, text_of, texts}
 use Rattle.judy_many.specs.Stories.{Story, belongs, own, turns_in}
-use Rattle.judy_many.specs.Stories.Moment.{Did, Ran}
+use Rattle.judy_many.specs.Stories.Moment.{Changed, Did, Ran}
 use Rattle.judy_many.proofs.Stepping.{answer_is}
 
 -- the answers to one session's lines, by the definition of a connection's answers
@@ -51,6 +51,7 @@ own_use login n (Did a ∷ story) h =
       | true ↦ own_use login n story h
       | false ↦ own_use login n story h
     ]
+own_use login n (Changed text ∷ story) h = own_use login n story h
 own_use login n (Ran m turns ∷ story) h =
     let parts = first_use login turns (turns_in story) h in
     elim (belongs n (Ran m turns)) as (λ b. UseLogin login (turns_in (if b then Ran m turns ∷ own n story else own n story))) [

@@ -4,9 +4,9 @@ use Rattle.std.specs.Prelude.{◌==◌, if◌then◌else◌}
 use Rattle.std.proofs.lemmas.Bool.{eqb-true}
 use Rattle.std.proofs.lemmas.Bool.Decides.{eqb_tells}
 use Rattle.judy_many.specs.Nets.{Act}
-use Rattle.judy_many.specs.Nets.Act.{Came, Refused, Read, Ended, Broke, Wrote, Failed, Closed, Waited, Lost, Asked, Questioned, Reported, Warned, Tabled, Untabled, Replied}
+use Rattle.judy_many.specs.Nets.Act.{Came, Refused, Read, Ended, Broke, Wrote, Failed, Closed, Waited, Lost, Asked, Questioned, Reported, Warned, Tabled, Untabled, Replied, Began, Kept, Unkept, Synced, Unsynced}
 use Rattle.judy_many.specs.Stories.{Mine, Moment, Story, belongs, is_of, own}
-use Rattle.judy_many.specs.Stories.Moment.{Did, Ran}
+use Rattle.judy_many.specs.Stories.Moment.{Changed, Did, Ran}
 
 pub own-append : (n : ℕ) (a b : Story) → own n (a ++ b) ≡ own n a ++ own n b
 own-append n [] b = refl
@@ -44,10 +44,16 @@ is_other n m (Warned text) e d = absurd (never e)
 is_other n m (Tabled text) e d = absurd (never e)
 is_other n m Untabled e d = absurd (never e)
 is_other n m (Replied text) e d = absurd (never e)
+is_other n m (Began k) e d = absurd (never e)
+is_other n m (Kept text) e d = absurd (never e)
+is_other n m Unkept e d = absurd (never e)
+is_other n m Synced e d = absurd (never e)
+is_other n m Unsynced e d = absurd (never e)
 
 pub belongs_other : (n m : ℕ) (x : Moment) → belongs n x ≡ true → m ≢ n → belongs m x ≡ false
 belongs_other n m (Did a) e d = is_other n m a e d
 belongs_other n m (Ran k turns) e d = eq_other k n m e d
+belongs_other n m (Changed text) e d = absurd (never e)
 
 pub own-other : (n m : ℕ) (a : Story) → Mine n a → m ≢ n → own m a ≡ []
 own-other n m [] h d = refl

@@ -1,13 +1,14 @@
 -- What is told on the status socket.
-use Rattle.std.proofs.Common.{◌≡◌, ℕ, List, [], ◌∷◌, ◌++◌, arith, refl, subst}
+use Rattle.std.proofs.Common.{◌≡◌, ℕ, Bool, true, false, List, [], ◌∷◌, ◌++◌, Option, None, arith, refl, subst, sym, ◌∙◌}
 use Rattle.judy_many.specs.Endings.{reports_by, reports_in}
 use Rattle.judy_many.specs.Nets.{Act}
-use Rattle.judy_many.specs.Nets.Act.{Came, Refused, Read, Ended, Broke, Wrote, Failed, Closed, Waited, Lost, Asked, Questioned, Reported, Warned, Tabled, Untabled, Replied}
+use Rattle.judy_many.specs.Nets.Act.{Came, Refused, Read, Ended, Broke, Wrote, Failed, Closed, Waited, Lost, Asked, Questioned, Reported, Warned, Tabled, Untabled, Replied, Began, Kept, Unkept, Synced, Unsynced}
 use Rattle.judy_many.specs.Rules.{Rules}
 use Rattle.judy_many.specs.Sessions.{AreTurns, Turn}
-use Rattle.judy_many.specs.Statuses.{Passes, Tells}
-use Rattle.judy_many.specs.Stories.{Story, acts_in, turns_in}
-use Rattle.judy_many.specs.Stories.Moment.{Did, Ran}
+use Rattle.judy_many.specs.Statuses.{Lasts, Passes, Tells}
+use Rattle.judy_many.specs.Stories.{AreRead, Story, acts_in, changes_in, just_read, turns_in}
+use Rattle.judy_many.specs.Stories.Moment.{Changed, Did, Ran}
+use Rattle.judy_many.specs.declared.serve.Limits.{Limits}
 use Rattle.judy_many.proofs.Stepping.{AreTurns-append}
 
 -- an answer that is no report
@@ -29,6 +30,14 @@ untold text (Warned told) e = tt
 untold text (Tabled told) e = tt
 untold text Untabled e = tt
 untold text (Replied told) e = tt
+untold text (Began k) e = tt
+untold text (Kept told) e = tt
+untold text Unkept e = tt
+untold text Synced e = tt
+untold text Unsynced e = tt
+
+some : (text : List ℕ) (texts : List (List ℕ)) → text ∷ texts ≡ [] → ⊥
+some text texts e = cc
 
 module _ {S : Type 0} (rules : Rules S) where
   -- lines that were run in two parts
@@ -39,22 +48,67 @@ module _ {S : Type 0} (rules : Rules S) where
       (last, (mid, one, first), more)
 
   -- where nothing is told, lines are all that happens to the service
-  pub passes_plain : (before after : S) (story : Story) → reports_in (acts_in story) ≡ 0 → AreTurns rules before (turns_in story) after → Passes rules before story after
-  passes_plain before after [] none h = h
-  passes_plain before after (Did a ∷ story) none h =
-      (untold (rules.status before) a (omega (arith, none)), passes_plain before after story (omega (arith, none)) h)
-  passes_plain before after (Ran n turns ∷ story) none h =
+  pub passes_plain : (before after : S) (story : Story) → reports_in (acts_in story) ≡ 0 → changes_in story ≡ [] → AreTurns rules before (turns_in story) after → Passes rules before story after
+  passes_plain before after [] none same h = h
+  passes_plain before after (Did a ∷ story) none same h =
+      (untold (rules.status before) a (omega (arith, none)), passes_plain before after story (omega (arith, none)) same h)
+  passes_plain before after (Ran n turns ∷ story) none same h =
       let (mid, first, more) = split_turns before after turns (turns_in story) h in
-      (mid, first, passes_plain mid after story none more)
+      (mid, first, passes_plain mid after story none same more)
+  passes_plain before after (Changed text ∷ story) none same h = absurd (some text (changes_in story) same)
 
   pub Passes-append : (before mid after : S) (a b : Story) → Passes rules before a mid → Passes rules mid b after → Passes rules before (a ++ b) after
   Passes-append before mid after [] b h k = subst (λ s. Passes rules s b after) h k
   Passes-append before mid after (Did x ∷ a) b h k = (h.0, Passes-append before mid after a b h.1 k)
   Passes-append before mid after (Ran n turns ∷ a) b (next, first, rest) k = (next, first, Passes-append next mid after a b rest k)
+  Passes-append before mid after (Changed text ∷ a) b (next, first, rest) k = (next, first, Passes-append next mid after a b rest k)
 
-  -- the lines of a story
-  pub passes_run : (before after : S) (story : Story) → Passes rules before story after → AreTurns rules before (turns_in story) after
-  passes_run before after [] h = h
-  passes_run before after (Did a ∷ story) h = passes_run before after story h.1
-  passes_run before after (Ran n turns ∷ story) (mid, first, rest) =
-      AreTurns-append rules before mid after turns (turns_in story) first (passes_run mid after story rest)
+  -- the lines of a story in which the table stays
+  pub passes_run : (before after : S) (story : Story) → changes_in story ≡ [] → Passes rules before story after → AreTurns rules before (turns_in story) after
+  passes_run before after [] same h = h
+  passes_run before after (Did a ∷ story) same h = passes_run before after story same h.1
+  passes_run before after (Ran n turns ∷ story) same (mid, first, rest) =
+      AreTurns-append rules before mid after turns (turns_in story) first (passes_run mid after story same rest)
+  passes_run before after (Changed text ∷ story) same h = absurd (some text (changes_in story) same)
+
+-- ---- tables that keep all tenants
+
+module _ {S : Type 0} (rules : Rules S) (keep : Bool) where
+  pub lasts_plain : (before after : S) (story : Story) → changes_in story ≡ [] → AreTurns rules before (turns_in story) after → Lasts rules keep before story after
+  lasts_plain before after [] same h = h
+  lasts_plain before after (Did a ∷ story) same h = lasts_plain before after story same h
+  lasts_plain before after (Ran n turns ∷ story) same h =
+      let (mid, first, more) = split_turns rules before after turns (turns_in story) h in
+      (mid, first, lasts_plain mid after story same more)
+  lasts_plain before after (Changed text ∷ story) same h = absurd (some text (changes_in story) same)
+
+  pub Lasts-append : (before mid after : S) (a b : Story) → Lasts rules keep before a mid → Lasts rules keep mid b after → Lasts rules keep before (a ++ b) after
+  Lasts-append before mid after [] b h k = subst (λ s. Lasts rules keep s b after) h k
+  Lasts-append before mid after (Did x ∷ a) b h k = Lasts-append before mid after a b h k
+  Lasts-append before mid after (Ran n turns ∷ a) b (next, first, rest) k = (next, first, Lasts-append next mid after a b rest k)
+  Lasts-append before mid after (Changed text ∷ a) b (next, first, keeps, rest) k = (next, first, keeps, Lasts-append next mid after a b rest k)
+
+-- ---- tables that were read
+
+pub AreRead-append : (limits : Limits) (last : Option (List ℕ)) (a b : Story) → AreRead limits last a → ((l : Option (List ℕ)) → AreRead limits l b) → AreRead limits last (a ++ b)
+AreRead-append limits last [] b h k = k last
+AreRead-append limits last (Did x ∷ a) b h k = AreRead-append limits (just_read x) a b h k
+AreRead-append limits last (Ran n turns ∷ a) b h k = AreRead-append limits None a b h k
+AreRead-append limits last (Changed text ∷ a) b h k = (h.0, h.1, AreRead-append limits None a b h.2 k)
+
+-- where the table stays there is nothing to say
+pub reads_plain : (limits : Limits) (story : Story) → changes_in story ≡ [] → (last : Option (List ℕ)) → AreRead limits last story
+reads_plain limits [] same last = tt
+reads_plain limits (Did x ∷ a) same last = reads_plain limits a same (just_read x)
+reads_plain limits (Ran n turns ∷ a) same last = reads_plain limits a same None
+reads_plain limits (Changed text ∷ a) same last = absurd (some text (changes_in a) same)
+
+-- without a status socket the table stays
+pub unasked : (limits : Limits) (story : Story) (last : Option (List ℕ)) → limits.status ≡ false → AreRead limits last story → changes_in story ≡ []
+unasked limits [] last off h = refl
+unasked limits (Did x ∷ a) last off h = unasked limits a (just_read x) off h
+unasked limits (Ran n turns ∷ a) last off h = unasked limits a None off h
+unasked limits (Changed text ∷ a) last off h = absurd (never (sym off ∙ h.1))
+  where
+    never : false ≡ true → ⊥
+    never e = cc

@@ -9,9 +9,8 @@ use Rattle.judy_model.specs.Speakers.{Event}
 use Rattle.judy_model.specs.Stream.{Heard, event_of}
 use Rattle.judy_protocol.specs.Services.{AreMade, IsCalled, Seen}
 use Rattle.judy_protocol.proofs.Talking.{AreMade-append, zip-append}
-use Rattle.judy_many.specs.Crowds.{events_in}
 use Rattle.judy_many.specs.Rules.{Rules}
-use Rattle.judy_many.specs.Sessions.{AreTurns, IsTurn, Turn, UseLogin, replies_in}
+use Rattle.judy_many.specs.Sessions.{AreTurns, IsTurn, Turn, UseLogin, events_in, replies_in}
 
 -- a call, as it is seen
 abbrev pub Called : Seen → Event → Reply → Seen → Type 0

@@ -6,14 +6,18 @@ use Rattle.judy_model.proofs.lemmas.LineLemmas.{lines_of-push, rest_of-push, lin
 use Rattle.judy_model.proofs.lemmas.StreamLemmas.{through_quit-none}
 use Rattle.judy_model.specs.declared.requests.Line.TheVariants as request
 use Rattle.judy_model.specs.Speakers.{Speaker}
-use Rattle.judy_model.specs.Stream.{Heard, Login, lines_of, rest_of, heard, is_quit, through_quit, speaker_after, answer_from}
+use Rattle.judy_model.specs.Stream.{Heard, Login, event_of, lines_of, rest_of, heard, is_quit, through_quit, speaker_after, answer_from}
 use Rattle.judy_model.specs.Stream.Heard.{TooLong, Unclear, Asked}
 use Rattle.judy_model.specs.declared.replies.Reply.{Reply}
+use Rattle.judy_protocol.specs.Services.{HasLoggedIn}
 use Rattle.judy_protocol.specs.Serving.{heard_in, asks_to_quit}
-use Rattle.judy_protocol.specs.Talks.{HasNoLf, Holds, LineGrows, Turn as OneTurn}
+use Rattle.judy_protocol.specs.Talks.{HasNoLf, HasRun, Holds, LineGrows, heard_bare}
 use Rattle.judy_protocol.specs.declared.held.Held.{Held}
+use Rattle.judy_many.specs.Books.{Journal, noted_by}
+use Rattle.judy_many.specs.Records.{IsRecorded, records_of}
 use Rattle.judy_many.specs.Rules.{Rules}
-use Rattle.judy_many.specs.Sessions.{Turn, lines_in, text_of, texts, Speaks, AreTurns, Hears, Steps}
+use Rattle.judy_many.specs.Sessions.{Turn, lines_in, records_in, text_of, texts, Speaks, AreTurns, Hears, Steps}
+use Rattle.judy_many.proofs.Recording.{noted_none, noted_then, recorded, records_in-append}
 
 -- ---- lists of turns
 
@@ -72,8 +76,9 @@ Hears-append a b c bytes more ls ms h k = record {
 
 module _ {S : Type 0} (rules : Rules S) where
   -- nothing was heard
-  pub Steps-none : (held : Held) (who : Option Speaker) (s : S) (answers : List ℕ) → Steps rules [] [] false held held who who s s answers answers
-  Steps-none held who s answers = record {
+  pub Steps-none : (held : Held) (who : Option Speaker) (s : S) (answers : List ℕ) (journal : Option Journal)
+      → Steps rules [] [] false held held who who s s answers answers journal journal
+  Steps-none held who s answers journal = record {
     hears = record {
       lines = λ stream h. ap heard_in (append-nil stream) ∙ sym (append-nil (heard_in stream));
       holds = λ stream h. subst (λ r. Holds (rest_of r) held) (sym (append-nil stream)) h;
@@ -83,12 +88,13 @@ module _ {S : Type 0} (rules : Rules S) where
     text = sym (append-nil answers);
     last = refl;
     quits = refl;
+    noted = noted_none journal;
   }
 
   -- bytes that end no line were heard
-  pub Steps-held : (chunk : List ℕ) (held held' : Held) (who : Option Speaker) (s : S) (answers : List ℕ) → HasNoLf chunk → LineGrows held chunk held'
-      → Steps rules chunk [] false held held' who who s s answers answers
-  Steps-held chunk held held' who s answers lacks grows = record {
+  pub Steps-held : (chunk : List ℕ) (held held' : Held) (who : Option Speaker) (s : S) (answers : List ℕ) (journal : Option Journal) → HasNoLf chunk → LineGrows held chunk held'
+      → Steps rules chunk [] false held held' who who s s answers answers journal journal
+  Steps-held chunk held held' who s answers journal lacks grows = record {
     hears = record {
       lines = λ stream h. ap (map heard) (lines_of-more_bytes stream chunk lacks) ∙ sym (append-nil (heard_in stream));
       holds = λ stream h. subst (λ r. Holds r held') (sym (rest_of-more_bytes stream chunk lacks)) (grows (rest_of stream) h);
@@ -98,17 +104,21 @@ module _ {S : Type 0} (rules : Rules S) where
     text = sym (append-nil answers);
     last = refl;
     quits = refl;
+    noted = noted_none journal;
   }
 
   -- one line was run
   pub Steps-line : (chunk : List ℕ) (line : Heard) (quit : Bool) (held held' : Held) (who who' : Option Speaker) (before mid after : S)
-      (answers answers' text : List ℕ) → HasNoLf chunk
+      (answers answers' text : List ℕ) (journal journal' : Option Journal) (names : ℕ → List ℕ) (bare : Option (List ℕ)) (changed : Bool) → HasNoLf chunk → HasLoggedIn (rules.seen before).speakers who
       → ((rest : List ℕ) → Holds rest held → line ≡ heard (rest ++ chunk)) → Holds [] held'
-      → OneTurn rules.made (rules.seen before).logins line who who' before mid text → rules.noted mid line text after
+      → HasRun rules.made (rules.seen before).logins line who who' before mid text changed → rules.noted mid line text after
       → answers' ≡ answers ++ text → quit ≡ is_quit line
-      → (turn : Turn) × Steps rules (chunk ++ 10 ∷ []) (turn ∷ []) quit held held' who who' before after answers answers'
-  Steps-line chunk line quit held held' who who' before mid after answers answers' text lacks is empty t noted appended quits =
-      let turn : Turn = record { who = who; line = line; replies = t.replies; after = who' } in
+      → line ≡ heard_bare bare → names ≡ (rules.seen before).names → journal' ≡ noted_by (records_of changed names who' bare) journal
+      → (turn : Turn) × Steps rules (chunk ++ 10 ∷ []) (turn ∷ []) quit held held' who who' before after answers answers' journal journal'
+  Steps-line chunk line quit held held' who who' before mid after answers answers' text journal journal' names bare changed lacks known is empty ran noted appended quits spelled same kept =
+      let t = ran.turn in
+      let records = records_of changed names who' bare in
+      let turn : Turn = record { who = who; line = line; replies = t.replies; after = who'; records = records } in
       let told : text ≡ text_of turn
       = t.text_is ∙ answer_is (rules.seen before).logins who line t.replies ∙ ap (λ w. answer_from (λ name token. w) who (line ∷ []) t.replies) (sym t.speaks) in (
         turn,
@@ -122,21 +132,31 @@ module _ {S : Type 0} (rules : Rules S) where
           speaks = (refl, t.count, refl);
           run = (
             after,
-            record { mid = mid; speaks = t.speaks; count = t.count; calls = t.run; noted = subst (λ w. rules.noted mid line w after) told noted },
+            record {
+              mid = mid;
+              known = known;
+              speaks = t.speaks;
+              count = t.count;
+              calls = t.run;
+              noted = subst (λ w. rules.noted mid line w after) told noted;
+              recorded = subst (λ n. IsRecorded n (event_of line who) t.replies records) same
+                  (recorded (rules.seen before).logins names line bare who who' t.replies changed spelled t.speaks ran.changed_is);
+            },
             refl,
           );
           text = appended ∙ ap (λ v. answers ++ v) (told ∙ sym (append-nil (text_of turn)));
           last = one_line line;
           quits = quits ∙ sym (or_false (is_quit line));
+          noted = kept ∙ ap (λ r. noted_by r journal) (sym (append-nil records));
         },
       )
 
   pub Steps-append : (used more : List ℕ) (ts us : List Turn) (quit : Bool) (a b c : Held) (who mid last : Option Speaker) (first between after : S)
-      (answers answers' answers'' : List ℕ)
-      → Steps rules used ts false a b who mid first between answers answers'
-      → Steps rules more us quit b c mid last between after answers' answers''
-      → Steps rules (used ++ more) (ts ++ us) quit a c who last first after answers answers''
-  Steps-append used more ts us quit a b c who mid last first between after answers answers' answers'' h k = record {
+      (answers answers' answers'' : List ℕ) (i j l : Option Journal)
+      → Steps rules used ts false a b who mid first between answers answers' i j
+      → Steps rules more us quit b c mid last between after answers' answers'' j l
+      → Steps rules (used ++ more) (ts ++ us) quit a c who last first after answers answers'' i l
+  Steps-append used more ts us quit a b c who mid last first between after answers answers' answers'' i j l h k = record {
     hears = subst (λ ls. Hears a (used ++ more) ls c) (sym (lines_in-append ts us))
         (Hears-append a b c used more (lines_in ts) (lines_in us) h.hears k.hears);
     speaks = Speaks-append who mid last ts us h.speaks k.speaks;
@@ -147,4 +167,6 @@ module _ {S : Type 0} (rules : Rules S) where
         ∙ ap (λ v. lines_in ts ++ v) k.last ∙ sym (lines_in-append ts us);
     quits = k.quits ∙ sym (ap asks_to_quit (lines_in-append ts us) ∙ list_any-append is_quit (lines_in ts) (lines_in us)
         ∙ ap (λ b. b || asks_to_quit (lines_in us)) (sym h.quits));
+    noted = k.noted ∙ ap (noted_by (records_in us)) h.noted ∙ noted_then (records_in ts) (records_in us) i
+        ∙ ap (λ r. noted_by r i) (sym (records_in-append ts us));
   }

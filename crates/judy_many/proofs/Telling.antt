@@ -1,17 +1,19 @@
 -- What one moment after another does to a client.
-use Rattle.std.proofs.Common.{◌≡◌, ◌⊎◌, inl, inr, ℕ, suc, ◌+◌, ◌≤◌, Bool, true, false, ◌||◌, List, [], ◌∷◌, ◌++◌, length, arith, sym, ◌∙◌, ap, subst, refl, append_assoc, append-nil}
+use Rattle.std.proofs.Common.{◌≡◌, ◌⊎◌, inl, inr, ℕ, suc, ◌+◌, ◌≤◌, Bool, true, false, ◌||◌, List, [], ◌∷◌, ◌++◌, length, None, Some, arith, sym, ◌∙◌, ap, subst, refl, append_assoc, append-nil}
 use Rattle.std.proofs.lemmas.Bool.{eq-eqb}
 use Rattle.std.proofs.lemmas.List.{length-append}
 use Rattle.std.proofs.lemmas.List.Folds.{list_any-append}
 use Rattle.std.specs.List.{list_any}
 use Rattle.judy_model.specs.Stream.{served}
+use Rattle.judy_model.specs.Speakers.{Speaker}
 use Rattle.judy_many.specs.declared.network.How.{How}
+use Rattle.judy_many.specs.declared.network.How.TheVariants as how
 use Rattle.judy_many.specs.declared.serve.Limits.{Limits}
 use Rattle.judy_many.specs.Fates.{Ends, IsLeft, Leaves, Stays}
 use Rattle.judy_many.specs.Lives.{HasReason, IsLive, IsOrdered, IsReason, IsPart, IsServed, IsWhole, Lives, View, end_well, ends_well, is_orderly, read_in, wrote_in}
 use Rattle.judy_many.specs.Nets.{Act}
-use Rattle.judy_many.specs.Nets.Act.{Came, Refused, Read, Ended, Broke, Wrote, Failed, Closed, Waited, Lost, Asked, Questioned, Reported, Warned, Tabled, Untabled, Replied}
-use Rattle.judy_many.specs.Sessions.{Turn}
+use Rattle.judy_many.specs.Nets.Act.{Came, Refused, Read, Ended, Broke, Wrote, Failed, Closed, Waited, Lost, Asked, Questioned, Reported, Warned, Tabled, Untabled, Replied, Began, Kept, Unkept, Synced, Unsynced}
+use Rattle.judy_many.specs.Sessions.{Speaks, Turn}
 use Rattle.judy_many.specs.Stories.{AreReads, AreWithin, AreWrites, Phase, InPhase, IsOnce, IsPhased, IsPiece, IsRead, IsWrite, Mine, Moment, Share, Story, acts_by, acts_in, came_by, came_in, closed_by, closed_in, reading, running, share_of, times, told, turns_by, turns_in, writes_after, writes_since}
 use Rattle.judy_many.specs.Stories.Moment.{Did, Ran}
 use Rattle.judy_many.proofs.Living.{end_well-append, live_part, live_read, live_send, live_whole, read_in-append, wrote_in-append}
@@ -140,6 +142,11 @@ one_read n (Warned text) h = absurd h
 one_read n (Tabled text) h = absurd h
 one_read n Untabled h = absurd h
 one_read n (Replied text) h = absurd h
+one_read n (Began k) h = absurd h
+one_read n (Kept text) h = absurd h
+one_read n Unkept h = absurd h
+one_read n Synced h = absurd h
+one_read n Unsynced h = absurd h
 
 -- at most one read is at most once a share of a turn
 pub reads_once : (n : ℕ) (acts : List Act) → AreReads n acts → length acts ≤ 1 → (share : Share) → times share (told acts) ≤ reading share
@@ -164,6 +171,11 @@ reads_once n (a ∷ []) h few share = let e = one_share n a h.0 share in omega (
     one_share n (Tabled text) h share = absurd h
     one_share n Untabled h share = absurd h
     one_share n (Replied text) h share = absurd h
+    one_share n (Began k) h share = absurd h
+    one_share n (Kept text) h share = absurd h
+    one_share n Unkept h share = absurd h
+    one_share n Synced h share = absurd h
+    one_share n Unsynced h share = absurd h
 reads_once n (a ∷ b ∷ acts) h few share = absurd (omega (arith, few))
 
 pub piece_reads : (n : ℕ) (acts : List Act) → AreReads n acts → length acts ≤ 1 → IsPiece n Phase.Reads (told acts)
@@ -189,6 +201,11 @@ one_write n (Warned text) h = absurd h
 one_write n (Tabled text) h = absurd h
 one_write n Untabled h = absurd h
 one_write n (Replied text) h = absurd h
+one_write n (Began k) h = absurd h
+one_write n (Kept text) h = absurd h
+one_write n Unkept h = absurd h
+one_write n Synced h = absurd h
+one_write n Unsynced h = absurd h
 
 pub piece_writes : (n : ℕ) (acts : List Act) → AreWrites n acts → length acts ≤ 1 → IsPiece n Phase.Writes (told acts)
 piece_writes n [] h few = piece_none n Phase.Writes
@@ -214,6 +231,11 @@ plain_end (Warned text) h = refl
 plain_end (Tabled text) h = refl
 plain_end Untabled h = refl
 plain_end (Replied text) h = refl
+plain_end (Began k) h = refl
+plain_end (Kept text) h = refl
+plain_end Unkept h = refl
+plain_end Synced h = refl
+plain_end Unsynced h = refl
 
 pub plain_ends : (acts : List Act) → closed_in acts ≡ 0 → end_well acts ≡ false
 plain_ends [] h = refl
@@ -313,6 +335,22 @@ leaves_whole how v w a none ends why h s live =
       came = later.came;
       unclosed = later.unclosed;
     }
+
+-- a client whose speaker is gone
+pub leaves_gone : (v : View) (who : Speaker) → v.who ≡ Some who → Leaves how.Gone v []
+leaves_gone v who is s live =
+    let same = stays_none v s live in
+    record {
+      order = same.order;
+      whole = λ yes. absurd (no yes);
+      stays = same.live.stays;
+      why = (who, subst (Speaks None (turns_in (s ++ []))) is same.live.speaks);
+      came = same.came;
+      unclosed = same.unclosed;
+    }
+  where
+    no : false ≡ true → ⊥
+    no e = cc
 
 -- ---- the end of a client
 

@@ -4,9 +4,9 @@ use Rattle.std.specs.Prelude.{◌==◌, if◌then◌else◌}
 use Rattle.std.proofs.lemmas.Bool.Decides.{eqb_tells}
 use Rattle.judy_many.specs.Endings.{lost_by, lost_in, reports_by, reports_in, waits_in}
 use Rattle.judy_many.specs.Nets.{Act}
-use Rattle.judy_many.specs.Nets.Act.{Came, Refused, Read, Ended, Broke, Wrote, Failed, Closed, Waited, Lost, Asked, Questioned, Reported, Warned, Tabled, Untabled, Replied}
-use Rattle.judy_many.specs.Stories.{HasTurns, Mine, Moment, Share, Story, acts_in, belongs, is_of, is_wait, own, share_by, times, turns_after, turns_since, waits_by, writes_after, writes_since}
-use Rattle.judy_many.specs.Stories.Moment.{Did, Ran}
+use Rattle.judy_many.specs.Nets.Act.{Came, Refused, Read, Ended, Broke, Wrote, Failed, Closed, Waited, Lost, Asked, Questioned, Reported, Warned, Tabled, Untabled, Replied, Began, Kept, Unkept, Synced, Unsynced}
+use Rattle.judy_many.specs.Stories.{HasTurns, Mine, Moment, Share, Story, acts_in, belongs, changes_in, is_of, is_wait, own, share_by, times, turns_after, turns_since, waits_by, writes_after, writes_since}
+use Rattle.judy_many.specs.Stories.Moment.{Changed, Did, Ran}
 use Rattle.judy_many.proofs.Owning.{belongs_other}
 use Rattle.judy_many.proofs.Telling.{acts_in-append, split}
 
@@ -145,7 +145,13 @@ since_quiet n wrote count (m ∷ story) h e = since_quiet n (writes_after wrote 
     after (Did (Tabled text)) e = h e
     after (Did Untabled) e = h e
     after (Did (Replied text)) e = h e
+    after (Did (Began k)) e = h e
+    after (Did (Kept text)) e = h e
+    after (Did Unkept) e = h e
+    after (Did Synced) e = h e
+    after (Did Unsynced) e = h e
     after (Ran k turns) e = same (k == n) e
+    after (Changed text) e = h e
 
 -- ---- pieces
 
@@ -192,12 +198,32 @@ no_wait n (Replied text) e = absurd (never e)
   where
     never : false ≡ true → ⊥
     never e = cc
+no_wait n (Began k) e = absurd (never e)
+  where
+    never : false ≡ true → ⊥
+    never e = cc
+no_wait n (Kept text) e = absurd (never e)
+  where
+    never : false ≡ true → ⊥
+    never e = cc
+no_wait n Unkept e = absurd (never e)
+  where
+    never : false ≡ true → ⊥
+    never e = cc
+no_wait n Synced e = absurd (never e)
+  where
+    never : false ≡ true → ⊥
+    never e = cc
+no_wait n Unsynced e = absurd (never e)
+  where
+    never : false ≡ true → ⊥
+    never e = cc
 
 abbrev count_of : Bool → ℕ
 count_of w = if w then 1 else 0
 
-pub mine_plain : (n : ℕ) (more : Story) → Mine n more → (waits_in (acts_in more) ≡ 0) × (lost_in (acts_in more) ≡ 0) × (reports_in (acts_in more) ≡ 0)
-mine_plain n [] h = (refl, refl, refl)
+pub mine_plain : (n : ℕ) (more : Story) → Mine n more → (waits_in (acts_in more) ≡ 0) × (lost_in (acts_in more) ≡ 0) × (reports_in (acts_in more) ≡ 0) × (changes_in more ≡ [])
+mine_plain n [] h = (refl, refl, refl, refl)
 mine_plain n (Did a ∷ more) h =
     let one = no_wait n a h.0 in
     let rest = mine_plain n more h.1 in
@@ -207,8 +233,12 @@ mine_plain n (Did a ∷ more) h =
     let waits = rest.0 in
     let lost = rest.1 in
     let reports = rest.2 in
-    (omega (arith, none, waits), omega (arith, all, lost), omega (arith, untold, reports))
+    (omega (arith, none, waits), omega (arith, all, lost), omega (arith, untold, reports), rest.3)
 mine_plain n (Ran m turns ∷ more) h = mine_plain n more h.1
+mine_plain n (Changed text ∷ more) h = absurd (never h.0)
+  where
+    never : false ≡ true → ⊥
+    never e = cc
 
 waits_in-append : (a b : List Act) → waits_in (a ++ b) ≡ waits_in a + waits_in b
 waits_in-append [] b = omega arith

@@ -1,9 +1,11 @@
 -- What an accept did to a free slot.
 use Rattle.std.specs.Prelude.{◌≡◌, ℕ, Bool, true, false, [], Option, Some, None}
+use Rattle.judy_many.specs.Books.{Journal}
 use Rattle.judy_many.specs.declared.serve.Limits.{Limits}
 use Rattle.judy_many.specs.Endings.{lost_in, reports_in, waits_in}
+use Rattle.judy_many.specs.Journaling.{Carries}
 use Rattle.judy_many.specs.Lives.{IsServed, Lives, View}
-use Rattle.judy_many.specs.Stories.{AreWithin, Phase, InPhase, Mine, Share, Story, acts_in, came_in, closed_in, own, times, turns_in}
+use Rattle.judy_many.specs.Stories.{AreWithin, Phase, InPhase, Mine, Share, Story, acts_in, came_in, changes_in, closed_in, own, times, turns_in}
 
 -- what an accept may do: no line is run, and nothing is read or written
 pub record IsArrival (came closed : ℕ) (more : Story) : Type 0 where
@@ -16,6 +18,8 @@ pub record IsArrival (came closed : ℕ) (more : Story) : Type 0 where
   pub unlost : lost_in (acts_in more) ≡ 0
   pub untold : reports_in (acts_in more) ≡ 0
   pub part : InPhase Phase.Reads more
+  pub unchanged : changes_in more ≡ []
+  pub unkept : (j : Option Journal) → Carries j more j
 
 -- a client of this number came, and is in the slot; or it came and was closed; or none came
 abbrev pub Arrives : ℕ → Bool → Option View → Story → Type 0

@@ -1,26 +1,21 @@
 -- Many connections at once.
 --     HasServedMany ..       the whole: each connection got its answers, and each tenant's replies are
 --                            those that it would get alone
-use Rattle.std.specs.Prelude.{◌≡◌, ◌⊎◌, ◌<◌, ◌≤◌, ◌+◌, ℕ, zero, suc, Option, Some, None, List, [], ◌∷◌, ◌++◌, false, length, zip}
-use Rattle.judy_model.specs.Service.{AreServed}
-use Rattle.judy_model.specs.Speakers.{Event}
-use Rattle.judy_model.specs.Stream.{event_of}
-use Rattle.judy_model.specs.Worlds.{AreTheOnly}
+use Rattle.std.specs.Prelude.{◌≡◌, ◌⊎◌, ◌<◌, ◌≤◌, ◌+◌, ℕ, zero, suc, Option, Some, None, List, [], ◌∷◌, ◌++◌, false, true, is_some, length}
+use Rattle.judy_journal.specs.Writes.{Writing}
+use Rattle.judy_many.specs.Books.{Journal, opened}
+use Rattle.judy_many.specs.Changes.{Chain, IsAlone, IsAloneFor}
 use Rattle.judy_many.specs.declared.serve.Ending.{Ending}
 use Rattle.judy_many.specs.declared.serve.Ending.TheVariants as ending
 use Rattle.judy_many.specs.declared.serve.Limits.{Limits}
 use Rattle.judy_many.specs.Endings.{IsCaused, lost_in, waits_in}
+use Rattle.judy_many.specs.Journaling.{AreKept, AreSettled, Carries, IsFailure, MayKeep}
 use Rattle.judy_many.specs.Lives.{IsPart, IsServed, Lives, View}
-use Rattle.judy_many.specs.Nets.{Acts, DidLog}
+use Rattle.judy_many.specs.Nets.{Act, Acts, DidLog}
+use Rattle.judy_many.specs.Queues.{everybody}
 use Rattle.judy_many.specs.Rules.{Rules}
-use Rattle.judy_many.specs.Sessions.{AreTurns, Turn, replies_in}
-use Rattle.judy_many.specs.Statuses.{Passes}
-use Rattle.judy_many.specs.Stories.{AreWithin, HasTurns, IsPhased, Phase, Share, Story, acts_in, came_in, closed_in, most, own, turns_in, turns_since, writes_since}
-
--- the calls of the lines
-abbrev pub events_in : List Turn → List Event
-events_in [] = []
-events_in (t ∷ turns) = event_of t.line t.who ++ events_in turns
+use Rattle.judy_many.specs.Statuses.{Keeps, Lasts, Passes}
+use Rattle.judy_many.specs.Stories.{AreRead, AreWithin, HasTurns, IsPhased, Phase, Share, Story, acts_in, came_in, closed_in, most, own, runs_in, turns_in, turns_since, writes_since}
 
 -- this client is in this slot
 abbrev pub At : {B : Type 0} → List (Option B) → ℕ → B → Type 0
@@ -53,11 +48,21 @@ pub record IsThere {B : Type 0} (view : B → View) (slots : List (Option B)) (n
 abbrev pub HasFew : ℕ → Story → Type 0
 HasFew clients story = (p q : Story) → story ≡ p ++ q → came_in (acts_in p) ≤ closed_in (acts_in p) + clients
 
+-- how often the server has waited; the journal with which it began, and the journal now, if there is one
+pub record Past : Type 0 where
+  pub waits : ℕ
+  pub began : Option Journal
+  pub journal : Option Journal
+
+abbrev pub past_of : ℕ → Option Journal → Option Journal → Past
+past_of waits began journal = record { waits = waits; began = began; journal = journal }
+
 -- What holds of a story so far, whoever its connections are. In the first phase of a round nothing was
--- written since the server last waited.
-pub record IsTold {B S : Type 0} (rules : Rules S) (limits : Limits) (first : S) (start : Acts) (phase : Phase) (lost waits : ℕ) (log : Acts) (slots : List (Option B)) (count : ℕ) (now : S) (story : Story) : Type 0 where
+-- written since the server last waited. In the second, all records are kept.
+pub record IsTold {B S : Type 0} (rules : Rules S) (limits : Limits) (first : S) (start : Acts) (phase : Phase) (lost : ℕ) (past : Past) (log : Acts) (slots : List (Option B)) (count : ℕ) (now : S) (story : Story) : Type 0 where
   pub logged : DidLog start (acts_in story) log
   pub run : Passes rules first story now
+  pub lasts : Lasts rules (is_some limits.journal) first story now
   pub total : came_in (acts_in story) ≡ count
   pub capped : count ≤ limits.connections
   pub opened : came_in (acts_in story) ≡ closed_in (acts_in story) + taken slots
@@ -68,14 +73,18 @@ pub record IsTold {B S : Type 0} (rules : Rules S) (limits : Limits) (first : S)
   pub quiet : phase ≡ Phase.Reads → writes_since false story ≡ false
   pub fair : HasTurns story
   pub unlost : lost_in (acts_in story) ≡ lost
-  pub waited : waits_in (acts_in story) ≡ waits
+  pub waited : waits_in (acts_in story) ≡ past.waits
+  pub reads : AreRead limits None story
+  pub keeps : Carries past.began story past.journal
+  pub allowed : MayKeep limits past.journal
+  pub settled : phase ≡ Phase.Writes → AreSettled past.journal
 
 -- So far this happened. Each client in a slot is one of its own number, below the count of connections,
 -- and every connection is served so far. Each connection that came is in a slot or was closed. Those
 -- whose slots had no turn in this phase may have one.
-pub record Crowd {B S : Type 0} (view : B → View) (rules : Rules S) (limits : Limits) (first : S) (start : Acts) (phase : Phase) (had : ℕ → Type 0) (waits : ℕ) (log : Acts) (slots : List (Option B)) (count : ℕ) (now : S) : Type 0 where
+pub record Crowd {B S : Type 0} (view : B → View) (rules : Rules S) (limits : Limits) (first : S) (start : Acts) (phase : Phase) (had : ℕ → Type 0) (past : Past) (log : Acts) (slots : List (Option B)) (count : ℕ) (now : S) : Type 0 where
   pub story : Story
-  pub is_told : IsTold rules limits first start phase 0 waits log slots count now story
+  pub is_told : IsTold rules limits first start phase 0 past log slots count now story
   pub below : (i : ℕ) (b : B) → At slots i b → (view b).number < count
   pub live : (i : ℕ) (b : B) → At slots i b → Lives (own (view b).number story) (view b)
   pub apart : (i j : ℕ) (b c : B) → At slots i b → At slots j c → (view b).number ≡ (view c).number → i ≡ j
@@ -84,13 +93,25 @@ pub record Crowd {B S : Type 0} (view : B → View) (rules : Rules S) (limits : 
   pub ready : (i : ℕ) (b : B) → At slots i b → (had i → ⊥) → (share : Share) → turns_since (view b).number share 0 story + most phase share ≤ 1
   pub ends : (n : ℕ) → n < count → (closed_in (acts_in (own n story)) ≡ 1) ⊎ IsThere view slots n
 
+-- After a crowd so far the journal failed, which is the last answer.
+pub record HasFailed {B S : Type 0} (view : B → View) (rules : Rules S) (limits : Limits) (first : S) (start : Acts) (began : Option Journal) (log : Acts) (slots : List (Option B)) (count : ℕ) (now : S) : Type 0 where
+  pub waits : ℕ
+  pub journal : Option Journal
+  pub mid : Acts
+  pub last : Act
+  pub crowd : Crowd view rules limits first start Phase.Reads everybody (past_of waits began journal) mid slots count now
+  pub some : is_some journal ≡ true
+  pub fails : IsFailure last
+  pub logged : DidLog mid (last ∷ []) log
+
 -- Connections were served at once. Each of them, at any time, had run the first of the lines that it
 -- gave, and was sent the first part of their answers; if it was closed in order, all of them. The lines
--- of all connections were run one after another, and over all of them each tenant's replies are those
--- that it would get alone, without the calls that were refused for memory. Another server that agrees
--- on a tenant's quota, arrays, calls and refusals would give it the same replies, whatever else that
--- server holds and does.
-pub record HasServedMany {S : Type 0} (rules : Rules S) (limits : Limits) (how : Ending) (log log' : Acts) (before after : S) : Type 0 where
+-- of all connections were run one after another. As long as the table stays, each tenant's replies are
+-- those that it would get alone, without the calls that were refused for memory; another server that
+-- agrees on a tenant's quota, arrays, calls and refusals would give it the same replies, whatever else
+-- that server holds and does. A new table keeps or empties each tenant's arrays. A tenant whose quota and
+-- arrays each new table kept gets over all lines the replies that it would get alone.
+pub record HasServedMany {S : Type 0} (rules : Rules S) (limits : Limits) (writer : Option Writing) (how : Ending) (log log' : Acts) (before after : S) : Type 0 where
   pub story : Story
   pub logged : DidLog log (acts_in story) log'
   pub served : (n : ℕ) → IsServed (own n story)
@@ -111,8 +132,16 @@ pub record HasServedMany {S : Type 0} (rules : Rules S) (limits : Limits) (how :
   pub cause : IsCaused how story
   -- at `Done` as many connections as were wanted have come, and each of them was closed
   pub done : how ≡ ending.Done → (n : ℕ) → n < limits.connections → closed_in (acts_in (own n story)) ≡ 1
-  pub run : AreTurns rules before (turns_in story) after
-  -- each status that was told is that of the service at this moment; nothing but lines changes the service
+  -- each status that was told is that of the service at this moment; nothing but lines and tables changes
+  -- the service
   pub told : Passes rules before story after
-  pub solo : let turns = turns_in story in AreServed (rules.seen before).quotas (rules.seen before).states (events_in turns) (replies_in turns) (rules.seen after).states
-  pub worlds : let turns = turns_in story in AreTheOnly (rules.seen before).quotas (rules.seen before).states (zip (events_in turns) (replies_in turns)) (rules.seen after).states
+  -- each table that was put in force is the one that was just read; without a status socket there is none
+  pub reads : AreRead limits None story
+  -- with a journal: no answer was written before the records of all lines that were run were kept in it
+  pub journaled : AreKept (opened limits.journal writer) story
+  -- with a journal each new table keeps all tenants, with their names and arrays
+  pub lasts : Lasts rules (is_some limits.journal) before story after
+  -- between changes of the table each tenant's replies are those that it would get alone
+  pub alone : Chain IsAlone (rules.seen before) (runs_in story) (rules.seen after)
+  -- and over all lines, for a tenant whose quota and arrays each new table kept
+  pub kept : (t : ℕ) → Keeps rules t before story after told → IsAloneFor t (rules.seen before) (turns_in story) (rules.seen after)

@@ -7,11 +7,13 @@ use Rattle.judy_many.specs.declared.network.Question.TheVariants as question
 use Rattle.judy_many.specs.declared.serve.Ending.{Ending}
 use Rattle.judy_many.specs.declared.serve.Ending.TheVariants as ending
 use Rattle.judy_many.specs.Nets.{Act}
-use Rattle.judy_many.specs.Nets.Act.{Came, Refused, Read, Ended, Broke, Wrote, Failed, Closed, Waited, Lost, Asked, Questioned, Reported, Warned, Tabled, Untabled, Replied}
+use Rattle.judy_many.specs.Nets.Act.{Came, Refused, Read, Ended, Broke, Wrote, Failed, Closed, Waited, Lost, Asked, Questioned, Reported, Warned, Tabled, Untabled, Replied, Began, Kept, Unkept, Synced, Unsynced}
+use Rattle.judy_many.specs.Journaling.{IsFailure}
 use Rattle.judy_many.specs.Stories.{Story, acts_in, is_wait}
 use Rattle.judy_many.specs.Stories.Moment.{Did}
 
--- how often the listener, or the wait, failed for good, or a stop was asked for: the server then ends
+-- how often the listener, the wait or the journal failed for good, or a stop was asked for: the server
+-- then ends
 abbrev pub lost_by : Act → ℕ
 lost_by (Came m) = 0
 lost_by Refused = 0
@@ -27,11 +29,17 @@ lost_by (Asked s) = 0
 lost_by (Questioned question.Nothing) = 0
 lost_by (Questioned question.Status) = 0
 lost_by (Questioned question.Stop) = 1
+lost_by (Questioned question.Reload) = 0
 lost_by (Reported text) = 0
 lost_by (Warned text) = 0
 lost_by (Tabled text) = 0
 lost_by Untabled = 0
 lost_by (Replied text) = 0
+lost_by (Began k) = 0
+lost_by (Kept text) = 0
+lost_by Unkept = 1
+lost_by Synced = 0
+lost_by Unsynced = 1
 
 abbrev pub lost_in : List Act → ℕ
 lost_in [] = 0
@@ -56,6 +64,11 @@ reports_by (Warned text) = 0
 reports_by (Tabled text) = 0
 reports_by Untabled = 0
 reports_by (Replied text) = 0
+reports_by (Began k) = 0
+reports_by (Kept text) = 0
+reports_by Unkept = 0
+reports_by Synced = 0
+reports_by Unsynced = 0
 
 abbrev pub reports_in : List Act → ℕ
 reports_in [] = 0
@@ -93,6 +106,14 @@ pub record IsStopped (story : Story) : Type 0 where
   pub last : story ≡ before ++ Did (Questioned question.Stop) ∷ []
   pub once : lost_in (acts_in before) ≡ 0
 
+-- the last thing that happened is that the journal could not be written or synced
+pub record IsUnkept (story : Story) : Type 0 where
+  pub before : Story
+  pub act : Act
+  pub fails : IsFailure act
+  pub last : story ≡ before ++ Did act ∷ []
+  pub once : lost_in (acts_in before) ≡ 0
+
 -- 2^64 - 1 rounds have passed, and nothing failed for good
 pub record IsSpent (story : Story) : Type 0 where
   pub rounds : waits_in (acts_in story) ≡ 18446744073709551615
@@ -100,10 +121,12 @@ pub record IsSpent (story : Story) : Type 0 where
 
 -- The server ends in order only where nothing failed for good. It ends with a fault of the socket only
 -- where the listener or the wait failed for good, or after 2^64 - 1 rounds, for memory only before
--- anything was asked of the system, and by a stop only where one was asked for, as the last thing. A
--- stop ends it at once, with no other ending. No fault of a connection ends it.
+-- anything was asked of the system, by a stop only where one was asked for, as the last thing, and with a
+-- fault of the journal only where the last thing is that it could not be written or synced. Each of these
+-- ends it at once, with no other ending. No fault of a connection ends it.
 abbrev pub IsCaused : Ending → Story → Type 0
 IsCaused ending.Done story = lost_in (acts_in story) ≡ 0
 IsCaused ending.Memory story = story ≡ []
 IsCaused ending.Stopped story = IsStopped story
+IsCaused ending.Journal story = IsUnkept story
 IsCaused ending.Socket story = IsLost story ⊎ IsSpent story

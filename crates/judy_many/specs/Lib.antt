@@ -1,12 +1,16 @@
 pub mod Arrivals
+pub mod Books
 pub mod Came
+pub mod Changes
 pub mod Comes
 pub mod Crowds
 pub mod Endings
 pub mod Fates
+pub mod Journaling
 pub mod Lives
 pub mod Nets
 pub mod Queues
+pub mod Records
 pub mod Rules
 pub mod Sessions
 pub mod Slots

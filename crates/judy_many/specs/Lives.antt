@@ -16,7 +16,7 @@ use Rattle.judy_many.specs.declared.network.How.{How}
 use Rattle.judy_many.specs.declared.network.How.TheVariants as how
 use Rattle.judy_many.specs.declared.serve.Limits.{Limits}
 use Rattle.judy_many.specs.Nets.{Act}
-use Rattle.judy_many.specs.Nets.Act.{Came, Refused, Read, Ended, Broke, Wrote, Failed, Closed, Waited, Lost, Asked, Questioned, Reported, Warned, Tabled, Untabled, Replied}
+use Rattle.judy_many.specs.Nets.Act.{Came, Refused, Read, Ended, Broke, Wrote, Failed, Closed, Waited, Lost, Asked, Questioned, Reported, Warned, Tabled, Untabled, Replied, Began, Kept, Unkept, Synced, Unsynced}
 use Rattle.judy_many.specs.Sessions.{Turn, lines_in, texts, Speaks}
 use Rattle.judy_many.specs.Stories.{AreWithin, Phase, InPhase, IsOnce, Mine, Story, acts_in, came_in, closed_in, is_end, is_fault, turns_in}
 use Rattle.judy_many.specs.Stories.Moment.{Did}
@@ -40,6 +40,11 @@ read_by (Warned text) = []
 read_by (Tabled text) = []
 read_by Untabled = []
 read_by (Replied text) = []
+read_by (Began k) = []
+read_by (Kept text) = []
+read_by Unkept = []
+read_by Synced = []
+read_by Unsynced = []
 
 abbrev pub read_in : List Act → List ℕ
 read_in [] = []
@@ -64,6 +69,11 @@ wrote_by (Warned text) = []
 wrote_by (Tabled text) = []
 wrote_by Untabled = []
 wrote_by (Replied text) = []
+wrote_by (Began k) = []
+wrote_by (Kept text) = []
+wrote_by Unkept = []
+wrote_by Synced = []
+wrote_by Unsynced = []
 
 abbrev pub wrote_in : List Act → List ℕ
 wrote_in [] = []
@@ -77,6 +87,7 @@ is_orderly how.Fault = false
 is_orderly how.Idle = false
 is_orderly how.Over = false
 is_orderly how.Memory = false
+is_orderly how.Gone = false
 
 abbrev pub ends_well : Act → Bool
 ends_well (Came m) = false
@@ -96,6 +107,11 @@ ends_well (Warned text) = false
 ends_well (Tabled text) = false
 ends_well Untabled = false
 ends_well (Replied text) = false
+ends_well (Began k) = false
+ends_well (Kept text) = false
+ends_well Unkept = false
+ends_well Synced = false
+ends_well Unsynced = false
 
 abbrev pub end_well : List Act → Bool
 end_well [] = false
@@ -162,7 +178,8 @@ pub record IsWhole (acts : List Act) (turns : List Turn) : Type 0 where
 abbrev pub IsOrdered : Story → Type 0
 IsOrdered story = (p q : Story) → story ≡ p ++ q → IsPart (acts_in p) (turns_in p)
 
--- Why a connection is closed: a line asked to quit; it sends no more; a read or a write of it failed.
+-- Why a connection is closed: a line asked to quit; it sends no more; a read or a write of it failed. A
+-- connection whose speaker is gone had logged in.
 abbrev pub IsReason : How → List Act → List Turn → Type 0
 IsReason how.Quit acts turns = asks_to_quit (lines_in turns) ≡ true
 IsReason how.End acts turns = list_any is_end acts ≡ true
@@ -170,6 +187,7 @@ IsReason how.Fault acts turns = list_any is_fault acts ≡ true
 IsReason how.Idle acts turns = Unit {0}
 IsReason how.Over acts turns = Unit {0}
 IsReason how.Memory acts turns = Unit {0}
+IsReason how.Gone acts turns = (who : Speaker) × Speaks None turns (Some who)
 
 -- it was closed for a reason
 abbrev pub HasReason : Story → Type 0

@@ -2,12 +2,13 @@
 --     Act                       one answer of the system
 --     Step                      one of those that are no connection's
 --     DidLog log acts log'      these were its answers and no others, where they are known
-use Rattle.std.specs.Prelude.{◌≡◌, ℕ, ◌≤◌, ◌++◌, Bool, true, false, List, [], ◌∷◌, Option, Some, None, take}
+use Rattle.std.specs.Prelude.{◌≡◌, ℕ, ◌≤◌, ◌++◌, Bool, true, false, List, [], ◌∷◌, Option, Some, None, Result, Ok, Err, take}
 use Rattle.judy_many.specs.declared.network.How.{How}
 use Rattle.judy_many.specs.declared.network.Got.{Got}
 use Rattle.judy_many.specs.declared.network.Got.TheVariants as got
 use Rattle.judy_many.specs.declared.network.Question.{Question}
 use Rattle.judy_many.specs.declared.network.Question.TheVariants as question
+use Rattle.judy_many.specs.declared.network.Unread.{Unread}
 use Rattle.judy_many.specs.declared.network.Put.{Put}
 use Rattle.judy_many.specs.declared.network.Put.TheVariants as put
 
@@ -64,6 +65,14 @@ pub data Act : Type 0 where
   Untabled : Act
   -- a question was answered with this text
   Replied : List ℕ → Act
+  -- the file of this segment of the journal was made, without bytes, and its directory was synced
+  Began : ℕ → Act
+  -- these bytes were appended to the journal's segment; or not all of them were, or no file was made
+  Kept : List ℕ → Act
+  Unkept : Act
+  -- all that was appended to the journal is on the disk; or the sync failed
+  Synced : Act
+  Unsynced : Act
 
 -- the answers so far, where they are known
 abbrev pub Acts : Type 0
@@ -115,3 +124,24 @@ abbrev pub question_acts : Question → List Act
 question_acts question.Nothing = []
 question_acts question.Status = Questioned question.Status ∷ []
 question_acts question.Stop = Questioned question.Stop ∷ []
+question_acts question.Reload = Questioned question.Reload ∷ []
+
+-- the file of a segment was made, or not
+abbrev pub begin_acts : Bool → ℕ → List Act
+begin_acts true segment = Began segment ∷ []
+begin_acts false segment = Unkept ∷ []
+
+-- bytes were appended to the journal, or not
+abbrev pub keep_acts : Bool → List ℕ → List Act
+keep_acts true bytes = Kept bytes ∷ []
+keep_acts false bytes = Unkept ∷ []
+
+-- the journal was synced, or not
+abbrev pub sync_acts : Bool → List Act
+sync_acts true = Synced ∷ []
+sync_acts false = Unsynced ∷ []
+
+-- the file of the table was read again, or not
+abbrev pub table_acts : Result (Unit {0}) Unread → List ℕ → List Act
+table_acts (Ok u) text = Tabled text ∷ []
+table_acts (Err e) text = Untabled ∷ []

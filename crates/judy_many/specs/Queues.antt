@@ -16,6 +16,10 @@ AreApart queue = (j k : ℕ) → j < length queue → k < length queue → slot_
 abbrev pub nobody : ℕ → Type 0
 nobody i = ⊥
 
+-- each slot has had one
+abbrev pub everybody : ℕ → Type 0
+everybody i = Unit {0}
+
 -- a slot that stands in the queue before this place has had a turn
 abbrev pub IsBefore : List ℕ → ℕ → ℕ → Type 0
 IsBefore queue place i = (k : ℕ) × (k < place) × (slot_in queue k ≡ i)

@@ -1,4 +1,4 @@
--- What a service does with lines, and what is seen of it.
+-- What a service does with lines and with a new table, and what is seen of it.
 --     Rules S         the steps of a service of kind S, and what they are judged by
 use Rattle.std.specs.Prelude.{ℕ, List}
 use Rattle.judy_model.specs.Stream.{Heard}
@@ -17,6 +17,8 @@ pub record Rules (S : Type 0) : Type 1 where
   pub noted : Noted S
   -- the text of the status
   pub status : S → List ℕ
+  -- the step in which the table of a text is put in force
+  pub changed : S → List ℕ → S → Type 0
 
-abbrev pub rules_of : {S : Type 0} → Made S → (S → Seen) → Noted S → (S → List ℕ) → Rules S
-rules_of made seen noted status = record { made = made; seen = seen; noted = noted; status = status }
+abbrev pub rules_of : {S : Type 0} → Made S → (S → Seen) → Noted S → (S → List ℕ) → (S → List ℕ → S → Type 0) → Rules S
+rules_of made seen noted status changed = record { made = made; seen = seen; noted = noted; status = status; changed = changed }

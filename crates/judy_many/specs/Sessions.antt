@@ -1,18 +1,21 @@
 -- The lines of a session, run one after another, between lines of other sessions.
---     Turn                         one line that was run: who spoke, the replies to its calls, and who speaks after it
+--     Turn                         one line that was run: who spoke, the reply to its call, and who speaks after it
 --     texts turns                  the answers
 --     Speaks who turns who'        who speaks before and after each of one session's lines
 --     AreTurns rules s turns s'    the service ran these lines, one after another
 --     Steps ..                     these bytes were heard, and the lines that they complete were run
 --     UseLogin login turns         each speaker of these lines comes from these names and tokens
 use Rattle.std.specs.Prelude.{◌≡◌, ℕ, Bool, List, [], ◌∷◌, ◌++◌, map, zip, length, Option}
+use Rattle.judy_journal.specs.Journals.{Commit}
 use Rattle.judy_model.specs.declared.replies.Reply.{Reply}
-use Rattle.judy_model.specs.Speakers.{Speaker}
+use Rattle.judy_model.specs.Speakers.{Event, Speaker}
 use Rattle.judy_model.specs.Stream.{Heard, Login, rest_of, through_quit, speaker_after, event_of, answer_from}
-use Rattle.judy_protocol.specs.Services.{AreMade}
+use Rattle.judy_protocol.specs.Services.{AreMade, HasLoggedIn}
 use Rattle.judy_protocol.specs.Serving.{heard_in, asks_to_quit}
 use Rattle.judy_protocol.specs.Talks.{Holds}
 use Rattle.judy_protocol.specs.declared.held.Held.{Held}
+use Rattle.judy_many.specs.Books.{Journal, noted_by}
+use Rattle.judy_many.specs.Records.{IsRecorded}
 use Rattle.judy_many.specs.Rules.{Rules}
 
 -- a line that was run: the speaker before it, what it asks for, the reply to its call, if it makes one, and
@@ -22,6 +25,8 @@ pub record Turn : Type 0 where
   pub line : Heard
   pub replies : List Reply
   pub after : Option Speaker
+  -- its record in a journal, if its call changed arrays
+  pub records : Commit
 
 -- the lines
 abbrev pub lines_in : List Turn → List Heard
@@ -31,6 +36,16 @@ lines_in turns = map (λ t. t.line) turns
 abbrev pub replies_in : List Turn → List Reply
 replies_in [] = []
 replies_in (t ∷ turns) = t.replies ++ replies_in turns
+
+-- the calls of the lines
+abbrev pub events_in : List Turn → List Event
+events_in [] = []
+events_in (t ∷ turns) = event_of t.line t.who ++ events_in turns
+
+-- the records of the lines
+abbrev pub records_in : List Turn → Commit
+records_in [] = []
+records_in (t ∷ turns) = t.records ++ records_in turns
 
 -- the answer to a line; a log-in is answered by who speaks after it
 abbrev pub text_of : Turn → List ℕ
@@ -46,14 +61,17 @@ abbrev pub Speaks : Option Speaker → List Turn → Option Speaker → Type 0
 Speaks who [] last = last ≡ who
 Speaks who (t ∷ turns) last = (t.who ≡ who) × (length t.replies ≡ length (event_of t.line t.who)) × Speaks t.after turns last
 
--- One line was run: its speaker afterwards is by the names and tokens in force, its call was made, if it
--- makes one, and then it was counted, with its answer.
+-- One line was run: its speaker may speak, by the table in force; its speaker afterwards is by the names
+-- and tokens in force; its call was made, if it makes one, and then it was counted, with its answer. Its
+-- record is that of its call, if that changed arrays.
 pub record IsTurn {S : Type 0} (rules : Rules S) (before : S) (t : Turn) (after : S) : Type 0 where
   pub mid : S
+  pub known : HasLoggedIn (rules.seen before).speakers t.who
   pub speaks : t.after ≡ speaker_after (rules.seen before).logins t.who t.line
   pub count : length t.replies ≡ length (event_of t.line t.who)
   pub calls : AreMade rules.made before (zip (event_of t.line t.who) t.replies) mid
   pub noted : rules.noted mid t.line (text_of t) after
+  pub recorded : IsRecorded (rules.seen before).names (event_of t.line t.who) t.replies t.records
 
 -- the lines were run, one after another; they may be lines of many sessions
 abbrev pub AreTurns : {S : Type 0} → Rules S → S → List Turn → S → Type 0
@@ -71,12 +89,13 @@ pub record Hears (held : Held) (bytes : List ℕ) (ls : List Heard) (held' : Hel
   pub holds : (stream : List ℕ) → Holds (rest_of stream) held → Holds (rest_of (stream ++ bytes)) held'
 
 -- Bytes of one session were heard, and the lines that they complete were run and answered. Only the
--- last of them may ask to quit.
+-- last of them may ask to quit. Their records are to be kept, if there is a journal.
 pub record Steps {S : Type 0} (rules : Rules S) (used : List ℕ) (turns : List Turn) (quit : Bool) (held held' : Held)
-    (who who' : Option Speaker) (before after : S) (answers answers' : List ℕ) : Type 0 where
+    (who who' : Option Speaker) (before after : S) (answers answers' : List ℕ) (journal journal' : Option Journal) : Type 0 where
   pub hears : Hears held used (lines_in turns) held'
   pub speaks : Speaks who turns who'
   pub run : AreTurns rules before turns after
   pub text : answers' ≡ answers ++ texts turns
   pub last : through_quit (lines_in turns) ≡ lines_in turns
   pub quits : quit ≡ asks_to_quit (lines_in turns)
+  pub noted : journal' ≡ noted_by (records_in turns) journal

@@ -1,5 +1,5 @@
 -- What happened, in order.
---     Moment                       an answer of the system, or lines of one connection that were run
+--     Moment                       an answer of the system, lines of one connection that were run, or a new table
 --     acts_in, turns_in            the answers of a story, and its lines
 --     own n story                  the moments of one connection
 --     came_in, closed_in           how many connections came, and how many were closed
@@ -7,7 +7,7 @@
 --     HasTurns                     each connection has at most one turn in a round
 --     AreWithin limits             why connections were closed, and that nothing else was asked
 use Rattle.std.specs.List.{list_any}
-use Rattle.std.specs.Prelude.{◌≡◌, ◌⊎◌, ◌==◌, ◌≤◌, ◌+◌, ℕ, Bool, true, false, List, [], ◌∷◌, ◌++◌, codes, is_some, if◌then◌else◌}
+use Rattle.std.specs.Prelude.{◌≡◌, ◌⊎◌, ◌==◌, ◌≤◌, ◌+◌, ℕ, Bool, true, false, List, [], ◌∷◌, ◌++◌, codes, is_some, if◌then◌else◌, Option, Some, None}
 use Rattle.judy_many.specs.declared.network.How.{How}
 use Rattle.judy_many.specs.declared.network.How.TheVariants as how
 use Rattle.judy_many.specs.declared.buffers.Sent.{Sent}
@@ -16,13 +16,15 @@ use Rattle.judy_many.specs.declared.network.Got.{Got}
 use Rattle.judy_many.specs.declared.network.Got.TheVariants as got
 use Rattle.judy_many.specs.declared.serve.Limits.{Limits}
 use Rattle.judy_many.specs.Nets.{Act}
-use Rattle.judy_many.specs.Nets.Act.{Came, Refused, Read, Ended, Broke, Wrote, Failed, Closed, Waited, Lost, Asked, Questioned, Reported, Warned, Tabled, Untabled, Replied}
+use Rattle.judy_many.specs.Nets.Act.{Came, Refused, Read, Ended, Broke, Wrote, Failed, Closed, Waited, Lost, Asked, Questioned, Reported, Warned, Tabled, Untabled, Replied, Began, Kept, Unkept, Synced, Unsynced}
 use Rattle.judy_many.specs.Sessions.{Turn}
 
--- an answer of the system, or lines of one connection that were run one after another
+-- an answer of the system, or lines of one connection that were run one after another, or the table of
+-- this text was put in force
 pub data Moment : Type 0 where
   Did : Act → Moment
   Ran : ℕ → List Turn → Moment
+  Changed : List ℕ → Moment
 
 abbrev pub Story : Type 0
 Story = List Moment
@@ -31,6 +33,7 @@ Story = List Moment
 abbrev pub acts_by : Moment → List Act
 acts_by (Did a) = a ∷ []
 acts_by (Ran n turns) = []
+acts_by (Changed text) = []
 
 abbrev pub acts_in : Story → List Act
 acts_in [] = []
@@ -40,6 +43,7 @@ acts_in (m ∷ story) = acts_by m ++ acts_in story
 abbrev pub turns_by : Moment → List Turn
 turns_by (Did a) = []
 turns_by (Ran n turns) = turns
+turns_by (Changed text) = []
 
 abbrev pub turns_in : Story → List Turn
 turns_in [] = []
@@ -69,11 +73,17 @@ is_of n (Warned text) = false
 is_of n (Tabled text) = false
 is_of n Untabled = false
 is_of n (Replied text) = false
+is_of n (Began k) = false
+is_of n (Kept text) = false
+is_of n Unkept = false
+is_of n Synced = false
+is_of n Unsynced = false
 
 -- whether a moment is this connection's
 abbrev pub belongs : ℕ → Moment → Bool
 belongs n (Did a) = is_of n a
 belongs n (Ran m turns) = m == n
+belongs n (Changed text) = false
 
 -- the moments of one connection
 abbrev pub own : ℕ → Story → Story
@@ -104,6 +114,11 @@ IsRead n (Warned text) = ⊥
 IsRead n (Tabled text) = ⊥
 IsRead n Untabled = ⊥
 IsRead n (Replied text) = ⊥
+IsRead n (Began k) = ⊥
+IsRead n (Kept text) = ⊥
+IsRead n Unkept = ⊥
+IsRead n Synced = ⊥
+IsRead n Unsynced = ⊥
 
 abbrev pub AreReads : ℕ → List Act → Type 0
 AreReads n [] = Unit {0}
@@ -128,6 +143,11 @@ IsWrite n (Warned text) = ⊥
 IsWrite n (Tabled text) = ⊥
 IsWrite n Untabled = ⊥
 IsWrite n (Replied text) = ⊥
+IsWrite n (Began k) = ⊥
+IsWrite n (Kept text) = ⊥
+IsWrite n Unkept = ⊥
+IsWrite n Synced = ⊥
+IsWrite n Unsynced = ⊥
 
 abbrev pub AreWrites : ℕ → List Act → Type 0
 AreWrites n [] = Unit {0}
@@ -152,6 +172,11 @@ is_end (Warned text) = false
 is_end (Tabled text) = false
 is_end Untabled = false
 is_end (Replied text) = false
+is_end (Began k) = false
+is_end (Kept text) = false
+is_end Unkept = false
+is_end Synced = false
+is_end Unsynced = false
 
 -- whether it says that a read or a write failed
 abbrev pub is_fault : Act → Bool
@@ -172,6 +197,11 @@ is_fault (Warned text) = false
 is_fault (Tabled text) = false
 is_fault Untabled = false
 is_fault (Replied text) = false
+is_fault (Began k) = false
+is_fault (Kept text) = false
+is_fault Unkept = false
+is_fault Synced = false
+is_fault Unsynced = false
 
 -- what a read, and a write, says of the connection
 abbrev pub TellsRead : Got → List Act → Type 0
@@ -204,6 +234,11 @@ came_by (Warned text) = 0
 came_by (Tabled text) = 0
 came_by Untabled = 0
 came_by (Replied text) = 0
+came_by (Began k) = 0
+came_by (Kept text) = 0
+came_by Unkept = 0
+came_by Synced = 0
+came_by Unsynced = 0
 
 abbrev pub came_in : List Act → ℕ
 came_in [] = 0
@@ -228,6 +263,11 @@ closed_by (Warned text) = 0
 closed_by (Tabled text) = 0
 closed_by Untabled = 0
 closed_by (Replied text) = 0
+closed_by (Began k) = 0
+closed_by (Kept text) = 0
+closed_by Unkept = 0
+closed_by Synced = 0
+closed_by Unsynced = 0
 
 abbrev pub closed_in : List Act → ℕ
 closed_in [] = 0
@@ -252,7 +292,13 @@ writes_after wrote (Did (Warned text)) = wrote
 writes_after wrote (Did (Tabled text)) = wrote
 writes_after wrote (Did Untabled) = wrote
 writes_after wrote (Did (Replied text)) = wrote
+writes_after wrote (Did (Began k)) = wrote
+writes_after wrote (Did (Kept text)) = wrote
+writes_after wrote (Did Unkept) = wrote
+writes_after wrote (Did Synced) = wrote
+writes_after wrote (Did Unsynced) = wrote
 writes_after wrote (Ran n turns) = wrote
+writes_after wrote (Changed text) = wrote
 
 abbrev pub writes_since : Bool → Story → Bool
 writes_since wrote [] = wrote
@@ -263,6 +309,7 @@ writes_since wrote (m ∷ story) = writes_since (writes_after wrote m) story
 abbrev pub MayCome : Bool → Moment → Type 0
 MayCome wrote (Did a) = Unit {0}
 MayCome wrote (Ran n turns) = wrote ≡ false
+MayCome wrote (Changed text) = Unit {0}
 
 abbrev pub IsPhased : Bool → Story → Type 0
 IsPhased wrote [] = Unit {0}
@@ -276,18 +323,26 @@ IsAllowed limits how.Fault = Unit {0}
 IsAllowed limits how.Idle = is_some limits.idle ≡ true
 IsAllowed limits how.Over = is_some limits.turn ≡ true
 IsAllowed limits how.Memory = Unit {0}
+IsAllowed limits how.Gone = limits.status ≡ true
 
 -- one text is the beginning of another
 abbrev pub BeginsWith : List ℕ → List ℕ → Type 0
 BeginsWith head text = (rest : List ℕ) × (text ≡ head ++ rest)
 
--- the operator is told of refused log-ins, and of requests that were refused for memory
-abbrev pub IsWarning : List ℕ → Type 0
-IsWarning text = BeginsWith (codes "log-in refused: ") text ⊎ BeginsWith (codes "out of memory: ") text
+-- what is told of a table that was asked for on the status socket: whether it was put in force
+abbrev pub told_head : Bool → List ℕ
+told_head true = codes "table read again: "
+told_head false = codes "table not read again: "
+
+-- The operator is told of refused log-ins, of requests that were refused for memory, and of tables that
+-- were read again.
+abbrev pub IsWarning : Limits → List ℕ → Type 0
+IsWarning limits text = BeginsWith (codes "log-in refused: ") text ⊎ BeginsWith (codes "out of memory: ") text
+    ⊎ ((limits.status ≡ true) × ((changed : Bool) × BeginsWith (told_head changed) text))
 
 -- Connections were closed for lack of bytes or for their age only where a limit was given. Questions
--- were answered only where there is a status socket. Nothing else was asked of the system, but to warn
--- the operator.
+-- were answered only where there is a status socket, and bytes were kept only where there is a journal.
+-- Nothing else was asked of the system, but to warn the operator.
 abbrev pub IsWithin : Limits → Act → Type 0
 IsWithin limits (Came m) = Unit {0}
 IsWithin limits Refused = Unit {0}
@@ -302,14 +357,50 @@ IsWithin limits Lost = Unit {0}
 IsWithin limits (Asked s) = ⊥
 IsWithin limits (Questioned q) = limits.status ≡ true
 IsWithin limits (Reported text) = limits.status ≡ true
-IsWithin limits (Warned text) = IsWarning text
+IsWithin limits (Warned text) = IsWarning limits text
 IsWithin limits (Tabled text) = limits.status ≡ true
 IsWithin limits Untabled = limits.status ≡ true
 IsWithin limits (Replied text) = limits.status ≡ true
+IsWithin limits (Began k) = is_some limits.journal ≡ true
+IsWithin limits (Kept text) = is_some limits.journal ≡ true
+IsWithin limits Unkept = is_some limits.journal ≡ true
+IsWithin limits Synced = is_some limits.journal ≡ true
+IsWithin limits Unsynced = is_some limits.journal ≡ true
 
 abbrev pub AreWithin : Limits → List Act → Type 0
 AreWithin limits [] = Unit {0}
 AreWithin limits (a ∷ acts) = IsWithin limits a × AreWithin limits acts
+
+-- the tables that were put in force
+abbrev pub changes_in : Story → List (List ℕ)
+changes_in [] = []
+changes_in (Did a ∷ story) = changes_in story
+changes_in (Ran n turns ∷ story) = changes_in story
+changes_in (Changed text ∷ story) = text ∷ changes_in story
+
+-- the text of the table that was just read, if one was
+abbrev pub just_read : Act → Option (List ℕ)
+just_read (Tabled text) = Some text
+just_read _ = None
+
+-- A table is put in force only directly after its text was read, and only where there is a status
+-- socket.
+abbrev pub AreRead : Limits → Option (List ℕ) → Story → Type 0
+AreRead limits last [] = Unit {0}
+AreRead limits last (Did a ∷ story) = AreRead limits (just_read a) story
+AreRead limits last (Ran n turns ∷ story) = AreRead limits None story
+AreRead limits last (Changed text ∷ story) = (last ≡ Some text) × (limits.status ≡ true) × AreRead limits None story
+
+-- the lines that were run between changes of the table
+abbrev pub first_with : List Turn → List (List Turn) → List (List Turn)
+first_with turns [] = turns ∷ []
+first_with turns (run ∷ runs) = (turns ++ run) ∷ runs
+
+abbrev pub runs_in : Story → List (List Turn)
+runs_in [] = [] ∷ []
+runs_in (Did a ∷ story) = runs_in story
+runs_in (Ran n turns ∷ story) = first_with turns (runs_in story)
+runs_in (Changed text ∷ story) = [] ∷ runs_in story
 
 -- the phases of a round: clients are read and their lines run, then they are written, then those whose
 -- time is over are closed
@@ -365,10 +456,16 @@ share_of (Warned text) share = 0
 share_of (Tabled text) share = 0
 share_of Untabled share = 0
 share_of (Replied text) share = 0
+share_of (Began k) share = 0
+share_of (Kept text) share = 0
+share_of Unkept share = 0
+share_of Synced share = 0
+share_of Unsynced share = 0
 
 abbrev pub share_by : Moment → Share → ℕ
 share_by (Did a) share = share_of a share
 share_by (Ran n turns) share = running share
+share_by (Changed text) share = 0
 
 abbrev pub times : Share → Story → ℕ
 times share [] = 0
@@ -402,10 +499,16 @@ is_wait (Warned text) = false
 is_wait (Tabled text) = false
 is_wait Untabled = false
 is_wait (Replied text) = false
+is_wait (Began k) = false
+is_wait (Kept text) = false
+is_wait Unkept = false
+is_wait Synced = false
+is_wait Unsynced = false
 
 abbrev pub waits_by : Moment → Bool
 waits_by (Did a) = is_wait a
 waits_by (Ran n turns) = false
+waits_by (Changed text) = false
 
 -- How often a connection had this share of a turn since the server last waited, if this says how often
 -- it had before.

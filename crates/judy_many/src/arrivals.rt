@@ -1,8 +1,8 @@
 //! Accepts connections into free slots.
-ghost use Rattle.std.specs.Prelude.{◌≡◌, ◌++◌, ℕ, None, option_map, if◌then◌else◌, List};
-ghost use Rattle.judy_model.specs.Stream.{Login};
+ghost use Rattle.std.specs.Prelude.{◌≡◌, ◌++◌, ℕ, None, option_map, if◌then◌else◌, List, Bool};
+ghost use Rattle.judy_model.specs.Speakers.{Speaker};
 ghost use Rattle.judy_many.specs.Came.{has_come};
-ghost use Rattle.judy_many.specs.Crowds.{Crowd};
+ghost use Rattle.judy_many.specs.Crowds.{Crowd, Past};
 ghost use Rattle.judy_many.specs.Endings.{lost_at, lost_unless};
 ghost use Rattle.judy_many.specs.Queues.{nobody};
 ghost use Rattle.judy_many.specs.Slots.{AreKnown, IsKnownSlot};
@@ -76,8 +76,8 @@ fn accept_at<S: Served, N: Network>(
     ensures arrives { (more : Story)
         × DidLog (N.log network.old) (acts_in more ++ lost_at result) (N.log network.new)
         × Arrives id (has_come result) (option_map (λ b. view_of S.who N.number b.value) slot.new) more }
-    ensures known { (login : Login) → IsKnownSlot (λ b. option_map S.who b.value.session.speaker) login slot.old
-        → IsKnownSlot (λ b. option_map S.who b.value.session.speaker) login slot.new }
+    ensures known { (speakers : Speaker → Bool) → IsKnownSlot (λ b. option_map S.who b.value.session.speaker) speakers slot.old
+        → IsKnownSlot (λ b. option_map S.who b.value.session.speaker) speakers slot.new }
 {
     match network.accept(id, at) {
         Accept::Came(connection) => {
@@ -108,15 +108,15 @@ pub fn accept<S: Shows, N: Network>(
     limits: Limits,
     now: Option<u64>,
 ) -> bool
-    ensures crowd { (first now : S) (start : Acts) (waits : ℕ)
-        → Crowd (λ b. view_of S.who N.number b.value) (rules_of S.made S.seen S.noted S.status) limits first start
-        Reads nobody waits (N.log network.old) clients.old.slots.items clients.old.accepted now
+    ensures crowd { (first now : S) (start : Acts) (past : Past)
+        → Crowd (λ b. view_of S.who N.number b.value) (rules_of S.made S.seen S.noted S.status S.changed) limits first
+        start Reads nobody past (N.log network.old) clients.old.slots.items clients.old.accepted now
         → (mid : Acts) × DidLog mid (lost_unless result) (N.log network.new)
-        × Crowd (λ b. view_of S.who N.number b.value) (rules_of S.made S.seen S.noted S.status) limits first start
-        Reads nobody waits mid clients.new.slots.items clients.new.accepted now }
-    ensures known { (login : Login)
-        → AreKnown (λ b. option_map S.who b.value.session.speaker) login clients.old.slots.items
-        → AreKnown (λ b. option_map S.who b.value.session.speaker) login clients.new.slots.items }
+        × Crowd (λ b. view_of S.who N.number b.value) (rules_of S.made S.seen S.noted S.status S.changed) limits first
+        start Reads nobody past mid clients.new.slots.items clients.new.accepted now }
+    ensures known { (speakers : Speaker → Bool)
+        → AreKnown (λ b. option_map S.who b.value.session.speaker) speakers clients.old.slots.items
+        → AreKnown (λ b. option_map S.who b.value.session.speaker) speakers clients.new.slots.items }
 {
     if !clients.listening.may_accept(now) {
         return true;

@@ -16,26 +16,38 @@ fn make<S: Shows>(service: &S, text: &mut Vec<u8>)
     }
 }
 
+/// How the loop goes on after it asked.
+#[derive(Clone, Copy, Debug, PartialEq, Eq)]
+pub enum Next {
+    /// With the next round.
+    Round,
+    /// The table is read again first.
+    Reload,
+    /// The server ends.
+    Stop,
+}
+
 /// Asks once, if there is a status socket. A question for the status is answered with that of the
-/// service at this moment. Returns whether a stop was asked for.
+/// service at this moment. Returns how the loop goes on.
 pub fn answer<S: Shows, N: Network>(
     network: &mut N,
     service: &S,
     limits: Limits,
     text: &mut Vec<u8>,
-) -> bool
+) -> Next
     ensures { HasAnswered limits.status result (S.status service.now) (N.log network.old) (N.log network.new) }
 {
     if !limits.status {
-        return false;
+        return Next::Round;
     }
     match network.ask() {
-        Question::Nothing => false,
-        Question::Stop => true,
+        Question::Nothing => Next::Round,
+        Question::Stop => Next::Stop,
+        Question::Reload => Next::Reload,
         Question::Status => {
             make(service, text);
             network.report(text.as_slice());
-            false
+            Next::Round
         }
     }
 }

@@ -7,6 +7,7 @@ ghost use Rattle.judy_many.specs.Rules.{rules_of};
 ghost use Rattle.judy_many.specs.Sessions.{Steps, Turn};
 ghost use Rattle.judy_many.specs.Stories.{AreReads, AreWrites, TellsRead, TellsWrite};
 
+use crate::keeping::Keeper;
 use crate::network::{Got, Network, Put};
 use crate::session::{ANSWERS_LIMIT, Ran, Rooms, Session, run_lines};
 use crate::shows::Shows;
@@ -158,24 +159,34 @@ impl Answers {
         service: &mut S,
         rooms: &mut Rooms,
         bytes: &[u8],
+        keeper: &mut Keeper,
     ) -> Ran
         requires empty { self.old ≡ [] }
-        requires known { HasLoggedIn (S.seen service.old).logins
+        requires known { HasLoggedIn (S.seen service.old).speakers
             (option_map S.who session.old.speaker) }
         ensures steps { (used : List ℕ) × (rest : List ℕ) × (turns : List Turn)
             × (used ++ rest ≡ bytes.now) × (length rest ≡ result.left)
-            × Steps (rules_of S.made S.seen S.noted S.status) used turns result.quit
+            × Steps (rules_of S.made S.seen S.noted S.status S.changed) used turns result.quit
             session.old.held session.new.held
             (option_map S.who session.old.speaker) (option_map S.who session.new.speaker)
-            service.old service.new [] self.new }
+            service.old service.new [] self.new keeper.old keeper.new }
         ensures left { result.left ≤ length bytes.now }
         ensures logins { (S.seen service.new).logins ≡ (S.seen service.old).logins }
-        ensures known { HasLoggedIn (S.seen service.new).logins
+        ensures speakers { (S.seen service.new).speakers ≡ (S.seen service.old).speakers }
+        ensures known { HasLoggedIn (S.seen service.new).speakers
             (option_map S.who session.new.speaker) }
     {
         self.bytes.clear();
         self.written = 0;
-        run_lines(alloc, session, service, rooms, bytes, &mut self.bytes)
+        run_lines(
+            alloc,
+            session,
+            service,
+            rooms,
+            bytes,
+            &mut self.bytes,
+            keeper,
+        )
     }
 
     /// Writes once, if something is left to write.

@@ -1,16 +1,17 @@
 //! A client, and the two halves of its turn.
 ghost use Rattle.std.specs.Prelude.{◌≡◌, ◌++◌, List, [], None, false, option_map};
-ghost use Rattle.judy_model.specs.Stream.{Login};
 ghost use Rattle.judy_protocol.specs.Services.{HasLoggedIn};
+ghost use Rattle.judy_many.specs.Books.{noted_by};
 ghost use Rattle.judy_many.specs.Fates.{FateGoes, HeardGoes};
 ghost use Rattle.judy_many.specs.Lives.{IsLive, view_of};
 ghost use Rattle.judy_many.specs.Nets.{Act, DidLog};
 ghost use Rattle.judy_many.specs.Rules.{rules_of};
-ghost use Rattle.judy_many.specs.Sessions.{AreTurns, Turn};
+ghost use Rattle.judy_many.specs.Sessions.{AreTurns, Turn, records_in};
 ghost use Rattle.judy_many.specs.Stories.{IsPiece, Story, acts_in, turns_in};
 ghost use Rattle.judy_many.specs.Stories.Phase.{Reads, Writes};
 
 use crate::buffers::{Answers, Input, Sent};
+use crate::keeping::Keeper;
 use crate::network::{Got, How, Network};
 use crate::session::{Rooms, Session};
 use crate::shows::Shows;
@@ -60,25 +61,28 @@ impl<P: Copy, C: Drop> Client<P, C> {
     }
 }
 
-/// Runs the lines that have come, as long as there is room for the longest answer.
+/// Runs the lines that have come, as long as there is room for the longest answer and record.
 fn hear<S: Shows, N: Network>(
     alloc: Global,
     service: &mut S,
     rooms: &mut Rooms,
     client: &mut Client<S::Speaker, N::Connection>,
+    keeper: &mut Keeper,
 )
     requires unasked { client.old.quits ≡ false }
     requires empty { client.old.answers ≡ [] }
-    requires known { HasLoggedIn (S.seen service.old).logins
+    requires known { HasLoggedIn (S.seen service.old).speakers
         (option_map S.who client.old.session.speaker) }
     ensures turns { (turns : List Turn)
-        × AreTurns (rules_of S.made S.seen S.noted S.status) service.old turns service.new
+        × AreTurns (rules_of S.made S.seen S.noted S.status S.changed) service.old turns service.new
         × ((acts : List Act) (ran : List Turn)
         → IsLive acts ran (view_of S.who N.number client.old)
-        → IsLive acts (ran ++ turns) (view_of S.who N.number client.new)) }
+        → IsLive acts (ran ++ turns) (view_of S.who N.number client.new))
+        × (keeper.new ≡ noted_by (records_in turns) keeper.old) }
     ensures same { N.number client.new.connection ≡ N.number client.old.connection }
     ensures logins { (S.seen service.new).logins ≡ (S.seen service.old).logins }
-    ensures known { HasLoggedIn (S.seen service.new).logins
+    ensures speakers { (S.seen service.new).speakers ≡ (S.seen service.old).speakers }
+    ensures known { HasLoggedIn (S.seen service.new).speakers
         (option_map S.who client.new.session.speaker) }
 {
     let ran = client.answers.run(
@@ -87,13 +91,14 @@ fn hear<S: Shows, N: Network>(
         service,
         rooms,
         client.input.as_slice(),
+        keeper,
     );
     client.input.keep(ran.left);
     client.quits = ran.quit;
 }
 
-/// The first half of a client's turn: at most one read, then the lines for whose answers there is
-/// room. While answers wait to be written nothing is read. Returns why the client has to be closed, if
+/// The first half of a client's turn: at most one read, then the lines for whose answers and records
+/// there is room. While answers wait to be written nothing is read. Returns why the client has to be closed, if
 /// it is.
 pub fn listen<S: Shows, N: Network>(
     alloc: Global,
@@ -101,18 +106,21 @@ pub fn listen<S: Shows, N: Network>(
     service: &mut S,
     rooms: &mut Rooms,
     client: &mut Client<S::Speaker, N::Connection>,
+    keeper: &mut Keeper,
     now: u64,
 ) -> Option<How>
-    requires known { HasLoggedIn (S.seen service.old).logins
+    requires known { HasLoggedIn (S.seen service.old).speakers
         (option_map S.who client.old.session.speaker) }
     ensures goes { (more : Story) × DidLog (N.log network.old) (acts_in more) (N.log network.new)
         × IsPiece (N.number client.old.connection) Reads more
-        × AreTurns (rules_of S.made S.seen S.noted S.status) service.old (turns_in more) service.new
+        × AreTurns (rules_of S.made S.seen S.noted S.status S.changed) service.old (turns_in more) service.new
         × HeardGoes result (view_of S.who N.number client.old)
-        (view_of S.who N.number client.new) more }
+        (view_of S.who N.number client.new) more
+        × (keeper.new ≡ noted_by (records_in (turns_in more)) keeper.old) }
     ensures same { N.number client.new.connection ≡ N.number client.old.connection }
     ensures logins { (S.seen service.new).logins ≡ (S.seen service.old).logins }
-    ensures known { HasLoggedIn (S.seen service.new).logins
+    ensures speakers { (S.seen service.new).speakers ≡ (S.seen service.old).speakers }
+    ensures known { HasLoggedIn (S.seen service.new).speakers
         (option_map S.who client.new.session.speaker) }
 {
     if client.quits {
@@ -122,13 +130,13 @@ pub fn listen<S: Shows, N: Network>(
         return None;
     }
     if !client.input.is_empty() {
-        hear::<S, N>(alloc, service, rooms, client);
+        hear::<S, N>(alloc, service, rooms, client, keeper);
         return None;
     }
     match client.input.fill(network, &mut client.connection) {
         Got::Bytes(_) => {
             client.since = now;
-            hear::<S, N>(alloc, service, rooms, client);
+            hear::<S, N>(alloc, service, rooms, client, keeper);
             None
         }
         Got::Nothing => None,

@@ -21,6 +21,7 @@ pub struct Counts {
     idle: u64,
     turn: u64,
     memory: u64,
+    gone: u64,
     received: u64,
     sent: u64,
 }
@@ -81,6 +82,7 @@ impl Counts {
             idle: 0,
             turn: 0,
             memory: 0,
+            gone: 0,
             received: 0,
             sent: 0,
         }
@@ -115,6 +117,7 @@ impl Counts {
             How::Idle => self.idle = up(self.idle),
             How::Over => self.turn = up(self.turn),
             How::Memory => self.memory = up(self.memory),
+            How::Gone => self.gone = up(self.gone),
         }
     }
 
@@ -127,7 +130,8 @@ impl Counts {
         let rest = self
             .idle
             .saturating_add(self.turn)
-            .saturating_add(self.memory);
+            .saturating_add(self.memory)
+            .saturating_add(self.gone);
         self.accepted.saturating_sub(first.saturating_add(rest))
     }
 
@@ -168,6 +172,11 @@ impl Counts {
             text,
             b"judyd_connections_ended_total{cause=\"memory\"}",
             self.memory,
+        );
+        add(
+            text,
+            b"judyd_connections_ended_total{cause=\"gone\"}",
+            self.gone,
         );
     }
 

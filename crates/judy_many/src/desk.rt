@@ -34,6 +34,8 @@ enum Meaning {
     Page,
     /// That the server ends.
     Stop,
+    /// That the table is read again.
+    Reload,
     /// Nothing that is known.
     Other,
 }
@@ -83,6 +85,9 @@ fn read_question(asked: &[u8]) -> Meaning {
     }
     if line == b"STOP".as_slice() {
         return Meaning::Stop;
+    }
+    if line == b"RELOAD".as_slice() {
+        return Meaning::Reload;
     }
     if line.starts_with(b"GET /metrics ") {
         return if has_end(rest) {
@@ -222,6 +227,10 @@ impl Desk {
                 Question::Status
             }
             Meaning::Stop => Question::Stop,
+            Meaning::Reload => {
+                self.page = false;
+                Question::Reload
+            }
             Meaning::Other => {
                 self.refuse();
                 Question::Nothing

@@ -1,7 +1,7 @@
 //! What the loop asks of the system: to wait, to accept, to read, to write and to close.
 ghost use Rattle.std.specs.Prelude.{◌≡◌, ◌<◌, ℕ, [], ◌∷◌, length};
-ghost use Rattle.judy_many.specs.Nets.{Acts, DidLog, Fits, Takes, question_acts, read_acts, wait_acts, write_acts};
-ghost use Rattle.judy_many.specs.Nets.Act.{Closed, Reported, Warned};
+ghost use Rattle.judy_many.specs.Nets.{Acts, DidLog, Fits, Takes, begin_acts, keep_acts, question_acts, read_acts, sync_acts, table_acts, wait_acts, write_acts};
+ghost use Rattle.judy_many.specs.Nets.Act.{Closed, Replied, Reported, Warned};
 ghost use Rattle.judy_many.specs.Comes.{HasCome};
 
 use crate::queue::Queue;
@@ -57,6 +57,8 @@ pub enum How {
     Over,
     /// There is no memory for its buffers.
     Memory,
+    /// Its tenant or its token is not in the table that was put in force.
+    Gone,
 }
 
 /// What is asked on the status socket.
@@ -68,6 +70,30 @@ pub enum Question {
     Status,
     /// That the server ends.
     Stop,
+    /// That the table is read again.
+    Reload,
+}
+
+/// Why the file of the table was not read again.
+#[derive(Clone, Copy, Debug, PartialEq, Eq)]
+pub enum Unread {
+    /// It cannot be opened, or a read of it failed.
+    File,
+    /// It is too long.
+    Long,
+    /// There is no memory for it.
+    Memory,
+}
+
+/// When what was kept in the journal is put on the disk. A new segment is synced in any case.
+#[derive(Clone, Copy, Debug, PartialEq, Eq)]
+pub enum Sync {
+    /// In each round, before its answers are written.
+    Round,
+    /// When this many seconds have passed since the last time.
+    Seconds(u32),
+    /// When the system does it.
+    Never,
 }
 
 /// A listener and its connections, none of which waits.
@@ -129,4 +155,26 @@ pub trait Network {
     /// Tells a line to the operator, on standard error.
     fn warn(&mut self, text: &[u8])
         ensures { DidLog (log self.old) (Warned text.now ∷ []) (log self.new) };
+
+    /// Reads the file of the table again, into an empty text.
+    fn table(&mut self, text: &mut Vec<u8>) -> Result<(), Unread>
+        ensures { DidLog (log self.old) (table_acts result text.new.items) (log self.new) };
+
+    /// Answers what was asked last, with this text alone.
+    fn reply(&mut self, text: &[u8])
+        ensures { DidLog (log self.old) (Replied text.now ∷ []) (log self.new) };
+
+    /// Makes the file of this segment of the journal, and syncs its directory. False if that fails.
+    fn begin(&mut self, segment: u64) -> bool
+        ensures { DidLog (log self.old) (begin_acts result segment) (log self.new) };
+
+    /// Appends bytes to the segment of the journal that was begun last. False if that fails; then some
+    /// of them may be appended.
+    fn keep(&mut self, bytes: &[u8]) -> bool
+        requires some { 0 < length bytes.now }
+        ensures { DidLog (log self.old) (keep_acts result bytes.now) (log self.new) };
+
+    /// Puts all that was appended to the journal on the disk. False if that fails.
+    fn sync(&mut self) -> bool
+        ensures { DidLog (log self.old) (sync_acts result) (log self.new) };
 }

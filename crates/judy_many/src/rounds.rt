@@ -1,19 +1,21 @@
 //! A round: each client that is ready has a turn, in two halves.
-ghost use Rattle.std.specs.Prelude.{◌≡◌, ◌<◌, ◌+◌, ℕ, [], length, option_map, List};
-ghost use Rattle.judy_model.specs.Stream.{Login};
-ghost use Rattle.judy_many.specs.Crowds.{Crowd};
-ghost use Rattle.judy_many.specs.Queues.{AreApart, IsBefore, nobody};
+ghost use Rattle.std.specs.Prelude.{◌≡◌, ◌<◌, ◌+◌, ℕ, Bool, [], length, true, false, Option, option_map, List, Bool};
+ghost use Rattle.judy_model.specs.Speakers.{Speaker};
+ghost use Rattle.judy_many.specs.Books.{Journal, noted_by};
+ghost use Rattle.judy_many.specs.Crowds.{Crowd, HasFailed, Past, past_of};
+ghost use Rattle.judy_many.specs.Queues.{AreApart, IsBefore, everybody, nobody};
 ghost use Rattle.judy_many.specs.Slots.{AreKnown, IsKnownSlot};
 ghost use Rattle.judy_many.specs.Lives.{SlotDid, view_of};
 ghost use Rattle.judy_many.specs.Nets.{Acts, DidLog};
 ghost use Rattle.judy_many.specs.Rules.{rules_of};
-ghost use Rattle.judy_many.specs.Sessions.{AreTurns};
+ghost use Rattle.judy_many.specs.Sessions.{AreTurns, records_in};
 ghost use Rattle.judy_many.specs.Stories.{Story, acts_in, turns_in};
 ghost use Rattle.judy_many.specs.Stories.Phase.{Reads, Sweeps, Writes};
 ghost use Rattle.judy_many.specs.declared.serve.Limits.{Limits};
 
 use crate::client::{Client, Fate, listen, tell};
 use crate::clients::Clients;
+use crate::keeping::Keeper;
 use crate::network::Network;
 use crate::queue::Left;
 use crate::session::Rooms;
@@ -28,23 +30,26 @@ fn listen_at<S: Shows, N: Network>(
     service: &mut S,
     rooms: &mut Rooms,
     slot: &mut Option<Box<Client<S::Speaker, N::Connection>>>,
+    keeper: &mut Keeper,
     now: u64,
 ) -> bool
     requires known { IsKnownSlot (λ b. option_map S.who b.value.session.speaker)
-        (S.seen service.old).logins slot.old }
+        (S.seen service.old).speakers slot.old }
     ensures did { (more : Story) × DidLog (N.log network.old) (acts_in more) (N.log network.new)
-        × AreTurns (rules_of S.made S.seen S.noted S.status) service.old (turns_in more) service.new
+        × AreTurns (rules_of S.made S.seen S.noted S.status S.changed) service.old (turns_in more) service.new
         × ((limits : Limits) → SlotDid limits Reads
         (option_map (λ b. view_of S.who N.number b.value) slot.old)
-        (option_map (λ b. view_of S.who N.number b.value) slot.new) more) }
+        (option_map (λ b. view_of S.who N.number b.value) slot.new) more)
+        × (keeper.new ≡ noted_by (records_in (turns_in more)) keeper.old) }
     ensures logins { (S.seen service.new).logins ≡ (S.seen service.old).logins }
+    ensures speakers { (S.seen service.new).speakers ≡ (S.seen service.old).speakers }
     ensures known { IsKnownSlot (λ b. option_map S.who b.value.session.speaker)
-        (S.seen service.new).logins slot.new }
+        (S.seen service.new).speakers slot.new }
 {
     let Some(mut client) = slot.take() else {
         return false;
     };
-    if let Some(how) = listen(alloc, network, service, rooms, &mut client, now) {
+    if let Some(how) = listen(alloc, network, service, rooms, &mut client, keeper, now) {
         network.close(&mut client.connection, how);
         return true;
     }
@@ -59,59 +64,82 @@ fn listen_to<S: Shows, N: Network>(
     service: &mut S,
     rooms: &mut Rooms,
     clients: &mut Clients<S, N>,
+    keeper: &mut Keeper,
     place: usize,
     now: u64,
 )
     requires known { AreKnown (λ b. option_map S.who b.value.session.speaker)
-        (S.seen service.old).logins clients.old.slots.items }
+        (S.seen service.old).speakers clients.old.slots.items }
     requires within { place < length clients.old.queue }
     requires apart { AreApart clients.old.queue }
-    ensures crowd { (limits : Limits) (first : S) (start : Acts) (waits : ℕ)
-        → Crowd (λ b. view_of S.who N.number b.value) (rules_of S.made S.seen S.noted S.status) limits first start
-        Reads (IsBefore clients.old.queue place) waits
+    ensures crowd { (limits : Limits) (first : S) (start : Acts) (waits : ℕ) (began : Option Journal)
+        → Crowd (λ b. view_of S.who N.number b.value) (rules_of S.made S.seen S.noted S.status S.changed) limits first
+        start Reads (IsBefore clients.old.queue place) (past_of waits began keeper.old)
         (N.log network.old) clients.old.slots.items clients.old.accepted service.old
-        → Crowd (λ b. view_of S.who N.number b.value) (rules_of S.made S.seen S.noted S.status) limits first start
-        Reads (IsBefore clients.old.queue (place + 1)) waits
+        → Crowd (λ b. view_of S.who N.number b.value) (rules_of S.made S.seen S.noted S.status S.changed) limits first
+        start Reads (IsBefore clients.old.queue (place + 1)) (past_of waits began keeper.new)
         (N.log network.new) clients.new.slots.items clients.new.accepted service.new }
     ensures queue { clients.new.queue ≡ clients.old.queue }
     ensures logins { (S.seen service.new).logins ≡ (S.seen service.old).logins }
+    ensures speakers { (S.seen service.new).speakers ≡ (S.seen service.old).speakers }
     ensures known { AreKnown (λ b. option_map S.who b.value.session.speaker)
-        (S.seen service.new).logins clients.new.slots.items }
+        (S.seen service.new).speakers clients.new.slots.items }
 {
     let at = clients.queue.slot_at(place);
     if at >= clients.slots.len() {
         return;
     }
-    let closed = listen_at(alloc, network, service, rooms, &mut clients.slots[at], now);
+    let closed = listen_at(
+        alloc,
+        network,
+        service,
+        rooms,
+        &mut clients.slots[at],
+        keeper,
+        now,
+    );
     clients.listening = clients.listening.after_close(closed);
 }
 
 /// The first half of a round: each client in the queue, in its order, reads at most once and runs its
-/// lines. Nothing is written.
+/// lines. Nothing is written. The records of lines are kept where the next one has no room. False if the
+/// journal fails.
 pub fn listen_all<S: Shows, N: Network>(
     alloc: Global,
     network: &mut N,
     service: &mut S,
     rooms: &mut Rooms,
     clients: &mut Clients<S, N>,
+    keeper: &mut Keeper,
     now: u64,
-)
+) -> bool
     requires known { AreKnown (λ b. option_map S.who b.value.session.speaker)
-        (S.seen service.old).logins clients.old.slots.items }
-    ensures crowd { (limits : Limits) (first : S) (start : Acts) (waits : ℕ)
-        → Crowd (λ b. view_of S.who N.number b.value) (rules_of S.made S.seen S.noted S.status) limits first start
-        Reads nobody waits
+        (S.seen service.old).speakers clients.old.slots.items }
+    ensures crowd { (limits : Limits) (first : S) (start : Acts) (waits : ℕ) (began : Option Journal) → result ≡ true
+        → Crowd (λ b. view_of S.who N.number b.value) (rules_of S.made S.seen S.noted S.status S.changed) limits first
+        start Reads nobody (past_of waits began keeper.old)
         (N.log network.old) clients.old.slots.items clients.old.accepted service.old
-        → Crowd (λ b. view_of S.who N.number b.value) (rules_of S.made S.seen S.noted S.status) limits first start
-        Writes nobody waits
+        → Crowd (λ b. view_of S.who N.number b.value) (rules_of S.made S.seen S.noted S.status S.changed) limits first
+        start Reads everybody (past_of waits began keeper.new)
         (N.log network.new) clients.new.slots.items clients.new.accepted service.new }
+    ensures failed { (limits : Limits) (first : S) (start : Acts) (waits : ℕ) (began : Option Journal) → result ≡ false
+        → Crowd (λ b. view_of S.who N.number b.value) (rules_of S.made S.seen S.noted S.status S.changed) limits first
+        start Reads nobody (past_of waits began keeper.old)
+        (N.log network.old) clients.old.slots.items clients.old.accepted service.old
+        → HasFailed (λ b. view_of S.who N.number b.value) (rules_of S.made S.seen S.noted S.status S.changed) limits first
+        start began (N.log network.new) clients.new.slots.items clients.new.accepted service.new }
     ensures logins { (S.seen service.new).logins ≡ (S.seen service.old).logins }
+    ensures speakers { (S.seen service.new).speakers ≡ (S.seen service.old).speakers }
     ensures known { AreKnown (λ b. option_map S.who b.value.session.speaker)
-        (S.seen service.new).logins clients.new.slots.items }
+        (S.seen service.new).speakers clients.new.slots.items }
 {
     for place in 0..clients.queue.len() {
-        listen_to(alloc, network, service, rooms, clients, place, now);
+        if !keeper.make_room(network) {
+            return false;
+        }
+        listen_to(alloc, network, service, rooms, clients, keeper, place, now);
     }
+    true
 }
 
 /// The second half of the turn of the client in a slot, if there is one.
@@ -125,8 +153,8 @@ fn tell_at<S: Served, N: Network>(
         × ((limits : Limits) → SlotDid limits Writes
         (option_map (λ b. view_of S.who N.number b.value) slot.old)
         (option_map (λ b. view_of S.who N.number b.value) slot.new) more) }
-    ensures known { (login : Login) → IsKnownSlot (λ b. option_map S.who b.value.session.speaker) login slot.old
-        → IsKnownSlot (λ b. option_map S.who b.value.session.speaker) login slot.new }
+    ensures known { (speakers : Speaker → Bool) → IsKnownSlot (λ b. option_map S.who b.value.session.speaker) speakers slot.old
+        → IsKnownSlot (λ b. option_map S.who b.value.session.speaker) speakers slot.new }
 {
     let Some(mut client) = slot.take() else {
         return Left::Blocked;
@@ -153,17 +181,17 @@ fn tell_to<S: Shows, N: Network>(
 )
     requires within { place < length clients.old.queue }
     requires apart { AreApart clients.old.queue }
-    ensures crowd { (limits : Limits) (first now : S) (start : Acts) (waits : ℕ)
-        → Crowd (λ b. view_of S.who N.number b.value) (rules_of S.made S.seen S.noted S.status) limits first start
-        Writes (IsBefore clients.old.queue place) waits
+    ensures crowd { (limits : Limits) (first now : S) (start : Acts) (past : Past)
+        → Crowd (λ b. view_of S.who N.number b.value) (rules_of S.made S.seen S.noted S.status S.changed) limits first
+        start Writes (IsBefore clients.old.queue place) past
         (N.log network.old) clients.old.slots.items clients.old.accepted now
-        → Crowd (λ b. view_of S.who N.number b.value) (rules_of S.made S.seen S.noted S.status) limits first start
-        Writes (IsBefore clients.old.queue (place + 1)) waits
+        → Crowd (λ b. view_of S.who N.number b.value) (rules_of S.made S.seen S.noted S.status S.changed) limits first
+        start Writes (IsBefore clients.old.queue (place + 1)) past
         (N.log network.new) clients.new.slots.items clients.new.accepted now }
     ensures queue { clients.new.queue ≡ clients.old.queue }
-    ensures known { (login : Login)
-        → AreKnown (λ b. option_map S.who b.value.session.speaker) login clients.old.slots.items
-        → AreKnown (λ b. option_map S.who b.value.session.speaker) login clients.new.slots.items }
+    ensures known { (speakers : Speaker → Bool)
+        → AreKnown (λ b. option_map S.who b.value.session.speaker) speakers clients.old.slots.items
+        → AreKnown (λ b. option_map S.who b.value.session.speaker) speakers clients.new.slots.items }
 {
     let at = clients.queue.slot_at(place);
     if at >= clients.slots.len() {
@@ -177,14 +205,14 @@ fn tell_to<S: Shows, N: Network>(
 
 /// The second half of a round: each client in the queue, in its order, writes once. No line is run.
 pub fn tell_all<S: Shows, N: Network>(network: &mut N, clients: &mut Clients<S, N>, now: u64)
-    ensures crowd { (limits : Limits) (first now : S) (start : Acts) (waits : ℕ)
-        → Crowd (λ b. view_of S.who N.number b.value) (rules_of S.made S.seen S.noted S.status) limits first start
-        Writes nobody waits (N.log network.old) clients.old.slots.items clients.old.accepted now
-        → Crowd (λ b. view_of S.who N.number b.value) (rules_of S.made S.seen S.noted S.status) limits first start
-        Sweeps nobody waits (N.log network.new) clients.new.slots.items clients.new.accepted now }
-    ensures known { (login : Login)
-        → AreKnown (λ b. option_map S.who b.value.session.speaker) login clients.old.slots.items
-        → AreKnown (λ b. option_map S.who b.value.session.speaker) login clients.new.slots.items }
+    ensures crowd { (limits : Limits) (first now : S) (start : Acts) (past : Past)
+        → Crowd (λ b. view_of S.who N.number b.value) (rules_of S.made S.seen S.noted S.status S.changed) limits first
+        start Writes nobody past (N.log network.old) clients.old.slots.items clients.old.accepted now
+        → Crowd (λ b. view_of S.who N.number b.value) (rules_of S.made S.seen S.noted S.status S.changed) limits first
+        start Sweeps nobody past (N.log network.new) clients.new.slots.items clients.new.accepted now }
+    ensures known { (speakers : Speaker → Bool)
+        → AreKnown (λ b. option_map S.who b.value.session.speaker) speakers clients.old.slots.items
+        → AreKnown (λ b. option_map S.who b.value.session.speaker) speakers clients.new.slots.items }
 {
     for place in 0..clients.queue.len() {
         tell_to(network, clients, place, now);

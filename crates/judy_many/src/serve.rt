@@ -1,24 +1,31 @@
 //! The loop over all connections.
-ghost use Rattle.std.specs.Prelude.{◌≡◌, ℕ, [], option_map};
-ghost use Rattle.judy_many.specs.Crowds.{Crowd, HasServedMany};
+ghost use Rattle.std.specs.Prelude.{◌≡◌, ℕ, [], false, true, Option, option_map};
+ghost use Rattle.judy_many.specs.Books.{Journal};
+ghost use Rattle.judy_many.specs.Crowds.{Crowd, HasFailed, HasServedMany, Past, past_of};
 ghost use Rattle.judy_many.specs.Endings.{waited_if};
 ghost use Rattle.judy_many.specs.Lives.{view_of};
 ghost use Rattle.judy_many.specs.Nets.{Acts, DidLog};
 ghost use Rattle.judy_many.specs.Queues.{nobody};
 ghost use Rattle.judy_many.specs.Rules.{rules_of};
 ghost use Rattle.judy_many.specs.Slots.{AreKnown};
+ghost use Rattle.judy_many.specs.Statuses.{HasAnswered};
 ghost use Rattle.judy_many.specs.Stories.Phase.{Reads, Sweeps};
 
 use crate::arrivals::accept;
-use crate::asking::answer;
+use crate::asking::{Next, answer};
 use crate::clients::{Clients, Listening};
-use crate::network::Network;
+use crate::keeping::Keeper;
+use crate::network::{Network, Sync};
+use crate::reloads::reload;
 use crate::rounds::{listen_all, tell_all};
 use crate::session::Rooms;
 use crate::shows::Shows;
 use crate::sweeps::sweep;
 use crate::warnings::Warnings;
-use judy_model::laws::{one_call_is_a_run, served_runs_go_on, tenants_are_answered_equally};
+use judy_journal::Writer;
+use judy_model::laws::{
+    one_call_is_a_run, runs_go_on, served_runs_go_on, tenants_are_answered_equally,
+};
 use judy_protocol::Served;
 use std::alloc::Global;
 
@@ -35,6 +42,8 @@ pub struct Limits {
     pub turn: Option<u32>,
     /// Whether there is a status socket.
     pub status: bool,
+    /// When the journal is synced. Without this there is no journal.
+    pub journal: Option<Sync>,
 }
 
 /// How the serving of many ended.
@@ -46,6 +55,8 @@ pub enum Ending {
     Memory,
     /// A stop was asked for on the status socket.
     Stopped,
+    /// The journal could not be written or synced. The lines that it lacks are not answered.
+    Journal,
     /// The listener, or the wait, failed for good; or 2^64 - 1 rounds have passed.
     Socket,
 }
@@ -53,6 +64,11 @@ pub enum Ending {
 /// Whether the time is asked for.
 fn asks_for_time<S: Served, N: Network>(clients: &Clients<S, N>, limits: Limits) -> bool {
     limits.idle.is_some() || limits.turn.is_some() || clients.listening.is_paused()
+}
+
+/// Whether something is left to do after a second: to tell the operator, or to sync the journal.
+fn is_owed<S: Shows>(warnings: &Warnings, service: &S, keeper: &Keeper) -> bool {
+    warnings.are_owed(service) || keeper.is_owed()
 }
 
 /// How many milliseconds the loop may wait for something to happen. None if it may wait for ever.
@@ -100,31 +116,81 @@ fn time<N: Network>(network: &mut N, asked: bool) -> Option<u64>
     network.seconds()
 }
 
-/// Each client that is ready has a turn, and those whose time is over are closed.
+/// Each client that is ready has a turn, and those whose time is over are closed. What they changed is
+/// in the journal before they are answered. False if the journal fails: then no client is answered.
 fn take_turns<S: Shows, N: Network>(
     alloc: Global,
     network: &mut N,
     service: &mut S,
     rooms: &mut Rooms,
     clients: &mut Clients<S, N>,
+    keeper: &mut Keeper,
     limits: Limits,
     now: Option<u64>,
-)
+) -> bool
     requires known { AreKnown (λ b. option_map S.who b.value.session.speaker)
-        (S.seen service.old).logins clients.old.slots.items }
-    ensures crowd { (first : S) (start : Acts) (waits : ℕ)
-        → Crowd (λ b. view_of S.who N.number b.value) (rules_of S.made S.seen S.noted S.status) limits first start
-        Reads nobody waits (N.log network.old) clients.old.slots.items clients.old.accepted service.old
-        → Crowd (λ b. view_of S.who N.number b.value) (rules_of S.made S.seen S.noted S.status) limits first start
-        Sweeps nobody waits (N.log network.new) clients.new.slots.items clients.new.accepted service.new }
+        (S.seen service.old).speakers clients.old.slots.items }
+    ensures crowd { (first : S) (start : Acts) (waits : ℕ) (began : Option Journal) → result ≡ true
+        → Crowd (λ b. view_of S.who N.number b.value) (rules_of S.made S.seen S.noted S.status S.changed) limits first
+        start Reads nobody (past_of waits began keeper.old)
+        (N.log network.old) clients.old.slots.items clients.old.accepted service.old
+        → Crowd (λ b. view_of S.who N.number b.value) (rules_of S.made S.seen S.noted S.status S.changed) limits first
+        start Sweeps nobody (past_of waits began keeper.new)
+        (N.log network.new) clients.new.slots.items clients.new.accepted service.new }
+    ensures failed { (first : S) (start : Acts) (waits : ℕ) (began : Option Journal) → result ≡ false
+        → Crowd (λ b. view_of S.who N.number b.value) (rules_of S.made S.seen S.noted S.status S.changed) limits first
+        start Reads nobody (past_of waits began keeper.old)
+        (N.log network.old) clients.old.slots.items clients.old.accepted service.old
+        → HasFailed (λ b. view_of S.who N.number b.value) (rules_of S.made S.seen S.noted S.status S.changed) limits first
+        start began (N.log network.new) clients.new.slots.items clients.new.accepted service.new }
     ensures known { AreKnown (λ b. option_map S.who b.value.session.speaker)
-        (S.seen service.new).logins clients.new.slots.items }
+        (S.seen service.new).speakers clients.new.slots.items }
 {
     let second = now.unwrap_or(0);
-    listen_all(alloc, network, service, rooms, clients, second);
+    if !listen_all(alloc, network, service, rooms, clients, keeper, second) {
+        return false;
+    }
+    if !keeper.settle(network) {
+        return false;
+    }
     tell_all(network, clients, second);
     sweep(network, clients, limits, now);
     clients.queue.end_round();
+    true
+}
+
+/// Answers one question of the status socket, and reads the table again if that is what it asks for.
+/// Returns whether it asks for a stop.
+fn ask<S: Shows, N: Network>(
+    alloc: Global,
+    network: &mut N,
+    service: &mut S,
+    clients: &mut Clients<S, N>,
+    limits: Limits,
+    text: &mut Vec<u8>,
+) -> bool
+    requires known { AreKnown (λ b. option_map S.who b.value.session.speaker)
+        (S.seen service.old).speakers clients.old.slots.items }
+    ensures crowd { (first : S) (start : Acts) (past : Past) → result ≡ false
+        → Crowd (λ b. view_of S.who N.number b.value) (rules_of S.made S.seen S.noted S.status S.changed) limits first
+        start Sweeps nobody past (N.log network.old) clients.old.slots.items clients.old.accepted service.old
+        → Crowd (λ b. view_of S.who N.number b.value) (rules_of S.made S.seen S.noted S.status S.changed) limits first
+        start Sweeps nobody past (N.log network.new) clients.new.slots.items clients.new.accepted service.new }
+    ensures stop { result ≡ true
+        → HasAnswered limits.status Next.Stop (S.status service.old) (N.log network.old) (N.log network.new)
+        × (service.new ≡ service.old) }
+    ensures known { AreKnown (λ b. option_map S.who b.value.session.speaker)
+        (S.seen service.new).speakers clients.new.slots.items }
+{
+    match answer(network, &*service, limits, text) {
+        Next::Round => false,
+        Next::Reload => {
+            let keep = limits.journal.is_some();
+            reload(alloc, network, service, clients, keep, text);
+            false
+        }
+        Next::Stop => true,
+    }
 }
 
 /// Serves many connections at once, until as many as are wanted have come and were closed, or a stop is
@@ -132,19 +198,26 @@ fn take_turns<S: Shows, N: Network>(
 ///
 /// In each round every client that is ready has a turn, in the order in which they became so: first
 /// all of them read and run their lines, then all write their answers. After that the operator is told
-/// what was refused, and one question on the status socket is answered.
+/// what was refused, and one question on the status socket is answered. If it asks for that, the table
+/// is read again.
+///
+/// With a rule when it is synced, the writer goes on with a journal. Then in each round the records of
+/// the lines that changed arrays are kept before the answers are written.
 pub fn serve_many<S: Shows, N: Network>(
     alloc: Global,
     network: &mut N,
     service: &mut S,
     limits: Limits,
+    writer: Option<Box<Writer>>,
 ) -> Ending
-    ensures { HasServedMany (rules_of S.made S.seen S.noted S.status) limits result
+    ensures { HasServedMany (rules_of S.made S.seen S.noted S.status S.changed) limits
+        (option_map (λ w. w.value) writer) result
         (N.log network.old) (N.log network.new) service.old service.new }
 {
     // Laws: calls one after another are one run, and another service gives the same replies.
     one_call_is_a_run();
     served_runs_go_on();
+    runs_go_on();
     tenants_are_answered_equally();
     let Ok(mut clients) = Clients::<S, N>::new(alloc, limits.clients) else {
         return Ending::Memory;
@@ -152,28 +225,37 @@ pub fn serve_many<S: Shows, N: Network>(
     let mut rooms = Rooms::new();
     let mut text = Vec::new(alloc);
     let mut warnings = Warnings::new();
+    let mut keeper = Keeper::new(limits.journal, writer);
     for _round in 0..u64::MAX {
         if clients.accepted >= limits.connections && clients.is_empty() {
             return Ending::Done;
         }
-        if !wait(network, &mut clients, limits, warnings.are_owed(&*service)) {
+        if !wait(
+            network,
+            &mut clients,
+            limits,
+            is_owed(&warnings, &*service, &keeper),
+        ) {
             return Ending::Socket;
         }
         let now = time(network, asks_for_time(&clients, limits));
         if !accept(alloc, network, &mut clients, limits, now) {
             return Ending::Socket;
         }
-        take_turns(
+        if !take_turns(
             alloc,
             network,
             service,
             &mut rooms,
             &mut clients,
+            &mut keeper,
             limits,
             now,
-        );
+        ) {
+            return Ending::Journal;
+        }
         warnings.tell(network, &*service);
-        if answer(network, &*service, limits, &mut text) {
+        if ask(alloc, network, service, &mut clients, limits, &mut text) {
             return Ending::Stopped;
         }
     }

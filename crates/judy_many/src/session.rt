@@ -1,14 +1,19 @@
 //! A session: the lines of one connection, run as they come, with their answers in a buffer.
-ghost use Rattle.std.specs.Prelude.{◌≡◌, ◌≤◌, ◌+◌, ◌++◌, ◌∷◌, ℕ, List, [], None, length, option_map};
+ghost use Rattle.std.specs.Prelude.{◌≡◌, ◌≤◌, ◌+◌, ◌++◌, ◌∷◌, ℕ, List, [], None, length, IfSome, IsTrue, option_map};
 ghost use Rattle.judy_protocol.specs.Services.{HasLoggedIn};
 ghost use Rattle.judy_protocol.specs.Talks.{HasNoLf, Holds};
+ghost use Rattle.judy_many.specs.Books.{has_room, noted_by};
+ghost use Rattle.judy_many.specs.Records.{records_of};
 ghost use Rattle.judy_many.specs.Rules.{rules_of};
 ghost use Rattle.judy_many.specs.Sessions.{Steps, Turn};
 
+use crate::keeping::Keeper;
 use crate::shows::Shows;
 use arrayvec::ArrayVec;
-use judy_model::KEY_LIMIT;
-use judy_protocol::{Held, REPLY_LIMIT, asks_to_quit, cut_line, hear, run};
+use judy_model::{KEY_LIMIT, LINE_LIMIT};
+use judy_protocol::{
+    Held, REPLY_LIMIT, asks_to_quit, cut_line, hear_line, join_line, run, whole_line,
+};
 use std::alloc::Global;
 
 /// The most bytes of the answers that one turn of a connection leaves to be written.
@@ -59,8 +64,8 @@ impl<P: Copy> Session<P> {
 /// How the running of lines ended.
 #[derive(Clone, Copy, Debug, PartialEq, Eq)]
 pub struct Ran {
-    /// How many bytes were not heard: lines for whose answers there was no room, or what comes after
-    /// a line that asked to quit.
+    /// How many bytes were not heard: lines for whose answers or records there was no room, or what
+    /// comes after a line that asked to quit.
     pub left: usize,
     /// Whether the last line asked to quit.
     pub quit: bool,
@@ -74,8 +79,37 @@ fn append(answers: &mut ArrayVec<u8, ANSWERS_LIMIT>, text: &[u8])
     let _fits = answers.try_extend_from_slice(text);
 }
 
-/// Runs the line that is held and ends with the chunk, counts it, and appends its answer. Returns
-/// whether the line asked to quit.
+/// Adds the record of a line that was run to those that are to be kept, if it changed arrays.
+fn note_line<S: Shows>(
+    keeper: &mut Keeper,
+    service: &S,
+    speaker: Option<S::Speaker>,
+    line: Option<&[u8]>,
+    changed: bool,
+)
+    requires known { HasLoggedIn (S.seen service.now).speakers (option_map S.who speaker) }
+    requires short { IfSome line (λ b. HasNoLf b.now × (length b.now ≤ LINE_LIMIT)) }
+    requires room { IsTrue (has_room keeper.old) }
+    ensures { keeper.new ≡ noted_by (records_of changed (S.seen service.now).names
+        (option_map S.who speaker) (option_map (λ b. b.now) line.entry)) keeper.old }
+{
+    if !changed {
+        return;
+    }
+    if keeper.is_none() {
+        return;
+    }
+    let Some(speaker) = speaker else {
+        return;
+    };
+    let Some(line) = line else {
+        return;
+    };
+    keeper.note(service.name(speaker), line);
+}
+
+/// Runs the line that is held and ends with the chunk, counts it, notes its record, and appends its
+/// answer. Returns whether the line asked to quit.
 pub fn run_line<S: Shows>(
     alloc: Global,
     session: &mut Session<S::Speaker>,
@@ -83,20 +117,25 @@ pub fn run_line<S: Shows>(
     rooms: &mut Rooms,
     chunk: &[u8],
     answers: &mut ArrayVec<u8, ANSWERS_LIMIT>,
+    keeper: &mut Keeper,
 ) -> bool
     requires line { HasNoLf chunk.now }
+    requires journal { IsTrue (has_room keeper.old) }
     requires room { length answers.old.items + REPLY_LIMIT ≤ ANSWERS_LIMIT }
-    requires known { HasLoggedIn (S.seen service.old).logins (option_map S.who session.old.speaker) }
+    requires known { HasLoggedIn (S.seen service.old).speakers (option_map S.who session.old.speaker) }
     ensures steps { (turn : Turn)
-        × Steps (rules_of S.made S.seen S.noted S.status) (chunk.now ++ 10 ∷ []) (turn ∷ []) result
+        × Steps (rules_of S.made S.seen S.noted S.status S.changed) (chunk.now ++ 10 ∷ []) (turn ∷ []) result
         session.old.held session.new.held
         (option_map S.who session.old.speaker) (option_map S.who session.new.speaker)
-        service.old service.new answers.old.items answers.new.items }
+        service.old service.new answers.old.items answers.new.items keeper.old keeper.new }
     ensures logins { (S.seen service.new).logins ≡ (S.seen service.old).logins }
-    ensures known { HasLoggedIn (S.seen service.new).logins (option_map S.who session.new.speaker) }
+    ensures speakers { (S.seen service.new).speakers ≡ (S.seen service.old).speakers }
+    ensures known { HasLoggedIn (S.seen service.new).speakers (option_map S.who session.new.speaker) }
 {
-    let asked = hear(&mut session.held, chunk, &mut rooms.key);
-    run(
+    let joined = join_line(&mut session.held, chunk);
+    let line = whole_line(&session.held, chunk, joined);
+    let asked = hear_line(line, &mut rooms.key);
+    let changed = run(
         alloc,
         service,
         &mut session.speaker,
@@ -105,12 +144,15 @@ pub fn run_line<S: Shows>(
         &mut rooms.reply,
     );
     service.note(&asked, rooms.reply.as_slice());
+    note_line(keeper, &*service, session.speaker, line, changed);
     append(answers, rooms.reply.as_slice());
-    asks_to_quit(&asked)
+    let quit = asks_to_quit(&asked);
+    session.held.clear();
+    quit
 }
 
-/// Runs the lines that the bytes complete, as long as there is room for the longest answer, and up to
-/// a line that asks to quit. Holds what comes after the last line feed.
+/// Runs the lines that the bytes complete, as long as there is room for the longest answer and for the
+/// longest record, and up to a line that asks to quit. Holds what comes after the last line feed.
 pub fn run_lines<S: Shows>(
     alloc: Global,
     session: &mut Session<S::Speaker>,
@@ -118,21 +160,23 @@ pub fn run_lines<S: Shows>(
     rooms: &mut Rooms,
     bytes: &[u8],
     answers: &mut ArrayVec<u8, ANSWERS_LIMIT>,
+    keeper: &mut Keeper,
 ) -> Ran
-    requires known { HasLoggedIn (S.seen service.old).logins (option_map S.who session.old.speaker) }
+    requires known { HasLoggedIn (S.seen service.old).speakers (option_map S.who session.old.speaker) }
     ensures steps { (used : List ℕ) × (rest : List ℕ) × (turns : List Turn)
         × (used ++ rest ≡ bytes.now) × (length rest ≡ result.left)
-        × Steps (rules_of S.made S.seen S.noted S.status) used turns result.quit
+        × Steps (rules_of S.made S.seen S.noted S.status S.changed) used turns result.quit
         session.old.held session.new.held
         (option_map S.who session.old.speaker) (option_map S.who session.new.speaker)
-        service.old service.new answers.old.items answers.new.items }
+        service.old service.new answers.old.items answers.new.items keeper.old keeper.new }
     ensures left { result.left ≤ length bytes.now }
     ensures more { length answers.old.items ≤ length answers.new.items }
     ensures logins { (S.seen service.new).logins ≡ (S.seen service.old).logins }
-    ensures known { HasLoggedIn (S.seen service.new).logins (option_map S.who session.new.speaker) }
+    ensures speakers { (S.seen service.new).speakers ≡ (S.seen service.old).speakers }
+    ensures known { HasLoggedIn (S.seen service.new).speakers (option_map S.who session.new.speaker) }
 {
     let mut rest = bytes;
-    while answers.len() <= ANSWERS_LIMIT - REPLY_LIMIT {
+    while answers.len() <= ANSWERS_LIMIT - REPLY_LIMIT && keeper.has_room() {
         let Some((chunk, after)) = cut_line(rest) else {
             session.held.hold(rest);
             return Ran {
@@ -141,7 +185,7 @@ pub fn run_lines<S: Shows>(
             };
         };
         rest = after;
-        if run_line(alloc, session, service, rooms, chunk, answers) {
+        if run_line(alloc, session, service, rooms, chunk, answers, keeper) {
             return Ran {
                 left: rest.len(),
                 quit: true,

@@ -1,20 +1,27 @@
-//! A service that counts its lines and tells its status.
-ghost use Rattle.std.specs.Prelude.{◌≡◌, ◌++◌, ℕ, List, OnOk};
+//! A service that counts its lines, tells its status, and changes its table.
+ghost use Rattle.std.specs.Prelude.{◌≡◌, ◌++◌, ℕ, List, true, MatchBool, OnOk};
 ghost use Rattle.judy_model.specs.Stream.{Heard};
+ghost use Rattle.judy_protocol.specs.Services.{IsKnown};
 ghost use Rattle.judy_protocol.specs.Talks.{as_heard};
+ghost use Rattle.judy_many.specs.Changes.{IsChange, KeepsTenants};
 
 use judy_protocol::{Line, Refusal, Served};
-use std::alloc::AllocError;
+use std::alloc::{AllocError, Global};
 
-/// A service that counts the lines that are run, and tells its status, as text.
+/// A service that counts the lines that are run, tells its status, as text, and whose table of tenants
+/// can be changed.
 ///
-/// `noted` is all that an implementation promises of counting, and `unseen` proves that it is enough.
+/// `noted` is all that an implementation promises of counting, and `changed` all that it promises of
+/// a new table. `unseen` and `stays` prove that it is enough.
 pub trait Shows: Served {
     /// The text of the status.
     ghost status: { Self → List ℕ };
 
     /// A line that was run was counted: what it asked for, and its answer.
     ghost noted: { Self → Heard → List ℕ → Self → Type 0 };
+
+    /// The table of this text was put in force.
+    ghost changed: { Self → List ℕ → Self → Type 0 };
 
     /// Appends the text. It fails only for memory.
     fn show(&self, text: &mut Vec<u8>) -> Result<(), AllocError>
@@ -34,7 +41,25 @@ pub trait Shows: Served {
     /// How many requests were refused for memory.
     fn refused_requests(&self) -> u64;
 
+    /// Puts the table of this text in force. False if it is not, and then nothing has changed. Appends to
+    /// `told` what is said of it: how many tenants there are, as `3 tenants`, or the fault.
+    fn change(&mut self, alloc: Global, text: &[u8], told: &mut Vec<u8>) -> bool
+        ensures { MatchBool result (changed self.old text.now self.new) (self.new ≡ self.old) };
+
+    /// Whether the table of this text has each tenant that is in force, so that its arrays stay.
+    fn keeps(&self, alloc: Global, text: &[u8]) -> bool
+        ensures { result ≡ true → (after : Self) → changed self.now text.now after
+            → KeepsTenants (Self.seen self.now) (Self.seen after) };
+
+    /// Whether a speaker may speak: after a change of the table its tenant may be gone.
+    fn knows(&self, speaker: Self::Speaker) -> bool
+        ensures { result ≡ (Self.seen self.now).speakers (Self.who speaker) };
+
     /// Counting changes nothing that a connection relies on.
     ghost unseen: { (before after : Self) (line : Heard) (answer : List ℕ)
         → noted before line answer after → Self.seen after ≡ Self.seen before };
+
+    /// A new table keeps or empties each tenant's arrays.
+    ghost stays: { (before after : Self) (text : List ℕ)
+        → changed before text after → IsChange (Self.seen before) (Self.seen after) };
 }

@@ -3,7 +3,7 @@ ghost use Rattle.std.specs.Prelude.{None};
 
 use crate::counts::Counts;
 use crate::desk::{ASKER, DESK, Desk};
-use crate::network::{Accept, Got, How, Network, Put, Question};
+use crate::network::{Accept, Got, How, Network, Put, Question, Unread};
 use crate::queue::{CLIENTS_LIMIT, Queue};
 use mio::net::{UnixListener, UnixStream};
 use mio::{Events, Interest, Poll, Token};
@@ -263,5 +263,29 @@ impl<'a, F: Files + Net + Clock + Eprint> Network for Sockets<'a, F> {
         if let Ok(text) = str::from_utf8(text) {
             let _ = eprintln!(self.rt; "judyd: {text}");
         }
+    }
+
+    // Sockets alone know no file of a table. The network of the program has one, and asks them for all
+    // else.
+    fn table(&mut self, _text: &mut Vec<u8>) -> Result<(), Unread> {
+        Err(Unread::File)
+    }
+
+    fn reply(&mut self, text: &[u8]) {
+        if let Some(desk) = &mut self.desk {
+            desk.answer(text, b"");
+        }
+    }
+
+    fn begin(&mut self, _segment: u64) -> bool {
+        false
+    }
+
+    fn keep(&mut self, _bytes: &[u8]) -> bool {
+        false
+    }
+
+    fn sync(&mut self) -> bool {
+        false
     }
 }

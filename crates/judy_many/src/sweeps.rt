@@ -1,7 +1,7 @@
 //! Closes clients whose time is over.
-ghost use Rattle.std.specs.Prelude.{◌≡◌, ℕ, List, false, IfSome, option_map, [], ◌∷◌};
-ghost use Rattle.judy_model.specs.Stream.{Login};
-ghost use Rattle.judy_many.specs.Crowds.{Crowd};
+ghost use Rattle.std.specs.Prelude.{◌≡◌, ℕ, List, false, IfSome, option_map, [], ◌∷◌, Bool};
+ghost use Rattle.judy_model.specs.Speakers.{Speaker};
+ghost use Rattle.judy_many.specs.Crowds.{Crowd, Past};
 ghost use Rattle.judy_many.specs.Queues.{nobody};
 ghost use Rattle.judy_many.specs.Slots.{AreKnown, IsKnownSlot};
 ghost use Rattle.judy_many.specs.Lives.{IsReason, SlotDid, is_orderly, view_of};
@@ -47,8 +47,8 @@ fn sweep_at<S: Served, N: Network>(
         × SlotDid limits Sweeps
         (option_map (λ b. view_of S.who N.number b.value) slot.old)
         (option_map (λ b. view_of S.who N.number b.value) slot.new) more }
-    ensures known { (login : Login) → IsKnownSlot (λ b. option_map S.who b.value.session.speaker) login slot.old
-        → IsKnownSlot (λ b. option_map S.who b.value.session.speaker) login slot.new }
+    ensures known { (speakers : Speaker → Bool) → IsKnownSlot (λ b. option_map S.who b.value.session.speaker) speakers slot.old
+        → IsKnownSlot (λ b. option_map S.who b.value.session.speaker) speakers slot.new }
 {
     let Some(mut client) = slot.take() else {
         return Left::More;
@@ -68,14 +68,14 @@ pub fn sweep<S: Shows, N: Network>(
     limits: Limits,
     now: Option<u64>,
 )
-    ensures crowd { (first now : S) (start : Acts) (waits : ℕ)
-        → Crowd (λ b. view_of S.who N.number b.value) (rules_of S.made S.seen S.noted S.status) limits first start
-        Sweeps nobody waits (N.log network.old) clients.old.slots.items clients.old.accepted now
-        → Crowd (λ b. view_of S.who N.number b.value) (rules_of S.made S.seen S.noted S.status) limits first start
-        Sweeps nobody waits (N.log network.new) clients.new.slots.items clients.new.accepted now }
-    ensures known { (login : Login)
-        → AreKnown (λ b. option_map S.who b.value.session.speaker) login clients.old.slots.items
-        → AreKnown (λ b. option_map S.who b.value.session.speaker) login clients.new.slots.items }
+    ensures crowd { (first now : S) (start : Acts) (past : Past)
+        → Crowd (λ b. view_of S.who N.number b.value) (rules_of S.made S.seen S.noted S.status S.changed) limits first
+        start Sweeps nobody past (N.log network.old) clients.old.slots.items clients.old.accepted now
+        → Crowd (λ b. view_of S.who N.number b.value) (rules_of S.made S.seen S.noted S.status S.changed) limits first
+        start Sweeps nobody past (N.log network.new) clients.new.slots.items clients.new.accepted now }
+    ensures known { (speakers : Speaker → Bool)
+        → AreKnown (λ b. option_map S.who b.value.session.speaker) speakers clients.old.slots.items
+        → AreKnown (λ b. option_map S.who b.value.session.speaker) speakers clients.new.slots.items }
 {
     if now.is_some() && clients.swept == now {
         return;

@@ -10,7 +10,7 @@ use arrayvec::ArrayVec;
 use itoa::Buffer;
 
 /// The most bytes of a line.
-const LINE_LIMIT: usize = 512;
+pub const LINE_LIMIT: usize = 512;
 
 /// How much of a count was told, and at which second it was told last.
 #[derive(Clone, Copy, Debug, PartialEq, Eq)]
@@ -47,7 +47,7 @@ fn is_due(told: Told, count: u64, now: Option<u64>) -> bool
 }
 
 /// A line that begins with this text.
-fn begin(text: &'static [u8]) -> ArrayVec<u8, LINE_LIMIT>
+pub fn begin(text: &'static [u8]) -> ArrayVec<u8, LINE_LIMIT>
     requires { length text.now ≤ LINE_LIMIT }
     ensures { result.items ≡ text.now }
 {
@@ -57,7 +57,7 @@ fn begin(text: &'static [u8]) -> ArrayVec<u8, LINE_LIMIT>
 }
 
 /// Appends a text, or nothing if there is no room for it.
-fn add(line: &mut ArrayVec<u8, LINE_LIMIT>, text: &[u8])
+pub fn add(line: &mut ArrayVec<u8, LINE_LIMIT>, text: &[u8])
     ensures { (head : List ℕ) → BeginsWith head line.old.items → BeginsWith head line.new.items }
 {
     let _fits = line.try_extend_from_slice(text);

@@ -8,10 +8,12 @@ use Rattle.judy_many.specs.Nets.Step.{Bound, Opened, Shut}
 use Rattle.judy_many.specs.Crowds.{HasServedMany}
 use Rattle.judy_many.specs.Rules.{Rules}
 use Rattle.judy_many.specs.declared.serve.Ending.{Ending}
+use Rattle.judy_many.specs.declared.serve.Ending.TheVariants as ending
+use Rattle.judy_journal.specs.Writes.{Writing}
 use Rattle.judy_many.specs.declared.serve.Limits.{Limits}
 use Rattle.judy_protocol.specs.Serving.{MaybeBytes}
 use Rattle.judy_programs.specs.Asking.{Log, Logs}
-use Rattle.judy_programs.specs.Hosting.{Checks, HasBegun, HasNoReserve, HasServedAll, Hosts, Refuses, Watches, watched}
+use Rattle.judy_programs.specs.Hosting.{Checks, HasBegun, HasNoReserve, HasServedAll, Hosts, IsServing, Refuses, Serves, Watches, watched}
 use Rattle.judy_programs.specs.Opening.{HasOpened, IsShut}
 use Rattle.judy_programs.specs.declared.socket.Hosted.{Hosted}
 use Rattle.judy_programs.specs.declared.socket.Hosted.TheVariants as hosted
@@ -59,6 +61,8 @@ module _ {S : Type 0} (is_new : Option ℕ → List Tenant → S → Type 0) (re
       → IsShut how left left' → Logs log (Opened config left ∷ Shut left' ∷ []) log' → Refuses is_new reserve how config log log'
   no_service hosted.Done config left left' log log' h a = absurd h
   no_service hosted.Stopped config left left' log log' h a = absurd h
+  no_service hosted.Recovery config left left' log log' h a = absurd h
+  no_service hosted.Journal config left left' log log' h a = absurd h
   no_service hosted.Socket config left left' log log' h a = absurd h
   no_service hosted.Reserve config left left' log log' h a = absurd h
   no_service hosted.Config config left left' log log' h a = inr (record { left = left; left' = left'; shut = h; asked = a })
@@ -91,6 +95,8 @@ module _ {S : Type 0} (is_new : Option ℕ → List Tenant → S → Type 0) (re
       → Checks is_new reserve how config log log'
   checks_none hosted.Done config log log' h = absurd h
   checks_none hosted.Stopped config log log' h = absurd h
+  checks_none hosted.Recovery config log log' h = absurd h
+  checks_none hosted.Journal config log log' h = absurd h
   checks_none hosted.Socket config log log' h = h
   checks_none hosted.Config config log log' h = h
   checks_none hosted.Long config log log' h = h
@@ -102,6 +108,8 @@ module _ {S : Type 0} (is_new : Option ℕ → List Tenant → S → Type 0) (re
       → Refuses is_new reserve how config log log' → Hosts rules is_new reserve how config socket watch limits log log'
   hosts_none rules hosted.Done config socket watch limits log log' h = absurd h
   hosts_none rules hosted.Stopped config socket watch limits log log' h = absurd h
+  hosts_none rules hosted.Recovery config socket watch limits log log' h = absurd h
+  hosts_none rules hosted.Journal config socket watch limits log log' h = absurd h
   hosts_none rules hosted.Socket config socket watch limits log log' h = absurd h
   hosts_none rules hosted.Config config socket watch limits log log' h = h
   hosts_none rules hosted.Long config socket watch limits log log' h = h
@@ -111,19 +119,53 @@ module _ {S : Type 0} (is_new : Option ℕ → List Tenant → S → Type 0) (re
 
 -- ---- a service and its sockets
 
-module _ {S : Type 0} (rules : Rules S) (is_new : List Tenant → S → Type 0) where
-  -- the file gave a service, then the sockets were made, and connections were served
-  pub served_all : (config socket : List ℕ) (watch : Option (List ℕ)) (limits : Limits) (how : Ending) (log start bound mid log' : Log) (before after : S)
-      → HasBegun is_new config log start before → socket ≢ [] → Logs start (Bound socket ∷ []) bound → Watches true watch bound mid
-      → HasServedMany rules limits how mid log' before after → HasServedAll rules is_new config socket watch limits how log log'
-  served_all config socket watch limits how log start bound mid log' before after begun path first watches hosted = record {
+module _ {S : Type 0} (rules : Rules S) (socket : List ℕ) (watch : Option (List ℕ)) (limits : Limits) (writer : Option Writing) where
+  -- the sockets were made, and connections were served
+  pub serving : (how : Ending) (log bound mid log' : Log) (before after : S)
+      → socket ≢ [] → Logs log (Bound socket ∷ []) bound → Watches true watch bound mid
+      → HasServedMany rules limits writer how mid log' before after → IsServing rules socket watch limits writer how log log' before after
+  serving how log bound mid log' before after path first watches hosted = record {
+    mid = mid;
+    path = path;
+    status_path = watches.0;
+    asked = logs_then log bound mid (Asked (Bound socket) ∷ []) (map Asked (watched watch)) first watches.1;
+    hosted = hosted;
+  }
+
+module _ {S : Type 0} (rules : Rules S) (is_new : Option ℕ → List Tenant → S → Type 0) (reserve : Option ℕ) where
+  -- the file gave a service, which served without a journal
+  served_all : (config socket : List ℕ) (watch : Option (List ℕ)) (limits : Limits) (how : Ending) (log start log' : Log) (before after : S)
+      → HasBegun (is_new reserve) config log start before → IsServing rules socket watch limits None how start log' before after
+      → HasServedAll rules (is_new reserve) config socket watch limits how log log'
+  served_all config socket watch limits how log start log' before after begun s = record {
     before = before;
     after = after;
     start = start;
-    mid = mid;
+    mid = s.mid;
     begun = begun;
-    path = path;
-    status_path = watches.0;
-    asked = logs_then start bound mid (Asked (Bound socket) ∷ []) (map Asked (watched watch)) first watches.1;
-    hosted = hosted;
+    path = s.path;
+    status_path = s.status_path;
+    asked = s.asked;
+    hosted = s.hosted;
   }
+
+  pub hosts_served : (how : Hosted) (config socket : List ℕ) (watch : Option (List ℕ)) (limits : Limits) (log start log' : Log) (before after : S)
+      → HasBegun (is_new reserve) config log start before → Serves rules how socket watch limits None start log' before after
+      → Hosts rules is_new reserve how config socket watch limits log log'
+  hosts_served hosted.Done config socket watch limits log start log' before after b s =
+      served_all config socket watch limits ending.Done log start log' before after b s
+  hosts_served hosted.Stopped config socket watch limits log start log' before after b s =
+      served_all config socket watch limits ending.Stopped log start log' before after b s
+  hosts_served hosted.Journal config socket watch limits log start log' before after b s =
+      served_all config socket watch limits ending.Journal log start log' before after b s
+  hosts_served hosted.Memory config socket watch limits log start log' before after b s =
+      inr (served_all config socket watch limits ending.Memory log start log' before after b s)
+  hosts_served hosted.Socket config socket watch limits log start log' before after b (inl none) =
+      inl (record { before = before; start = start; begun = b; asked = none })
+  hosts_served hosted.Socket config socket watch limits log start log' before after b (inr s) =
+      inr (served_all config socket watch limits ending.Socket log start log' before after b s)
+  hosts_served hosted.Config config socket watch limits log start log' before after b s = absurd s
+  hosts_served hosted.Long config socket watch limits log start log' before after b s = absurd s
+  hosts_served (hosted.Table f) config socket watch limits log start log' before after b s = absurd s
+  hosts_served hosted.Reserve config socket watch limits log start log' before after b s = absurd s
+  hosts_served hosted.Recovery config socket watch limits log start log' before after b s = absurd s

@@ -59,6 +59,8 @@ host_status (host.Table f) = 3
 host_status host.Memory = 4
 host_status host.Reserve = 4
 host_status host.Socket = 4
+host_status host.Recovery = 3
+host_status host.Journal = 1
 
 abbrev pub host_text : Hosted → Option (List ℕ)
 host_text host.Done = None
@@ -69,3 +71,5 @@ host_text (host.Table f) = Some (fault_text f)
 host_text host.Memory = Some (codes "judyd: memory")
 host_text host.Reserve = Some (codes "judyd: memory: no memory for --reserve")
 host_text host.Socket = Some (codes "judyd: socket fault")
+host_text host.Recovery = None
+host_text host.Journal = Some (codes "judyd: journal fault")

@@ -5,6 +5,7 @@
 --     HasServedAll how ..     there is a service and a socket, and connections were served at once
 --     Hosts hosted ..         the whole: the table, the sockets, connections
 use Rattle.std.specs.Prelude.{◌≡◌, ◌≢◌, ◌⊎◌, ℕ, Bool, true, false, List, [], ◌∷◌, Option, Some, None, Result, Ok, Err}
+use Rattle.judy_journal.specs.Writes.{Writing}
 use Rattle.judy_many.specs.Crowds.{HasServedMany}
 use Rattle.judy_many.specs.Nets.Step.{Bound, Opened, Shut, Unbound, Unopened, Unwatched, Watched}
 use Rattle.judy_many.specs.declared.serve.Ending.{Ending}
@@ -52,6 +53,8 @@ module _ {S : Type 0} (is_new : Option ℕ → List Tenant → S → Type 0) (re
   Refuses hosted.Done config log log' = ⊥
   Refuses hosted.Stopped config log log' = ⊥
   Refuses hosted.Socket config log log' = ⊥
+  Refuses hosted.Recovery config log log' = ⊥
+  Refuses hosted.Journal config log log' = ⊥
   Refuses hosted.Config config log log' = Logs log (Unopened config ∷ []) log' ⊎ HasNoService (is_new None) hosted.Config config log log'
   Refuses hosted.Long config log log' = HasNoService (is_new None) hosted.Long config log log'
   Refuses (hosted.Table f) config log log' = HasNoService (is_new None) (hosted.Table f) config log log'
@@ -69,6 +72,8 @@ module _ {S : Type 0} (is_new : Option ℕ → List Tenant → S → Type 0) (re
   Checks hosted.Done config log log' = (before : S) × HasBegun (is_new reserve) config log log' before
   Checks hosted.Socket config log log' = ⊥
   Checks hosted.Stopped config log log' = ⊥
+  Checks hosted.Recovery config log log' = ⊥
+  Checks hosted.Journal config log log' = ⊥
   Checks hosted.Config config log log' = Refuses hosted.Config config log log'
   Checks hosted.Long config log log' = Refuses hosted.Long config log log'
   Checks (hosted.Table f) config log log' = Refuses (hosted.Table f) config log log'
@@ -88,7 +93,36 @@ Watches true status log log' = (status ≢ Some []) × Logs log (watched status)
 Watches false None log log' = ⊥
 Watches false (Some path) log log' = ((path ≡ []) × Logs log [] log') ⊎ ((path ≢ []) × Logs log (Unwatched path ∷ []) log')
 
+-- the socket cannot be made at its path, or the status socket cannot
+abbrev pub HasNoSockets : List ℕ → Option (List ℕ) → Log → Log → Type 0
+HasNoSockets socket watch log log' = ((socket ≡ []) × Logs log [] log') ⊎ ((socket ≢ []) × Logs log (Unbound socket ∷ []) log')
+    ⊎ ((bound : Log) × (socket ≢ []) × Logs log (Bound socket ∷ []) bound × Watches false watch bound log')
+
 -- ---- the connections
+
+-- The sockets were made, and then the connections that came were served, many at once. The writer went on
+-- with a journal, if there is one.
+pub record IsServing {S : Type 0} (rules : Rules S) (socket : List ℕ) (watch : Option (List ℕ)) (limits : Limits) (writer : Option Writing) (how : Ending) (log log' : Log) (before after : S) : Type 0 where
+  pub mid : Log
+  pub path : socket ≢ []
+  pub status_path : watch ≢ Some []
+  pub asked : Logs log (Bound socket ∷ watched watch) mid
+  pub hosted : HasServedMany rules limits writer how mid log' before after
+
+-- what a service did, by how it ended
+module _ {S : Type 0} (rules : Rules S) where
+  abbrev pub Serves : Hosted → List ℕ → Option (List ℕ) → Limits → Option Writing → Log → Log → S → S → Type 0
+  Serves hosted.Done socket watch limits writer log log' before after = IsServing rules socket watch limits writer ending.Done log log' before after
+  Serves hosted.Stopped socket watch limits writer log log' before after = IsServing rules socket watch limits writer ending.Stopped log log' before after
+  Serves hosted.Memory socket watch limits writer log log' before after = IsServing rules socket watch limits writer ending.Memory log log' before after
+  Serves hosted.Journal socket watch limits writer log log' before after = IsServing rules socket watch limits writer ending.Journal log log' before after
+  Serves hosted.Socket socket watch limits writer log log' before after = HasNoSockets socket watch log log'
+      ⊎ IsServing rules socket watch limits writer ending.Socket log log' before after
+  Serves hosted.Config socket watch limits writer log log' before after = ⊥
+  Serves hosted.Long socket watch limits writer log log' before after = ⊥
+  Serves (hosted.Table f) socket watch limits writer log log' before after = ⊥
+  Serves hosted.Reserve socket watch limits writer log log' before after = ⊥
+  Serves hosted.Recovery socket watch limits writer log log' before after = ⊥
 
 module _ {S : Type 0} (rules : Rules S) (is_new : List Tenant → S → Type 0) where
   -- The file gave a service, then a socket was made, and the status socket if one is wanted, and then
@@ -103,7 +137,7 @@ module _ {S : Type 0} (rules : Rules S) (is_new : List Tenant → S → Type 0) 
     pub path : socket ≢ []
     pub status_path : watch ≢ Some []
     pub asked : Logs start (Bound socket ∷ watched watch) mid
-    pub hosted : HasServedMany rules limits how mid log' before after
+    pub hosted : HasServedMany rules limits None how mid log' before after
 
   -- there is a service, and a socket is missing
   pub record HasNoSocket (config socket : List ℕ) (watch : Option (List ℕ)) (log log' : Log) : Type 0 where
@@ -119,6 +153,8 @@ module _ {S : Type 0} (rules : Rules S) (is_new : Option ℕ → List Tenant →
   abbrev pub Hosts : Hosted → List ℕ → List ℕ → Option (List ℕ) → Limits → Log → Log → Type 0
   Hosts hosted.Done config socket watch limits log log' = HasServedAll rules (is_new reserve) config socket watch limits ending.Done log log'
   Hosts hosted.Stopped config socket watch limits log log' = HasServedAll rules (is_new reserve) config socket watch limits ending.Stopped log log'
+  Hosts hosted.Recovery config socket watch limits log log' = ⊥
+  Hosts hosted.Journal config socket watch limits log log' = HasServedAll rules (is_new reserve) config socket watch limits ending.Journal log log'
   Hosts hosted.Socket config socket watch limits log log' = HasNoSocket rules (is_new reserve) config socket watch log log'
       ⊎ HasServedAll rules (is_new reserve) config socket watch limits ending.Socket log log'
   Hosts hosted.Config config socket watch limits log log' = Refuses is_new reserve hosted.Config config log log'

@@ -38,6 +38,8 @@ abbrev pub IsShut : Hosted → Option (List ℕ) → Option (List ℕ) → Type 
 IsShut hosted.Done left left' = ⊥
 IsShut hosted.Stopped left left' = ⊥
 IsShut hosted.Socket left left' = ⊥
+IsShut hosted.Recovery left left' = ⊥
+IsShut hosted.Journal left left' = ⊥
 IsShut hosted.Reserve left left' = ⊥
 IsShut hosted.Config left left' = (text : List ℕ) × Consumes left left' text × (length text ≤ table_limit)
 IsShut hosted.Long left left' = (text : List ℕ) × Consumes left left' text × (table_limit < length text)
@@ -49,6 +51,8 @@ IsShut hosted.Memory left left' = (text : List ℕ) × IsWholeText left left' te
 abbrev pub shut_ends : Hosted → ℕ → ℕ
 shut_ends hosted.Done count = count
 shut_ends hosted.Stopped count = count
+shut_ends hosted.Recovery count = count
+shut_ends hosted.Journal count = count
 shut_ends hosted.Config count = count
 shut_ends hosted.Long count = count
 shut_ends (hosted.Table f) count = counted count
@@ -59,6 +63,8 @@ shut_ends hosted.Socket count = count
 abbrev pub shut_faults : Hosted → ℕ → ℕ
 shut_faults hosted.Done count = count
 shut_faults hosted.Stopped count = count
+shut_faults hosted.Recovery count = count
+shut_faults hosted.Journal count = count
 shut_faults hosted.Config count = counted count
 shut_faults hosted.Long count = count
 shut_faults (hosted.Table f) count = count

@@ -3,7 +3,10 @@
 #![tactic(auto)]
 
 mod config;
+mod directory;
 mod hosts;
+mod journaled;
+mod journals;
 mod opens;
 mod program;
 mod reading;
@@ -13,6 +16,8 @@ mod system;
 mod table_end;
 
 pub use hosts::Hosts;
+pub use journaled::{check_journaled, host_journaled};
+pub use journals::{Journals, Replays};
 pub use opens::{Opens, Unopened};
 pub use program::{Ran, run_on, run_with};
 pub use socket::{Hosted, begin_on, check_on, host_on};

@@ -2,7 +2,7 @@
 ghost use Rattle.std.specs.Prelude.{◌≡◌, ◌≤◌, ℕ, List, None, IfErr, IfOk, IsFalse, IsSome, IsTrue, option_map};
 ghost use Rattle.judy_many.specs.Rules.{rules_of};
 ghost use Rattle.judy_protocol.specs.Serving.{pull_limit};
-ghost use Rattle.judy_programs.specs.Hosting.{Begins, Checks, Hosts as IsHosted, Watches};
+ghost use Rattle.judy_programs.specs.Hosting.{Begins, Checks, Hosts as IsHosted, Serves, Watches};
 ghost use Rattle.judy_programs.specs.Opening.{HasOpened, IsShut, open_ends, open_faults};
 ghost use Rattle.judy_table.specs.declared.tenant.Tenant.{Tenant};
 
@@ -10,6 +10,7 @@ use crate::config::{FILE_LIMIT, FileRead, read_file};
 use crate::hosts::Hosts;
 use crate::opens::{Opens, Unopened};
 use arrayvec::ArrayVec;
+use judy_journal::Writer;
 use judy_many::{Ending, Limits, Shows, serve_many};
 use judy_stream::Source;
 use judy_table::TableFault;
@@ -34,6 +35,10 @@ pub enum Hosted {
     Socket,
     /// A stop was asked for on the status socket.
     Stopped,
+    /// The journal cannot be read, or another server has it.
+    Recovery,
+    /// The journal cannot be written. The lines that it lacks are not answered.
+    Journal,
 }
 
 /// The service of the table that a source has.
@@ -131,6 +136,40 @@ fn watch_on<H: Hosts>(system: &mut H, status: Option<&str>) -> bool
     system.watch(path)
 }
 
+/// Makes a socket at the path `socket` and, if one is wanted, the status socket, and serves the
+/// connections that come. The writer goes on with a journal, if there is one.
+pub fn serve_on<S: Shows, H: Hosts>(
+    alloc: Global,
+    service: &mut S,
+    system: &mut H,
+    socket: &str,
+    status: Option<&str>,
+    limits: Limits,
+    writer: Option<Box<Writer>>,
+) -> Hosted
+    ensures { Serves (rules_of S.made S.seen S.noted S.status S.changed) result socket.now
+        (option_map (λ s. s.now) status.entry) limits (option_map (λ w. w.value) writer)
+        (H.log system.old) (H.log system.new) service.old service.new }
+{
+    // The system would make a socket without a path, which no client can find.
+    if socket.is_empty() {
+        return Hosted::Socket;
+    }
+    if !system.bind(alloc, socket) {
+        return Hosted::Socket;
+    }
+    if !watch_on(system, status) {
+        return Hosted::Socket;
+    }
+    match serve_many(alloc, system, service, limits, writer) {
+        Ending::Done => Hosted::Done,
+        Ending::Memory => Hosted::Memory,
+        Ending::Stopped => Hosted::Stopped,
+        Ending::Journal => Hosted::Journal,
+        Ending::Socket => Hosted::Socket,
+    }
+}
+
 /// Serves the tenants of the table in the file `config`. It makes a socket at the path `socket` and
 /// serves the connections to it, many at once, within these limits. All of them share one service.
 /// Questions to the socket at the path `status` are answered, if there is one.
@@ -149,7 +188,7 @@ pub fn host_on<S: Opens + Shows + Drop, H: Hosts>(
     limits: Limits,
 ) -> Hosted
     requires files { (f : H.File) (room : ℕ) → room ≤ pull_limit → H.File.can_pull f room }
-    ensures { IsHosted (rules_of S.made S.seen S.noted S.status) (S.is_new secret.now) reserve result config.now
+    ensures { IsHosted (rules_of S.made S.seen S.noted S.status S.changed) (S.is_new secret.now) reserve result config.now
         socket.now (option_map (λ s. s.now) status.entry) limits (H.log system.old) (H.log system.new) }
 {
     let begun: Result<S, Hosted> = begin_on(alloc, secret, system, config, reserve);
@@ -157,20 +196,5 @@ pub fn host_on<S: Opens + Shows + Drop, H: Hosts>(
         Ok(service) => service,
         Err(hosted) => return hosted,
     };
-    // The system would make a socket without a path, which no client can find.
-    if socket.is_empty() {
-        return Hosted::Socket;
-    }
-    if !system.bind(alloc, socket) {
-        return Hosted::Socket;
-    }
-    if !watch_on(system, status) {
-        return Hosted::Socket;
-    }
-    match serve_many(alloc, system, &mut service, limits) {
-        Ending::Done => Hosted::Done,
-        Ending::Memory => Hosted::Memory,
-        Ending::Stopped => Hosted::Stopped,
-        Ending::Socket => Hosted::Socket,
-    }
+    serve_on(alloc, &mut service, system, socket, status, limits, None)
 }

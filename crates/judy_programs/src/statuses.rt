@@ -83,5 +83,7 @@ pub fn finish_hosted(hosted: Hosted) -> (u8, Option<&'static str>)
         Hosted::Memory => (4, Some("judyd: memory")),
         Hosted::Reserve => (4, Some("judyd: memory: no memory for --reserve")),
         Hosted::Socket => (4, Some("judyd: socket fault")),
+        Hosted::Recovery => (3, None),
+        Hosted::Journal => (1, Some("judyd: journal fault")),
     }
 }

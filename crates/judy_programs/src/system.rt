@@ -1,14 +1,23 @@
 //! The random bytes, the files and the Unix sockets of the system.
 ghost use Rattle.std.specs.Prelude.{None};
 
+use crate::config::{FILE_LIMIT, FileRead, read_file};
+use crate::directory::Directory;
 use crate::hosts::Hosts;
-use judy_many::{Accept, Connection, Got, How, Network, Put, Question, Queue, Sockets};
+use crate::journals::Journals;
+use arrayvec::ArrayVec;
+use judy_disk::Locks;
+use judy_many::{Accept, Connection, Got, How, Network, Put, Question, Queue, Sockets, Unread};
+use judy_recovery::{JournalFault, Player, Resumed};
 use judy_stream::Reads;
 use std::alloc::Global;
 use std::fs::{self, Files};
 use std::io::{self, Eprint, Read};
 use std::net::Net;
 use std::rt::Clock;
+
+/// The most bytes of the path of a file: the system opens none with a longer path.
+const PATH_LIMIT: usize = 4096;
 
 /// What the system refused, and its reason.
 #[derive(Clone, Copy, Debug)]
@@ -33,7 +42,7 @@ pub struct Unserved {
 /// The random bytes, the files and the Unix sockets of the system. Nothing is known of what they
 /// give and take.
 #[derive(Drop)]
-pub struct System<'a, F> {
+pub struct System<'a, F: Locks> {
     rt: &'a F,
     sockets: Option<Sockets<'a, F>>,
     failed: Option<Failed>,
@@ -41,6 +50,8 @@ pub struct System<'a, F> {
     watched: bool,
     start: Option<String>,
     started: bool,
+    path: ArrayVec<u8, PATH_LIMIT>,
+    directory: Directory<'a, F>,
 }
 
 /// Random bytes that nobody can guess, read from this file of the system. None if it gives too few.
@@ -55,7 +66,7 @@ pub fn read_secret<F: Files>(rt: &F, path: &str) -> Option<[u8; 16]> {
     Some(secret)
 }
 
-impl<'a, F: Files + Net + Clock + Eprint> System<'a, F> {
+impl<'a, F: Locks + Net + Clock + Eprint + Clone + Drop> System<'a, F> {
     /// The system, with no socket yet.
     pub fn new(rt: &'a F) -> Self {
         System {
@@ -69,6 +80,8 @@ impl<'a, F: Files + Net + Clock + Eprint> System<'a, F> {
             watched: false,
             start: None,
             started: false,
+            path: ArrayVec::new(),
+            directory: Directory::new(rt),
         }
     }
 
@@ -83,7 +96,7 @@ impl<'a, F: Files + Net + Clock + Eprint> System<'a, F> {
     }
 
     /// Tells that clients are waited for, once.
-    fn begin(&mut self) {
+    fn tell_start(&mut self) {
         self.started = true;
         if let Some(line) = self.start.take() {
             let _ = eprintln!(self.rt; "{line}");
@@ -109,13 +122,18 @@ impl<'a, F: Files + Net + Clock + Eprint> System<'a, F> {
         self.failed
     }
 
+    /// What the journal's disk refused last, and why.
+    pub fn take_journal_fault(&mut self) -> Option<JournalFault> {
+        self.directory.take_fault()
+    }
+
     /// The clients that were not served.
     pub fn unserved(&self) -> Unserved {
         self.unserved
     }
 }
 
-impl<'a, F: Files + Net + Clock + Eprint> Network for System<'a, F> {
+impl<'a, F: Locks + Net + Clock + Eprint + Clone + Drop> Network for System<'a, F> {
     type Connection = Connection;
 
     ghost log = { λ _. None };
@@ -138,7 +156,7 @@ impl<'a, F: Files + Net + Clock + Eprint> Network for System<'a, F> {
 
     fn wait(&mut self, time: Option<u32>, queue: &mut Queue) -> Option<bool> {
         if !self.started {
-            self.begin();
+            self.tell_start();
         }
         let sockets = self.sockets.as_mut()?;
         let told = sockets.wait(time, queue);
@@ -189,14 +207,51 @@ impl<'a, F: Files + Net + Clock + Eprint> Network for System<'a, F> {
         }
     }
 
+    fn table(&mut self, text: &mut Vec<u8>) -> Result<(), Unread> {
+        let Ok(path) = str::from_utf8(self.path.as_slice()) else {
+            return Err(Unread::File);
+        };
+        let Ok(file) = fs::open(self.rt, path) else {
+            return Err(Unread::File);
+        };
+        let mut reads = Reads::new(file);
+        let mut bytes: ArrayVec<u8, FILE_LIMIT> = ArrayVec::new();
+        match read_file(&mut reads, &mut bytes) {
+            FileRead::Whole => match text.extend_from_slice(bytes.as_slice()) {
+                Ok(()) => Ok(()),
+                Err(_) => Err(Unread::Memory),
+            },
+            FileRead::Long => Err(Unread::Long),
+            FileRead::Fault => Err(Unread::File),
+        }
+    }
+
+    fn reply(&mut self, text: &[u8]) {
+        if let Some(sockets) = &mut self.sockets {
+            sockets.reply(text);
+        }
+    }
+
     fn warn(&mut self, text: &[u8]) {
         if let Some(sockets) = &mut self.sockets {
             sockets.warn(text);
         }
     }
+
+    fn begin(&mut self, segment: u64) -> bool {
+        self.directory.begin(segment)
+    }
+
+    fn keep(&mut self, bytes: &[u8]) -> bool {
+        self.directory.keep(bytes)
+    }
+
+    fn sync(&mut self) -> bool {
+        self.directory.sync()
+    }
 }
 
-impl<'a, F: Files + Net + Clock + Eprint> Hosts for System<'a, F> {
+impl<'a, F: Locks + Net + Clock + Eprint + Clone + Drop> Hosts for System<'a, F> {
     type File = Reads<F::File>;
 
     fn secret(&mut self) -> Option<[u8; 16]> {
@@ -205,7 +260,13 @@ impl<'a, F: Files + Net + Clock + Eprint> Hosts for System<'a, F> {
 
     fn open(&mut self, path: &str) -> Option<Reads<F::File>> {
         match fs::open(self.rt, path) {
-            Ok(file) => Some(Reads::new(file)),
+            Ok(file) => {
+                // The first file is that of the table.
+                if self.path.is_empty() {
+                    let _ = self.path.try_extend_from_slice(path.as_bytes());
+                }
+                Some(Reads::new(file))
+            }
             Err(e) => {
                 self.failed = Some(Failed::File(e));
                 None
@@ -242,5 +303,15 @@ impl<'a, F: Files + Net + Clock + Eprint> Hosts for System<'a, F> {
                 false
             }
         }
+    }
+}
+
+impl<'a, F: Locks + Net + Clock + Eprint + Clone + Drop> Journals for System<'a, F> {
+    fn resume<P: Player>(&mut self, alloc: Global, path: &str, player: &mut P) -> Option<Resumed> {
+        self.directory.resume(alloc, path, player)
+    }
+
+    fn look<P: Player>(&mut self, alloc: Global, path: &str, player: &mut P) -> bool {
+        self.directory.look(alloc, path, player)
     }
 }

@@ -1,5 +1,5 @@
 -- What the serving of a connection did, in the terms of its specification.
-use Rattle.std.proofs.Common.{◌≡◌, ℕ, ◌<◌, ◌≤◌, true, false, List, [], ◌∷◌, ◌++◌, length, Option, None, sym, ◌∙◌, ap, subst, refl, arith, append_assoc, append-nil}
+use Rattle.std.proofs.Common.{◌≡◌, ℕ, ◌≤◌, true, List, [], ◌∷◌, ◌++◌, length, Option, None, sym, ◌∙◌, ap, subst, refl, arith, append_assoc, append-nil}
 use Rattle.std.specs.Prelude.{zip}
 use Rattle.std.specs.Io.KnownBytes.{Appends, Consumes}
 use Rattle.std.proofs.lemmas.List.{length-append}
@@ -58,13 +58,23 @@ module _ {S : Type 0} (made : Made S) (seen : S → Seen) (apart : (before after
         logins ∙ call.logins,
       )
 
+  -- the table stays over them
+  pub are_kept : (first last : S) (calls : List (Event × Reply)) → AreMade made first calls last
+      → ((seen last).speakers ≡ (seen first).speakers) × ((seen last).names ≡ (seen first).names)
+  are_kept first last [] h = (ap (λ s. (seen s).speakers) h, ap (λ s. (seen s).names) h)
+  are_kept first last (p ∷ ps) (mid, step, rest) =
+      let call : IsCalled (seen first) p.0 p.1 (seen mid) = apart first mid p.0 p.1 step in
+      let (speakers, names) = are_kept mid last ps rest in
+      (speakers ∙ call.speakers, names ∙ call.names)
+
   are_run : (lines : List Heard) (replies : List Reply) (first last : S) → length replies ≡ length (events_from (seen first).logins None lines)
       → AreMade made first (zip (events_from (seen first).logins None lines) replies) last → AreRun made seen lines replies first last
   are_run lines replies first last n h =
       let (run, quotas, logins) = are_served first last (events_from (seen first).logins None lines) replies n h in
       let events = events_from (seen first).logins None lines in
       let worlds = served-worlds equal (seen first).quotas (seen first).states events replies (seen last).states run in
-      record { served = run; worlds = worlds; calls = h; quotas = quotas; logins = logins }
+      let (speakers, names) = are_kept first last (zip events replies) h in
+      record { served = run; worlds = worlds; calls = h; quotas = quotas; logins = logins; speakers = speakers; names = names }
 
   -- a connection in which no line asked to quit
   pub all_open : (first : S) (before : Option (List ℕ)) (stream : List ℕ) (now : Talk S) (left left' : Option (List ℕ)) → Consumes left left' stream

@@ -4,6 +4,6 @@ pub mod KnownBytes
 mod Digits
 mod Texts
 mod Spelled
-mod Turned
+pub mod Turned
 pub mod Talking
 pub mod Ending

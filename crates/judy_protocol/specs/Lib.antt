@@ -1,4 +1,5 @@
 pub mod Digits
+pub mod Plain
 pub mod Sending
 pub mod Services
 pub mod Serving

@@ -5,7 +5,7 @@
 --     Ends end ..                  what was read, run and written, by how the serving ended
 --     IsPrompt ..                  all lines that came so far have their answers
 --     Serves how most .. from to   the whole: what was run, and what the connection shows
-use Rattle.std.specs.Prelude.{◌≡◌, ◌≢◌, ℕ, ◌+◌, ◌-◌, ◌^◌, ◌<◌, ◌≤◌, Bool, false, true, List, [], ◌∷◌, ◌++◌, map, zip, length, Option, None}
+use Rattle.std.specs.Prelude.{◌≡◌, ◌≢◌, ℕ, ◌+◌, ◌-◌, ◌^◌, ◌<◌, ◌≤◌, Bool, false, true, List, [], ◌++◌, map, zip, length, Option, None}
 use Rattle.std.specs.List.{list_any}
 use Rattle.std.specs.Io.KnownBytes.{Consumes, Appends, IsAtEnd, prepend_known}
 use Rattle.judy_stream.specs.Streams.{IsFlushed, counted}
@@ -108,6 +108,8 @@ module _ {S : Type 0} (made : Made S) (seen : S → Seen) where
     pub calls : AreMade made before (zip (events_from (seen before).logins None lines) replies) after
     pub quotas : (seen after).quotas ≡ (seen before).quotas
     pub logins : (seen after).logins ≡ (seen before).logins
+    pub speakers : (seen after).speakers ≡ (seen before).speakers
+    pub names : (seen after).names ≡ (seen before).names
 
   -- The lines that the source gave were run, up to the first that asks to quit, and their answers
   -- were written. Nothing else was written.

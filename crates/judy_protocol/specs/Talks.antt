@@ -8,8 +8,10 @@ use Rattle.judy_model.specs.declared.replies.Reply.{Reply}
 use Rattle.judy_model.specs.declared.requests.Line.{Line}
 use Rattle.judy_model.specs.declared.requests.TheConstants.{LINE_LIMIT}
 use Rattle.judy_model.specs.Speakers.{Speaker}
-use Rattle.judy_model.specs.Stream.{Heard, Login, rest_of, through_quit, speaker_after, speaker_of, event_of, events_from, answer_from}
+use Rattle.judy_model.specs.Reading.{request_of}
+use Rattle.judy_model.specs.Stream.{Heard, Login, heard_request, rest_of, through_quit, speaker_after, speaker_of, event_of, events_from, answer_from}
 use Rattle.judy_model.specs.Stream.Heard.{TooLong, Unclear, Asked}
+use Rattle.judy_protocol.specs.Plain.{has_changed}
 use Rattle.judy_protocol.specs.Services.{Made, AreMade}
 use Rattle.judy_protocol.specs.Serving.{MaybeBytes, answers_limit, heard_in, asks_to_quit}
 use Rattle.judy_protocol.specs.declared.connection.Stop.{Stop}
@@ -29,6 +31,16 @@ Holds rest held = (held.long ≡ true → LINE_LIMIT < length rest) × (held.lon
 -- what is held after more bytes of the line
 abbrev pub LineGrows : Held → List ℕ → Held → Type 0
 LineGrows held chunk held' = (rest : List ℕ) → Holds rest held → Holds (rest ++ chunk) held'
+
+-- the line is held; or nothing is held of it, and it is the chunk alone
+abbrev pub IsJoined : Bool → List ℕ → Held → List ℕ → Type 0
+IsJoined true line held chunk = Holds line held
+IsJoined false line held chunk = line ≡ chunk
+
+-- what a line asks for, by its bytes without one CR at their end; None if it is too long
+abbrev pub heard_bare : Option (List ℕ) → Heard
+heard_bare None = TooLong
+heard_bare (Some bytes) = heard_request (request_of bytes)
 
 -- what a line asks for, from the result of reading it
 abbrev pub as_heard : Result Line Refusal → Heard
@@ -62,6 +74,11 @@ module _ {S : Type 0} (made : Made S) (login : Login) where
     pub count : length replies ≡ length (event_of line who)
     pub run : AreMade made before (zip (event_of line who) replies) after
     pub text_is : text ≡ answer_from login who (line ∷ []) replies
+
+  -- The same, and whether the line made a call that changed arrays, so that it is recorded.
+  pub record HasRun (line : Heard) (who who' : Option Speaker) (before after : S) (text : List ℕ) (changed : Bool) : Type 0 where
+    pub turn : Turn line who who' before after text
+    pub changed_is : changed ≡ has_changed (event_of line who) turn.replies
 
   -- lines were run, one after another, and this text is their answers
   pub record Turns (lines : List Heard) (who who' : Option Speaker) (before after : S) (text : List ℕ) : Type 0 where

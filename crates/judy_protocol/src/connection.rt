@@ -7,8 +7,9 @@ ghost use Rattle.judy_protocol.specs.Services.{HasLoggedIn};
 ghost use Rattle.judy_protocol.specs.Serving.{IsPrompt, Serves, pull_limit, reads_limit, wire, with_first};
 ghost use Rattle.judy_protocol.specs.Talks.{Hears, Stops, stop_faults, talk};
 
+use crate::cutting::cut_line;
 use crate::gathering::{Rooms, gather};
-use crate::held::{Held, cut_line};
+use crate::held::Held;
 use crate::sending::send;
 use crate::service::Served;
 use arrayvec::ArrayVec;
@@ -60,7 +61,7 @@ fn feed<S: Served, W: Sink>(
     pulled: &[u8],
 ) -> Option<Stop>
     requires short { length pulled.now ≤ pull_limit }
-    requires known { HasLoggedIn (S.seen service.old).logins (option_map S.who speaker.old) }
+    requires known { HasLoggedIn (S.seen service.old).speakers (option_map S.who speaker.old) }
     requires answers { MaySend W.taken W.pending AreAnswers sink.old W.can_push W.can_flush }
     ensures heard { MatchOption result
         (Hears S.made (S.seen service.old).logins pulled.now
@@ -70,7 +71,8 @@ fn feed<S: Served, W: Sink>(
         (talk S.who held.old speaker.old service.old (W.taken sink.old)) service.new
         (W.taken sink.new)) }
     ensures logins { (S.seen service.new).logins ≡ (S.seen service.old).logins }
-    ensures known { HasLoggedIn (S.seen service.new).logins (option_map S.who speaker.new) }
+    ensures speakers { (S.seen service.new).speakers ≡ (S.seen service.old).speakers }
+    ensures known { HasLoggedIn (S.seen service.new).speakers (option_map S.who speaker.new) }
     ensures flushed { result ≢ Some Stop.WriteFault
         → IsFlushed (W.pending sink.old) (W.pending sink.new) }
     ensures faults { W.faults sink.new ≡ stop_faults result (W.faults sink.old) }

@@ -3,7 +3,8 @@ ghost use Rattle.std.specs.Prelude.{◌≡◌, ◌<◌, ◌≤◌, ◌+◌, ◌+
 ghost use Rattle.judy_protocol.specs.Services.{HasLoggedIn};
 ghost use Rattle.judy_protocol.specs.Talks.{HasNoLf, Gathers};
 
-use crate::held::{Held, cut_line};
+use crate::cutting::cut_line;
+use crate::held::Held;
 use crate::replies::REPLY_LIMIT;
 use crate::service::Served;
 use crate::turns::{asks_to_quit, hear, run};
@@ -57,17 +58,18 @@ fn answer<S: Served>(
 ) -> bool
     requires line { HasNoLf chunk.now }
     requires room { length rooms.old.answers.items + REPLY_LIMIT ≤ ANSWERS_LIMIT }
-    requires known { HasLoggedIn (S.seen service.old).logins (option_map S.who speaker.old) }
+    requires known { HasLoggedIn (S.seen service.old).speakers (option_map S.who speaker.old) }
     ensures gathers { (text : List ℕ) × (rooms.new.answers.items ≡ rooms.old.answers.items ++ text)
         × Gathers S.made (S.seen service.old).logins (chunk.now ++ 10 ∷ []) result
         held.old held.new (option_map S.who speaker.old) (option_map S.who speaker.new)
         service.old service.new text }
     ensures short { length rooms.new.answers.items ≤ ANSWERS_LIMIT }
     ensures logins { (S.seen service.new).logins ≡ (S.seen service.old).logins }
-    ensures known { HasLoggedIn (S.seen service.new).logins (option_map S.who speaker.new) }
+    ensures speakers { (S.seen service.new).speakers ≡ (S.seen service.old).speakers }
+    ensures known { HasLoggedIn (S.seen service.new).speakers (option_map S.who speaker.new) }
 {
     let asked = hear(held, chunk, &mut rooms.key);
-    run(
+    let _changed = run(
         alloc,
         service,
         speaker,
@@ -92,7 +94,7 @@ pub fn gather<'a, S: Served>(
     after: &'a [u8],
 ) -> Gathered<'a>
     requires line { HasNoLf chunk.now }
-    requires known { HasLoggedIn (S.seen service.old).logins (option_map S.who speaker.old) }
+    requires known { HasLoggedIn (S.seen service.old).speakers (option_map S.who speaker.old) }
     ensures gathers { (used : List ℕ) × (used ++ result.rest.now ≡ chunk.now ++ 10 ∷ after.now)
         × Gathers S.made (S.seen service.old).logins used result.quit
         held.old held.new (option_map S.who speaker.old) (option_map S.who speaker.new)
@@ -100,7 +102,8 @@ pub fn gather<'a, S: Served>(
     ensures fewer { length result.rest.now ≤ length after.now }
     ensures short { length rooms.new.answers.items ≤ ANSWERS_LIMIT }
     ensures logins { (S.seen service.new).logins ≡ (S.seen service.old).logins }
-    ensures known { HasLoggedIn (S.seen service.new).logins (option_map S.who speaker.new) }
+    ensures speakers { (S.seen service.new).speakers ≡ (S.seen service.old).speakers }
+    ensures known { HasLoggedIn (S.seen service.new).speakers (option_map S.who speaker.new) }
 {
     rooms.answers.clear();
     let mut rest = after;

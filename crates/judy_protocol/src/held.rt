@@ -1,10 +1,8 @@
 //! Holds what has come of the next line.
-ghost use Rattle.std.specs.Prelude.{◌≡◌, ◌++◌, [], ◌∷◌, ℕ, List, true, false, MatchOption};
-ghost use Rattle.std.specs.Str.Lines.{strip_carriage_return};
-ghost use Rattle.judy_protocol.specs.Talks.{LineGrows, HasNoLf, Holds};
+ghost use Rattle.std.specs.Prelude.{IsTrue};
+ghost use Rattle.judy_protocol.specs.Plain.{is_plain};
 
 use arrayvec::ArrayVec;
-use bstr::ByteSlice;
 use judy_model::LINE_LIMIT;
 
 /// The part of the next line that has come, if it has at most `LINE_LIMIT` bytes.
@@ -14,9 +12,13 @@ pub struct Held {
     pub bytes: ArrayVec<u8, LINE_LIMIT>,
     /// Whether more bytes came than a line may have.
     pub long: bool,
+    pub ghost plain: { IsTrue (is_plain bytes.items) },
 }
 
 impl Held {
+    ghost use Rattle.std.specs.Prelude.{◌≡◌, ◌++◌, [], ℕ, List, true, false};
+    ghost use Rattle.judy_protocol.specs.Talks.{HasNoLf, Holds, LineGrows};
+
     /// Nothing has come.
     pub fn new() -> Held
         ensures { Holds [] result }
@@ -38,6 +40,7 @@ impl Held {
 
     /// Holds more bytes of the line, or marks it as too long.
     pub fn hold(&mut self, chunk: &[u8])
+        requires { HasNoLf chunk.now }
         ensures { LineGrows self.old chunk.now self.new }
     {
         if self.long {
@@ -55,28 +58,4 @@ impl Held {
         self.bytes.clear();
         self.long = false;
     }
-}
-
-/// The bytes before the first LF, and those after it.
-#[inline(always)]
-pub fn cut_line(bytes: &[u8]) -> Option<(&[u8], &[u8])>
-    ensures { MatchOption result (HasNoLf bytes.now)
-        (λ cut. HasNoLf cut.0.now × (bytes.now ≡ cut.0.now ++ 10 ∷ cut.1.now)) }
-{
-    let Some(at) = bytes.find_byte(b'\n') else {
-        return None;
-    };
-    let (line, from) = bytes.split_at(at);
-    let (_, after) = from.split_at(1);
-    Some((line, after))
-}
-
-/// A line without one CR at its end.
-pub fn bare(line: &[u8]) -> &[u8]
-    ensures { result.now ≡ strip_carriage_return line.now }
-{
-    if line.len() > 0 && line[line.len() - 1] == b'\r' {
-        return &line[..line.len() - 1];
-    }
-    line
 }

@@ -8,6 +8,7 @@
 
 mod commands;
 mod connection;
+mod cutting;
 mod fields;
 mod gathering;
 mod held;
@@ -19,11 +20,12 @@ mod service;
 mod turns;
 
 pub use connection::{End, PULL_LIMIT, READS_LIMIT, serve, serve_after, serve_up_to};
+pub use cutting::cut_line;
 pub use gathering::ANSWERS_LIMIT;
-pub use held::{Held, cut_line};
+pub use held::Held;
 pub use judy_model::Line;
 pub use replies::{REPLY_LIMIT, write_reply};
 pub use requests::{Syntax, read_line};
 pub use sending::send;
 pub use service::Served;
-pub use turns::{Refusal, asks_to_quit, hear, run};
+pub use turns::{Refusal, asks_to_quit, hear_line, join_line, run, whole_line};

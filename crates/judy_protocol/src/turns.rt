@@ -1,18 +1,22 @@
 //! The turn of one line: what it asks for, what it does to the service, and its answer.
-ghost use Rattle.std.specs.Prelude.{◌≡◌, ◌++◌, ◌≤◌, [], ℕ, List, length, option_map};
+ghost use Rattle.std.specs.Prelude.{◌≡◌, ◌++◌, ◌<◌, ◌≤◌, [], ◌∷◌, ℕ, List, length, not, option_map, ◌&&◌, IfSome, MatchOption};
+ghost use Rattle.std.specs.Str.Lines.{strip_carriage_return};
 ghost use Rattle.judy_model.specs.declared.calls.Call.{Call as CallLem};
 ghost use Rattle.judy_model.specs.declared.requests.Line.TheVariants as request;
 ghost use Rattle.judy_model.specs.Stream.{heard, is_quit, welcome};
 ghost use Rattle.judy_model.specs.Stream.Heard.{Asked};
+ghost use Rattle.judy_model.specs.Tenant.{changes};
+ghost use Rattle.judy_protocol.specs.Plain.{is_refused as is_refused_lem};
 ghost use Rattle.judy_protocol.specs.Services.{HasLoggedIn, IsAsked};
-ghost use Rattle.judy_protocol.specs.Talks.{Holds, Turn, as_heard};
+ghost use Rattle.judy_protocol.specs.Talks.{HasNoLf, HasRun, Holds, IsJoined, as_heard, heard_bare};
 
-use crate::held::{Held, bare};
+use crate::cutting::bare;
+use crate::held::Held;
 use crate::replies::{REPLY_LIMIT, write_reply};
 use crate::requests::{Syntax, read_line};
 use crate::service::Served;
 use arrayvec::ArrayVec;
-use judy_model::{Call, KEY_LIMIT, LINE_LIMIT, Line, Name, Token};
+use judy_model::{Call, KEY_LIMIT, LINE_LIMIT, Line, Name, Reply, Token};
 use std::alloc::Global;
 
 /// Why a line is refused.
@@ -24,30 +28,70 @@ pub enum Refusal {
     Syntax,
 }
 
-/// What a line asks for.
+/// Puts a chunk behind what is held of its line. False if nothing is held: then the chunk alone is
+/// the line, and nothing is held of it.
 #[inline(always)]
-fn hear_line<'a>(line: &[u8], room: &'a mut [u8; KEY_LIMIT]) -> Result<Line<'a>, Refusal>
-    ensures heard { as_heard result ≡ heard line.now }
-    ensures asked { (call : CallLem) → as_heard result ≡ Asked (request.Call call) → IsAsked call }
+pub fn join_line(held: &mut Held, chunk: &[u8]) -> bool
+    requires { HasNoLf chunk.now }
+    ensures joined { (rest : List ℕ) → Holds rest held.old
+        → IsJoined result (rest ++ chunk.now) held.new chunk.now }
+{
+    if held.is_empty() {
+        return false;
+    }
+    held.hold(chunk);
+    true
+}
+
+/// The bytes of a line that is not too long, without one CR at their end.
+#[inline(always)]
+fn bare_line(line: &[u8]) -> Option<&[u8]>
+    requires { HasNoLf line.now }
+    ensures bare { MatchOption result (LINE_LIMIT < length line.now)
+        (λ b. (b.now ≡ strip_carriage_return line.now) × (length line.now ≤ LINE_LIMIT)) }
+    ensures short { IfSome result (λ b. HasNoLf b.now × (length b.now ≤ LINE_LIMIT)) }
 {
     if line.len() > LINE_LIMIT {
-        return Err(Refusal::Long);
+        return None;
     }
-    match read_line(bare(line), room) {
+    Some(bare(line))
+}
+
+/// The bytes of the line that ends with the chunk, without one CR at their end. `joined` says that
+/// the line is held. None if it is too long.
+#[inline(always)]
+pub fn whole_line<'a>(held: &'a Held, chunk: &'a [u8], joined: bool) -> Option<&'a [u8]>
+    requires { HasNoLf chunk.now }
+    ensures bare { (line : List ℕ) → IsJoined joined line held.now chunk.now
+        → MatchOption result (LINE_LIMIT < length line)
+        (λ b. (b.now ≡ strip_carriage_return line) × (length line ≤ LINE_LIMIT)) }
+    ensures short { IfSome result (λ b. HasNoLf b.now × (length b.now ≤ LINE_LIMIT)) }
+{
+    if !joined {
+        return bare_line(chunk);
+    }
+    if held.long {
+        return None;
+    }
+    bare_line(held.bytes.as_slice())
+}
+
+/// What a line asks for: its bytes without one CR at their end, or None if it is too long.
+#[inline(always)]
+pub fn hear_line<'a>(
+    line: Option<&[u8]>,
+    room: &'a mut [u8; KEY_LIMIT],
+) -> Result<Line<'a>, Refusal>
+    ensures heard { as_heard result ≡ heard_bare (option_map (λ b. b.now) line.entry) }
+    ensures asked { (call : CallLem) → as_heard result ≡ Asked (request.Call call) → IsAsked call }
+{
+    let Some(line) = line else {
+        return Err(Refusal::Long);
+    };
+    match read_line(line, room) {
         Ok(request) => Ok(request),
         Err(Syntax) => Err(Refusal::Syntax),
     }
-}
-
-/// What the line that is held asks for.
-fn hear_held<'a>(held: &Held, room: &'a mut [u8; KEY_LIMIT]) -> Result<Line<'a>, Refusal>
-    ensures heard { (line : List ℕ) → Holds line held.now → as_heard result ≡ heard line }
-    ensures asked { (call : CallLem) → as_heard result ≡ Asked (request.Call call) → IsAsked call }
-{
-    if held.long {
-        return Err(Refusal::Long);
-    }
-    hear_line(held.bytes.as_slice(), room)
 }
 
 /// What the line that is held and ends with the chunk asks for. Nothing is held afterwards.
@@ -57,16 +101,14 @@ pub fn hear<'a>(
     chunk: &[u8],
     room: &'a mut [u8; KEY_LIMIT],
 ) -> Result<Line<'a>, Refusal>
+    requires { HasNoLf chunk.now }
     ensures heard { (rest : List ℕ) → Holds rest held.old
         → as_heard result ≡ heard (rest ++ chunk.now) }
     ensures asked { (call : CallLem) → as_heard result ≡ Asked (request.Call call) → IsAsked call }
     ensures empty { Holds [] held.new }
 {
-    if held.is_empty() {
-        return hear_line(chunk, room);
-    }
-    held.hold(chunk);
-    let asked = hear_held(held, room);
+    let joined = join_line(held, chunk);
+    let asked = hear_line(whole_line(&*held, chunk, joined), room);
     held.clear();
     asked
 }
@@ -100,6 +142,7 @@ fn let_in<S: Served>(
     answer: &mut ArrayVec<u8, REPLY_LIMIT>,
 ) -> Option<S::Speaker>
     ensures who { option_map S.who result ≡ (S.seen service.now).logins name.now token.now }
+    ensures known { HasLoggedIn (S.seen service.now).speakers (option_map S.who result) }
     ensures answer { answer.new.items ≡ welcome ((S.seen service.now).logins name.now token.now) }
 {
     match service.login(name.as_bytes(), token.as_bytes()) {
@@ -114,7 +157,22 @@ fn let_in<S: Served>(
     }
 }
 
+/// Whether the reply says that nothing changed.
+fn is_refused(reply: &Reply<'_>) -> bool
+    ensures { result ≡ is_refused_lem reply.now }
+{
+    matches!(reply, Reply::Full | Reply::ReadOnly | Reply::Memory)
+}
+
+/// Whether a call with this reply changed arrays.
+fn counts(call: &Call<'_>, reply: &Reply<'_>) -> bool
+    ensures { result ≡ (changes call.now && not (is_refused_lem reply.now)) }
+{
+    call.changes() && !is_refused(reply)
+}
+
 /// Makes a call for the speaker, and writes the answer. Without a speaker the answer is `ERR AUTH`.
+/// Returns whether the call changed arrays, so that it is recorded.
 fn make_call<S: Served>(
     alloc: Global,
     service: &mut S,
@@ -122,24 +180,29 @@ fn make_call<S: Served>(
     call: &Call<'_>,
     found: &mut ArrayVec<u8, KEY_LIMIT>,
     answer: &mut ArrayVec<u8, REPLY_LIMIT>,
-)
-    requires known { HasLoggedIn (S.seen service.old).logins (option_map S.who speaker) }
+) -> bool
+    requires known { HasLoggedIn (S.seen service.old).speakers (option_map S.who speaker) }
     requires asked { IsAsked call.now }
-    ensures turn { Turn S.made (S.seen service.old).logins (Asked (request.Call call.now))
+    ensures turn { HasRun S.made (S.seen service.old).logins (Asked (request.Call call.now))
         (option_map S.who speaker) (option_map S.who speaker)
-        service.old service.new answer.new.items }
+        service.old service.new answer.new.items result }
     ensures logins { (S.seen service.new).logins ≡ (S.seen service.old).logins }
+    ensures speakers { (S.seen service.new).speakers ≡ (S.seen service.old).speakers }
+    ensures names { (S.seen service.new).names ≡ (S.seen service.old).names }
 {
     match speaker {
         Some(speaker) => {
             let reply = service.call(alloc, speaker, call, found);
             write_reply(&reply, answer);
+            return counts(call, &reply);
         }
         None => put_answer(answer, b"ERR AUTH\n"),
     }
+    false
 }
 
 /// Runs what a line asks for, and writes its answer. It replaces the contents of the buffer.
+/// Returns whether the line made a call that changed arrays, so that it is recorded.
 pub fn run<S: Served>(
     alloc: Global,
     service: &mut S,
@@ -147,21 +210,24 @@ pub fn run<S: Served>(
     asked: &Result<Line<'_>, Refusal>,
     found: &mut ArrayVec<u8, KEY_LIMIT>,
     answer: &mut ArrayVec<u8, REPLY_LIMIT>,
-)
-    requires known { HasLoggedIn (S.seen service.old).logins (option_map S.who speaker.old) }
+) -> bool
+    requires known { HasLoggedIn (S.seen service.old).speakers (option_map S.who speaker.old) }
     requires asked { (call : CallLem) → as_heard asked.now ≡ Asked (request.Call call)
         → IsAsked call }
-    ensures turn { Turn S.made (S.seen service.old).logins (as_heard asked.now)
+    ensures turn { HasRun S.made (S.seen service.old).logins (as_heard asked.now)
         (option_map S.who speaker.old) (option_map S.who speaker.new)
-        service.old service.new answer.new.items }
+        service.old service.new answer.new.items result }
     ensures logins { (S.seen service.new).logins ≡ (S.seen service.old).logins }
-    ensures known { HasLoggedIn (S.seen service.new).logins (option_map S.who speaker.new) }
+    ensures speakers { (S.seen service.new).speakers ≡ (S.seen service.old).speakers }
+    ensures names { (S.seen service.new).names ≡ (S.seen service.old).names }
+    ensures known { HasLoggedIn (S.seen service.new).speakers (option_map S.who speaker.new) }
 {
     match asked {
         Ok(Line::Auth(name, token)) => *speaker = let_in(service, name, token, answer),
         Ok(Line::Quit) => put_answer(answer, b"BYE\n"),
-        Ok(Line::Call(call)) => make_call(alloc, service, *speaker, call, found, answer),
+        Ok(Line::Call(call)) => return make_call(alloc, service, *speaker, call, found, answer),
         Err(Refusal::Long) => put_answer(answer, b"ERR LONG\n"),
         Err(Refusal::Syntax) => put_answer(answer, b"ERR SYNTAX\n"),
     }
+    false
 }

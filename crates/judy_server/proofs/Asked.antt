@@ -1,8 +1,7 @@
 -- What is known of a call that a line asks for, and of its speaker.
 use Rattle.std.proofs.Common.{◌≡◌, ◌<◌, ℕ, Bool, true, false, cond, List, [], ◌∷◌, length, Option, Some, None, refl, sym, ◌∙◌, ap, subst}
-use Rattle.std.specs.Prelude.{IsTrue, codes, option_map, option_and_then, slice_get, slice_index, ◌==◌}
+use Rattle.std.specs.Prelude.{IfSome, IsTrue, codes, option_map, option_and_then, slice_index, ◌==◌}
 use Rattle.std.specs.Ordering.{eq_by_cmp}
-use Rattle.std.proofs.lemmas.Option.{slice_get_within}
 use Rattle.judy_model.specs.Contents.{string_order}
 use Rattle.judy_model.specs.Grammar.{at_command, fields_of, is_name, is_string, key_of, numbers_of_fields, one_call, long_call}
 use Rattle.judy_model.specs.Grammar.{bytes_call, string_call, string_of, string_table}
@@ -12,14 +11,16 @@ use Rattle.judy_model.specs.declared.calls.Call.{Call}
 use Rattle.judy_model.specs.declared.calls.Call.TheVariants.{One, Long, Str, Bytes, Used}
 use Rattle.judy_model.specs.declared.calls.StrCall.{StrCall}
 use Rattle.judy_model.specs.declared.calls.StrCall.TheVariants as str
-use Rattle.judy_model.specs.declared.quotas.Right.{Right}
 use Rattle.judy_model.specs.declared.requests.Line.{Line}
 use Rattle.judy_model.specs.declared.requests.Line.TheVariants as request
 use Rattle.judy_kinds.specs.Calls.{has_key_string, has_string}
 use Rattle.judy_protocol.specs.Services.{IsAsked, IsKnown}
-use Rattle.judy_table.specs.Tenants.{login_at, login_of, place_of, right_of, speaker_at}
-use Rattle.sha2.specs.Sha256.{sha256}
+use Rattle.judy_table.specs.Seats.{knows}
+use Rattle.judy_table.specs.Shown.{seen}
+use Rattle.judy_table.specs.Tenants.{login_of}
+use Rattle.judy_table.specs.declared.tenant.Speaker.{Speaker as Guest}
 use Rattle.judy_table.specs.declared.tenant.Tenant.{Tenant}
+use Rattle.judy_table.proofs.lemmas.Seats.{knows-place, login-knows}
 
 -- ---- the key of a call of a JudySL
 
@@ -136,24 +137,12 @@ asked_string Used asked = refl
 
 -- ---- speakers
 
-spoken_place : (place : ℕ) (o : Option Right) (who : Speaker) → speaker_at place o ≡ Some who → (place ≡ who.tenant) × ((right : Right) × (o ≡ Some right))
-spoken_place place None who h = cc
-spoken_place place (Some right) who h =
-    let e : speaker_at place (Some right) ≡ Some who = h in
-    let P : Option Speaker → ℕ = λ o. elim o as (λ _. ℕ) [ None ↦ place | Some s ↦ s.tenant ] in
-    (ap P h, (right, refl))
+-- the tenant of a speaker who may speak is in the table
+pub known_tenant : (tenants : List Tenant) (who : Speaker) → IsKnown (knows tenants) who → who.tenant < length tenants
+known_tenant tenants who known = let (row, is, named, place) = knows-place tenants who known in place
 
-there : {A : Type 0} (o : Option A) (f : A → Option Right) (right : Right) → option_and_then f o ≡ Some right → (x : A) × (o ≡ Some x)
-there None f right h = cc
-there (Some x) f right h = (x, refl)
-
-speaks_at : (tenants : List Tenant) (o : Option ℕ) (token : List ℕ) (who : Speaker) → login_at tenants o token ≡ Some who → who.tenant < length tenants
-speaks_at tenants None token who h = cc
-speaks_at tenants (Some place) token who h =
-    let (same, (right, has)) = spoken_place place (option_and_then (right_of (sha256 token)) (slice_get tenants place)) who h in
-    let (t, is) = there (slice_get tenants place) (right_of (sha256 token)) right has in
-    subst (λ n. n < length tenants) same (slice_get_within tenants place t is)
-
--- the tenant of a speaker who has logged in is in the table
-pub known_tenant : (tenants : List Tenant) (who : Speaker) → IsKnown (λ name token. login_of name token tenants) who → who.tenant < length tenants
-known_tenant tenants who (name, token, is) = speaks_at tenants (place_of name tenants) token who is
+-- a speaker who logs in may speak
+pub let_in : (name token : List ℕ) (tenants : List Tenant) (o : Option Guest) → option_map seen o ≡ login_of name token tenants
+    → IfSome o (λ s. IsKnown (knows tenants) (seen s))
+let_in name token tenants None h = tt
+let_in name token tenants (Some s) h = login-knows name token tenants (seen s) (sym h)

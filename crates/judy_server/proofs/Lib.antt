@@ -1,4 +1,6 @@
 pub mod lemmas
 mod Asked
 mod Forgetting
+mod Replaying
 mod Texting
+mod Having

@@ -2,6 +2,9 @@
 pub mod Calls
 pub mod Commands
 pub mod Counts
+pub mod Crashes
+pub mod Keeping
 pub mod Space
 pub mod Starts
+pub mod Stays
 pub mod Reserves

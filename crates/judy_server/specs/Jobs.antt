@@ -2,11 +2,16 @@
 use Rattle.std.specs.Prelude.{◌≡◌, ◌⊎◌, ℕ, Bool, true, false, List, [], ◌∷◌, Option, Some, None, codes, is_some}
 use Rattle.judy_command.specs.declared.words.Job.{Job}
 use Rattle.judy_command.specs.declared.words.Job.TheVariants as job
+use Rattle.judy_command.specs.declared.words.Sync.{Sync as When}
+use Rattle.judy_command.specs.declared.words.Sync.TheVariants as when
 use Rattle.judy_protocol.specs.Serving.{Wire}
 use Rattle.judy_many.specs.Nets.Step.{Drawn, Undrawn}
+use Rattle.judy_many.specs.declared.network.Sync.{Sync}
+use Rattle.judy_many.specs.declared.network.Sync.TheVariants as sync
 use Rattle.judy_many.specs.declared.serve.Limits.{Limits}
 use Rattle.judy_programs.specs.Asking.{Log, Logs}
 use Rattle.judy_programs.specs.Hosting.{Checks, Hosts}
+use Rattle.judy_programs.specs.Journaled.{ChecksJournaled, HostsJournaled}
 use Rattle.judy_programs.specs.Program.{HasRun}
 use Rattle.judy_programs.specs.Finish.{host_status, host_text, run_status, run_text}
 use Rattle.judy_programs.specs.declared.program.Ran.{Ran}
@@ -14,16 +19,52 @@ use Rattle.judy_programs.specs.declared.socket.Hosted.{Hosted}
 use Rattle.judy_server.specs.Served.{IsServedStep, IsNewService, seen_of, held_words}
 use Rattle.judy_server.specs.Rules.{server_rules}
 
+-- when the journal is synced, if there is one
+abbrev pub sync_of : When → Sync
+sync_of when.Round = sync.Round
+sync_of (when.Seconds n) = sync.Seconds n
+sync_of when.Never = sync.Never
+
+abbrev pub rule_of : Option (List ℕ) → When → Option Sync
+rule_of None w = None
+rule_of (Some directory) w = Some (sync_of w)
+
 -- the limits of the command line; there are questions if a status socket was asked for
-abbrev pub limits_of : ℕ → ℕ → Option ℕ → Option ℕ → Option (List ℕ) → Limits
-limits_of clients connections idle turn watch = record { clients = clients; connections = connections; idle = idle; turn = turn; status = is_some watch }
+abbrev pub limits_of : ℕ → ℕ → Option ℕ → Option ℕ → Option (List ℕ) → Option (List ℕ) → When → Limits
+limits_of clients connections idle turn watch directory w = record {
+  clients = clients;
+  connections = connections;
+  idle = idle;
+  turn = turn;
+  status = is_some watch;
+  journal = rule_of directory w;
+}
+
+-- connections were served, with a journal if a directory is given
+abbrev pub HostsBy : Option (List ℕ) → List ℕ → Option ℕ → Hosted → List ℕ → List ℕ → Option (List ℕ) → Limits → Log → Log → Type 0
+HostsBy None secret reserve hosted config socket watch limits log log' =
+    Hosts server_rules (IsNewService secret) reserve hosted config socket watch limits log log'
+HostsBy (Some directory) secret reserve hosted config socket watch limits log log' =
+    HostsJournaled server_rules (IsNewService secret) reserve hosted config socket watch limits log log'
+
+-- the file was only checked, and the journal if a directory is given
+abbrev pub ChecksBy : Option (List ℕ) → List ℕ → Option ℕ → Hosted → List ℕ → Log → Log → Type 0
+ChecksBy None secret reserve hosted config log log' = Checks (IsNewService secret) reserve hosted config log log'
+ChecksBy (Some directory) secret reserve hosted config log log' = ChecksJournaled (IsNewService secret) reserve hosted config log log'
 
 -- Connections were served, or the file was only checked. First this many megabytes were taken for the
 -- arrays, if so many are wanted.
-abbrev pub ServesBy : Bool → List ℕ → Option ℕ → Hosted → List ℕ → List ℕ → Option (List ℕ) → Limits → Log → Log → Type 0
-ServesBy false secret reserve hosted config socket watch limits log log' =
-    Hosts server_rules (IsNewService secret) reserve hosted config socket watch limits log log'
-ServesBy true secret reserve hosted config socket watch limits log log' = Checks (IsNewService secret) reserve hosted config log log'
+abbrev pub ServesBy : Bool → Option (List ℕ) → List ℕ → Option ℕ → Hosted → List ℕ → List ℕ → Option (List ℕ) → Limits → Log → Log → Type 0
+ServesBy false directory secret reserve hosted config socket watch limits log log' =
+    HostsBy directory secret reserve hosted config socket watch limits log log'
+ServesBy true directory secret reserve hosted config socket watch limits log log' = ChecksBy directory secret reserve hosted config log log'
+
+-- the job is one of the two programs
+abbrev pub IsProgram : Job → Type 0
+IsProgram (job.Run words) = Unit {0}
+IsProgram (job.Serve config socket watch clients connections idle turn reserve directory w check) = Unit {0}
+IsProgram (job.Compact directory) = ⊥
+IsProgram (job.Journal directory tenant) = ⊥
 
 -- What the job did with a secret: its status and its line on standard error, if any, follow from how it ended for
 -- exactly this input. `from` and `to` are what the standard streams showed before and after.
@@ -31,9 +72,11 @@ abbrev pub HasDone : List ℕ → Job → ℕ → Option (List ℕ) → Wire →
 HasDone secret (job.Run words) status text from to log log' = (ran : Ran)
     × HasRun IsServedStep seen_of held_words (IsNewService secret None) words ran from to
     × (status ≡ run_status ran) × (text ≡ run_text ran) × (log' ≡ log)
-HasDone secret (job.Serve config socket watch clients connections idle turn reserve check) status text from to log log' = (hosted : Hosted)
-    × ServesBy check secret reserve hosted config socket watch (limits_of clients connections idle turn watch) log log'
+HasDone secret (job.Serve config socket watch clients connections idle turn reserve directory w check) status text from to log log' = (hosted : Hosted)
+    × ServesBy check directory secret reserve hosted config socket watch (limits_of clients connections idle turn watch directory w) log log'
     × (status ≡ host_status hosted) × (text ≡ host_text hosted) × (to ≡ from)
+HasDone secret (job.Compact directory) status text from to log log' = ⊥
+HasDone secret (job.Journal directory tenant) status text from to log log' = ⊥
 
 -- The system drew a secret, once, and the job was done with this secret.
 pub record HasDoneDrawn (job : Job) (status : ℕ) (text : Option (List ℕ)) (from to : Wire) (log log' : Log) : Type 0 where

@@ -1,7 +1,9 @@
 pub mod Counts
+pub mod Crashes
 pub mod Jobs
 pub mod Metrics
 pub mod Reloads
+pub mod Replays
 pub mod Rules
 pub mod Served
 pub mod Space

@@ -1,12 +1,19 @@
 -- A table that is put in force while the service goes on.
 --     forgotten place rows counts    the counts of places without those that have no tenant
 --     IsReload old text new          the table of this text was put in force
-use Rattle.std.specs.Prelude.{◌≡◌, ℕ, suc, List, [], ◌∷◌, Ok, if◌then◌else◌, slice_set}
+--     rows_with rows text            the rows in force after the table of this text
+--     rows_after rows texts          those after the tables of these texts, one after another
+--     has_all rows table             the table has the name of each tenant of these rows
+--     TellsAll rows text all         whether the table of this text does
+--     AllStay old new                each tenant keeps its arrays and its name
+use Rattle.std.specs.Prelude.{◌≡◌, ◌⊎◌, ◌||◌, ℕ, Bool, suc, List, [], ◌∷◌, Result, Ok, Err, if◌then◌else◌, slice_set}
+use Rattle.std.specs.List.{list_all}
+use Rattle.judy_table.specs.declared.fault.TableFault.{TableFault}
 use Rattle.judy_table.specs.declared.tenant.Tenant.{Tenant}
-use Rattle.judy_table.specs.Seats.{seated}
+use Rattle.judy_table.specs.Seats.{has_name, name_at, seated}
 use Rattle.judy_table.specs.Tenants.{is_vacant, read_table}
 use Rattle.judy_tenants.specs.Changes.{HasChanged}
-use Rattle.judy_tenants.specs.Held.{IsSoundService}
+use Rattle.judy_tenants.specs.Held.{IsSoundService, states_of}
 use Rattle.judy_server.specs.Tally.{Tallied}
 
 -- The first of the rows has this place. The count of a place without a tenant is 0, for the tenant that it is
@@ -24,3 +31,38 @@ pub record IsReload (old : Tallied) (text : List ℕ) (new : Tallied) : Type 0 w
   pub held : HasChanged old.held new.held
   pub sound : IsSoundService new.held
   pub tally : new.tally ≡ record old.tally { refused = forgotten 0 new.held.tenants old.tally.refused }
+
+-- ---- the rows in force
+
+abbrev pub rows_by : List Tenant → Result (List Tenant) TableFault → List Tenant
+rows_by rows (Ok table) = seated rows table
+rows_by rows (Err fault) = rows
+
+-- after the table of this text is put in force; a text that has no table changes nothing
+unfoldable pub rows_with : List Tenant → List ℕ → List Tenant
+rows_with rows text = rows_by rows (read_table text)
+
+-- after the tables of these texts are put in force, one after another
+abbrev pub rows_after : List Tenant → List (List ℕ) → List Tenant
+rows_after rows [] = rows
+rows_after rows (text ∷ texts) = rows_after (rows_with rows text) texts
+
+-- ---- a table that has all tenants in force
+
+-- no tenant has this row, or the table has its name
+abbrev pub is_kept : List Tenant → Tenant → Bool
+is_kept table row = is_vacant row || has_name row.name table
+
+-- the table has the name of each tenant of these rows
+abbrev pub has_all : List Tenant → List Tenant → Bool
+has_all rows table = list_all (is_kept table) rows
+
+-- the text reads as a table, and this is whether the table has them all
+abbrev pub TellsAll : List Tenant → List ℕ → Bool → Type 0
+TellsAll rows text all = (table : List Tenant) × (read_table text ≡ Ok table) × (has_all rows table ≡ all)
+
+-- each tenant keeps its arrays, and a place that has a name keeps it
+abbrev pub AllStay : Tallied → Tallied → Type 0
+AllStay old new =
+    ((t : ℕ) → states_of new.held t ≡ states_of old.held t)
+    × ((t : ℕ) → (name_at old.held.tenants t ≡ []) ⊎ (name_at new.held.tenants t ≡ name_at old.held.tenants t))

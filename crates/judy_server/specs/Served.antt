@@ -1,5 +1,6 @@
 -- The service of the program, as a connection sees it.
---     seen_of tallied                    who logs in as whom, and each tenant's quota and arrays
+--     seen_of tallied                    who logs in as whom, who may speak, and each tenant's name,
+--                                        quota and arrays
 --     IsServedStep old event reply new   a call: its tenant gets the reply that it would get alone,
 --                                        a refusal for memory has its cause, and all blocks have
 --                                        few words
@@ -14,14 +15,21 @@ use Rattle.judy_model.specs.Stream.{Heard}
 use Rattle.judy_model.specs.Tenant.{no_arrays}
 use Rattle.judy_protocol.specs.Services.{IsCalled, Seen}
 use Rattle.judy_table.specs.declared.tenant.Tenant.{Tenant}
+use Rattle.judy_table.specs.Seats.{knows, name_at}
 use Rattle.judy_table.specs.Tenants.{login_of}
 use Rattle.judy_directory.specs.Secrets.{start_of}
 use Rattle.judy_tenants.specs.Held.{HasCause, IsSoundService, Keeps, quotas_of, states_of, words_for}
 use Rattle.judy_server.specs.Tally.{Tallied, counted, no_counts}
 
--- the visible state of the service: names and tokens are those of the table
+-- the visible state of the service: names and tokens are those of the table in force
 abbrev pub seen_of : Tallied → Seen
-seen_of t = record { logins = λ name token. login_of name token t.held.tenants; quotas = quotas_of t.held.tenants; states = states_of t.held }
+seen_of t = record {
+  logins = λ name token. login_of name token t.held.tenants;
+  speakers = knows t.held.tenants;
+  names = name_at t.held.tenants;
+  quotas = quotas_of t.held.tenants;
+  states = states_of t.held;
+}
 
 -- how many words its arrays hold
 abbrev pub held_words : Tallied → ℕ

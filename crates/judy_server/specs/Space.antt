@@ -1,15 +1,20 @@
 -- The invariant of the service at each time of a run, and of the n of `WORDS n`.
 -- proofs/lemmas/Space.antt proves both.
 --     IsSoundOf before after      the invariant of a service holds; it keeps its tenants
+--     granted_after ..            the most words that the quotas of these tables allow, and of those
+--                                 before them
+--     IsSoundAfter texts ..       the invariant holds after the tables of these texts were put in force
 --     IsBoundedBy granted n held  the words live at once, and those taken from the machine, are bounded
 --                                 by what the quotas allow, or by those taken beforehand
 --     TellsFew tenants after ..   `WORDS n` was written, and n is few for what the tenants hold
-use Rattle.std.specs.Prelude.{◌≡◌, ◌≤◌, ◌*◌, ◌+◌, ℕ, max}
+use Rattle.std.specs.Prelude.{◌≡◌, ◌≤◌, ◌*◌, ◌+◌, ℕ, List, [], ◌∷◌, max}
 use Rattle.std.specs.Io.KnownBytes.{Appends}
 use Rattle.judy_model.specs.Service.{all_pieces}
 use Rattle.judy_protocol.specs.Serving.{MaybeBytes}
 use Rattle.judy_programs.specs.Program.{words_line}
-use Rattle.judy_tenants.specs.Held.{Held, IsSoundService, all_arrays, states_of}
+use Rattle.judy_table.specs.declared.tenant.Tenant.{Tenant}
+use Rattle.judy_tenants.specs.Held.{Held, IsSoundService, all_arrays, states_of, words_for}
+use Rattle.judy_server.specs.Reloads.{rows_after, rows_with}
 
 -- The invariant of a service holds, the service has the tenants that it had, and nothing was taken
 -- beforehand.
@@ -17,6 +22,19 @@ pub record IsSoundOf (before after : Held) : Type 0 where
   pub sound : IsSoundService after
   pub tenants : after.tenants ≡ before.tenants
   pub granted : after.granted ≡ before.granted
+  pub reserved : after.reserved ≡ before.reserved
+
+-- the most words that the quotas of these tables allow, and of those before them
+abbrev pub granted_after : ℕ → List Tenant → List (List ℕ) → ℕ
+granted_after granted rows [] = granted
+granted_after granted rows (text ∷ texts) = granted_after (max granted (words_for (rows_with rows text))) (rows_with rows text) texts
+
+-- The tables of these texts were put in force, one after another, and the invariant of the service
+-- holds. Its tenants are those of the last of them, at their places. Nothing was taken beforehand.
+pub record IsSoundAfter (texts : List (List ℕ)) (before after : Held) : Type 0 where
+  pub sound : IsSoundService after
+  pub tenants : after.tenants ≡ rows_after before.tenants texts
+  pub granted : after.granted ≡ granted_after before.granted before.tenants texts
   pub reserved : after.reserved ≡ before.reserved
 
 -- The words that were ever live at once are at most those that the quotas allow. Those taken from the

@@ -2,13 +2,15 @@
 ghost use Rattle.std.specs.Prelude.{◌≡◌, ◌≤◌, ℕ, option_map};
 ghost use Rattle.judy_protocol.specs.Sending.{MaySend};
 ghost use Rattle.judy_protocol.specs.Serving.{pull_limit, wire};
-ghost use Rattle.judy_server.specs.Jobs.{Does, HasDone};
+ghost use Rattle.judy_server.specs.Jobs.{ChecksBy, Does, HasDone, HostsBy, IsProgram, rule_of};
 ghost use Rattle.judy_programs.specs.Program.{IsSent};
 
 use crate::server::{Chosen, Server, run};
-use judy_command::{Job, Word};
-use judy_many::Limits;
-use judy_programs::{Hosts, check_on, finish, finish_hosted, host_on};
+use judy_command::{Job, Sync as When, Word};
+use judy_many::{Limits, Sync};
+use judy_programs::{
+    Hosted, Journals, check_journaled, check_on, finish, finish_hosted, host_journaled, host_on,
+};
 use judy_stream::{Sink, Source};
 use std::alloc::Global;
 
@@ -22,9 +24,68 @@ fn text_of(word: &Option<Word>) -> Option<&str>
     }
 }
 
+/// When the journal is synced, if there is one.
+fn rule_of(directory: Option<&str>, when: When) -> Option<Sync>
+    ensures { result ≡ rule_of (option_map (λ s. s.now) directory.entry) when }
+{
+    match directory {
+        Some(_) => match when {
+            When::Round => Some(Sync::Round),
+            When::Seconds(seconds) => Some(Sync::Seconds(seconds)),
+            When::Never => Some(Sync::Never),
+        },
+        None => None,
+    }
+}
+
+/// Checks the table, and the journal if there is one.
+fn check_by<K: Chosen, H: Journals>(
+    alloc: Global,
+    secret: &[u8],
+    system: &mut H,
+    file: &str,
+    reserve: Option<u32>,
+    directory: Option<&str>,
+) -> Hosted
+    requires files { (f : H.File) (room : ℕ) → room ≤ pull_limit → H.File.can_pull f room }
+    ensures { ChecksBy (option_map (λ s. s.now) directory.entry) secret.now reserve result file.now
+        (H.log system.old) (H.log system.new) }
+{
+    match directory {
+        Some(path) => {
+            check_journaled::<Server<K>, H>(alloc, secret, system, file, reserve, path)
+        }
+        None => check_on::<Server<K>, H>(alloc, secret, system, file, reserve),
+    }
+}
+
+/// Serves, with the journal if there is one.
+fn host_by<K: Chosen, H: Journals>(
+    alloc: Global,
+    secret: &[u8],
+    system: &mut H,
+    file: &str,
+    path: &str,
+    watch: Option<&str>,
+    reserve: Option<u32>,
+    limits: Limits,
+    directory: Option<&str>,
+) -> Hosted
+    requires files { (f : H.File) (room : ℕ) → room ≤ pull_limit → H.File.can_pull f room }
+    ensures { HostsBy (option_map (λ s. s.now) directory.entry) secret.now reserve result file.now
+        path.now (option_map (λ s. s.now) watch.entry) limits (H.log system.old) (H.log system.new) }
+{
+    match directory {
+        Some(journal) => host_journaled::<Server<K>, H>(
+            alloc, secret, system, file, path, watch, reserve, limits, journal,
+        ),
+        None => host_on::<Server<K>, H>(alloc, secret, system, file, path, watch, reserve, limits),
+    }
+}
+
 /// Does what the command line asks for, with this secret. Returns the status of the program, and its
 /// line on standard error, if any.
-fn do_job_with<K: Chosen, R: Source, W: Sink, H: Hosts>(
+fn do_job_with<K: Chosen, R: Source, W: Sink, H: Journals>(
     alloc: Global,
     secret: &[u8],
     job: &Job,
@@ -32,6 +93,7 @@ fn do_job_with<K: Chosen, R: Source, W: Sink, H: Hosts>(
     writer: &mut W,
     system: &mut H,
 ) -> (u8, Option<&'static str>)
+    requires serves { IsProgram job.now }
     requires script { (s : R) (room : ℕ) → room ≤ pull_limit → R.can_pull s room }
     requires written { MaySend W.taken W.pending IsSent writer.old W.can_push W.can_flush }
     requires files { (f : H.File) (room : ℕ) → room ≤ pull_limit → H.File.can_pull f room }
@@ -51,11 +113,14 @@ fn do_job_with<K: Chosen, R: Source, W: Sink, H: Hosts>(
             idle,
             turn,
             reserve,
+            journal,
+            sync,
             check,
         } => {
             let file = config.0.as_str();
+            let directory = text_of(journal);
             if *check {
-                let looked = check_on::<Server<K>, H>(alloc, secret, system, file, *reserve);
+                let looked = check_by::<K, H>(alloc, secret, system, file, *reserve, directory);
                 return finish_hosted(looked);
             }
             let limits = Limits {
@@ -64,14 +129,17 @@ fn do_job_with<K: Chosen, R: Source, W: Sink, H: Hosts>(
                 idle: *idle,
                 turn: *turn,
                 status: status.is_some(),
+                journal: rule_of(directory, *sync),
             };
             let path = socket.0.as_str();
             let watch = text_of(status);
-            let hosted = host_on::<Server<K>, H>(
-                alloc, secret, system, file, path, watch, *reserve, limits,
+            let hosted = host_by::<K, H>(
+                alloc, secret, system, file, path, watch, *reserve, limits, directory,
             );
             finish_hosted(hosted)
         }
+        Job::Compact { .. } => unreachable!(),
+        Job::Journal { .. } => unreachable!(),
     }
 }
 
@@ -79,13 +147,14 @@ fn do_job_with<K: Chosen, R: Source, W: Sink, H: Hosts>(
 /// its line on standard error, if any.
 ///
 /// If the system gives no random bytes, the status is 4, and nothing else is asked, read or written.
-pub fn do_job_on<K: Chosen, R: Source, W: Sink, H: Hosts>(
+pub fn do_job_on<K: Chosen, R: Source, W: Sink, H: Journals>(
     alloc: Global,
     job: &Job,
     reader: &mut R,
     writer: &mut W,
     system: &mut H,
 ) -> (u8, Option<&'static str>)
+    requires serves { IsProgram job.now }
     requires script { (s : R) (room : ℕ) → room ≤ pull_limit → R.can_pull s room }
     requires written { MaySend W.taken W.pending IsSent writer.old W.can_push W.can_flush }
     requires files { (f : H.File) (room : ℕ) → room ≤ pull_limit → H.File.can_pull f room }

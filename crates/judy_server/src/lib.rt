@@ -5,10 +5,12 @@
 mod calls;
 mod jobs;
 mod metrics;
+mod records;
 mod reload;
 mod server;
 mod status;
 mod tally;
 
 pub use jobs::do_job_on;
+pub use records::{Halt, replay, replay_all};
 pub use server::{Chosen, Server, run};

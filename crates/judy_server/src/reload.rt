@@ -1,12 +1,13 @@
 //! Another table is put in force, and what is told of it.
-ghost use Rattle.std.specs.Prelude.{◌≡◌, MatchBool};
-ghost use Rattle.judy_server.specs.Reloads.{IsReload, forgotten};
+ghost use Rattle.std.specs.Prelude.{◌≡◌, ◌⊎◌, ◌<◌, IfErr, IfOk, Err, MatchBool, Some, length, map, slice_get};
+ghost use Rattle.judy_table.specs.Tenants.{read_table};
+ghost use Rattle.judy_server.specs.Reloads.{IsReload, TellsAll, forgotten, has_all, is_kept};
 ghost use Rattle.judy_server.specs.Tally.{tallied};
 
 use crate::tally::Tally;
 use itoa::Buffer;
 use judy_programs::fault_name;
-use judy_table::{Table, TableFault};
+use judy_table::{Table, TableFault, TenantId};
 use judy_tenants::{KeyHash, Service, Unchanged};
 use std::alloc::Global;
 
@@ -19,13 +20,17 @@ fn tell(told: &mut Vec<u8>, part: &[u8]) {
 fn tell_tenants(told: &mut Vec<u8>, count: usize) {
     let mut buffer = Buffer::new();
     tell(told, buffer.format(count as u64).as_bytes());
-    tell(told, b" tenants");
+    tell(told, if count == 1 { b" tenant" } else { b" tenants" });
 }
 
 /// Tells the fault of a table.
 fn tell_fault(told: &mut Vec<u8>, fault: TableFault) {
-    tell(told, b"the table: ");
-    tell(told, fault_name(fault).as_bytes());
+    if matches!(fault, TableFault::Memory) {
+        tell(told, b"out of memory");
+    } else {
+        tell(told, b"fault ");
+        tell(told, fault_name(fault).as_bytes());
+    }
 }
 
 /// Tells why a table was not put in force.
@@ -83,5 +88,43 @@ pub fn change<H: KeyHash>(
             tell_reason(told, &*service, why);
             false
         }
+    }
+}
+
+/// Whether no tenant has this place, or the table has its name.
+fn is_kept<H: KeyHash>(service: &Service<H>, table: &Table, tenant: TenantId) -> bool
+    requires { tenant < length service.now.tenants }
+    ensures { slice_get (map (is_kept table.now) service.now.tenants) tenant ≡ Some result }
+{
+    service.is_vacant(tenant) || table.find(service.name(tenant)).is_some()
+}
+
+/// Whether the table has the name of each tenant in force.
+fn has_all<H: KeyHash>(service: &Service<H>, table: &Table) -> bool
+    ensures { result ≡ has_all service.now.tenants table.now }
+{
+    for row in 0..service.tenants() {
+        if !is_kept(service, table, service.tenant(row)) {
+            return false;
+        }
+    }
+    true
+}
+
+/// Whether the table of a text has the name of each tenant in force.
+///
+/// Err: the text has a fault, or out of memory.
+pub fn keeps_all<H: KeyHash>(
+    alloc: Global,
+    service: &Service<H>,
+    text: &[u8],
+) -> Result<bool, TableFault>
+    ensures ok { IfOk result (TellsAll service.now.tenants text.now) }
+    ensures fault { IfErr result (λ f. (f ≡ TableFault.Memory)
+        ⊎ (read_table text.now ≡ Err f)) }
+{
+    match Table::parse(alloc, text) {
+        Ok(table) => Ok(has_all(service, &table)),
+        Err(fault) => Err(fault),
     }
 }

@@ -1,21 +1,30 @@
 //! The tenants of a table, as a connection and a program see them.
 ghost use Rattle.std.specs.Prelude.{◌≡◌, ◌≤◌, ℕ, None, true};
-ghost use Rattle.std.proofs.Common.{ap};
+ghost use Rattle.std.proofs.Common.{ap, refl};
 ghost use Rattle.judy_table.specs.Shown.{seen};
 ghost use Rattle.judy_protocol.specs.Sending.{MaySend};
 ghost use Rattle.judy_protocol.specs.Serving.{pull_limit, wire};
 ghost use Rattle.judy_programs.specs.Program.{HasRun, IsSent, ServesSoFar, is_refused};
+ghost use Rattle.judy_tenants.proofs.lemmas.Changed.{keeps-or-empties};
+ghost use Rattle.judy_server.specs.Reloads.{AllStay, IsReload};
 ghost use Rattle.judy_server.specs.Served.{IsServedStep, IsNewService, IsNoted, seen_of, held_words};
+ghost use Rattle.judy_model.specs.Stream.{lines_of};
 ghost use Rattle.judy_programs.specs.Tables.{ReadsOn};
+ghost use Rattle.judy_server.specs.Replays.{AreReplayed, AreReplayed-append, Plays, PlaysAll};
 ghost use Rattle.judy_server.specs.Status.{status_of};
+ghost use Rattle.judy_server.specs.Tally.{Tallied};
 
+use crate::records::{Halt, replay, replay_all};
+use crate::reload::{change, keeps_all};
 use crate::status::add_status;
 use crate::tally::{Tally, refused_name};
 use arrayvec::ArrayVec;
+use judy_journal::Unplayed;
 use judy_many::Shows;
 use judy_model::{Call, KEY_LIMIT, Reply};
-use judy_programs::{Opens, Ran, Unopened, run_with};
+use judy_programs::{Opens, Ran, Replays, Unopened, run_with};
 use judy_protocol::{Line, Refusal, Served};
+use judy_recovery::{Halt as Stopped, Reason};
 use judy_stream::{Sink, Source};
 use judy_table::{Speaker, Table, TenantId};
 use judy_tenants::{KeyHash, Service, Sha256Hash};
@@ -83,6 +92,19 @@ impl<H: Chosen> Model for Server<H> {
     ghost view = { λ s. tallied s.service s.tally };
 }
 
+impl<H: Chosen> Server<H> {
+    /// Whether the table of this text has each tenant that is in force, so that its arrays stay. False
+    /// if there is no memory to tell.
+    pub fn keeps_table(&self, alloc: Global, text: &[u8]) -> bool
+        ensures { result ≡ true → (after : Tallied) → IsReload self.now text.now after
+            → AllStay self.now after }
+    {
+        self.service.is_at_all_times();
+        self.service.rows_are_sound();
+        keeps_all(alloc, &self.service, text).unwrap_or(false)
+    }
+}
+
 impl<H: Chosen> Served for Server<H> {
     type Speaker = Speaker;
 
@@ -94,6 +116,11 @@ impl<H: Chosen> Served for Server<H> {
 
     fn login(&self, name: &[u8], token: &[u8]) -> Option<Speaker> {
         self.service.login(name, token)
+    }
+
+    fn name(&self, speaker: Speaker) -> &[u8] {
+        self.service.rows_are_sound();
+        self.service.name(speaker.tenant)
     }
 
     fn call<'a>(
@@ -113,6 +140,8 @@ impl<H: Chosen> Shows for Server<H> {
     ghost status = { status_of };
 
     ghost noted = { IsNoted };
+
+    ghost changed = { IsReload };
 
     fn show(&self, text: &mut Vec<u8>) -> Result<(), AllocError> {
         add_status(text, &self.service, &self.tally)
@@ -144,6 +173,21 @@ impl<H: Chosen> Shows for Server<H> {
     fn refused_requests(&self) -> u64 {
         self.tally.refused_requests()
     }
+
+    fn keeps(&self, alloc: Global, text: &[u8]) -> bool {
+        self.keeps_table(alloc, text)
+    }
+
+    fn change(&mut self, alloc: Global, text: &[u8], told: &mut Vec<u8>) -> bool {
+        change(alloc, &mut self.service, &mut self.tally, text, told)
+    }
+
+    fn knows(&self, speaker: Speaker) -> bool {
+        self.service.knows(speaker)
+    }
+
+    ghost stays = { λ before after text changed.
+        keeps-or-empties changed.table before.held after.held changed.tenants changed.held };
 
     ghost unseen = { λ before after line answer noted. ap seen_of noted };
 }
@@ -177,6 +221,69 @@ impl<H: Chosen> Opens for Server<H> {
     fn live_words(&self) -> u64 {
         self.service.live_words()
     }
+}
+
+impl<H: Chosen> Server<H> {
+    /// Plays a record: makes its call for the tenant that it names. The call's key, and a key that it
+    /// finds, are put into `key` and `found`. Nothing is counted.
+    ///
+    /// Err: no array changed.
+    pub fn replay(
+        &mut self,
+        alloc: Global,
+        bytes: &[u8],
+        key: &mut [u8; KEY_LIMIT],
+        found: &mut ArrayVec<u8, KEY_LIMIT>,
+    ) -> Result<(), Unplayed>
+        ensures { Plays bytes.now self.old result self.new }
+    {
+        replay(alloc, &mut self.service, bytes, key, found)
+    }
+
+    /// Plays the records of a text, each of which ends with an LF, one after another, up to the first
+    /// that cannot be played.
+    pub fn replay_all(
+        &mut self,
+        alloc: Global,
+        text: &[u8],
+        key: &mut [u8; KEY_LIMIT],
+        found: &mut ArrayVec<u8, KEY_LIMIT>,
+    ) -> Result<(), Halt>
+        ensures { PlaysAll (lines_of text.now) self.old result self.new }
+    {
+        replay_all(alloc, &mut self.service, text, key, found)
+    }
+}
+
+/// Why a record is not played, as the reading of a journal tells it.
+fn reason_of(why: Unplayed) -> Reason {
+    match why {
+        Unplayed::Record => Reason::Record,
+        Unplayed::Tenant => Reason::Tenant,
+        Unplayed::Full => Reason::Full,
+        Unplayed::Memory => Reason::Memory,
+    }
+}
+
+impl<H: Chosen> Replays for Server<H> {
+    ghost replayed = { AreReplayed };
+
+    fn replay(&mut self, alloc: Global, records: &[u8]) -> Result<(), Stopped> {
+        let mut key = [0u8; KEY_LIMIT];
+        let mut found = ArrayVec::new();
+        match replay_all(alloc, &mut self.service, records, &mut key, &mut found) {
+            Ok(()) => Ok(()),
+            Err(Halt { played, why }) => Err(Stopped {
+                played,
+                why: reason_of(why),
+            }),
+        }
+    }
+
+    ghost rests = { λ service. refl };
+
+    ghost joins = { λ before middle after records more first then.
+        AreReplayed-append records more before middle after first then };
 }
 
 /// `judyd run`: reads a table of tenants and the line `---` that ends it. Then it serves the script

@@ -32,7 +32,7 @@ use Rattle.std.proofs.lemmas.Map.Text.{is_eq-slice_cmp}
 use Rattle.std.proofs.lemmas.Slice.Eq.{bytes_eq-Decides}
 use Rattle.judy_model.specs.Grammar.{is_name_byte}
 use Rattle.judy_table.specs.Tenants.{is_vacant, vacant}
-use Rattle.judy_table.specs.Seats.{has_name, are_distinct, AreRows}
+use Rattle.judy_table.specs.Seats.{has_name, are_distinct, AreRows, IsSpelled}
 use Rattle.std.proofs.lemmas.Str.{IsUtf8-from_is_utf8, is_utf8-from_IsUtf8}
 use Rattle.toml.specs.Parse.{parse_document}
 use Rattle.toml.specs.Data.{Data, Members, no_members, member}
@@ -232,21 +232,27 @@ spelled-named name t h e =
     let some : length t.name ≡ 0 → ⊥ = (λ (z : length t.name ≡ 0). let same = ap length e in absurd (omega (arith, least, same, z))) in
     ne_eqb (length t.name) 0 some
 
--- what holds of each row that is not vacant, in a recursion over the list
-more_named : (t : Result Tenant TableFault) (r : Result (List Tenant) TableFault) (ts : List Tenant) → ((u : Tenant) → t ≡ Ok u → is_vacant u ≡ false)
-    → ((ys : List Tenant) → r ≡ Ok ys → AllByRecursion (λ u. is_vacant u ≡ false) ys) → and_more t r ≡ Ok ts
-    → AllByRecursion (λ u. is_vacant u ≡ false) ts
-more_named (Ok t) (Ok ys) ts first ih e =
-    let p : t ∷ ys ≡ ts = cc in subst (AllByRecursion (λ (u : Tenant). is_vacant u ≡ false)) p (first t refl, ih ys refl)
-more_named (Ok t) (Err f) ts first ih e = cc
-more_named (Err f) r ts first ih e = cc
+-- what holds of each tenant, in a recursion over the list
+more_each : (P : Tenant → Type 0) (t : Result Tenant TableFault) (r : Result (List Tenant) TableFault) (ts : List Tenant) → ((u : Tenant) → t ≡ Ok u → P u)
+    → ((ys : List Tenant) → r ≡ Ok ys → AllByRecursion P ys) → and_more t r ≡ Ok ts → AllByRecursion P ts
+more_each P (Ok t) (Ok ys) ts first ih e = let p : t ∷ ys ≡ ts = cc in subst (AllByRecursion P) p (first t refl, ih ys refl)
+more_each P (Ok t) (Err f) ts first ih e = cc
+more_each P (Err f) r ts first ih e = cc
 
 -- the tenants of a document have names
 pub named-tenants_in : (ms : Members) (ts : List Tenant) → tenants_in ms ≡ Ok ts → AllByRecursion (λ t. is_vacant t ≡ false) ts
 named-tenants_in no_members ts e = let p : [] ≡ ts = cc in subst (AllByRecursion (λ (u : Tenant). is_vacant u ≡ false)) p tt
 named-tenants_in (member name d ms) ts e =
-    more_named (tenant_if_written name (written d)) (tenants_in ms) ts
+    more_each (λ u. is_vacant u ≡ false) (tenant_if_written name (written d)) (tenants_in ms) ts
     (λ u h. spelled-named name u (spelled-tenant_if_written name (written d) u h) (name-tenant_if_written name (written d) u h)) (named-tenants_in ms) e
+
+-- their names are of the grammar
+spelled-tenants_in : (ms : Members) (ts : List Tenant) → tenants_in ms ≡ Ok ts → AllByRecursion IsSpelled ts
+spelled-tenants_in no_members ts e = let p : [] ≡ ts = cc in subst (AllByRecursion IsSpelled) p tt
+spelled-tenants_in (member name d ms) ts e =
+    more_each IsSpelled (tenant_if_written name (written d)) (tenants_in ms) ts
+    (λ u h named. subst (λ n. is_name n ≡ true) (sym (name-tenant_if_written name (written d) u h)) (spelled-tenant_if_written name (written d) u h))
+    (spelled-tenants_in ms) e
 
 -- a name that is below each of these is none of them
 below-apart : (name : List ℕ) (ts : List Tenant) → AllByRecursion (λ y. slice_cmp nat_cmp name y ≡ Less) (map (λ (u : Tenant). u.name) ts)
@@ -277,6 +283,7 @@ tree-rows ms ts e fits rising =
       few = omega (arith, many, fits);
       few_named = omega (arith, many, fits, most);
       limited = limited-tenants_in ms ts e;
+      spelled = All-from_recursion IsSpelled ts (spelled-tenants_in ms ts e);
       empty = All-from_recursion (λ t. is_vacant t ≡ true → t ≡ vacant) ts (none ts (named-tenants_in ms ts e));
       distinct = distinct-rising ts rising;
     }

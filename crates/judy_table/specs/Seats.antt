@@ -5,14 +5,16 @@
 --     fresh_in rows ts     the tenants of a table whose names no row has
 --     seated rows ts       the rows after the table is read
 --     named ts             how many rows have a tenant
+--     name_at ts place     the name of the tenant at a place, or none
 --     AreRows ts           what holds of the rows of every table
 --     IsFree row           a place has no row, or a vacant one
 --     right_in name token ts   the right of a log-in
 --     knows ts who         the speaker's place has a tenant with a token for the speaker's right
 use Rattle.std.specs.Prelude.{◌≡◌, ℕ, ◌≤◌, ◌&&◌, ◌||◌, Bool, true, false, not, List, [], ◌∷◌, length, Option, Some, None, is_some}
-use Rattle.std.specs.Prelude.{if◌then◌else◌, filter, count_by, get_or, drop, slice_get, option_map}
+use Rattle.std.specs.Prelude.{if◌then◌else◌, filter, count_by, get_or, drop, map, slice_get, option_map, unwrap_or}
 use Rattle.std.specs.List.{All, list_any}
 use Rattle.std.specs.Str.{bytes_eq}
+use Rattle.judy_model.specs.Grammar.{is_name}
 use Rattle.judy_model.specs.Speakers.{Speaker}
 use Rattle.judy_model.specs.declared.quotas.Right.{Right}
 use Rattle.judy_model.specs.declared.quotas.Right.TheVariants.{Change, Look}
@@ -52,6 +54,14 @@ seated rows table = placed table rows (fresh_in rows table)
 abbrev pub named : List Tenant → ℕ
 named ts = count_by (λ t. not (is_vacant t)) ts
 
+-- the name of the tenant at a place; empty if no tenant has the place
+abbrev pub name_at : List Tenant → ℕ → List ℕ
+name_at ts place = unwrap_or (slice_get (map (λ (t : Tenant). t.name) ts) place) []
+
+-- the name of a tenant is one of the grammar: it is short, and has neither spaces nor line feeds
+abbrev pub IsSpelled : Tenant → Type 0
+IsSpelled t = is_vacant t ≡ false → is_name t.name ≡ true
+
 -- no two tenants have one name
 abbrev pub are_distinct : List Tenant → Bool
 are_distinct [] = true
@@ -68,6 +78,7 @@ pub record AreRows (ts : List Tenant) : Type 0 where
   pub few_named : named ts ≤ TENANTS_LIMIT
   -- the quota of each tenant is one that a table can grant
   pub limited : AreLimited ts
+  pub spelled : All IsSpelled ts
   -- all vacant rows are alike, so each has a quota of 0
   pub empty : All (λ t. is_vacant t ≡ true → t ≡ vacant) ts
   pub distinct : are_distinct ts ≡ true

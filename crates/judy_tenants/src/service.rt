@@ -6,7 +6,7 @@ ghost use Rattle.judy_model.specs.Solo.{is_memory};
 ghost use Rattle.judy_directory.specs.Secrets.{start_of};
 ghost use Rattle.judy_kinds.specs.Calls.{has_string};
 ghost use Rattle.judy_table.specs.Shown.{seen};
-ghost use Rattle.judy_table.specs.Seats.{knows, seated};
+ghost use Rattle.judy_table.specs.Seats.{AreRows, knows, seated};
 ghost use Rattle.judy_table.specs.Tenants.{is_vacant, login_of, place_of};
 ghost use Rattle.judy_tenants.specs.Changes.{HasChanged, HasReason};
 ghost use Rattle.judy_tenants.specs.Held.{states_of, quotas_of, words_for, HasCause, HasNoReserve, HasServiceSpace, HasNames, IsReserved, IsSoundService, Keeps};
@@ -121,6 +121,14 @@ impl<H: KeyHash> Service<H> {
         ensures { result ≡ place }
     {
         self.table.tenant(place)
+    }
+
+    /// What holds of the rows of the table. The function is empty: the contract is the law, for
+    /// callers to cite.
+    pub fn rows_are_sound(&self)
+        ensures { AreRows self.now.tenants }
+    {
+        self.table.rows_are_sound();
     }
 
     /// A tenant's name.

@@ -10,7 +10,9 @@ use Rattle.judyd.specs.Obeying.{HasEnded, IsFinished}
 ended : (secret : List ℕ) (j : Job) (status : ℕ) (text : Option (List ℕ)) (from to : Wire) (log log' : Log)
     → HasDone secret j status text from to log log' → HasEnded j status text
 ended secret (job.Run words) status text from to log log' h = (h.0, h.2, h.3)
-ended secret (job.Serve config socket watch clients connections idle turn reserve check) status text from to log log' h = (h.0, h.2, h.3)
+ended secret (job.Serve config socket watch clients connections idle turn reserve journal sync check) status text from to log log' h = (h.0, h.2, h.3)
+ended secret (job.Compact directory) status text from to log log' h = absurd h
+ended secret (job.Journal directory tenant) status text from to log log' h = absurd h
 
 pub finished : (j : Job) (status : ℕ) (text : Option (List ℕ)) (from to : Wire) (log log' : Log)
     → Does j status text from to log log' → IsFinished j status text

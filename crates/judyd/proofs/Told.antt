@@ -1,6 +1,6 @@
 -- What the program tells, in the words of docs/PROMISES.md.
 --     well-is-silent     status 0 comes without a line on standard error
---     faults-are-told    any other status comes with a line
+--     faults-are-told    any other status of a program comes with a line; a refused journal's is the system's
 use Rattle.std.proofs.Common.{◌≡◌, ◌∙◌, ◌⊎◌, inl, inr, ℕ, List, Option, Some, None, sym, refl, arith}
 use Rattle.std.specs.Prelude.{◌≢◌, codes}
 use Rattle.judy_command.specs.declared.words.Job.{Job}
@@ -11,6 +11,7 @@ use Rattle.judy_programs.specs.declared.program.Ran.{Ran}
 use Rattle.judy_programs.specs.declared.program.Ran.TheVariants as ran
 use Rattle.judy_programs.specs.declared.socket.Hosted.{Hosted}
 use Rattle.judy_programs.specs.declared.socket.Hosted.TheVariants as host
+use Rattle.judy_server.specs.Jobs.{IsProgram}
 use Rattle.judyd.specs.Obeying.{IsFinished}
 
 -- ---- by how a job ended
@@ -50,27 +51,43 @@ host-silent (host.Table f) e = absurd (omega (arith, e))
 host-silent host.Memory e = absurd (omega (arith, e))
 host-silent host.Reserve e = absurd (omega (arith, e))
 host-silent host.Socket e = absurd (omega (arith, e))
+host-silent host.Recovery e = absurd (omega (arith, e))
+host-silent host.Journal e = absurd (omega (arith, e))
 
-host-told : (how : Hosted) → host_status how ≢ 0 → (line : List ℕ) × host_text how ≡ Some line
+-- a journal that cannot be gone on with is told by the system's line alone, with its file and its byte
+host-told : (how : Hosted) → host_status how ≢ 0 → ((line : List ℕ) × host_text how ≡ Some line) ⊎ ((host_status how ≡ 3) × (host_text how ≡ None))
 host-told host.Done h = absurd (h refl)
 host-told host.Stopped h = absurd (h refl)
-host-told host.Config h = (codes "judyd: config fault", refl)
-host-told host.Long h = (codes "judyd: table: Long", refl)
-host-told (host.Table f) h = (fault_text f, refl)
-host-told host.Memory h = (codes "judyd: memory", refl)
-host-told host.Reserve h = (codes "judyd: memory: no memory for --reserve", refl)
-host-told host.Socket h = (codes "judyd: socket fault", refl)
+host-told host.Config h = inl (codes "judyd: config fault", refl)
+host-told host.Long h = inl (codes "judyd: table: Long", refl)
+host-told (host.Table f) h = inl (fault_text f, refl)
+host-told host.Memory h = inl (codes "judyd: memory", refl)
+host-told host.Reserve h = inl (codes "judyd: memory: no memory for --reserve", refl)
+host-told host.Socket h = inl (codes "judyd: socket fault", refl)
+host-told host.Recovery h = inr (refl, refl)
+host-told host.Journal h = inl (codes "judyd: journal fault", refl)
 
 -- ---- by what the program tells
 
 pub well-is-silent : (j : Job) (status : ℕ) (text : Option (List ℕ)) → IsFinished j status text → status ≡ 0 → text ≡ None
 well-is-silent (job.Run words) status text (inl (how, is, told)) e = told ∙ run-silent how (sym is ∙ e)
-well-is-silent (job.Serve config socket watch clients connections idle turn reserve check) status text (inl (how, is, told)) e = told ∙ host-silent how (sym is ∙ e)
+well-is-silent (job.Serve config socket watch clients connections idle turn reserve journal sync check) status text (inl (how, is, told)) e =
+    told ∙ host-silent how (sym is ∙ e)
+well-is-silent (job.Compact directory) status text (inl (ended, none)) e = none
+well-is-silent (job.Journal directory tenant) status text (inl (ended, none)) e = none
 well-is-silent j status text (inr (four, line)) e = absurd (omega (arith, four, e))
 
-pub faults-are-told : (j : Job) (status : ℕ) (text : Option (List ℕ)) → IsFinished j status text → status ≢ 0 → (line : List ℕ) × text ≡ Some line
-faults-are-told (job.Run words) status text (inl (how, is, told)) h =
-    let (line, by) = run-told how (λ e. h (is ∙ e)) in (line, told ∙ by)
-faults-are-told (job.Serve config socket watch clients connections idle turn reserve check) status text (inl (how, is, told)) h =
-    let (line, by) = host-told how (λ e. h (is ∙ e)) in (line, told ∙ by)
-faults-are-told j status text (inr (four, line)) h = (codes "judyd: random fault", line)
+-- a server whose journal is refused ends with status 3, and its line is the system's; so are those of the jobs
+-- that only read or compact a journal
+pub faults-are-told : (j : Job) (status : ℕ) (text : Option (List ℕ)) → IsProgram j → IsFinished j status text → status ≢ 0
+    → ((line : List ℕ) × text ≡ Some line) ⊎ ((status ≡ 3) × (text ≡ None))
+faults-are-told (job.Run words) status text p (inl (how, is, told)) h =
+    let (line, by) = run-told how (λ e. h (is ∙ e)) in inl (line, told ∙ by)
+faults-are-told (job.Serve config socket watch clients connections idle turn reserve journal sync check) status text p (inl (how, is, told)) h =
+    elim (host-told how (λ e. h (is ∙ e))) [
+      | inl t ↦ inl (t.0, told ∙ t.1)
+      | inr t ↦ inr (is ∙ t.0, told ∙ t.1)
+    ]
+faults-are-told (job.Compact directory) status text p (inl ended) h = absurd p
+faults-are-told (job.Journal directory tenant) status text p (inl ended) h = absurd p
+faults-are-told j status text p (inr (four, line)) h = inl (codes "judyd: random fault", line)

@@ -1,5 +1,5 @@
 -- The status that the program ends with, by what its command line asks for.
-use Rattle.std.specs.Prelude.{◌≡◌, ◌⊎◌, ℕ, List, codes, Option, Some, Result, Ok, Err}
+use Rattle.std.specs.Prelude.{◌≡◌, ◌⊎◌, ℕ, List, codes, Option, Some, None, Result, Ok, Err}
 use Rattle.judy_command.specs.declared.words.Job.{Job}
 use Rattle.judy_command.specs.declared.words.Job.TheVariants as job
 use Rattle.judy_command.specs.declared.words.Refusal.{Refusal}
@@ -15,11 +15,18 @@ refusal_status (refusal.Help text) = 0
 refusal_status (refusal.Usage text) = 2
 refusal_status refusal.Memory = 4
 
+-- 0 if a journal was compacted or printed, 3 if it is refused, and 4 if memory runs out or the output takes no
+-- more
+abbrev pub IsUpkept : ℕ → Type 0
+IsUpkept status = (status ≡ 0) ⊎ (status ≡ 3) ⊎ (status ≡ 4)
+
 -- the status, and the line on standard error, if any, are those of a way in which the job can end
 abbrev pub HasEnded : Job → ℕ → Option (List ℕ) → Type 0
 HasEnded (job.Run words) status text = (ran : Ran) × (status ≡ run_status ran) × (text ≡ run_text ran)
-HasEnded (job.Serve config socket watch clients connections idle turn reserve check) status text =
+HasEnded (job.Serve config socket watch clients connections idle turn reserve journal sync check) status text =
     (hosted : Hosted) × (status ≡ host_status hosted) × (text ≡ host_text hosted)
+HasEnded (job.Compact directory) status text = IsUpkept status × (text ≡ None)
+HasEnded (job.Journal directory tenant) status text = IsUpkept status × (text ≡ None)
 
 -- or the system gave no secret
 abbrev pub IsFinished : Job → ℕ → Option (List ℕ) → Type 0

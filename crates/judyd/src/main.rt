@@ -2,14 +2,18 @@
 //! socket.
 #![tactic(auto)]
 
-ghost use Rattle.std.specs.Prelude.{◌≡◌, option_map};
-ghost use Rattle.judyd.specs.Obeying.{IsFinished, IsObeyed, refusal_status};
+ghost use Rattle.std.specs.Prelude.{◌≡◌, ℕ, List, Option, option_map};
+ghost use Rattle.judy_server.specs.Jobs.{IsProgram};
+ghost use Rattle.judyd.specs.Obeying.{IsFinished, IsObeyed, IsUpkept, refusal_status};
 
-use judy_command::{Job, Refusal, VERSION, parse_words};
-use judy_programs::{Failed, System, Unserved};
-use judy_server::do_job_on;
+use judy_command::{Job, Refusal, Sync, VERSION, Word, parse_words};
+use judy_disk::{DiskFault, Folder};
+use judy_programs::{Failed, System, Unserved, read_secret};
+use judy_recovery::JournalFault;
+use judy_server::{Server, do_job_on};
 use judy_stream::{Reads, Writes};
 use judy_tenants::Sha256Hash;
+use judy_upkeep::{Uncompacted, Unprinted, compact, print};
 use std::alloc::Global;
 use std::process::ExitCode;
 use std::{env, io};
@@ -53,11 +57,32 @@ fn do_job(
     job: &Job,
     system: &mut System<'_, HostRuntime>,
 ) -> (u8, Option<&'static str>)
+    requires { IsProgram job.now }
     ensures { IsFinished job.now result.0 (option_map (λ s. s.now) result.1) }
 {
     let mut reader = Reads::new(rt.stdin());
     let mut writer = Writes::new(rt.stdout());
     do_job_on::<Sha256Hash, _, _, _>(rt.alloc(), job, &mut reader, &mut writer, system)
+}
+
+/// Prints that a journal cannot be read or written, and why. The fault tells what follows the
+/// directory's path.
+fn tell_fault(rt: &HostRuntime, directory: &str, fault: &JournalFault) {
+    let _ = eprintln!(rt; "judyd: {directory}{fault}");
+}
+
+/// Prints what the disk of the journal refused, if it refused something.
+fn tell_journal(rt: &HostRuntime, job: &Job, system: &mut System<'_, HostRuntime>) {
+    let Some(fault) = system.take_journal_fault() else {
+        return;
+    };
+    if let Job::Serve {
+        journal: Some(directory),
+        ..
+    } = job
+    {
+        tell_fault(rt, directory.0.as_str(), &fault);
+    }
 }
 
 /// Prints the path of what the system refused, and the reason.
@@ -133,20 +158,127 @@ fn refuse(rt: &HostRuntime, refusal: &Refusal) -> u8
     }
 }
 
+/// The directory of a journal.
+fn folder_at<'a>(rt: &'a HostRuntime, path: &str) -> Option<Folder<'a, HostRuntime>> {
+    match String::from_str(rt.alloc(), path) {
+        Ok(path) => Some(Folder::new(rt, rt.alloc(), path)),
+        Err(_) => None,
+    }
+}
+
+/// Prints that memory ran out. Returns the status of the program.
+fn refuse_memory(rt: &HostRuntime) -> u8
+    ensures { result ≡ 4 }
+{
+    let _ = eprintln!(rt; "judyd: memory");
+    4
+}
+
+/// Prints why a directory is not to be used.
+fn tell_disk(rt: &HostRuntime, path: &str, fault: &DiskFault) {
+    let _ = eprintln!(rt; "judyd: {path}{fault}");
+}
+
+/// Prints why a journal is not compacted. Returns the status of the program.
+fn tell_uncompacted(rt: &HostRuntime, path: &str, why: &Uncompacted) -> u8
+    ensures { IsUpkept result }
+{
+    match why {
+        Uncompacted::Journal(fault) => {
+            tell_fault(rt, path, fault);
+            3
+        }
+        Uncompacted::Disk(fault) => {
+            tell_disk(rt, path, fault);
+            3
+        }
+        Uncompacted::Memory => refuse_memory(rt),
+        Uncompacted::Left => {
+            let _ = eprintln!(rt; "judyd: {path}: entries are left that no record makes");
+            3
+        }
+    }
+}
+
+/// Makes the files of a journal smaller. Returns the status of the program.
+fn compact_at(rt: &HostRuntime, path: &str) -> u8
+    ensures { IsUpkept result }
+{
+    let Some(folder) = folder_at(rt, path) else {
+        return refuse_memory(rt);
+    };
+    let Some(secret) = read_secret(rt, "/dev/urandom") else {
+        let _ = eprintln!(rt; "judyd: random fault");
+        return 4;
+    };
+    match compact::<Server<Sha256Hash>, HostRuntime>(rt.alloc(), &secret, &folder) {
+        Ok(_) => 0,
+        Err(why) => tell_uncompacted(rt, path, &why),
+    }
+}
+
+/// Prints the requests of a journal. Returns the status of the program.
+fn print_at(rt: &HostRuntime, path: &str, tenant: &Option<Word>) -> u8
+    ensures { IsUpkept result }
+{
+    let Some(folder) = folder_at(rt, path) else {
+        return refuse_memory(rt);
+    };
+    let name = match tenant {
+        Some(word) => Some(word.0.as_bytes()),
+        None => None,
+    };
+    match print(rt.alloc(), &folder, rt.stdout(), name) {
+        Ok(()) => 0,
+        Err(Unprinted::Write) => {
+            let _ = eprintln!(rt; "judyd: write fault");
+            4
+        }
+        Err(Unprinted::Journal(fault)) => {
+            tell_fault(rt, path, &fault);
+            3
+        }
+    }
+}
+
+/// What follows the line at the start: the journal, and what a crash may lose if it is not secured in
+/// each round. Without memory for it there is nothing.
+fn journal_text(rt: &HostRuntime, journal: &Option<Word>, sync: Sync) -> Option<String> {
+    let Some(directory) = journal else {
+        return Some(String::new(rt.alloc()));
+    };
+    let path = directory.0.as_str();
+    let text = match sync {
+        Sync::Round => format!(in rt.alloc(); ", journal {path}"),
+        Sync::Seconds(n) => format!(in rt.alloc();
+            ", journal {path}: a crash of the machine may lose {n} seconds"
+        ),
+        Sync::Never => format!(in rt.alloc();
+            ", journal {path}: a crash of the machine may lose what the system has not written"
+        ),
+    };
+    text.ok()
+}
+
 /// Sets the line that is printed once clients are waited for. Without memory for it there is none.
 fn announce(rt: &HostRuntime, job: &Job, system: &mut System<'_, HostRuntime>) {
     let Job::Serve {
         config,
         socket,
         clients,
+        journal,
+        sync,
         ..
     } = job
     else {
         return;
     };
+    let Some(more) = journal_text(rt, journal, *sync) else {
+        return;
+    };
     let (file, path) = (config.0.as_str(), socket.0.as_str());
     let line = format!(in rt.alloc();
-        "judyd: {VERSION} started: table {file}, socket {path}, {clients} clients"
+        "judyd: {VERSION} started: table {file}, socket {path}, {clients} clients{more}"
     );
     if let Ok(line) = line {
         system.tell_at_start(line);
@@ -160,16 +292,11 @@ fn tell_stop(rt: &HostRuntime, status: u8, system: &System<'_, HostRuntime>) {
     }
 }
 
-/// Does what the command line asks for, and prints how it ended. Returns the status of the program.
-///
-/// If a line on standard error cannot be written, only the status reports it.
-fn obey(rt: &HostRuntime, asked: &Result<Job, Refusal>) -> u8
-    ensures { IsObeyed asked.now result }
+/// Runs or serves, and prints how it ended. Returns the status of the program.
+fn obey_program(rt: &HostRuntime, job: &Job) -> u8
+    requires { IsProgram job.now }
+    ensures { (text : Option (List ℕ)) × IsFinished job.now result text }
 {
-    let job = match asked {
-        Ok(job) => job,
-        Err(refusal) => return refuse(rt, refusal),
-    };
     let mut system = System::new(rt);
     announce(rt, job, &mut system);
     let (status, text) = do_job(rt, job, &mut system);
@@ -181,8 +308,33 @@ fn obey(rt: &HostRuntime, asked: &Result<Job, Refusal>) -> u8
     if let Some(failed) = system.failed() {
         tell_reason(rt, job, failed);
     }
+    tell_journal(rt, job, &mut system);
     tell_unserved(rt, system.unserved());
     status
+}
+
+/// Does a job, and prints how it ended. Returns the status of the program.
+fn obey_job(rt: &HostRuntime, job: &Job) -> u8
+    ensures { (text : Option (List ℕ)) × IsFinished job.now result text }
+{
+    match job {
+        Job::Compact { directory } => compact_at(rt, directory.0.as_str()),
+        Job::Journal { directory, tenant } => print_at(rt, directory.0.as_str(), tenant),
+        Job::Run { .. } => obey_program(rt, job),
+        Job::Serve { .. } => obey_program(rt, job),
+    }
+}
+
+/// Does what the command line asks for, and prints how it ended. Returns the status of the program.
+///
+/// If a line on standard error cannot be written, only the status reports it.
+fn obey(rt: &HostRuntime, asked: &Result<Job, Refusal>) -> u8
+    ensures { IsObeyed asked.now result }
+{
+    match asked {
+        Ok(job) => obey_job(rt, job),
+        Err(refusal) => refuse(rt, refusal),
+    }
 }
 
 fn main(rt: HostRuntime) -> ExitCode {

@@ -1,7 +1,8 @@
 -- The two tenants: their speakers, their quotas, and their visible state.
-use Rattle.std.specs.Prelude.{ℕ, zero, suc, Some, None, codes, if◌then◌else◌}
+use Rattle.std.specs.Prelude.{ℕ, zero, suc, Bool, true, false, List, [], Some, None, codes, if◌then◌else◌}
 use Rattle.std.specs.Ordering.{eq_by_cmp}
 use Rattle.judy_model.specs.declared.quotas.Quota.{Quota}
+use Rattle.judy_model.specs.declared.quotas.Right.{Right}
 use Rattle.judy_model.specs.declared.quotas.Right.TheVariants.{Change, Look}
 use Rattle.judy_model.specs.Contents.{string_order}
 use Rattle.judy_model.specs.Service.{Quotas, States}
@@ -32,6 +33,22 @@ door name token =
     then (if eq_by_cmp string_order token (codes "hello") then Some (record { tenant = 1; right = Change }) else None)
     else None
 
+-- who may speak: both with their own tokens, alice with her read-only token too
+abbrev pub may_speak : ℕ → Right → Bool
+may_speak zero right = true
+may_speak (suc zero) Change = true
+may_speak (suc zero) Look = false
+may_speak (suc (suc n)) right = false
+
+abbrev pub guests : Speaker → Bool
+guests who = may_speak who.tenant who.right
+
+-- the names of the tenants
+abbrev pub names : ℕ → List ℕ
+names zero = codes "alice"
+names (suc zero) = codes "bob"
+names (suc (suc n)) = []
+
 -- the quotas of the tenants
 abbrev pub alice_quota : Quota
 alice_quota = record { entries = 4; pieces = 504 }
@@ -51,4 +68,4 @@ states alice bob (suc zero) = bob
 states alice bob (suc (suc n)) = no_arrays
 
 abbrev pub house_seen_of : State → State → Seen
-house_seen_of alice bob = record { logins = door; quotas = quotas; states = states alice bob }
+house_seen_of alice bob = record { logins = door; speakers = guests; names = names; quotas = quotas; states = states alice bob }

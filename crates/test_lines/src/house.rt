@@ -1,10 +1,11 @@
 //! A service of two tenants over the plain store.
-ghost use Rattle.std.specs.Prelude.{◌≡◌, option_map};
+ghost use Rattle.std.specs.Prelude.{◌≡◌, IfSome, IsTrue, option_map};
+ghost use Rattle.judy_model.specs.Grammar.{is_name};
 ghost use Rattle.std.specs.Prelude.{is_ok};
 ghost use Rattle.judy_model.specs.Solo.{IsAnswered};
 ghost use Rattle.judy_model.specs.Tenant.{no_arrays};
 ghost use Rattle.judy_protocol.specs.Services.{IsAsked, IsCalled, IsKnown};
-ghost use Rattle.test_lines.specs.House.{alice_quota, bob_quota, door, house_seen_of, guest_speaker};
+ghost use Rattle.test_lines.specs.House.{alice_quota, bob_quota, door, guest_speaker, guests, house_seen_of, names, place};
 
 use arrayvec::ArrayVec;
 use judy_model::laws::a_tenant_alone_has_memory;
@@ -89,7 +90,8 @@ impl Served for House {
     ghost made = { λ before event reply after. IsCalled (house_seen_of before.alice before.bob) event reply (house_seen_of after.alice after.bob) };
 
     fn login(&self, name: &[u8], token: &[u8]) -> Option<Guest>
-        ensures { option_map guest_speaker result ≡ door name.now token.now }
+        ensures who { option_map guest_speaker result ≡ door name.now token.now }
+        ensures known { IfSome result (λ s. IsKnown guests (guest_speaker s)) }
     {
         if name == b"alice".as_slice() {
             if token == b"abc".as_slice() {
@@ -116,6 +118,17 @@ impl Served for House {
             return None;
         }
         None
+    }
+
+    fn name(&self, speaker: Guest) -> &[u8]
+        requires known { IsKnown guests (guest_speaker speaker) }
+        ensures name { result.now ≡ names (place speaker.tenant) }
+        ensures spelled { IsTrue (is_name result.now) }
+    {
+        match speaker.tenant {
+            Tenant::Alice => b"alice",
+            Tenant::Bob => b"bob",
+        }
     }
 
     fn call<'a>(

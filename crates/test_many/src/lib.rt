@@ -6,7 +6,11 @@ mod clocks;
 #[cfg(test)]
 mod faults;
 #[cfg(test)]
+mod journals;
+#[cfg(test)]
 mod questions;
+#[cfg(test)]
+mod reloads;
 #[cfg(test)]
 mod rounds;
 mod stage;

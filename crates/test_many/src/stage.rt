@@ -2,7 +2,7 @@
 ghost use Rattle.std.specs.Prelude.{None};
 
 use arrayvec::ArrayVec;
-use judy_many::{Accept, Got, How, Network, Put, Question, Queue};
+use judy_many::{Accept, Got, How, Network, Put, Question, Queue, Unread};
 use judy_stream::{Page, Pull, Push, Sink, Source, Tape};
 
 /// The most bytes that a connection takes.
@@ -56,7 +56,9 @@ pub struct Seat {
 /// What was asked is kept as text: `|` a wait without limit, `:` one of at most a second, `.` one
 /// that does not wait; `x` an accept that failed; and with the number of the connection `a` accepted,
 /// `r` read, `w` written, `c` closed, and why (`Q` quit, `E` end, `F` fault, `I` idle, `O` too long,
-/// `M` memory). `?` is a question for the status, `!` one that the server ends, and `=` a report.
+/// `M` memory, `G` gone). `?` is a question for the status, `!` one that the server ends, `^` one that
+/// the table is read again, `t` a read of the table, `=` a report, and `-` a reply. Of the journal, `b`
+/// is a file that was made, `k` bytes that were kept, `s` a sync, and `z` one of these that failed.
 #[derive(Drop)]
 pub struct Stage<'a> {
     /// The connections.
@@ -69,16 +71,24 @@ pub struct Stage<'a> {
     pub times: &'a [Option<u64>],
     /// The questions on the status socket, one a round.
     pub questions: &'a [Question],
-    /// What was reported, one text after another.
+    /// The tables, one a read. After the last one the file cannot be read.
+    pub tables: &'a [&'a [u8]],
+    /// What was reported or replied, one text after another.
     pub reported: ArrayVec<u8, REPORTED_LIMIT>,
     /// What the operator was told, each line with a line feed.
     pub warned: ArrayVec<u8, REPORTED_LIMIT>,
+    /// What was kept in the journal, one text after another.
+    pub journal: ArrayVec<u8, ASKED_LIMIT>,
+    /// Which of the calls for the journal fails. None fails if it is past the last one.
+    pub fails_at: usize,
+    journaled: usize,
     asked: ArrayVec<u8, ASKED_LIMIT>,
     waits: usize,
     offered: usize,
     told: usize,
     come: usize,
     questioned: usize,
+    tabled: usize,
 }
 
 impl<'a> Stage<'a> {
@@ -90,14 +100,19 @@ impl<'a> Stage<'a> {
             offers: &[],
             times: &[],
             questions: &[],
+            tables: &[],
             reported: ArrayVec::new(),
             warned: ArrayVec::new(),
+            journal: ArrayVec::new(),
+            fails_at: usize::MAX,
+            journaled: 0,
             asked: ArrayVec::new(),
             waits: 0,
             offered: 0,
             told: 0,
             come: 0,
             questioned: 0,
+            tabled: 0,
         }
     }
 
@@ -115,6 +130,18 @@ impl<'a> Stage<'a> {
     fn note_of(&mut self, what: u8, at: usize) {
         self.note(what);
         self.note(b'0' + (at % 10) as u8);
+    }
+
+    /// Notes a call for the journal. False if it fails.
+    fn journal(&mut self, what: u8) -> bool {
+        let n = self.journaled;
+        self.journaled = n.saturating_add(1);
+        if n == self.fails_at {
+            self.note(b'z');
+            return false;
+        }
+        self.note(what);
+        true
     }
 
     /// What the next accept finds.
@@ -137,6 +164,7 @@ fn letter(how: How) -> u8 {
         How::Idle => b'I',
         How::Over => b'O',
         How::Memory => b'M',
+        How::Gone => b'G',
     }
 }
 
@@ -258,6 +286,7 @@ impl<'a> Network for Stage<'a> {
             Question::Nothing => {}
             Question::Status => self.note(b'?'),
             Question::Stop => self.note(b'!'),
+            Question::Reload => self.note(b'^'),
         }
         question
     }
@@ -270,5 +299,39 @@ impl<'a> Network for Stage<'a> {
     fn warn(&mut self, text: &[u8]) {
         let _fits = self.warned.try_extend_from_slice(text);
         let _fits = self.warned.try_extend_from_slice(b"\n");
+    }
+
+    fn table(&mut self, text: &mut Vec<u8>) -> Result<(), Unread> {
+        self.note(b't');
+        let n = self.tabled;
+        if n >= self.tables.len() {
+            return Err(Unread::File);
+        }
+        self.tabled = n + 1;
+        match text.extend_from_slice(self.tables[n]) {
+            Ok(()) => Ok(()),
+            Err(_) => Err(Unread::Memory),
+        }
+    }
+
+    fn reply(&mut self, text: &[u8]) {
+        self.note(b'-');
+        let _fits = self.reported.try_extend_from_slice(text);
+    }
+
+    fn begin(&mut self, _segment: u64) -> bool {
+        self.journal(b'b')
+    }
+
+    fn keep(&mut self, bytes: &[u8]) -> bool {
+        if !self.journal(b'k') {
+            return false;
+        }
+        let _fits = self.journal.try_extend_from_slice(bytes);
+        true
+    }
+
+    fn sync(&mut self) -> bool {
+        self.journal(b's')
     }
 }

@@ -1,5 +1,6 @@
 //! A service of two tenants, and connections that are served by it.
 use crate::stage::{PAGE_LIMIT, Script, Stage};
+use judy_journal::{SUM_LEN, Writer};
 use judy_many::{Ending, Limits, serve_many};
 use judy_programs::Opens;
 use judy_server::Server;
@@ -48,6 +49,7 @@ pub fn limits(clients: u32, connections: u32) -> Limits {
         idle: None,
         turn: None,
         status: false,
+        journal: None,
     }
 }
 
@@ -74,5 +76,21 @@ pub fn play(alloc: Global, stage: &mut Stage<'_>, limits: Limits) -> Result<Endi
     let Ok(mut service) = Server::<Sha256Hash>::open(alloc, b"secret", TABLE) else {
         return Err(Fail::from("no service"));
     };
-    Ok(serve_many(alloc, stage, &mut service, limits))
+    Ok(serve_many(alloc, stage, &mut service, limits, None))
+}
+
+// The same with a journal whose segment has this many bytes.
+pub fn play_with(
+    alloc: Global,
+    stage: &mut Stage<'_>,
+    limits: Limits,
+    size: u64,
+) -> Result<Ending, Fail> {
+    let Ok(mut service) = Server::<Sha256Hash>::open(alloc, b"secret", TABLE) else {
+        return Err(Fail::from("no service"));
+    };
+    let Ok(writer) = Box::new(alloc, Writer::new(1, &[b'0'; SUM_LEN], size)) else {
+        return Err(Fail::from("no memory"));
+    };
+    Ok(serve_many(alloc, stage, &mut service, limits, Some(writer)))
 }

@@ -21,6 +21,8 @@ fn answer(alloc: Global, line: &str) -> Result<String, AllocError> {
                 idle,
                 turn,
                 reserve,
+                journal,
+                sync,
                 check,
             },
         ) => {
@@ -33,10 +35,19 @@ fn answer(alloc: Global, line: &str) -> Result<String, AllocError> {
             let idle = idle.unwrap_or(0);
             let turn = turn.unwrap_or(0);
             let reserve = reserve.unwrap_or(0);
+            let journal = match journal {
+                Some(journal) => format!(in alloc; " {} {sync:?}", journal.0)?,
+                None => String::new(alloc),
+            };
             format!(in alloc;
-                "serve {config} {socket}{status} {clients} {connections} {idle} {turn} {reserve} {check}"
+                "serve {config} {socket}{status} {clients} {connections} {idle} {turn} {reserve} {check}{journal}"
             )
         }
+        Ok(Job::Compact { directory }) => format!(in alloc; "compact {}", directory.0),
+        Ok(Job::Journal { directory, tenant }) => match tenant {
+            Some(tenant) => format!(in alloc; "journal {} {}", directory.0, tenant.0),
+            None => format!(in alloc; "journal {}", directory.0),
+        },
         Err(Refusal::Help(_)) => String::from_str(alloc, "help"),
         Err(Refusal::Usage(_)) => String::from_str(alloc, "usage"),
         Err(Refusal::Memory) => String::from_str(alloc, "memory"),
@@ -173,6 +184,54 @@ fn command_lines(rt: HostRuntime) -> Result<(), Fail> {
         ("serve --config c --socket s --idle 1 --idle 1", "usage"),
         ("serve --config c --socket s --check=true", "usage"),
         ("serve --config c --socket s --check --check", "usage"),
+        (
+            "serve --config c --socket s --journal d",
+            "serve c s 64 4294967295 0 0 0 false d Round",
+        ),
+        (
+            "serve --config c --socket s --journal=d --sync round --check",
+            "serve c s 64 4294967295 0 0 0 true d Round",
+        ),
+        (
+            "serve --sync never --config c --socket s --journal d",
+            "serve c s 64 4294967295 0 0 0 false d Never",
+        ),
+        (
+            "serve --config c --socket s --journal d --sync 1",
+            "serve c s 64 4294967295 0 0 0 false d Seconds(1)",
+        ),
+        (
+            "serve --config c --socket s --journal d --sync 4294967295",
+            "serve c s 64 4294967295 0 0 0 false d Seconds(4294967295)",
+        ),
+        ("serve --config c --socket s --sync round", "usage"),
+        ("serve --config c --socket s --sync 5", "usage"),
+        ("serve --config c --socket s --journal d --sync 0", "usage"),
+        (
+            "serve --config c --socket s --journal d --sync 4294967296",
+            "usage",
+        ),
+        (
+            "serve --config c --socket s --journal d --sync often",
+            "usage",
+        ),
+        ("serve --config c --socket s --journal d --sync", "usage"),
+        ("serve --config c --socket s --journal", "usage"),
+        (
+            "serve --config c --socket s --journal d --journal e",
+            "usage",
+        ),
+        ("compact d", "compact d"),
+        ("compact", "usage"),
+        ("compact d e", "usage"),
+        ("compact --help", "help"),
+        ("compact d --tenant a", "usage"),
+        ("journal d", "journal d"),
+        ("journal d --tenant a", "journal d a"),
+        ("journal --tenant=a d", "journal d a"),
+        ("journal --tenant a", "usage"),
+        ("journal", "usage"),
+        ("run --journal d", "usage"),
         ("serve --check", "usage"),
         ("run --check", "usage"),
         ("run --idle 1", "usage"),

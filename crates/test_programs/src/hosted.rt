@@ -3,8 +3,9 @@ ghost use Rattle.std.specs.Prelude.{None};
 
 use crate::rows::{TABLE, Tenants, input};
 use judy_command::Job;
-use judy_many::{Accept, Got, How, Limits, Network, Put, Question, Queue};
-use judy_programs::{Hosted, Hosts, check_on, host_on};
+use judy_many::{Accept, Got, How, Limits, Network, Put, Question, Queue, Unread};
+use judy_programs::{Hosted, Hosts, Journals, check_on, host_on};
+use judy_recovery::{Player, Resumed};
 use judy_server::do_job_on;
 use judy_stream::{Page, Pull, Push, Refusal, Sink, Source, Tape};
 use judy_table::TableFault;
@@ -107,6 +108,24 @@ impl<'a> Network for Play<'a> {
     fn report(&mut self, _text: &[u8]) {}
 
     fn warn(&mut self, _text: &[u8]) {}
+
+    fn table(&mut self, _text: &mut Vec<u8>) -> Result<(), Unread> {
+        Err(Unread::File)
+    }
+
+    fn reply(&mut self, _text: &[u8]) {}
+
+    fn begin(&mut self, _segment: u64) -> bool {
+        false
+    }
+
+    fn keep(&mut self, _bytes: &[u8]) -> bool {
+        false
+    }
+
+    fn sync(&mut self) -> bool {
+        false
+    }
 }
 
 impl<'a> Hosts for Play<'a> {
@@ -135,6 +154,17 @@ impl<'a> Hosts for Play<'a> {
     fn watch(&mut self, _path: &str) -> bool {
         self.watched = self.watched.saturating_add(1);
         self.watches
+    }
+}
+
+// It has no journal.
+impl<'a> Journals for Play<'a> {
+    fn resume<P: Player>(&mut self, _: Global, _: &str, _: &mut P) -> Option<Resumed> {
+        None
+    }
+
+    fn look<P: Player>(&mut self, _: Global, _: &str, _: &mut P) -> bool {
+        false
     }
 }
 
@@ -190,6 +220,7 @@ fn limits(clients: u32, connections: u32) -> Limits {
         idle: None,
         turn: None,
         status: false,
+        journal: None,
     }
 }
 

@@ -10,6 +10,8 @@ mod hosted;
 #[cfg(test)]
 mod refused;
 #[cfg(test)]
+mod replays;
+#[cfg(test)]
 mod rows;
 #[cfg(test)]
 mod sockets;

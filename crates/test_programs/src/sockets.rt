@@ -1,11 +1,12 @@
 //! The system: its random bytes, and both ends of a socket in one process: clients send first, and
 //! read at the end.
 use crate::rows::{TABLE, Tenants};
+use judy_disk::Locks;
 use judy_many::{Ending, Limits, serve_many};
 use judy_programs::{Hosted, Hosts, Opens, System, Unopened, host_on, read_secret};
 use judy_table::TableFault;
 use std::alloc::Global;
-use std::fs::{self, Files};
+use std::fs;
 use std::io::{self, Eprint, Write};
 use std::net::{Net, Shutdown};
 use std::os::unix::net::UnixStream;
@@ -69,12 +70,13 @@ fn limits(connections: u32, idle: Option<u32>, turn: Option<u32>) -> Limits {
         idle,
         turn,
         status: false,
+        journal: None,
     }
 }
 
 // Serves as many clients as there are scripts, with these limits in seconds. Compares what each
 // client reads.
-fn check_served<R: Abort + Files + Net + Clock + Eprint>(
+fn check_served<R: Abort + Locks + Net + Clock + Eprint + Clone + Drop>(
     rt: &R,
     alloc: Global,
     path: &str,
@@ -88,7 +90,8 @@ fn check_served<R: Abort + Files + Net + Clock + Eprint>(
     let count = u32::try_from(scripts.len()).expect(rt, "few scripts");
     let mut clients = clients(rt, alloc, path, scripts)?;
     let mut tenants = open(alloc)?;
-    let ending = serve_many(alloc, &mut system, &mut tenants, limits(count, idle, turn));
+    let limits = limits(count, idle, turn);
+    let ending = serve_many(alloc, &mut system, &mut tenants, limits, None);
     assert_eq!(rt; ending, Ending::Done);
     check_all(rt, alloc, &mut clients, wanted)?;
     fs::remove_file(rt, path)?;
@@ -121,7 +124,8 @@ fn clients_that_leave(rt: HostRuntime) -> Result<(), Fail> {
     let _ = client(&rt, path, b"AUTH alice abc\nJ1S a 1\nJ1S a 2\n", false)?;
     let mut three = client(&rt, path, b"AUTH alice abc\nJ1T a 7\nQUIT\n", true)?;
     let mut tenants = open(rt.alloc())?;
-    let ending = serve_many(rt.alloc(), &mut system, &mut tenants, limits(3, None, None));
+    let limits = limits(3, None, None);
+    let ending = serve_many(rt.alloc(), &mut system, &mut tenants, limits, None);
     assert_eq!(rt; ending, Ending::Done);
     assert_eq!(rt;
         io::read_to_string(rt.alloc(), &mut three)?.as_str(),
@@ -137,7 +141,7 @@ fn no_socket(rt: HostRuntime) -> Result<(), Fail> {
     let mut system = System::new(&rt);
     let mut tenants = open(rt.alloc())?;
     let limits = limits(1, None, None);
-    let ending = serve_many(rt.alloc(), &mut system, &mut tenants, limits);
+    let ending = serve_many(rt.alloc(), &mut system, &mut tenants, limits, None);
     assert_eq!(rt; ending, Ending::Socket);
     Ok(())
 }

@@ -1,7 +1,9 @@
 //! A service that is called as a client calls it.
 use arrayvec::ArrayVec;
 use judy_model::{Call, OwnedReply, Reply};
-use judy_tenants::{Event, Service, Sha256Hash, Speaker, Table, TableFault, is_callable};
+use judy_tenants::{
+    Event, Service, Sha256Hash, Speaker, Table, TableFault, Unchanged, is_callable,
+};
 use std::alloc::{AllocError, Global};
 use std::process::Abort;
 use std::test::Fail;
@@ -63,6 +65,24 @@ impl House {
     /// A speaker whose login succeeds.
     pub(crate) fn speaker(&self, name: &str, token: &str) -> Result<Speaker, Fail> {
         Ok(self.login(name, token).ok_or("a name and its token")?)
+    }
+
+    /// Whether the speaker's tenant is in the table.
+    pub(crate) fn knows(&self, speaker: &Speaker) -> bool {
+        self.service.knows(*speaker)
+    }
+
+    /// Puts the table of this text in force. False if a quota is below what is held. If memory is
+    /// refused, a second try succeeds.
+    pub(crate) fn change(&mut self, rt: &impl Abort, text: &str) -> Result<bool, Fail> {
+        let first = table(rt, self.alloc, text)?;
+        match self.service.change(self.alloc, first) {
+            Ok(()) => return Ok(true),
+            Err(Unchanged::Quota(_)) => return Ok(false),
+            Err(Unchanged::Memory) => {}
+        }
+        let second = table(rt, self.alloc, text)?;
+        Ok(self.service.change(self.alloc, second).is_ok())
     }
 
     /// How many entries a tenant has.

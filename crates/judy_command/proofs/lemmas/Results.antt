@@ -1,6 +1,7 @@
 -- What a command line asks for, in the words of docs/PROMISES.md.
 --     counts-are-in-range    `--clients` is 1 to 1024, `--reserve` 1 to 131072; `--connections`, `--idle`
 --                            and `--turn` are 1 to 4294967295
+--     seconds-are-in-range   the seconds of `--sync` are 1 to 4294967295
 --     help-is-asked-for      a text of help comes only where help or the version was asked for
 --     usage-is-a-fault       a usage text comes only for a fault, which is neither of them
 use Rattle.std.specs.Prelude.{ℕ, ◌⊎◌, ◌≢◌, ◌≤◌, Bool, Option, IfSome, String}
@@ -8,17 +9,24 @@ use Rattle.std.specs.declared.alloc.Global.{Global}
 use Rattle.clap.specs.Words.{IsAmong, Kinds, Text}
 use Rattle.clap.specs.declared.error.ErrorKind.{ErrorKind}
 use Rattle.clap.specs.declared.error.ErrorKind.TheVariants as kind
-use Rattle.judy_command.specs.CommandLine.{IsInRange, StopsBy}
+use Rattle.judy_command.specs.CommandLine.{IsInRange, IsSync, StopsBy}
 use Rattle.judy_command.specs.declared.words.Refusal.TheVariants.{Help, Usage}
 use Rattle.judy_command.specs.declared.words.Job.TheVariants.{Serve}
+use Rattle.judy_command.specs.declared.words.Sync.{Sync}
+use Rattle.judy_command.specs.declared.words.Sync.TheVariants.{Seconds}
 
 -- the numbers of a server
-pub counts-are-in-range : (config socket : Text) (status : Option Text) (clients connections : ℕ) (idle turn reserve : Option ℕ) (check : Bool)
-    → IsInRange (Serve config socket status clients connections idle turn reserve check)
+pub counts-are-in-range : (config socket : Text) (status : Option Text) (clients connections : ℕ) (idle turn reserve : Option ℕ) (journal : Option Text) (sync : Sync) (check : Bool)
+    → IsInRange (Serve config socket status clients connections idle turn reserve journal sync check)
     → (1 ≤ clients) × (clients ≤ 1024) × (1 ≤ connections) × (connections ≤ 4294967295)
     × IfSome idle (λ n. (1 ≤ n) × (n ≤ 4294967295)) × IfSome turn (λ n. (1 ≤ n) × (n ≤ 4294967295))
-    × IfSome reserve (λ n. (1 ≤ n) × (n ≤ 131072))
-counts-are-in-range config socket status clients connections idle turn reserve check h = (h.0.0, h.0.1, h.1.0, h.1.1, h.2, h.3, h.4)
+    × IfSome reserve (λ n. (1 ≤ n) × (n ≤ 131072)) × IsSync sync
+counts-are-in-range config socket status clients connections idle turn reserve journal sync check h =
+    (h.0.0, h.0.1, h.1.0, h.1.1, h.2, h.3, h.4, h.5)
+
+-- the seconds between two times that the journal is secured
+pub seconds-are-in-range : (n : ℕ) → IsSync (Seconds n) → (1 ≤ n) × (n ≤ 4294967295)
+seconds-are-in-range n h = h
 
 -- the reasons why a command line gives no job
 pub help-is-asked-for : (kinds : Kinds) (text : String Global) → StopsBy kinds (Help text) → IsAmong kind.DisplayHelp kinds ⊎ IsAmong kind.DisplayVersion kinds

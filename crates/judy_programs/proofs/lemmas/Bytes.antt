@@ -1,25 +1,30 @@
 -- Two worlds on bytes: what is written to a tenant's connection.
 --     CallsBy t n story    the calls of this tenant are those of the lines of this connection
 --     hosted-bytes         equal bytes read, quotas, arrays and refusals give equal bytes written,
---                          whatever the other connections of the two servers do
---     hosted-bytes-by-logins   the same for lines whose log-ins are by the same names and tokens
+--                          whatever the other connections of the two servers do, as long as the tables
+--                          stay
+--     hosted-bytes-by-logins   the same for lines whose log-ins are by the same names and tokens, and
+--                          for tenants that each new table keeps
 use Rattle.std.proofs.Common.{◌≡◌, ◌∙◌, ℕ, true, List, [], ◌∷◌, ◌++◌, map, length, Option, None, ap, ap₂, subst, sym, refl, arith}
 use Rattle.std.proofs.lemmas.List.{length-append}
 use Rattle.std.specs.Prelude.{zip}
-use Rattle.judy_many.specs.Crowds.{HasServedMany, events_in}
+use Rattle.judy_many.specs.Changes.{exchanges}
+use Rattle.judy_journal.specs.Writes.{Writing}
+use Rattle.judy_many.specs.Crowds.{HasServedMany}
 use Rattle.judy_many.specs.Lives.{IsWhole, end_well, read_in, wrote_in}
 use Rattle.judy_many.specs.Rules.{Rules}
-use Rattle.judy_many.specs.Sessions.{Speaks, Turn, UseLogin, lines_in, replies_in}
-use Rattle.judy_many.specs.Stories.{Story, acts_in, turns_in, own as moments_of}
+use Rattle.judy_many.specs.Sessions.{Speaks, Turn, UseLogin, events_in, lines_in, replies_in}
+use Rattle.judy_many.specs.Statuses.{Keeps}
+use Rattle.judy_many.specs.Stories.{Story, acts_in, changes_in, turns_in, own as moments_of}
 use Rattle.judy_many.specs.declared.serve.Ending.{Ending}
 use Rattle.judy_many.specs.declared.serve.Limits.{Limits}
 use Rattle.judy_model.specs.declared.replies.Reply.{Reply}
-use Rattle.judy_model.specs.Service.{own}
 use Rattle.judy_model.specs.Solo.{Exchanges, attempts_of, refusals, replies_of}
 use Rattle.judy_model.specs.Speakers.{Event, Speaker, attempt_of}
 use Rattle.judy_model.specs.Stream.{Heard, Login, answer, event_of, events_from, served, speaker_after}
-use Rattle.judy_many.proofs.Logins.{own_use, whole_is}
-use Rattle.judy_many.proofs.Seeing.{IsUnseen, KeepsApart, turns_use}
+use Rattle.judy_many.proofs.Logins.{whole_is}
+use Rattle.judy_many.proofs.Seeing.{IsUnseen, KeepsApart}
+use Rattle.judy_many.proofs.Unchanged.{keeps_all, one_login}
 use Rattle.judy_programs.specs.Asking.{Log}
 use Rattle.judy_programs.proofs.lemmas.Worlds.{hosted-worlds}
 
@@ -33,7 +38,7 @@ exchanges_of turns = exchanged (events_in turns) (replies_in turns)
 
 -- the calls of this tenant are those of the lines of this connection, and no others
 abbrev pub CallsBy : ℕ → ℕ → Story → Type 0
-CallsBy t n story = own t (zip (events_in (turns_in story)) (replies_in (turns_in story))) ≡ exchanges_of (turns_in (moments_of n story))
+CallsBy t n story = exchanges t (turns_in story) ≡ exchanges_of (turns_in (moments_of n story))
 
 -- ---- the lines of one connection
 
@@ -72,9 +77,10 @@ replies-are (e ∷ es) (r ∷ rs) h = ap (λ v. r ∷ v) (replies-are es rs (ome
 -- quotas and arrays at the start, the names and tokens by which they log in, and the places of the
 -- refusals for memory are equal, then the bytes written to them are equal.
 pub hosted-bytes-by-logins : {S T : Type 0} (rules : Rules S) (rules' : Rules T)
-    (limits limits' : Limits) (how how' : Ending) (log last log' last' : Log) (before after : S) (before' after' : T)
-    (h : HasServedMany rules limits how log last before after) (k : HasServedMany rules' limits' how' log' last' before' after')
+    (limits limits' : Limits) (writer writer' : Option Writing) (how how' : Ending) (log last log' last' : Log) (before after : S) (before' after' : T)
+    (h : HasServedMany rules limits writer how log last before after) (k : HasServedMany rules' limits' writer' how' log' last' before' after')
     (t u n m : ℕ) (login : Login) → UseLogin login (turns_in (moments_of n h.story)) → UseLogin login (turns_in (moments_of m k.story))
+    → Keeps rules t before h.story after h.told → Keeps rules' u before' k.story after' k.told
     → (rules'.seen before').quotas u ≡ (rules.seen before).quotas t → (rules'.seen before').states u ≡ (rules.seen before).states t
     → CallsBy t n h.story → CallsBy u m k.story
     → let mine = moments_of n h.story in let theirs = moments_of m k.story in
@@ -82,8 +88,8 @@ pub hosted-bytes-by-logins : {S T : Type 0} (rules : Rules S) (rules' : Rules T)
     → read_in (acts_in theirs) ≡ read_in (acts_in mine)
     → refusals (exchanges_of (turns_in theirs)) ≡ refusals (exchanges_of (turns_in mine))
     → wrote_in (acts_in theirs) ≡ wrote_in (acts_in mine)
-hosted-bytes-by-logins rules rules' limits limits' how how' log last log' last' before after before' after' h k t u n m
-    login used used' quota state by by' well well' bytes marks =
+hosted-bytes-by-logins rules rules' limits limits' writer writer' how how' log last log' last' before after before' after' h k t u n m
+    login used used' kept kept' quota state by by' well well' bytes marks =
     let mine = moments_of n h.story in
     let theirs = moments_of m k.story in
     let w : IsWhole (acts_in mine) (turns_in mine) = (h.served n).whole well in
@@ -97,7 +103,7 @@ hosted-bytes-by-logins rules rules' limits limits' how how' log last log' last' 
     let attempts : attempts_of (exchanges_of (turns_in theirs)) ≡ attempts_of (exchanges_of (turns_in mine))
     = attempts-are (events_in (turns_in theirs)) (replies_in (turns_in theirs)) count' ∙ ap (map attempt_of) calls
     ∙ sym (attempts-are (events_in (turns_in mine)) (replies_in (turns_in mine)) count) in
-    let worlds = hosted-worlds rules rules' limits limits' how how' log last log' last' before after before' after' h k t u quota state
+    let worlds = hosted-worlds rules rules' limits limits' writer writer' how how' log last log' last' before after before' after' h k t u kept kept' quota state
     (ap attempts_of by' ∙ attempts ∙ ap attempts_of (sym by)) (ap refusals by' ∙ marks ∙ ap refusals (sym by)) in
     let replies : replies_in (turns_in theirs) ≡ replies_in (turns_in mine)
     = sym (replies-are (events_in (turns_in theirs)) (replies_in (turns_in theirs)) count') ∙ ap replies_of (sym by' ∙ worlds.0 ∙ by)
@@ -105,12 +111,13 @@ hosted-bytes-by-logins rules rules' limits limits' how how' log last log' last' 
     whole_is login (acts_in theirs) (turns_in theirs) used' w' ∙ ap₂ (λ b rs. answer login b rs) bytes replies
     ∙ sym (whole_is login (acts_in mine) (turns_in mine) used w)
 
--- So it is if the two services begin with equal names and tokens: calls and counts change none.
+-- So it is if the two services begin with equal names and tokens, and their tables stay: calls and counts
+-- change none.
 pub hosted-bytes : {S T : Type 0} (rules : Rules S) (rules' : Rules T)
     → KeepsApart rules → IsUnseen rules → KeepsApart rules' → IsUnseen rules'
-    → (limits limits' : Limits) (how how' : Ending) (log last log' last' : Log) (before after : S) (before' after' : T)
-    (h : HasServedMany rules limits how log last before after) (k : HasServedMany rules' limits' how' log' last' before' after')
-    (t u n m : ℕ) → (rules'.seen before').logins ≡ (rules.seen before).logins
+    → (limits limits' : Limits) (writer writer' : Option Writing) (how how' : Ending) (log last log' last' : Log) (before after : S) (before' after' : T)
+    (h : HasServedMany rules limits writer how log last before after) (k : HasServedMany rules' limits' writer' how' log' last' before' after')
+    (t u n m : ℕ) → changes_in h.story ≡ [] → changes_in k.story ≡ [] → (rules'.seen before').logins ≡ (rules.seen before).logins
     → (rules'.seen before').quotas u ≡ (rules.seen before).quotas t → (rules'.seen before').states u ≡ (rules.seen before).states t
     → CallsBy t n h.story → CallsBy u m k.story
     → let mine = moments_of n h.story in let theirs = moments_of m k.story in
@@ -118,9 +125,10 @@ pub hosted-bytes : {S T : Type 0} (rules : Rules S) (rules' : Rules T)
     → read_in (acts_in theirs) ≡ read_in (acts_in mine)
     → refusals (exchanges_of (turns_in theirs)) ≡ refusals (exchanges_of (turns_in mine))
     → wrote_in (acts_in theirs) ≡ wrote_in (acts_in mine)
-hosted-bytes rules rules' apart unseen apart' unseen' limits limits' how how' log last log' last' before after before' after' h k t u n m logins =
+hosted-bytes rules rules' apart unseen apart' unseen' limits limits' writer writer' how how' log last log' last' before after before' after' h k t u n m same same' logins =
     let login = (rules.seen before).logins in
-    let used = own_use login n h.story (turns_use rules apart unseen before after (turns_in h.story) h.run).0 in
-    let used' = own_use login m k.story (subst (λ l. UseLogin l (turns_in k.story)) logins
-    (turns_use rules' apart' unseen' before' after' (turns_in k.story) k.run).0) in
-    hosted-bytes-by-logins rules rules' limits limits' how how' log last log' last' before after before' after' h k t u n m login used used'
+    let used = one_login rules limits writer how log last before after h apart unseen same n in
+    let used' = subst (λ l. UseLogin l (turns_in (moments_of m k.story))) logins
+    (one_login rules' limits' writer' how' log' last' before' after' k apart' unseen' same' m) in
+    hosted-bytes-by-logins rules rules' limits limits' writer writer' how how' log last log' last' before after before' after' h k t u n m login used used'
+    (keeps_all rules t before h.story after same h.told) (keeps_all rules' u before' k.story after' same' k.told)

@@ -6,7 +6,7 @@
 --                         cannot make the socket, or the status socket after it
 --     served-no-table     a file that gives no service was opened once, read and closed, and nothing
 --                         else was asked
-use Rattle.std.specs.Prelude.{◌≡◌, ◌≢◌, ◌⊎◌, ℕ, false, List, [], ◌∷◌, Option, Some, map}
+use Rattle.std.specs.Prelude.{◌≡◌, ◌≢◌, ◌⊎◌, ℕ, false, List, [], ◌∷◌, None, Option, Some, map}
 use Rattle.std.proofs.Common.{inl, inr}
 use Rattle.judy_many.specs.Crowds.{HasServedMany}
 use Rattle.judy_many.specs.Nets.Act.{Asked}
@@ -32,7 +32,7 @@ module _ {S : Type 0} (is_new : List Tenant → S → Type 0) where
     -- between the opening of the file and the first connection nothing else was asked
     pub served-on-socket : (limits : Limits) (how : Ending) → (h : HasServedAll rules is_new config socket watch limits how log log')
         → (socket ≢ []) × (watch ≢ Some []) × Logs log (Opened config h.begun.left ∷ Shut h.begun.left' ∷ Bound socket ∷ watched watch) h.mid
-        × HasOpened is_new h.begun.left h.begun.left' h.before × HasServedMany rules limits how h.mid log' h.before h.after
+        × HasOpened is_new h.begun.left h.begun.left' h.before × HasServedMany rules limits None how h.mid log' h.before h.after
     served-on-socket limits how h = (
       h.path,
       h.status_path,

@@ -3,15 +3,18 @@
 --     replies-counted    by the kinds of their answers
 --     logins-counted     refused log-ins, by tenant
 --     unknown-counted    refused log-ins with a name that no tenant has
+--     story-counted      so it is over new tables, which forget the refused log-ins of places without a tenant
 --     counted-from-start so it is for a server since its start, from 0
-use Rattle.std.specs.Prelude.{◌≡◌, ◌+◌, ◌-◌, ◌^◌, ◌<◌, ◌≤◌, ◌==◌, ℕ, zero, suc, Bool, true, false, cond, List, [], ◌∷◌, Option, Some, None, count_by, length, replicate, slice_index}
+use Rattle.std.specs.Prelude.{◌≡◌, ◌+◌, ◌-◌, ◌^◌, ◌<◌, ◌≤◌, ◌==◌, ℕ, zero, suc, Bool, true, false, cond, List, [], ◌∷◌, Option, Some, None, count_by, length, replicate, slice_index, slice_set}
 use Rattle.std.proofs.Common.{◌∙◌, ap, arith, refl, subst, sym}
 use Rattle.std.proofs.lemmas.Bool.Decides.{nat_tests}
-use Rattle.std.proofs.lemmas.List.Sums.{sum_by-cons}
+use Rattle.std.proofs.lemmas.List.Sums.{sum_by-append, sum_by-cons}
 use Rattle.std.proofs.lemmas.List.{get_or-set_other, get_or-set_same, length-set}
 use Rattle.judy_arena.specs.Blocks.{count_up}
 use Rattle.judy_many.specs.Sessions.{AreTurns, IsTurn, Turn, text_of}
-use Rattle.judy_many.specs.Stories.{turns_in}
+use Rattle.judy_many.specs.Statuses.{Passes}
+use Rattle.judy_many.specs.Stories.{Story, turns_in}
+use Rattle.judy_many.specs.Stories.Moment.{Changed, Did, Ran}
 use Rattle.judy_many.specs.declared.serve.Ending.{Ending}
 use Rattle.judy_many.specs.declared.serve.Limits.{Limits}
 use Rattle.judy_model.specs.Speakers.{Event}
@@ -19,13 +22,15 @@ use Rattle.judy_model.specs.declared.replies.Reply.{Reply}
 use Rattle.judy_programs.specs.Asking.{Log}
 use Rattle.judy_programs.specs.Hosting.{HasServedAll}
 use Rattle.judy_protocol.specs.Services.{AreMade}
-use Rattle.judy_table.specs.Tenants.{place_of}
+use Rattle.judy_table.specs.Tenants.{is_vacant, place_of}
 use Rattle.judy_table.specs.declared.tenant.Tenant.{Tenant}
-use Rattle.judy_server.specs.Counts.{AreCounted, answers, asks, is_place, is_refused_to, refuses, risen}
+use Rattle.judy_server.specs.Counts.{AreCounted, answers, asks, counted_over, is_place, is_refused_to, is_vacant_at, kept_at, refused_over, refuses, risen, unknown_over}
+use Rattle.judy_server.specs.Reloads.{IsReload, forgotten, rows_with}
 use Rattle.judy_server.specs.Rules.{server_rules}
 use Rattle.judy_server.specs.Served.{IsNewService, IsServedStep}
 use Rattle.judy_server.specs.Tally.{Tallied, bumped, call_place, counted, no_counts, refused_at, refused_name, refused_to, reply_place, with_line}
 use Rattle.judy_server.specs.declared.tally.Tally.{Tally}
+use Rattle.judy_server.proofs.lemmas.Space.{rows-of}
 
 -- ---- one counter of a list
 
@@ -212,31 +217,159 @@ counters : (length no_counts.lines ≡ 47) × (length no_counts.replies ≡ 7) �
 unfolding no_counts
 counters = (refl, refl, refl)
 
+-- ---- over new tables
+
+-- one count is forgotten, or none
+set-length : (b : Bool) (counts : List ℕ) (from : ℕ) → length (cond b (slice_set counts from 0) counts) ≡ length counts
+set-length true counts from = length-set counts from 0
+set-length false counts from = refl
+
+set-other : (b : Bool) (counts : List ℕ) (from place : ℕ) → (place ≡ from → ⊥) → slice_index (cond b (slice_set counts from 0) counts) place ≡ slice_index counts place
+set-other true counts from place other = get_or-set_other counts from place 0 0 other
+set-other false counts from place other = refl
+
+set-here : (b : Bool) (counts : List ℕ) (from place : ℕ) → place ≡ from → place < length counts
+    → slice_index (cond b (slice_set counts from 0) counts) place ≡ cond b 0 (slice_index counts place)
+set-here true counts from place same few = subst (λ p. slice_index (slice_set counts p 0) place ≡ 0) same (get_or-set_same counts place 0 0 few)
+set-here false counts from place same few = refl
+
+-- a new table forgets the counts of places that have no tenant, and no others
+forgotten-length : (from : ℕ) (rows : List Tenant) (counts : List ℕ) → length (forgotten from rows counts) ≡ length counts
+unfolding forgotten
+forgotten-length from [] counts = refl
+forgotten-length from (row ∷ rows) counts =
+    forgotten-length (suc from) rows (cond (is_vacant row) (slice_set counts from 0) counts) ∙ set-length (is_vacant row) counts from
+
+forgotten-below : (from : ℕ) (rows : List Tenant) (counts : List ℕ) (place : ℕ) → place < from → slice_index (forgotten from rows counts) place ≡ slice_index counts place
+unfolding forgotten
+forgotten-below from [] counts place low = refl
+forgotten-below from (row ∷ rows) counts place low =
+    forgotten-below (suc from) rows (cond (is_vacant row) (slice_set counts from 0) counts) place (omega (arith, low))
+    ∙ set-other (is_vacant row) counts from place (λ same. absurd (omega (arith, low, same)))
+
+forgotten-at : (from : ℕ) (rows : List Tenant) (counts : List ℕ) (k place : ℕ) → place ≡ from + k → place < length counts
+    → slice_index (forgotten from rows counts) place ≡ cond (is_vacant_at rows k) 0 (slice_index counts place)
+unfolding forgotten
+forgotten-at from [] counts zero place is few = refl
+forgotten-at from [] counts (suc k) place is few = refl
+forgotten-at from (row ∷ rows) counts zero place is few =
+    forgotten-below (suc from) rows (cond (is_vacant row) (slice_set counts from 0) counts) place (omega (arith, is))
+    ∙ set-here (is_vacant row) counts from place (omega (arith, is)) few
+forgotten-at from (row ∷ rows) counts (suc k) place is few =
+    forgotten-at (suc from) rows (cond (is_vacant row) (slice_set counts from 0) counts) k place (omega (arith, is))
+    (omega (arith, few, set-length (is_vacant row) counts from))
+    ∙ ap (λ c. cond (is_vacant_at rows k) 0 c) (set-other (is_vacant row) counts from place (λ same. absurd (omega (arith, is, same))))
+
+-- what a counter keeps over a new table
+abbrev Keeps : (Tally → ℕ) → (Tally → Type 0) → (List Tenant → ℕ → ℕ) → Type 0
+Keeps count fits keep = (old : Tallied) (text : List ℕ) (new : Tallied) → IsReload old text new → fits old.tally
+    → (count new.tally ≡ keep new.held.tenants (count old.tally)) × fits new.tally × ((rows : List Tenant) (n : ℕ) → n ≤ 2 ^ 64 - 1 → keep rows n ≤ 2 ^ 64 - 1)
+
+module _ (count : Tally → ℕ) (fits : Tally → Type 0) (test : List Tenant → Turn → Bool) (keep : List Tenant → ℕ → ℕ) (rises : Rises count fits test)
+    (keeps : Keeps count fits keep) where
+  -- after many lines: the table stays, and the counter still fits
+  turns-fit : (before : Tallied) (turns : List Turn) (after : Tallied) → fits before.tally → AreTurns server_rules before turns after
+      → fits after.tally × (after.held.tenants ≡ before.held.tenants)
+  turns-fit before [] after f same = (subst (λ (s : Tallied). fits s.tally) (sym same) f, ap (λ (s : Tallied). s.held.tenants) same)
+  turns-fit before (t ∷ turns) after f (mid, one, run) =
+      let line = line-counted before t mid one in
+      let here = rises before.held.tenants t before.tally f in
+      let later = turns-fit mid turns after (subst fits (sym line.1) here.1) run in
+      (later.0, later.1 ∙ line.0)
+
+  story-counted : (before : Tallied) (story : Story) (after : Tallied) → fits before.tally → count before.tally ≤ 2 ^ 64 - 1
+      → Passes server_rules before story after
+      → count after.tally ≡ counted_over test keep (count before.tally) before.held.tenants story
+  story-counted before [] after f small same = ap (λ (s : Tallied). count s.tally) same
+  story-counted before (Did a ∷ story) after f small h = story-counted before story after f small h.1
+  story-counted before (Ran n turns ∷ story) after f small (mid, first, rest) =
+      let now = turns-counted count fits test rises before turns mid f small first in
+      let fit = turns-fit before turns mid f first in
+      let low : count mid.tally ≤ 2 ^ 64 - 1 = subst (λ c. c ≤ 2 ^ 64 - 1) (sym now) (omega arith) in
+      story-counted mid story after fit.0 low rest
+      ∙ ap (λ c. counted_over test keep c mid.held.tenants story) now
+      ∙ ap (λ rows. counted_over test keep (risen (count before.tally) (count_by (test before.held.tenants) turns)) rows story) fit.1
+  story-counted before (Changed text ∷ story) after f small (mid, step, rest) =
+      let rows = rows-of before text mid step in
+      let (now, fit, most) = keeps before text mid step f in
+      let low : count mid.tally ≤ 2 ^ 64 - 1 = subst (λ c. c ≤ 2 ^ 64 - 1) (sym now) (most mid.held.tenants (count before.tally) small) in
+      story-counted mid story after fit low rest
+      ∙ ap (λ c. counted_over test keep c mid.held.tenants story) now
+      ∙ ap (λ ts. counted_over test keep (keep ts (count before.tally)) ts story) rows
+
+risen-twice : (c m n : ℕ) → risen (risen c m) n ≡ risen c (m + n)
+risen-twice c m n = omega arith
+
+-- a counter whose test does not ask for the table
+plain-counted : (test : Turn → Bool) (count : ℕ) (rows : List Tenant) (story : Story) → count ≤ 2 ^ 64 - 1
+    → counted_over (λ rows. test) (λ rows n. n) count rows story ≡ risen count (count_by test (turns_in story))
+plain-counted test count rows [] small = omega (arith, small)
+plain-counted test count rows (Did a ∷ story) small = plain-counted test count rows story small
+plain-counted test count rows (Ran n turns ∷ story) small =
+    plain-counted test (risen count (count_by test turns)) rows story (omega arith)
+    ∙ risen-twice count (count_by test turns) (count_by test (turns_in story))
+    ∙ ap (risen count) (sym (sum_by-append (λ x. cond (test x) 1 0) turns (turns_in story)))
+plain-counted test count rows (Changed text ∷ story) small = plain-counted test count (rows_with rows text) story small
+
+lines-keep : (place : ℕ) → Keeps (λ tally. slice_index tally.lines place) (λ tally. place < length tally.lines) (λ rows n. n)
+lines-keep place old text new r fits =
+    let same = ap (λ (t : Tally). t.lines) r.tally in
+    (ap (λ xs. slice_index xs place) same, subst (λ xs. place < length xs) (sym same) fits, λ rows n small. small)
+
+replies-keep : (place : ℕ) → Keeps (λ tally. slice_index tally.replies place) (λ tally. place < length tally.replies) (λ rows n. n)
+replies-keep place old text new r fits =
+    let same = ap (λ (t : Tally). t.replies) r.tally in
+    (ap (λ xs. slice_index xs place) same, subst (λ xs. place < length xs) (sym same) fits, λ rows n small. small)
+
+small-kept : (b : Bool) (n : ℕ) → n ≤ 2 ^ 64 - 1 → cond b 0 n ≤ 2 ^ 64 - 1
+small-kept true n small = omega arith
+small-kept false n small = small
+
+logins-keep : (place : ℕ) → Keeps (λ tally. slice_index tally.refused place) (λ tally. place < length tally.refused) (kept_at place)
+logins-keep place old text new r fits =
+    let same = ap (λ (t : Tally). t.refused) r.tally in (
+      ap (λ xs. slice_index xs place) same ∙ forgotten-at 0 new.held.tenants old.tally.refused place place (omega arith) fits,
+      subst (λ xs. place < length xs) (sym same)
+          (subst (λ n. place < n) (sym (forgotten-length 0 new.held.tenants old.tally.refused)) fits),
+      λ rows n small. small-kept (is_vacant_at rows place) n small,
+    )
+
+unknown-keep : Keeps (λ tally. tally.unknown) (λ tally. Unit {0}) (λ rows n. n)
+unknown-keep old text new r fits = (ap (λ (t : Tally). t.unknown) r.tally, tt, λ rows n small. small)
+
 -- the counters of a server, however it ended
 pub counted-from-start : (secret config socket : List ℕ) (watch : Option (List ℕ)) (reserve : Option ℕ) (limits : Limits) (how : Ending) (log log' : Log)
     → (h : HasServedAll server_rules (IsNewService secret reserve) config socket watch limits how log log')
-    → AreCounted h.begun.opened.tenants (turns_in h.hosted.story) h.after.tally
+    → AreCounted h.begun.opened.tenants h.hosted.story h.after.tally
 counted-from-start secret config socket watch reserve limits how log log' h =
-    let new = h.begun.opened.fresh in let turns = turns_in h.hosted.story in
+    let new = h.begun.opened.fresh in let story = h.hosted.story in let rows = h.before.held.tenants in
     let none : (count : Tally → ℕ) → count no_counts ≡ 0 → count h.before.tally ≡ 0 = λ count e. ap count new.counts ∙ e in
     let low : (n : ℕ) → n ≡ 0 → n ≤ 2 ^ 64 - 1 = λ n e. omega (arith, e) in record {
       lines = λ place few.
-          let zero = none (λ tally. slice_index tally.lines place) (none-yet.0 place) in
+          let count : Tally → ℕ = λ tally. slice_index tally.lines place in
+          let zero = none count (none-yet.0 place) in
           let fits : place < length h.before.tally.lines = omega (arith, few, ap (λ (c : Tally). length c.lines) new.counts, counters.0) in
-          lines-counted place h.before turns h.after fits (low _ zero) h.hosted.run ∙ ap (λ c. risen c (count_by (asks place) turns)) zero;
+          story-counted count (λ tally. place < length tally.lines) (λ rows. asks place) (λ rows n. n) (lines-rise place) (lines-keep place)
+          h.before story h.after fits (low _ zero) h.hosted.told
+          ∙ plain-counted (asks place) (count h.before.tally) rows story (low _ zero) ∙ ap (λ c. risen c (count_by (asks place) (turns_in story))) zero;
       replies = λ place few.
-          let zero = none (λ tally. slice_index tally.replies place) (none-yet.1 place) in
+          let count : Tally → ℕ = λ tally. slice_index tally.replies place in
+          let zero = none count (none-yet.1 place) in
           let fits : place < length h.before.tally.replies = omega (arith, few, ap (λ (c : Tally). length c.replies) new.counts, counters.1) in
-          replies-counted place h.before turns h.after fits (low _ zero) h.hosted.run ∙ ap (λ c. risen c (count_by (answers place) turns)) zero;
+          story-counted count (λ tally. place < length tally.replies) (λ rows. answers place) (λ rows n. n) (replies-rise place) (replies-keep place)
+          h.before story h.after fits (low _ zero) h.hosted.told
+          ∙ plain-counted (answers place) (count h.before.tally) rows story (low _ zero) ∙ ap (λ c. risen c (count_by (answers place) (turns_in story))) zero;
       logins = λ place few.
-          let zero = none (λ tally. slice_index tally.refused place) (none-yet.2 place) in
+          let count : Tally → ℕ = λ tally. slice_index tally.refused place in
+          let test : List Tenant → Turn → Bool = λ rows. refuses rows (Some place) in
+          let zero = none count (none-yet.2 place) in
           let fits : place < length h.before.tally.refused = omega (arith, few, ap (λ (c : Tally). length c.refused) new.counts, counters.2) in
-          logins-counted place h.before turns h.after fits (low _ zero) h.hosted.run
-          ∙ ap (λ c. risen c (count_by (refuses h.before.held.tenants (Some place)) turns)) zero
-          ∙ ap (λ ts. risen 0 (count_by (refuses ts (Some place)) turns)) new.tenants;
+          story-counted count (λ tally. place < length tally.refused) test (kept_at place) (logins-rise place) (logins-keep place)
+          h.before story h.after fits (low _ zero) h.hosted.told
+          ∙ ap (λ c. counted_over test (kept_at place) c rows story) zero ∙ ap (λ ts. refused_over place ts story) new.tenants;
       unknown =
           let zero = none (λ tally. tally.unknown) none-yet.3 in
-          unknown-counted h.before turns h.after (low _ zero) h.hosted.run
-          ∙ ap (λ c. risen c (count_by (refuses h.before.held.tenants None) turns)) zero
-          ∙ ap (λ ts. risen 0 (count_by (refuses ts None) turns)) new.tenants;
+          story-counted (λ tally. tally.unknown) (λ tally. Unit {0}) (λ rows. refuses rows None) (λ rows n. n) unknown-rise unknown-keep
+          h.before story h.after tt (low _ zero) h.hosted.told
+          ∙ ap (λ c. counted_over (λ rows. refuses rows None) (λ rows n. n) c rows story) zero ∙ ap (λ ts. unknown_over ts story) new.tenants;
     }

@@ -3,16 +3,22 @@
 --     sound-end      a connection keeps it, however it ends
 --     sound-turns    lines one after another keep it, whatever their connections
 --     sound-moments  so it holds at each moment between two lines
+--     rows-stay      lines keep the rows of the table
+--     rows-of        the rows of a service after a change are those of the table's text
+--     sound-change   a new table keeps the invariant
+--     sound-story    so it holds at each moment, whatever tables were put in force before it
 --     sound-server   so it does at each moment of a server's story
 --     calls-are-bounded, run-is-bounded, server-is-bounded
 --                    at each of these times the words live at once so far, and those taken from the
---                    machine, are bounded by the quotas of the table
+--                    machine, are bounded by the quotas of the tables so far
 --     few-words      the n of `WORDS n` is at most 16 for each piece of all tenants at that time,
 --                    and at least 4 for each array that has entries
 use Rattle.std.specs.Prelude.{None, Option, ◌≡◌, ◌≤◌, ◌+◌, ◌*◌, ℕ, Bool, true, List, [], ◌∷◌, ◌++◌, length, max}
 use Rattle.std.proofs.Common.{◌∙◌, ap, append_assoc, arith, refl, subst, sym}
 use Rattle.judy_many.specs.Sessions.{AreTurns, IsTurn, Turn}
-use Rattle.judy_many.specs.Stories.{Story, turns_by, turns_in}
+use Rattle.judy_many.specs.Statuses.{Passes}
+use Rattle.judy_many.specs.Stories.{Story, changes_in}
+use Rattle.judy_many.specs.Stories.Moment.{Changed, Did, Ran}
 use Rattle.judy_many.specs.declared.serve.Ending.{Ending}
 use Rattle.judy_many.specs.declared.serve.Limits.{Limits}
 use Rattle.judy_model.specs.declared.replies.Reply.{Reply}
@@ -28,9 +34,10 @@ use Rattle.judy_programs.specs.Program.{HasServed, tells_words}
 use Rattle.judy_programs.specs.declared.program.Ran.TheVariants as ran
 use Rattle.judy_programs.proofs.lemmas.Words.{told-words}
 use Rattle.judy_tenants.specs.Held.{Held, IsSoundService, all_arrays, states_of, words_for}
+use Rattle.judy_server.specs.Reloads.{IsReload, rows_after, rows_by, rows_with}
 use Rattle.judy_server.specs.Rules.{server_rules}
 use Rattle.judy_server.specs.Served.{IsServedStep, IsNewService, seen_of, held_words}
-use Rattle.judy_server.specs.Space.{IsSoundOf, IsBoundedBy, TellsFew}
+use Rattle.judy_server.specs.Space.{IsSoundAfter, IsSoundOf, IsBoundedBy, TellsFew, granted_after}
 use Rattle.judy_server.specs.Tally.{Tallied}
 
 -- a service is that which it was
@@ -98,26 +105,84 @@ sound-moments (t ∷ done) turns before after s (mid, one, rest) =
     let (now, did, more, left) = sound-moments done turns mid after first.sound rest in
     (now, (mid, one, did), joined before mid now first more, left)
 
-turns_in-append : (p q : Story) → turns_in (p ++ q) ≡ turns_in p ++ turns_in q
-turns_in-append [] q = refl
-turns_in-append (m ∷ p) q = ap (λ ts. turns_by m ++ ts) (turns_in-append p q) ∙ sym (append_assoc (turns_by m) (turns_in p) (turns_in q))
+-- calls and lines keep the rows
+calls-stay : (before : Tallied) (ps : List (Event × Reply)) (after : Tallied) → AreMade IsServedStep before ps after → after.held.tenants ≡ before.held.tenants
+calls-stay before [] after same = ap (λ (t : Tallied). t.held.tenants) same
+calls-stay before (p ∷ ps) after (mid, made, rest) = calls-stay mid ps after rest ∙ made.keeps.tenants
 
--- at each moment of a server's story its service is sound, and has the tenants of the table
+pub rows-stay : (turns : List Turn) (before after : Tallied) → AreTurns server_rules before turns after → after.held.tenants ≡ before.held.tenants
+rows-stay [] before after same = ap (λ (t : Tallied). t.held.tenants) same
+rows-stay (t ∷ turns) before after (mid, one, rest) =
+    rows-stay turns mid after rest ∙ ap (λ (s : Tallied). s.held.tenants) one.noted ∙ calls-stay before _ one.mid one.calls
+
+-- ---- new tables
+
+-- the rows of a service after a change are those of the table's text
+pub rows-of : (old : Tallied) (text : List ℕ) (new : Tallied) → IsReload old text new → new.held.tenants ≡ rows_with old.held.tenants text
+unfolding rows_with
+rows-of old text new r = r.tenants ∙ sym (ap (rows_by old.held.tenants) r.reads)
+
+-- a new table keeps the invariant
+pub sound-change : (old : Tallied) (text : List ℕ) (new : Tallied) → IsReload old text new → IsSoundAfter (text ∷ []) old.held new.held
+sound-change old text new r =
+    let rows = rows-of old text new r in record {
+      sound = r.sound;
+      tenants = rows;
+      granted = r.held.granted ∙ ap (λ ts. max old.held.granted (words_for ts)) rows;
+      reserved = r.held.reserved;
+    }
+
+-- first lines, then tables
+after-lines : (texts : List (List ℕ)) (a b c : Held) → IsSoundOf a b → IsSoundAfter texts b c → IsSoundAfter texts a c
+after-lines texts a b c first more = record {
+  sound = more.sound;
+  tenants = more.tenants ∙ ap (λ rows. rows_after rows texts) first.tenants;
+  granted = more.granted ∙ ap (λ n. granted_after n b.tenants texts) first.granted ∙ ap (λ rows. granted_after a.granted rows texts) first.tenants;
+  reserved = more.reserved ∙ first.reserved;
+}
+
+-- first one table, then others
+after-change : (text : List ℕ) (texts : List (List ℕ)) (a b c : Held) → IsSoundAfter (text ∷ []) a b → IsSoundAfter texts b c → IsSoundAfter (text ∷ texts) a c
+after-change text texts a b c first more = record {
+  sound = more.sound;
+  tenants = more.tenants ∙ ap (λ rows. rows_after rows texts) first.tenants;
+  granted = more.granted ∙ ap (λ n. granted_after n b.tenants texts) first.granted
+      ∙ ap (λ rows. granted_after (max a.granted (words_for (rows_with a.tenants text))) rows texts) first.tenants;
+  reserved = more.reserved ∙ first.reserved;
+}
+
+-- at each moment the service is sound, and has the tenants of the tables so far
+pub sound-story : (p q : Story) (before after : Tallied) → IsSoundService before.held → Passes server_rules before (p ++ q) after
+    → (mid : Tallied) × Passes server_rules before p mid × IsSoundAfter (changes_in p) before.held mid.held × Passes server_rules mid q after
+sound-story [] q before after s h = (before, refl, record { sound = s; tenants = refl; granted = refl; reserved = refl }, h)
+sound-story (Did a ∷ p) q before after s h =
+    let (mid, did, sound, left) = sound-story p q before after s h.1 in (mid, (h.0, did), sound, left)
+sound-story (Ran n turns ∷ p) q before after s (now, first, rest) =
+    let lines = sound-turns turns before now s first in
+    let (mid, did, sound, left) = sound-story p q now after lines.sound rest in
+    (mid, (now, first, did), after-lines (changes_in p) before.held now.held mid.held lines sound, left)
+sound-story (Changed text ∷ p) q before after s (now, step, rest) =
+    let one = sound-change before text now step in
+    let (mid, did, sound, left) = sound-story p q now after one.sound rest in
+    (mid, (now, step, did), after-change text (changes_in p) before.held now.held mid.held one sound, left)
+
+-- at each moment of a server's story its service is sound, and has the tenants of the tables so far
 pub sound-server : (secret config socket : List ℕ) (watch : Option (List ℕ)) (reserve : Option ℕ) (limits : Limits) (how : Ending) (log log' : Log)
     → (h : HasServedAll server_rules (IsNewService secret reserve) config socket watch limits how log log')
     → (p q : Story) → h.hosted.story ≡ p ++ q
-    → (mid : Tallied) × AreTurns server_rules h.before (turns_in p) mid × IsSoundOf h.before.held mid.held × AreTurns server_rules mid (turns_in q) h.after
+    → (mid : Tallied) × Passes server_rules h.before p mid × IsSoundAfter (changes_in p) h.before.held mid.held × Passes server_rules mid q h.after
 sound-server secret config socket watch reserve limits how log log' h p q e =
-    sound-moments (turns_in p) (turns_in q) h.before h.after h.begun.opened.fresh.sound
-    (subst (λ ts. AreTurns server_rules h.before ts h.after) (ap turns_in e ∙ turns_in-append p q) h.hosted.run)
+    sound-story p q h.before h.after h.begun.opened.fresh.sound (subst (λ story. Passes server_rules h.before story h.after) e h.hosted.told)
 
 -- a sound service is bounded by what its quotas allow, or by what was taken beforehand
-bounded : (before after : Held) → IsSoundOf before after → IsBoundedBy before.granted before.reserved after
-bounded before after s = record {
-  peak = subst (λ n. after.peak ≤ n) s.granted s.sound.peak;
-  region = subst (λ n. after.region ≤ max before.reserved (128 * n + 512)) s.granted
-      (subst (λ n. after.region ≤ max n (128 * after.granted + 512)) s.reserved s.sound.machine);
+bounded-by : (granted reserved : ℕ) (held : Held) → IsSoundService held → held.granted ≡ granted → held.reserved ≡ reserved → IsBoundedBy granted reserved held
+bounded-by granted reserved held s most taken = record {
+  peak = subst (λ n. held.peak ≤ n) most s.peak;
+  region = subst (λ n. held.region ≤ max reserved (128 * n + 512)) most (subst (λ n. held.region ≤ max n (128 * held.granted + 512)) taken s.machine);
 }
+
+bounded : (before after : Held) → IsSoundOf before after → IsBoundedBy before.granted before.reserved after
+bounded before after s = bounded-by before.granted before.reserved after s.sound s.granted s.reserved
 
 -- at each moment, after some calls and before the others, the memory is bounded by what the quotas
 -- allow
@@ -146,14 +211,17 @@ run-is-bounded secret words end left left' taken taken' told told' h =
 pub server-is-bounded : (secret config socket : List ℕ) (watch : Option (List ℕ)) (reserve : Option ℕ) (limits : Limits) (how : Ending) (log log' : Log)
     → (h : HasServedAll server_rules (IsNewService secret reserve) config socket watch limits how log log')
     → (p q : Story) → h.hosted.story ≡ p ++ q
-    → (mid : Tallied) × AreTurns server_rules h.before (turns_in p) mid × IsBoundedBy (words_for h.before.held.tenants) h.before.held.region mid.held × AreTurns server_rules mid (turns_in q) h.after
+    → (mid : Tallied) × Passes server_rules h.before p mid × (let rows = h.before.held.tenants in
+    IsBoundedBy (granted_after (words_for rows) rows (changes_in p)) h.before.held.region mid.held) × Passes server_rules mid q h.after
 server-is-bounded secret config socket watch reserve limits how log log' h p q e =
     let (mid, did, sound, left) = sound-server secret config socket watch reserve limits how log log' h p q e in
-    let fresh = h.begun.opened.fresh in (
+    let fresh = h.begun.opened.fresh in
+    let rows = h.before.held.tenants in (
       mid,
       did,
-      subst (λ n. IsBoundedBy (words_for h.before.held.tenants) n mid.held) fresh.reserved
-          (subst (λ n. IsBoundedBy n h.before.held.reserved mid.held) fresh.granted (bounded h.before.held mid.held sound)),
+      subst (λ n. IsBoundedBy (granted_after (words_for rows) rows (changes_in p)) n mid.held) fresh.reserved
+          (subst (λ n. IsBoundedBy (granted_after n rows (changes_in p)) h.before.held.reserved mid.held) fresh.granted
+          (bounded-by (granted_after h.before.held.granted rows (changes_in p)) h.before.held.reserved mid.held sound.sound sound.granted sound.reserved)),
       left,
     )
 

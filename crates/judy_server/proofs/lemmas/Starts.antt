@@ -5,6 +5,7 @@
 --     serve-says-nothing  `serve` reads and writes nothing on the standard streams
 --     drawn-once          a job draws one secret, first of all, and is done with it
 use Rattle.std.specs.Prelude.{◌≡◌, ℕ, Bool, List, [], ◌∷◌, Option, Some, codes}
+use Rattle.judy_command.specs.declared.words.Sync.{Sync}
 use Rattle.judy_command.specs.declared.words.Job.{Job}
 use Rattle.judy_command.specs.declared.words.Job.TheVariants as job
 use Rattle.judy_protocol.specs.Serving.{Wire}
@@ -23,10 +24,10 @@ pub run-asks-nothing : (secret : List ℕ) (words : Bool) (status : ℕ) (text :
 run-asks-nothing secret words status text from to log log' (how, has_run, is, told, same) = same
 
 -- `serve` neither reads standard input nor writes standard output
-pub serve-says-nothing : (secret config socket : List ℕ) (watch : Option (List ℕ)) (clients connections : ℕ) (idle turn reserve : Option ℕ) (check : Bool)
+pub serve-says-nothing : (secret config socket : List ℕ) (watch : Option (List ℕ)) (clients connections : ℕ) (idle turn reserve : Option ℕ) (directory : Option (List ℕ)) (sync : Sync) (check : Bool)
     (status : ℕ) (text : Option (List ℕ)) (from to : Wire) (log log' : Log)
-    → HasDone secret (job.Serve config socket watch clients connections idle turn reserve check) status text from to log log' → to ≡ from
-serve-says-nothing secret config socket watch clients connections idle turn reserve check status text from to log log' (hosted, serves, is, told, same) = same
+    → HasDone secret (job.Serve config socket watch clients connections idle turn reserve directory sync check) status text from to log log' → to ≡ from
+serve-says-nothing secret config socket watch clients connections idle turn reserve directory sync check status text from to log log' (hosted, serves, is, told, same) = same
 
 -- the first that is asked of the system is a secret, and the job is done with it
 pub drawn-once : (asked : Job) (status : ℕ) (text : Option (List ℕ)) (from to : Wire) (log log' : Log)

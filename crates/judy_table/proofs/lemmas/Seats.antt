@@ -14,6 +14,8 @@
 --     same-right      a log-in gives the right that the table gives
 --     no-name         no log-in finds a vacant row
 --     knows-place     a speaker that is known has a place, with a tenant
+--     login-knows     the speaker of a log-in is known
+--     known-name      its name is one of the grammar
 --     read-rows       what holds of the rows of a table that was read
 use Rattle.std.proofs.Common.{◌≡◌, ◌≢◌, ◌⊎◌, inl, inr, ℕ, zero, suc, ◌≤◌, ◌<◌, ◌&&◌, ◌||◌, Bool, true, false, not, cond, List, [], ◌∷◌, length}
 use Rattle.std.proofs.Common.{◌==◌, if◌then◌else◌, Option, Some, None, Ok, ap, sym, ◌∙◌, refl, subst, get_or, drop, slice_get, option_map, option_and_then, arith}
@@ -21,8 +23,10 @@ use Rattle.std.proofs.lemmas.Bool.{and_parts, both_ways, not-true}
 use Rattle.std.proofs.lemmas.List.Elements.{All-from_recursion, recursion_from_All}
 use Rattle.std.proofs.lemmas.Option.{slice_get_within}
 use Rattle.std.specs.List.{AllByRecursion}
+use Rattle.std.specs.Prelude.{is_some, map}
 use Rattle.std.specs.Str.{bytes_eq}
 use Rattle.sha2.specs.Sha256.{sha256}
+use Rattle.judy_model.specs.Grammar.{is_name}
 use Rattle.judy_model.specs.Speakers.{Speaker}
 use Rattle.judy_model.specs.declared.quotas.Right.{Right}
 use Rattle.judy_model.specs.declared.quotas.Right.TheVariants.{Change, Look}
@@ -30,7 +34,7 @@ use Rattle.judy_table.specs.declared.tenant.Tenant.{Tenant}
 use Rattle.judy_table.specs.Tenants.{is_vacant, vacant, place_of, right_of, is_digest, speaker_at, login_at, login_of, IsLimited}
 use Rattle.judy_table.specs.Tenants.{read_table, HasRisingNames}
 use Rattle.judy_table.proofs.Trees.{named-tenants_in, read-tenants, tree-rows}
-use Rattle.judy_table.specs.Seats.{has_name, row_of, is_fresh, fresh_in, placed, seated, are_distinct, IsFree, AreRows, right_in, knows, knows_row, has_token}
+use Rattle.judy_table.specs.Seats.{has_name, row_of, is_fresh, fresh_in, placed, seated, are_distinct, IsFree, AreRows, IsSpelled, right_in, knows, knows_row, has_token}
 use Rattle.judy_table.proofs.Placing.{one-name, unnamed-vacant, row-named, row-absent, place-absent, place-here, fresh-are-fresh}
 use Rattle.judy_table.proofs.Placing.{fresh-each, has-fresh-old, has-fresh-new, row-fresh, distinct-fresh, placed-each, has-placed, row-placed-new}
 use Rattle.judy_table.proofs.Placing.{row-placed-old, place-kept, distinct-placed, length-placed, few-placed, named-seated, few-fresh}
@@ -45,6 +49,7 @@ seated-rows rows table r t = record {
   few = few-placed table rows (fresh_in rows table) r.few r.few_named (let most = few-fresh rows table in let few = t.few_named in omega (arith, most, few));
   few_named = let most = named-seated rows table r.distinct in let few = t.few_named in omega (arith, most, few);
   limited = every IsLimited vacant-limited (recursion_from_All IsLimited table t.limited);
+  spelled = every IsSpelled (λ e. cc) (recursion_from_All IsSpelled table t.spelled);
   empty = every (λ u. is_vacant u ≡ true → u ≡ vacant) (λ _. refl) (recursion_from_All (λ u. is_vacant u ≡ true → u ≡ vacant) table t.empty);
   distinct = distinct-placed table rows (fresh_in rows table) r.distinct (distinct-fresh rows table t.distinct) (λ name _. has-fresh-old name rows table);
 }
@@ -245,6 +250,56 @@ knows-place ts who h = by (slice_get ts who.tenant) refl h
         → (t : Tenant) × (slice_get ts who.tenant ≡ Some t) × (is_vacant t ≡ false) × (who.tenant < length ts)
     by None e g = cc
     by (Some t) e g = (t, e, not-true (is_vacant t) (and_parts (not (is_vacant t)) (has_token who.right t) g).0, slice_get_within ts who.tenant t e)
+
+-- the speaker of a log-in is known
+pub login-knows : (name token : List ℕ) (ts : List Tenant) (who : Speaker) → login_of name token ts ≡ Some who → knows ts who ≡ true
+login-knows name token ts who h = at_place (place_of name ts) h
+  where
+    some_look : (o : Option (List ℕ)) → is_digest o (sha256 token) ≡ true → is_some o ≡ true
+    some_look None e = cc
+    some_look (Some digest) e = refl
+
+    row : (place : ℕ) (t : Tenant) → slice_get ts place ≡ Some t → (v d l : Bool) → is_vacant t ≡ v → is_digest t.look (sha256 token) ≡ l
+        → speaker_at place (if v then None else if d then Some Change else if l then Some Look else None) ≡ Some who → knows ts who ≡ true
+    row place t is true d l v look e = cc
+    row place t is false true l v look e =
+        let same : record { tenant = place; right = Change } ≡ who = cc in
+        subst (λ s. knows ts s ≡ true) same (ap (λ o. knows_row o Change) is ∙ ap (λ b. not b && has_token Change t) v)
+    row place t is false false true v look e =
+        let same : record { tenant = place; right = Look } ≡ who = cc in
+        subst (λ s. knows ts s ≡ true) same
+        (ap (λ o. knows_row o Look) is ∙ ap (λ b. not b && is_some t.look) v ∙ ap (λ b. true && b) (some_look t.look look))
+    row place t is false false false v look e = cc
+
+    at_row : (place : ℕ) (o : Option Tenant) → slice_get ts place ≡ o → speaker_at place (option_and_then (right_of (sha256 token)) o) ≡ Some who
+        → knows ts who ≡ true
+    at_row place None is e = cc
+    at_row place (Some t) is e = row place t is (is_vacant t) (bytes_eq t.digest (sha256 token)) (is_digest t.look (sha256 token)) refl refl e
+
+    at_place : (o : Option ℕ) → login_at ts o token ≡ Some who → knows ts who ≡ true
+    at_place None e = cc
+    at_place (Some place) e = at_row place (slice_get ts place) refl e
+
+-- the name of a tenant that is known is one of the grammar
+pub known-name : (ts : List Tenant) (who : Speaker) (name : List ℕ) → AreRows ts → knows ts who ≡ true
+    → slice_get (map (λ (t : Tenant). t.name) ts) who.tenant ≡ Some name → is_name name ≡ true
+known-name ts who name rows h e =
+    let (t, is, v, place) = knows-place ts who h in
+    let same : t.name ≡ name = some_is (sym (there ts who.tenant t is) ∙ e) in
+    subst (λ n. is_name n ≡ true) same (spelled ts (recursion_from_All IsSpelled ts rows.spelled) who.tenant t is v)
+  where
+    some_is : {A : Type 0} {a b : A} → Some a ≡ Some b → a ≡ b
+    some_is e = cc
+
+    there : (ts : List Tenant) (p : ℕ) (t : Tenant) → slice_get ts p ≡ Some t → slice_get (map (λ (u : Tenant). u.name) ts) p ≡ Some t.name
+    there [] p t e = cc
+    there (s ∷ ts) zero t e = let same : s ≡ t = cc in ap (λ (u : Tenant). Some u.name) same
+    there (s ∷ ts) (suc p) t e = there ts p t e
+
+    spelled : (ts : List Tenant) → AllByRecursion IsSpelled ts → (p : ℕ) (t : Tenant) → slice_get ts p ≡ Some t → is_vacant t ≡ false → is_name t.name ≡ true
+    spelled [] all p t e v = cc
+    spelled (s ∷ ts) all zero t e v = let same : s ≡ t = cc in subst IsSpelled same all.0 v
+    spelled (s ∷ ts) all (suc p) t e v = spelled ts all.1 p t e v
 
 -- ---- a table that was read
 

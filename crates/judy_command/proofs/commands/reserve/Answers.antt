@@ -1,4 +1,4 @@
-use Rattle.std.proofs.Common.{◌≡◌, ◌∙◌, ap, Some, None, Option, ap₂}
+use Rattle.std.proofs.Common.{◌≡◌, ◌∙◌, ap, Some, Option, ap₂}
 use Rattle.std.specs.Prelude.{pos}
 use Rattle.clap.specs.Words.{Rule, rule_of}
 use Rattle.clap.specs.declared.builder.value_parser.ValueParser.{ValueParser}

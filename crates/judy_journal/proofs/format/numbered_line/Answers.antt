@@ -1,4 +1,4 @@
-use Rattle.std.proofs.Common.{◌≡◌, ◌++◌, ◌∷◌, [], ◌∙◌, ap, arith, append_assoc, rules}
+use Rattle.std.proofs.Common.{arith, append_assoc}
 use Rattle.std.proofs.lemmas.Grind.{common_steps}
 use Rattle.judy_journal.specs.Journals.{numbered}
 use Rattle.judy_journal.proofs.format.numbered_line.Goals as goal

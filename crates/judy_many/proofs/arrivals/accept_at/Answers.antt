@@ -6,7 +6,7 @@ use Rattle.judy_many.specs.Nets.{DidLog}
 use Rattle.judy_many.specs.Nets.Act.{Came, Closed, Refused}
 use Rattle.judy_many.specs.Stories.Moment.{Did}
 use Rattle.judy_many.specs.declared.network.How.TheVariants as how
-use Rattle.judy_many.proofs.Crowding.{came_in_slot, came_not, dropped, refused}
+use Rattle.judy_many.proofs.OneSlot.{came_in_slot, came_not, dropped, refused}
 use Rattle.judy_many.proofs.Living.{then_log}
 use Rattle.judy_many.proofs.arrivals.accept_at.Goals as goal
 

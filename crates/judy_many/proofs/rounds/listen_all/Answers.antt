@@ -1,31 +1,40 @@
 use Rattle.std.proofs.Common.{refl, ◌∙◌}
+use Rattle.judy_many.specs.Crowds.{past_of}
 use Rattle.judy_many.specs.Lives.{view_of}
+use Rattle.judy_many.specs.Queues.{everybody}
 use Rattle.judy_many.specs.Stories.Phase.{Reads}
-use Rattle.judy_many.proofs.Crowding.{turned, widen}
+use Rattle.judy_many.proofs.Crowding.{has_failed, has_written, widen}
 use Rattle.judy_many.specs.Rules.{rules_of}
 use Rattle.judy_many.proofs.rounds.listen_all.Goals as goal
 
 pub loop-place-init : goal.loop-place-init
 loop-place-init g c = record {
-  crowd = λ limits first start waits h. widen (λ b. view_of g.S.Served.who g.N.Network.number b.value) (rules_of g.S.Served.made g.S.Served.seen g.S.Shows.noted g.S.Shows.status) limits first start Reads _ _ waits _ _ _ _ (λ j k. absurd k) h;
+  crowd = λ limits first start waits began h. widen (λ b. view_of g.S.Served.who g.N.Network.number b.value) (rules_of g.S.Served.made g.S.Served.seen g.S.Shows.noted g.S.Shows.status g.S.Shows.changed) limits first start Reads _ _ (past_of waits began c.args.keeper.now) _ _ _ _ (λ j k. absurd k) h;
   queue = refl;
   logins = refl;
+  speakers = refl;
   known = c.requires.known;
 }
+
+pub returns-then-not-make_room-clause-failed : goal.returns-then-not-make_room-clause-failed
+returns-then-not-make_room-clause-failed g c = λ limits first start waits began e h.
+    has_failed (λ b. view_of g.S.Served.who g.N.Network.number b.value) (rules_of g.S.Served.made g.S.Served.seen g.S.Shows.noted g.S.Shows.status g.S.Shows.changed) limits first start _ waits began c.loop-place.keeper _ _ _ _ _ _ (rw c.if-not-make_room.true at c.make_room.ensures.written) (c.loop-place.invariant.crowd limits first start waits began h)
 
 pub loop-place-preserved : goal.loop-place-preserved
 loop-place-preserved g c =
     let same = c.loop-place.invariant.logins in
     record {
-      crowd = λ limits first start waits h.
-          let turned = c.listen_to.ensures.crowd limits first start waits in
+      crowd = λ limits first start waits began h.
+          let turned = c.listen_to.ensures.crowd limits first start waits began in
           let queued = rw c.loop-place.invariant.queue at turned in
-          queued (c.loop-place.invariant.crowd limits first start waits h);
+          queued (has_written (λ b. view_of g.S.Served.who g.N.Network.number b.value) (rules_of g.S.Served.made g.S.Served.seen g.S.Shows.noted g.S.Shows.status g.S.Shows.changed) limits first start _ waits began c.loop-place.keeper c.make_room.new.self _ _ _ _ _ (rw c.if-not-make_room.false at c.make_room.ensures.written)
+          (c.loop-place.invariant.crowd limits first start waits began h));
       queue = c.listen_to.ensures.queue ∙ c.loop-place.invariant.queue;
       logins = c.listen_to.ensures.logins ∙ same;
+      speakers = c.listen_to.ensures.speakers ∙ c.loop-place.invariant.speakers;
       known = c.listen_to.ensures.known;
     }
 
 pub returns-clause-crowd : goal.returns-clause-crowd
-returns-clause-crowd g c = λ limits first start waits h.
-    turned (λ b. view_of g.S.Served.who g.N.Network.number b.value) (rules_of g.S.Served.made g.S.Served.seen g.S.Shows.noted g.S.Shows.status) limits first start _ waits _ _ _ _ (c.loop-place.invariant.crowd limits first start waits h)
+returns-clause-crowd g c = λ limits first start waits began e h.
+    widen (λ b. view_of g.S.Served.who g.N.Network.number b.value) (rules_of g.S.Served.made g.S.Served.seen g.S.Shows.noted g.S.Shows.status g.S.Shows.changed) limits first start Reads _ everybody (past_of waits began c.loop-place.keeper) _ _ _ _ (λ j k. tt) (c.loop-place.invariant.crowd limits first start waits began h)

@@ -1,7 +1,8 @@
 use Rattle.std.proofs.Common.{◌≡◌, ℕ}
 use Rattle.judy_many.specs.Queues.{IsBefore, nobody}
-use Rattle.std.specs.Prelude.{option_map}
-use Rattle.judy_many.specs.Crowds.{Crowd}
+use Rattle.std.specs.Prelude.{Option, option_map}
+use Rattle.judy_many.specs.Books.{Journal}
+use Rattle.judy_many.specs.Crowds.{Crowd, past_of}
 use Rattle.judy_many.specs.Slots.{AreKnown}
 use Rattle.judy_many.specs.Lives.{view_of}
 use Rattle.judy_many.specs.Nets.{Acts}
@@ -12,9 +13,10 @@ use Rattle.judy_many.proofs.rounds.listen_all.Given as goal
 
 abbrev pub invariant-loop-place : goal.invariant-loop-place
 invariant-loop-place g l = record {
-  crowd : (limits : Limits) (first : g.row.S.Denot) (start : Acts) (waits : ℕ) → Crowd (λ b. view_of g.S.Served.who g.N.Network.number b.value) (rules_of g.S.Served.made g.S.Served.seen g.S.Shows.noted g.S.Shows.status) limits first start Reads nobody waits (g.N.Network.log l.fn.network) l.fn.clients.slots.items l.fn.clients.accepted l.fn.service
-      → Crowd (λ b. view_of g.S.Served.who g.N.Network.number b.value) (rules_of g.S.Served.made g.S.Served.seen g.S.Shows.noted g.S.Shows.status) limits first start Reads (IsBefore l.fn.clients.queue l.place) waits (g.N.Network.log l.network) l.clients.slots.items l.clients.accepted l.service;
+  crowd : (limits : Limits) (first : g.row.S.Denot) (start : Acts) (waits : ℕ) (began : Option Journal) → Crowd (λ b. view_of g.S.Served.who g.N.Network.number b.value) (rules_of g.S.Served.made g.S.Served.seen g.S.Shows.noted g.S.Shows.status g.S.Shows.changed) limits first start Reads nobody (past_of waits began l.fn.keeper) (g.N.Network.log l.fn.network) l.fn.clients.slots.items l.fn.clients.accepted l.fn.service
+      → Crowd (λ b. view_of g.S.Served.who g.N.Network.number b.value) (rules_of g.S.Served.made g.S.Served.seen g.S.Shows.noted g.S.Shows.status g.S.Shows.changed) limits first start Reads (IsBefore l.fn.clients.queue l.place) (past_of waits began l.keeper) (g.N.Network.log l.network) l.clients.slots.items l.clients.accepted l.service;
   queue : l.clients.queue ≡ l.fn.clients.queue;
   logins : (g.S.Served.seen l.service).logins ≡ (g.S.Served.seen l.fn.service).logins;
-  known : AreKnown (λ b. option_map g.S.Served.who b.value.session.speaker) (g.S.Served.seen l.service).logins l.clients.slots.items;
+  speakers : (g.S.Served.seen l.service).speakers ≡ (g.S.Served.seen l.fn.service).speakers;
+  known : AreKnown (λ b. option_map g.S.Served.who b.value.session.speaker) (g.S.Served.seen l.service).speakers l.clients.slots.items;
 }

@@ -1,14 +1,16 @@
-use Rattle.std.proofs.Common.{[], ◌∷◌, ◌++◌, ◌∙◌, append-nil, ap, refl, subst, sym}
+use Rattle.std.proofs.Common.{◌≡◌, [], ◌∷◌, ◌++◌, ◌∙◌, append-nil, ap, refl, subst, sym}
 use Rattle.judy_many.specs.Fates.{Leaves, Stays}
 use Rattle.judy_many.specs.Lives.{view_of}
 use Rattle.judy_many.specs.Nets.{DidLog}
 use Rattle.judy_many.specs.Nets.Act.{Closed}
-use Rattle.judy_many.specs.Sessions.{AreTurns}
+use Rattle.judy_many.specs.Books.{noted_by}
+use Rattle.judy_many.specs.Sessions.{AreTurns, records_in}
 use Rattle.judy_many.specs.Stories.{IsPiece, acts_in}
 use Rattle.judy_many.specs.Stories.Phase.{Reads}
 use Rattle.judy_many.specs.Stories.Moment.{Did}
-use Rattle.judy_many.proofs.Crowding.{did_left, did_none, did_stay}
+use Rattle.judy_many.proofs.OneSlot.{did_left, did_none, did_stay}
 use Rattle.judy_many.proofs.Living.{no_log, then_log}
+use Rattle.judy_many.proofs.Recording.{noted_none}
 use Rattle.judy_many.proofs.Telling.{acts_in-append, turns_in-append}
 use Rattle.judy_many.specs.Rules.{rules_of}
 use Rattle.judy_many.proofs.rounds.listen_at.Goals as goal
@@ -19,11 +21,12 @@ returns-in_default-clause-did g c = (
   no_log _,
   refl,
   λ limits. did_none (λ b. view_of g.S.Served.who g.N.Network.number b.value) limits Reads c.args.slot.now c.take.new.self (sym c.take.ensures.value ∙ c.in_default.is) c.take.ensures.after,
+  noted_none c.args.keeper.now,
 )
 
 pub returns-in-Some-listen-clause-did : goal.returns-in-Some-listen-clause-did
 returns-in-Some-listen-clause-did g c =
-    let (more, log, piece, run, ends) = c.in-Some-listen.ensures.goes in
+    let (more, log, piece, run, ends, noted) = c.in-Some-listen.ensures.goes in
     let n = g.N.Network.number c.in-Some.client.value.connection in
     let first = ap (λ x. g.N.Network.number x.connection) c.deref_mut.ensures.value in
     let back = ap (λ x. g.N.Network.number x.connection) c.deref_mut-in-Some-listen.ensures.value ∙ c.in-Some-listen.ensures.same ∙ first in
@@ -31,17 +34,18 @@ returns-in-Some-listen-clause-did g c =
       more ++ Did (Closed n c.in-Some-listen.how) ∷ [],
       subst (λ a. DidLog (g.N.Network.log c.args.network.now) a (g.N.Network.log c.close.new.self)) (sym (acts_in-append more (Did (Closed n c.in-Some-listen.how) ∷ [])))
           (then_log _ _ _ (acts_in more) _ log last),
-      subst (λ t. AreTurns (rules_of g.S.Served.made g.S.Served.seen g.S.Shows.noted g.S.Shows.status) c.args.service.now t c.listen.new.service)
+      subst (λ t. AreTurns (rules_of g.S.Served.made g.S.Served.seen g.S.Shows.noted g.S.Shows.status g.S.Shows.changed) c.args.service.now t c.listen.new.service)
           (sym (turns_in-append more (Did (Closed n c.in-Some-listen.how) ∷ []) ∙ append-nil _)) run,
       λ limits. did_left (λ b. view_of g.S.Served.who g.N.Network.number b.value) limits Reads c.in-Some-listen.how c.args.slot.now c.take.new.self c.in-Some.client more
           c.in-Some.ensures.value c.take.ensures.after (subst (λ n. IsPiece n Reads more) first piece) (ends.0 limits)
           (subst (λ x. Leaves c.in-Some-listen.how (view_of g.S.Served.who g.N.Network.number x) more)
           c.deref_mut.ensures.value ends.1),
+      subst (λ t. c.listen.new.keeper ≡ noted_by (records_in t) c.args.keeper.now) (sym (turns_in-append more (Did (Closed n c.in-Some-listen.how) ∷ []) ∙ append-nil _)) noted,
     )
 
 pub returns-clause-did : goal.returns-clause-did
 returns-clause-did g c =
-    let (more, log, piece, run, stays) = c.in_default-listen.ensures.goes in
+    let (more, log, piece, run, stays, noted) = c.in_default-listen.ensures.goes in
     let first = ap (λ x. g.N.Network.number x.connection) c.deref_mut.ensures.value in (
       more,
       log,
@@ -50,4 +54,5 @@ returns-clause-did g c =
           c.in-Some.ensures.value (c.in_default-listen.ensures.same ∙ first) (subst (λ n. IsPiece n Reads more) first piece)
           (subst (λ x. Stays (view_of g.S.Served.who g.N.Network.number x) (view_of g.S.Served.who g.N.Network.number c.listen.new.client) more)
           c.deref_mut.ensures.value stays),
+      noted,
     )

@@ -1,4 +1,5 @@
-use Rattle.std.proofs.Common.{arith, ◌+◌, subst, sym}
+use Rattle.std.proofs.Common.{arith, ◌+◌, slice_set, subst, sym}
+use Rattle.judy_many.specs.Crowds.{Crowd, past_of}
 use Rattle.judy_many.specs.Queues.{IsBefore}
 use Rattle.judy_many.specs.Slots.{IsKnownSlot}
 use Rattle.judy_many.specs.Lives.{view_of}
@@ -16,12 +17,14 @@ listen_at-closed-requires g c = record {
 }
 
 pub returns-clause-crowd : goal.returns-clause-crowd
-returns-clause-crowd g c = λ limits first start waits h.
-    let (more, log, run, did) = c.listen_at-closed.ensures.did in
-    crowd_turn (λ b. view_of g.S.Served.who g.N.Network.number b.value) (rules_of g.S.Served.made g.S.Served.seen g.S.Shows.noted g.S.Shows.status) limits first start Reads (IsBefore c.args.clients.now.queue c.args.place) (IsBefore c.args.clients.now.queue (c.args.place + 1)) waits _ _ c.args.clients.now.slots.items c.args.clients.now.accepted
+returns-clause-crowd g c = λ limits first start waits began h.
+    let (more, log, run, did, noted) = c.listen_at-closed.ensures.did in
+    subst (λ j. Crowd (λ b. view_of g.S.Served.who g.N.Network.number b.value) (rules_of g.S.Served.made g.S.Served.seen g.S.Shows.noted g.S.Shows.status g.S.Shows.changed) limits first start Reads (IsBefore c.args.clients.now.queue (c.args.place + 1)) (past_of waits began j) (g.N.Network.log c.listen_at-closed.new.network)
+    (slice_set c.args.clients.now.slots.items c.slot_at-at.result c.listen_at-closed.new.slot) c.args.clients.now.accepted c.listen_at-closed.new.service) {y = c.listen_at-closed.new.keeper} (sym noted)
+    (crowd_turn (λ b. view_of g.S.Served.who g.N.Network.number b.value) (rules_of g.S.Served.made g.S.Served.seen g.S.Shows.noted g.S.Shows.status g.S.Shows.changed) limits first start Reads (IsBefore c.args.clients.now.queue c.args.place) (IsBefore c.args.clients.now.queue (c.args.place + 1)) (past_of waits began c.args.keeper.now) _ _ c.args.clients.now.slots.items c.args.clients.now.accepted
     c.args.service.now c.listen_at-closed.new.service c.slot_at-at.result c.index_mut.result.now c.listen_at-closed.new.slot more
     (before_more c.args.clients.now.queue c.args.place) (λ k. before_not c.args.clients.now.queue c.args.place c.requires.apart c.requires.within (subst (IsBefore c.args.clients.now.queue c.args.place) c.slot_at-at.ensures k)) (before_this c.args.clients.now.queue c.args.place _ c.slot_at-at.ensures)
-    h (omega arith) c.index_mut.ensures.value log run (did limits)
+    h (omega arith) c.index_mut.ensures.value log run (did limits))
 
 pub returns-clause-known : goal.returns-clause-known
-returns-clause-known g c = known-set _ _ _ _ _ c.listen_at-closed.ensures.known (known-keep _ _ _ _ c.listen_at-closed.ensures.logins c.requires.known)
+returns-clause-known g c = known-set _ _ _ _ _ c.listen_at-closed.ensures.known (known-keep _ _ _ _ c.listen_at-closed.ensures.speakers c.requires.known)

@@ -1,8 +1,8 @@
-use Rattle.std.proofs.Common.{◌≡◌, ℕ}
+use Rattle.std.proofs.Common.{Bool, ◌≡◌}
 use Rattle.std.specs.Prelude.{option_map}
 use Rattle.judy_many.specs.Queues.{IsBefore, nobody}
-use Rattle.judy_model.specs.Stream.{Login}
-use Rattle.judy_many.specs.Crowds.{Crowd}
+use Rattle.judy_model.specs.Speakers.{Speaker}
+use Rattle.judy_many.specs.Crowds.{Crowd, Past}
 use Rattle.judy_many.specs.Slots.{AreKnown}
 use Rattle.judy_many.specs.Lives.{view_of}
 use Rattle.judy_many.specs.Nets.{Acts}
@@ -13,9 +13,9 @@ use Rattle.judy_many.proofs.rounds.tell_all.Given as goal
 
 abbrev pub invariant-loop-place : goal.invariant-loop-place
 invariant-loop-place g l = record {
-  crowd : (limits : Limits) (first now : g.row.S.Denot) (start : Acts) (waits : ℕ) → Crowd (λ b. view_of g.S.Served.who g.N.Network.number b.value) (rules_of g.S.Served.made g.S.Served.seen g.S.Shows.noted g.S.Shows.status) limits first start Writes nobody waits (g.N.Network.log l.fn.network) l.fn.clients.slots.items l.fn.clients.accepted now
-      → Crowd (λ b. view_of g.S.Served.who g.N.Network.number b.value) (rules_of g.S.Served.made g.S.Served.seen g.S.Shows.noted g.S.Shows.status) limits first start Writes (IsBefore l.fn.clients.queue l.place) waits (g.N.Network.log l.network) l.clients.slots.items l.clients.accepted now;
+  crowd : (limits : Limits) (first now : g.row.S.Denot) (start : Acts) (past : Past) → Crowd (λ b. view_of g.S.Served.who g.N.Network.number b.value) (rules_of g.S.Served.made g.S.Served.seen g.S.Shows.noted g.S.Shows.status g.S.Shows.changed) limits first start Writes nobody past (g.N.Network.log l.fn.network) l.fn.clients.slots.items l.fn.clients.accepted now
+      → Crowd (λ b. view_of g.S.Served.who g.N.Network.number b.value) (rules_of g.S.Served.made g.S.Served.seen g.S.Shows.noted g.S.Shows.status g.S.Shows.changed) limits first start Writes (IsBefore l.fn.clients.queue l.place) past (g.N.Network.log l.network) l.clients.slots.items l.clients.accepted now;
   queue : l.clients.queue ≡ l.fn.clients.queue;
-  known : (login : Login) → AreKnown (λ b. option_map g.S.Served.who b.value.session.speaker) login l.fn.clients.slots.items
-      → AreKnown (λ b. option_map g.S.Served.who b.value.session.speaker) login l.clients.slots.items;
+  known : (speakers : Speaker → Bool) → AreKnown (λ b. option_map g.S.Served.who b.value.session.speaker) speakers l.fn.clients.slots.items
+      → AreKnown (λ b. option_map g.S.Served.who b.value.session.speaker) speakers l.clients.slots.items;
 }

@@ -6,7 +6,7 @@ use Rattle.judy_many.specs.Nets.Act.{Closed}
 use Rattle.judy_many.specs.Stories.{IsPiece, acts_in}
 use Rattle.judy_many.specs.Stories.Phase.{Writes}
 use Rattle.judy_many.specs.Stories.Moment.{Did}
-use Rattle.judy_many.proofs.Crowding.{did_left, did_none, did_stay}
+use Rattle.judy_many.proofs.OneSlot.{did_left, did_none, did_stay}
 use Rattle.judy_many.proofs.Living.{no_log, then_log}
 use Rattle.judy_many.proofs.Telling.{acts_in-append, turns_in-append}
 use Rattle.judy_many.proofs.rounds.tell_at.Goals as goal

@@ -5,17 +5,18 @@ use Rattle.judy_many.specs.Sessions.{Steps, Turn}
 use Rattle.judy_many.specs.Rules.{rules_of}
 use Rattle.judy_many.proofs.session.run_lines.Given as goal
 
-abbrev pub invariant-loop-alloc : goal.invariant-loop-alloc
-invariant-loop-alloc g l = record {
+abbrev pub invariant-loop-keeper : goal.invariant-loop-keeper
+invariant-loop-keeper g l = record {
   steps : (used : List ℕ) × (turns : List Turn) × (used ++ l.rest ≡ l.bytes)
-      × Steps (rules_of g.S.Served.made g.S.Served.seen g.S.Shows.noted g.S.Shows.status) used turns false l.fn.session.held l.session.held
+      × Steps (rules_of g.S.Served.made g.S.Served.seen g.S.Shows.noted g.S.Shows.status g.S.Shows.changed) used turns false l.fn.session.held l.session.held
       (option_map g.S.Served.who l.fn.session.speaker) (option_map g.S.Served.who l.session.speaker)
-      l.fn.service l.service l.fn.answers.items l.answers.items;
+      l.fn.service l.service l.fn.answers.items l.answers.items l.fn.keeper l.keeper;
   left : length l.rest ≤ length l.bytes;
   more : length l.fn.answers.items ≤ length l.answers.items;
   logins : (g.S.Served.seen l.service).logins ≡ (g.S.Served.seen l.fn.service).logins;
-  known : HasLoggedIn (g.S.Served.seen l.service).logins (option_map g.S.Served.who l.session.speaker);
+  speakers : (g.S.Served.seen l.service).speakers ≡ (g.S.Served.seen l.fn.service).speakers;
+  known : HasLoggedIn (g.S.Served.seen l.service).speakers (option_map g.S.Served.who l.session.speaker);
 }
 
-abbrev pub decreases-loop-alloc : goal.decreases-loop-alloc
-decreases-loop-alloc g l = length l.rest
+abbrev pub decreases-loop-keeper : goal.decreases-loop-keeper
+decreases-loop-keeper g l = length l.rest

@@ -4,7 +4,7 @@ use Rattle.judy_many.specs.Nets.{DidLog}
 use Rattle.judy_many.specs.Nets.Act.{Closed}
 use Rattle.judy_many.specs.Stories.Phase.{Sweeps}
 use Rattle.judy_many.specs.Stories.Moment.{Did}
-use Rattle.judy_many.proofs.Crowding.{did_idle, did_none, did_stay}
+use Rattle.judy_many.proofs.OneSlot.{did_idle, did_none, did_stay}
 use Rattle.judy_many.proofs.Living.{no_log}
 use Rattle.judy_many.proofs.Telling.{piece_none, stays_none}
 use Rattle.judy_many.proofs.sweeps.sweep_at.Goals as goal

@@ -99,6 +99,7 @@ loop-chunk-preserved g c =
         Hears-append _ _ h.0 k.0 _ _ _ h.2 (Hears-gathered _ _ k.0 _ _ _ gathers sent),
       );
       logins = c.gather-gathered.ensures.logins ∙ c.loop-chunk.invariant.logins;
+      speakers = c.gather-gathered.ensures.speakers ∙ c.loop-chunk.invariant.speakers;
       known = c.gather-gathered.ensures.known;
       flushed = λ waits. absurd (false≢true (sym (c.send.ensures.flushed c.if-not-send.false) ∙ waits));
       faults = c.if-not-send.ensures.faults ∙ c.loop-chunk.invariant.faults;
@@ -107,5 +108,8 @@ loop-chunk-preserved g c =
 pub returns-clause-heard : goal.returns-clause-heard
 returns-clause-heard g c =
     let h = c.loop-chunk.invariant.heard in
-    let whole = Hears-append _ _ h.0 c.loop-chunk.rest.now _ _ _ h.2 (Hears-chunk _ _ c.loop-chunk.rest.now _ _ c.in_default.ensures c.hold.ensures) in
+    let first = talk g.S.Served.who c.args.held.now c.args.speaker.now c.args.service.now (g.W.Sink.taken c.args.sink.now) in
+    let mid = talk g.S.Served.who c.loop-chunk.held c.loop-chunk.speaker c.loop-chunk.service (g.W.Sink.taken c.loop-chunk.sink) in
+    let last = record mid { held = c.hold.new.self } in
+    let whole = Hears-append _ _ h.0 c.loop-chunk.rest.now first mid last h.2 (Hears-chunk _ _ c.loop-chunk.rest.now mid c.hold.new.self c.in_default.ensures c.hold.ensures) in
     rw h.1 at whole

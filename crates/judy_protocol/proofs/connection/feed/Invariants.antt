@@ -11,7 +11,8 @@ invariant-loop-chunk g l = record {
       (talk g.S.Served.who l.fn.held l.fn.speaker l.fn.service (g.W.Sink.taken l.fn.sink))
       (talk g.S.Served.who l.held l.speaker l.service (g.W.Sink.taken l.sink));
   logins : (g.S.Served.seen l.service).logins ≡ (g.S.Served.seen l.fn.service).logins;
-  known : HasLoggedIn (g.S.Served.seen l.service).logins (option_map g.S.Served.who l.speaker);
+  speakers : (g.S.Served.seen l.service).speakers ≡ (g.S.Served.seen l.fn.service).speakers;
+  known : HasLoggedIn (g.S.Served.seen l.service).speakers (option_map g.S.Served.who l.speaker);
   flushed : IsFlushed (g.W.Sink.pending l.fn.sink) (g.W.Sink.pending l.sink);
   faults : g.W.Sink.faults l.sink ≡ g.W.Sink.faults l.fn.sink;
 }

@@ -41,6 +41,7 @@ loop-pulls-init g c = record {
         (g.W.Sink.taken c.args.sink.now) c.new-held.ensures),
   );
   logins = c.in-None.ensures.logins;
+  speakers = c.in-None.ensures.speakers;
   known = c.in-None.ensures.known;
   flushed = c.in-None.ensures.flushed (λ e. cc);
   ends = refl;
@@ -192,6 +193,7 @@ loop-pulls-preserved g c =
         more _ _ h.0 h.2,
       );
       logins = c.in-None-feed.ensures.logins ∙ c.loop-pulls.invariant.logins;
+      speakers = c.in-None-feed.ensures.speakers ∙ c.loop-pulls.invariant.speakers;
       known = c.in-None-feed.ensures.known;
       flushed = λ waits. c.loop-pulls.invariant.flushed (c.in-None-feed.ensures.flushed (λ e. cc) waits);
       ends = c.in-Bytes.ensures.ends ∙ c.loop-pulls.invariant.ends;

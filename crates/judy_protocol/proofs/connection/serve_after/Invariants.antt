@@ -12,7 +12,8 @@ invariant-loop-pulls g l = record {
       × Told g.S.Served.made (g.S.Served.seen l.fn.service).logins l.fn.service (g.W.Sink.taken l.fn.sink) stream
       (talk g.S.Served.who l.held l.speaker l.service (g.W.Sink.taken l.sink));
   logins : (g.S.Served.seen l.service).logins ≡ (g.S.Served.seen l.fn.service).logins;
-  known : HasLoggedIn (g.S.Served.seen l.service).logins (option_map g.S.Served.who l.speaker);
+  speakers : (g.S.Served.seen l.service).speakers ≡ (g.S.Served.seen l.fn.service).speakers;
+  known : HasLoggedIn (g.S.Served.seen l.service).speakers (option_map g.S.Served.who l.speaker);
   flushed : IsFlushed (g.W.Sink.pending l.fn.sink) (g.W.Sink.pending l.sink);
   ends : g.R.Source.ends l.source ≡ g.R.Source.ends l.fn.source;
   read_faults : g.R.Source.faults l.source ≡ g.R.Source.faults l.fn.source;

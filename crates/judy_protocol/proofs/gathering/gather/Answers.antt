@@ -24,5 +24,6 @@ loop-quit-preserved g c =
       fewer = omega (arith, ap length c.in-Some.ensures.1, length-append c.in-Some.line.now (10 ∷ c.in-Some.more.now), c.loop-quit.invariant.fewer);
       short = c.answer-quit-in-loop-quit.ensures.short;
       logins = c.answer-quit-in-loop-quit.ensures.logins ∙ c.loop-quit.invariant.logins;
+      speakers = c.answer-quit-in-loop-quit.ensures.speakers ∙ c.loop-quit.invariant.speakers;
       known = c.answer-quit-in-loop-quit.ensures.known;
     }

@@ -13,7 +13,8 @@ invariant-loop-quit g l = record {
   fewer : length l.rest ≤ length l.after;
   short : length l.rooms.answers.items ≤ ANSWERS_LIMIT;
   logins : (g.S.Served.seen l.service).logins ≡ (g.S.Served.seen l.fn.service).logins;
-  known : HasLoggedIn (g.S.Served.seen l.service).logins (option_map g.S.Served.who l.speaker);
+  speakers : (g.S.Served.seen l.service).speakers ≡ (g.S.Served.seen l.fn.service).speakers;
+  known : HasLoggedIn (g.S.Served.seen l.service).speakers (option_map g.S.Served.who l.speaker);
 }
 
 abbrev pub decreases-loop-quit : goal.decreases-loop-quit

@@ -1,4 +1,4 @@
-use Rattle.std.proofs.Common.{arith, ◌+◌, sym, ap, ◌∙◌, get_or, ◌&&◌}
+use Rattle.std.proofs.Common.{arith, sym, ap, ◌∙◌, get_or, ◌&&◌}
 use Rattle.std.proofs.lemmas.Int.Digits.{digits_value_more}
 use Rattle.std.proofs.lemmas.List.Folds.{list_all_more}
 use Rattle.judy_model.specs.Grammar.{is_digit}

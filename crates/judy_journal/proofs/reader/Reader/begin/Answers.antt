@@ -1,4 +1,4 @@
-use Rattle.std.proofs.Common.{◌≡◌, sym, ap, ◌∙◌}
+use Rattle.std.proofs.Common.{sym, ap, ◌∙◌}
 use Rattle.judy_journal.specs.Journals.{header}
 use Rattle.judy_journal.proofs.reader.Reader.begin.Goals as goal
 

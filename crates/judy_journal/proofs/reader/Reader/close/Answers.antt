@@ -1,6 +1,6 @@
-use Rattle.std.proofs.Common.{◌≡◌, List, ℕ, [], true, sym, ap, ◌∙◌}
+use Rattle.std.proofs.Common.{List, ℕ, [], true, sym, ap, ◌∙◌}
 use Rattle.judy_model.specs.Stream.{lines_of}
-use Rattle.judy_journal.specs.Journals.{mark, sum_of, sum_after, numbered}
+use Rattle.judy_journal.specs.Journals.{mark, sum_after}
 use Rattle.judy_journal.specs.Readings.{Reading}
 use Rattle.judy_journal.proofs.Stepping.{mark_is, sum_is}
 use Rattle.judy_journal.proofs.reader.Reader.close.Goals as goal

@@ -1,6 +1,6 @@
-use Rattle.std.proofs.Common.{◌≡◌, true, false, sym, ap, ◌∙◌, subst}
+use Rattle.std.proofs.Common.{sym, ap, ◌∙◌, subst}
 use Rattle.std.specs.Prelude.{IsTrue}
-use Rattle.judy_journal.specs.Journals.{is_commit, is_line, is_record}
+use Rattle.judy_journal.specs.Journals.{is_commit, is_line}
 use Rattle.judy_journal.proofs.Stepping.{closed, kept, other_mark, no_room, record_if}
 use Rattle.judy_journal.proofs.reader.Reader.end_line.Goals as goal
 
@@ -8,22 +8,22 @@ pub keep-requires : goal.keep-requires
 keep-requires c =
     record_if c.args.self.now.line (subst (λ r. IsTrue (is_line r.line)) c.self.view_is c.self.invariant.3) (sym c.is_mark.ensures ∙ c.if-is_mark.false)
 
-pub returns-then-close : goal.returns-then-close
-returns-then-close c segment first text commits h unended =
+pub returns-then-close-clause-ended : goal.returns-then-close-clause-ended
+returns-then-close-clause-ended c segment first text commits h unended =
     closed segment first text commits c.args.self.now h unended c.close.new.self (sym (ap (λ r. r.begun) c.self.view_is) ∙ c.if-not-self.false)
     (subst (λ r. IsTrue (is_commit r.records)) c.self.view_is c.self.invariant.2) (c.close.ensures.is c.if-close.true) (c.close.ensures.read c.if-close.true)
 
-pub returns-then-is_mark : goal.returns-then-is_mark
-returns-then-is_mark c segment first text commits h unended more =
+pub returns-then-is_mark-clause-ended : goal.returns-then-is_mark-clause-ended
+returns-then-is_mark-clause-ended c segment first text commits h unended more =
     other_mark segment first text commits c.args.self.now h unended (sym (ap (λ r. r.begun) c.self.view_is) ∙ c.if-not-self.false)
     (sym c.is_mark.ensures ∙ c.if-is_mark.true) (c.close.ensures.other c.if-close.false) more
 
-pub returns-then-keep : goal.returns-then-keep
-returns-then-keep c segment first text commits h unended =
+pub returns-then-keep-clause-ended : goal.returns-then-keep-clause-ended
+returns-then-keep-clause-ended c segment first text commits h unended =
     kept segment first text commits c.args.self.now h unended c.keep.new.self (sym (ap (λ r. r.begun) c.self.view_is) ∙ c.if-not-self.false)
     (record_if c.args.self.now.line h.line_is (sym c.is_mark.ensures ∙ c.if-is_mark.false)) (c.keep.ensures.kept c.if-keep.true)
 
-pub returns : goal.returns
-returns c segment first text commits h unended more =
+pub returns-clause-ended : goal.returns-clause-ended
+returns-clause-ended c segment first text commits h unended more =
     no_room segment first text commits c.args.self.now h unended (sym (ap (λ r. r.begun) c.self.view_is) ∙ c.if-not-self.false)
     (record_if c.args.self.now.line h.line_is (sym c.is_mark.ensures ∙ c.if-is_mark.false)) (c.keep.ensures.long c.if-keep.false) more

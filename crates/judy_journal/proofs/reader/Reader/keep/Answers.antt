@@ -1,6 +1,5 @@
 use Rattle.std.proofs.Common.{arith, ◌≡◌, ◌<◌, ◌+◌, ◌++◌, ◌∷◌, [], sym, ap, ◌∙◌, List, ℕ, length, append_assoc, subst}
 use Rattle.std.specs.Prelude.{IsTrue}
-use Rattle.std.proofs.lemmas.List.{length-append}
 use Rattle.judy_model.specs.Stream.{lines_of}
 use Rattle.judy_journal.specs.Journals.{joined, is_record}
 use Rattle.judy_journal.specs.Readings.{Reading}

@@ -1,9 +1,10 @@
-use Rattle.std.proofs.Common.{◌≡◌, ◌++◌, ◌∷◌, [], true, false, ◌∙◌, sym, ap, subst, refl, append_assoc, append-nil, arith, length}
+use Rattle.std.proofs.Common.{◌++◌, ◌∷◌, [], true, false, ◌∙◌, sym, ap, subst, refl, append_assoc, append-nil, arith, length}
 use Rattle.std.proofs.lemmas.List.{length-append}
 use Rattle.std.specs.Prelude.{if◌then◌else◌}
 use Rattle.judy_journal.specs.declared.damage.Damage.TheVariants as damage
 use Rattle.judy_journal.specs.Recoveries.{IsDamaged}
 use Rattle.judy_journal.proofs.Stepping.{cut_more, held, long_damage, read_more}
+use Rattle.judy_journal.specs.Readings.{IsRead}
 use Rattle.judy_journal.proofs.reader.Reader.read.Goals as goal
 
 pub returns-in-Ok-true-clause-read : goal.returns-in-Ok-true-clause-read
@@ -11,7 +12,7 @@ returns-in-Ok-true-clause-read c segment first text commits h =
     let (used, cut, so_far) = c.loop-chunk.invariant.read in
     let (r, unended) = so_far segment first text commits h in
     let line = c.in-Some.chunk.now ++ 10 ∷ [] in
-    let k = rw c.in-Ok-true.field-0-test at c.in-Ok-true.ensures segment first (text ++ used) commits r unended in
+    let k = rw c.in-Ok-true.field-0-test at c.in-Ok-true.ensures.taken segment first (text ++ used) commits r unended in
     let (now, whole) = read_more segment first text used line _ c.take_line.new.self true k in
     (used ++ line, c.in-Some.after.now, cut_more used c.in-Some.chunk.now c.in-Some.after.now c.loop-chunk.rest.now c.args.bytes.now cut c.in-Some.ensures.1, refl, now, whole)
 
@@ -25,7 +26,7 @@ loop-chunk-preserved c =
         cut_more used c.in-Some.chunk.now c.in-Some.after.now c.loop-chunk.rest.now c.args.bytes.now cut c.in-Some.ensures.1,
         λ segment first text commits h.
             let (r, unended) = so_far segment first text commits h in
-            let k = rw c.in-Ok-false.field-0-test at c.in-Ok-false.ensures segment first (text ++ used) commits r unended in
+            let k = rw c.in-Ok-false.field-0-test at c.in-Ok-false.ensures.taken segment first (text ++ used) commits r unended in
             read_more segment first text used line commits c.take_line.new.self false k,
       );
     }
@@ -34,7 +35,7 @@ pub returns-in-Err-clause-read : goal.returns-in-Err-clause-read
 returns-in-Err-clause-read c segment first text commits h =
     let (used, cut, so_far) = c.loop-chunk.invariant.read in
     let (r, unended) = so_far segment first text commits h in
-    let k = c.in-Err.ensures segment first (text ++ used) commits r unended c.in-Some.after.now in
+    let k = c.in-Err.ensures.taken segment first (text ++ used) commits r unended c.in-Some.after.now in
     subst (IsDamaged c.in-Err.damage segment first)
     (append_assoc text used (c.in-Some.chunk.now ++ 10 ∷ c.in-Some.after.now)
     ∙ ap (λ v. text ++ v) (ap (λ v. used ++ v) (sym c.in-Some.ensures.1) ∙ cut)) k
@@ -62,3 +63,21 @@ pub returns-in-Ok-true-clause-left : goal.returns-in-Ok-true-clause-left
 returns-in-Ok-true-clause-left c =
     let (used, cut, so_far) = c.loop-chunk.invariant.read in
     omega (arith, ap length cut, ap length c.in-Some.ensures.1, length-append used c.loop-chunk.rest.now, length-append c.in-Some.chunk.now (10 ∷ c.in-Some.after.now))
+
+pub returns-in-Err-clause-stopped : goal.returns-in-Err-clause-stopped
+returns-in-Err-clause-stopped c segment first text commits h =
+    let (used, cut, so_far) = c.loop-chunk.invariant.read in
+    let (r, unended) = so_far segment first text commits h in
+    let (more, rest, all, read) = c.in-Err.ensures.stopped segment first (text ++ used) commits r unended in (
+      used ++ more,
+      rest ++ 10 ∷ c.in-Some.after.now,
+      append_assoc used more (rest ++ 10 ∷ c.in-Some.after.now)
+          ∙ ap (λ v. used ++ v) (sym (append_assoc more rest (10 ∷ c.in-Some.after.now)) ∙ ap (λ v. v ++ 10 ∷ c.in-Some.after.now) all ∙ sym c.in-Some.ensures.1) ∙ cut,
+      subst (λ v. IsRead segment first v commits c.take_line.new.self) (append_assoc text used more) read,
+    )
+
+pub returns-then-not-hold-clause-stopped : goal.returns-then-not-hold-clause-stopped
+returns-then-not-hold-clause-stopped c segment first text commits h =
+    let (used, cut, so_far) = c.loop-chunk.invariant.read in
+    let (r, unended) = so_far segment first text commits h in
+    (used, c.loop-chunk.rest.now, cut, subst (λ v. IsRead segment first (text ++ used) commits v) (sym (c.hold.ensures.same c.if-not-hold.true)) r)

@@ -19,19 +19,19 @@ no_other_token a b c x y ha hb hc = rw (ha, hb, hc) refl
 no_name : (a b : Bool) (x y : Option Speaker) → a ≡ false → b ≡ false → None ≡ cond a x (cond b y None)
 no_name a b x y ha hb = rw (ha, hb) refl
 
-pub returns-then-eq : goal.returns-then-eq
-returns-then-eq c = no_token _ _ _ _ _ _
+pub returns-then-eq-clause-who : goal.returns-then-eq-clause-who
+returns-then-eq-clause-who c = no_token _ _ _ _ _ _
     (told true c.args.name.now (codes "alice") _ c.as_slice.ensures c.if-eq.ensures)
     (told false c.args.token.now (codes "abc") _ c.as_slice-then-eq.ensures c.if-eq-2.ensures)
     (told false c.args.token.now (codes "hello") _ c.as_slice-then-eq-2.ensures c.if-eq-3.ensures)
 
-pub returns-then-eq-4 : goal.returns-then-eq-4
-returns-then-eq-4 c = no_other_token _ _ _ _ _
+pub returns-then-eq-4-clause-who : goal.returns-then-eq-4-clause-who
+returns-then-eq-4-clause-who c = no_other_token _ _ _ _ _
     (told false c.args.name.now (codes "alice") _ c.as_slice.ensures c.if-eq.ensures)
     (told true c.args.name.now (codes "bob") _ c.as_slice-2.ensures c.if-eq-4.ensures)
     (told false c.args.token.now (codes "hello") _ c.as_slice-then-eq-4.ensures c.if-eq-5.ensures)
 
-pub returns : goal.returns
-returns c = no_name _ _ _ _
+pub returns-clause-who : goal.returns-clause-who
+returns-clause-who c = no_name _ _ _ _
     (told false c.args.name.now (codes "alice") _ c.as_slice.ensures c.if-eq.ensures)
     (told false c.args.name.now (codes "bob") _ c.as_slice-2.ensures c.if-eq-4.ensures)

@@ -1,0 +1,253 @@
+#!/usr/bin/env python3
+"""judyd with a journal beside redis with its append-only file, on one disk: bench/journal.py [--seconds S] [--disk DIR]
+
+First, persistent clients (persistent.c; half of their calls store, half look): 1, 8 and 64 of them, with 1
+and with 100 calls in flight. The servers are judyd without a journal, with `--sync round` and with
+`--sync 1`, and redis without a file, with `appendfsync always` and with `everysec`. A row has the calls a
+second, the server's processor time of a call, and the bytes on disk of a call that stores.
+
+Then the time from a start to the first answer: a journal of 1,000,000 changing lines, and its snapshot
+(`judyd compact`, redis's BGREWRITEAOF).
+
+Each server's folder is made in DIR (default: the system's temporary folder), which should be on a disk.
+The program is the path in JUDYD, otherwise crates/judyd/out/judyd.
+"""
+
+import argparse
+import glob
+import hashlib
+import os
+import shutil
+import socket
+import subprocess
+import sys
+import tempfile
+import time
+
+TOP = os.path.dirname(os.path.dirname(os.path.realpath(__file__)))
+PROGRAM = os.environ.get("JUDYD", os.path.join(TOP, "crates", "judyd", "out", "judyd"))
+NAMES = ("ann", "ben", "cat", "dan")
+LINES = 1_000_000
+STEP = 0x9E3779B97F4A7C15
+PATIENCE = 120.0
+
+
+def wait_for(path):
+    """Waits until a server accepts connections at a path, and returns a connection."""
+    end = time.monotonic() + PATIENCE
+    while time.monotonic() < end:
+        client = socket.socket(socket.AF_UNIX)
+        try:
+            client.connect(path)
+            return client
+        except OSError:
+            client.close()
+            time.sleep(0.005)
+    sys.exit("journal: no server at its socket after %d seconds" % PATIENCE)
+
+
+def size_of(paths):
+    """The bytes of all files."""
+    return sum(os.path.getsize(it) for it in paths)
+
+
+class Judyd:
+    """judyd with these words for its journal."""
+
+    kind = "judyd"
+    log_ins = ["%s abc" % name for name in NAMES]
+
+    def __init__(self, folder, title, words):
+        self.folder, self.title, self.words = folder, title, words
+        self.socket = os.path.join(folder, "socket")
+        self.journal = os.path.join(folder, "journal")
+
+    def prepare(self):
+        """Makes the table and an empty folder for the journal."""
+        digest = hashlib.sha256(b"abc").hexdigest()
+        with open(os.path.join(self.folder, "table"), "w", encoding="ascii") as table:
+            for name in NAMES:
+                print('[%s]\nsha256 = "%s"\nquota = 16000000\n' % (name, digest), file=table)
+        os.mkdir(self.journal)
+
+    def start(self):
+        """Starts the server."""
+        words = ["serve", "--config", os.path.join(self.folder, "table"), "--socket", self.socket, "--clients", "64"]
+        if self.words is not None:
+            words += ["--journal", self.journal, *self.words]
+        return subprocess.Popen([PROGRAM, *words], stderr=subprocess.DEVNULL)
+
+    def bytes_a_store(self):
+        """The bytes of the journal for each of its records."""
+        files = glob.glob(os.path.join(self.journal, "*.journal"))
+        count = 0
+        for path in files:
+            with open(path, "rb") as file:
+                count += sum(1 for line in file if not line.startswith((b"#", b"judyd ")))
+        return size_of(files) / count if count else 0.0
+
+    @staticmethod
+    def store(word):
+        """The bytes of a call that stores."""
+        return b"J1S s %d\n" % word
+
+    @staticmethod
+    def greet(client):
+        """Logs in."""
+        client.sendall(b"AUTH ann abc\n")
+        client.recv(100)
+
+    def compact(self):
+        """Makes a snapshot of all segments: no server uses them."""
+        subprocess.run([PROGRAM, "compact", self.journal], check=True, stdout=subprocess.DEVNULL)
+
+
+class Redis:
+    """redis with these words for its append-only file."""
+
+    kind = "redis"
+    log_ins = []
+
+    def __init__(self, folder, title, words):
+        self.folder, self.title, self.words = folder, title, words
+        self.socket = os.path.join(folder, "socket")
+
+    def prepare(self):
+        """Nothing is needed beside the folder."""
+
+    def start(self):
+        """Starts the server."""
+        words = ["--port", "0", "--unixsocket", self.socket, "--dir", self.folder, "--save", "", "--daemonize", "no", *self.words]
+        return subprocess.Popen(["redis-server", *words], stdout=subprocess.DEVNULL)
+
+    def bytes_a_store(self):
+        """The bytes of the append-only file for each of its commands."""
+        files = glob.glob(os.path.join(self.folder, "**", "*.aof"), recursive=True)
+        count = 0
+        for path in files:
+            with open(path, "rb") as file:
+                count += sum(1 for line in file if line == b"SADD\r\n")
+        return size_of(files) / count if count else 0.0
+
+    @staticmethod
+    def store(word):
+        """The bytes of a call that stores."""
+        text = b"%d" % word
+        return b"*3\r\n$4\r\nSADD\r\n$2\r\ns0\r\n$%d\r\n%s\r\n" % (len(text), text)
+
+    @staticmethod
+    def greet(client):
+        """Waits until the data is loaded."""
+        end = time.monotonic() + PATIENCE
+        while time.monotonic() < end:
+            client.sendall(b"*1\r\n$4\r\nPING\r\n")
+            if client.recv(100).startswith(b"+PONG"):
+                return
+            time.sleep(0.005)
+
+    @staticmethod
+    def compact(client):
+        """Writes the append-only file anew."""
+        client.sendall(b"*1\r\n$12\r\nBGREWRITEAOF\r\n")
+        client.recv(200)
+        end = time.monotonic() + PATIENCE
+        while time.monotonic() < end:
+            client.sendall(b"*2\r\n$4\r\nINFO\r\n$11\r\npersistence\r\n")
+            if b"aof_rewrite_in_progress:0" in client.recv(8192):
+                return
+            time.sleep(0.05)
+
+
+def rows(disk, seconds):
+    """The table of persistent clients, one row after another."""
+    binary = os.path.join(tempfile.mkdtemp(), "persistent")
+    subprocess.run(["cc", "-O2", "-o", binary, os.path.join(TOP, "bench", "persistent.c")], check=True)
+    kinds = [
+        (Judyd, "judyd, no journal", None),
+        (Judyd, "judyd --sync round", ["--sync", "round"]),
+        (Judyd, "judyd --sync 1", ["--sync", "1"]),
+        (Redis, "redis, no file", []),
+        (Redis, "redis, always", ["--appendonly", "yes", "--appendfsync", "always"]),
+        (Redis, "redis, everysec", ["--appendonly", "yes", "--appendfsync", "everysec"]),
+    ]
+    print("| server | clients | in flight | calls a second | CPU a call, us | bytes a store |\n|---|---|---|---|---|---|")
+    for clients in (1, 8, 64):
+        for inflight in (1, 100):
+            for kind, title, words in kinds:
+                folder = tempfile.mkdtemp(dir=disk)
+                server = kind(folder, title, words)
+                server.prepare()
+                running = server.start()
+                wait_for(server.socket).close()
+                ran = subprocess.run(
+                    [binary, server.socket, str(clients), str(min(clients, 2)), str(seconds), str(inflight), str(running.pid), kind.kind, *kind.log_ins],
+                    stdout=subprocess.PIPE, encoding="ascii", check=True,
+                )
+                running.terminate()
+                running.wait()
+                figures = ran.stdout.split()
+                print("| %s | %d | %d | %s | %.2f | %.0f |" % (title, clients, inflight, f"{int(figures[0]):,}", float(figures[5]) / 1000, server.bytes_a_store()), flush=True)
+                shutil.rmtree(folder)
+
+
+def fill(server):
+    """Stores different words, and returns when all are answered."""
+    client = wait_for(server.socket)
+    server.greet(client)
+    for start in range(0, LINES, 1000):
+        client.sendall(b"".join(server.store(word * STEP % 2**64) for word in range(start, start + 1000)))
+        left = 1000
+        while left:
+            left -= client.recv(1 << 16).count(b"\n")
+    return client
+
+
+def first_answer(server):
+    """Starts a server and returns it with the seconds until its first answer."""
+    begun = time.monotonic()
+    running = server.start()
+    client = wait_for(server.socket)
+    server.greet(client)
+    return running, time.monotonic() - begun
+
+
+def starts(disk):
+    """The table of starts."""
+    print("\n| server | from 1,000,000 changing lines, s | from the snapshot of 1,000,000 entries, s |\n|---|---|---|")
+    for kind, title, words in ((Judyd, "judyd --sync 1", ["--sync", "1"]), (Redis, "redis, everysec", ["--appendonly", "yes", "--appendfsync", "everysec"])):
+        folder = tempfile.mkdtemp(dir=disk)
+        server = kind(folder, title, words)
+        server.prepare()
+        running = server.start()
+        fill(server)
+        running.terminate()
+        running.wait()
+        if kind is Judyd:
+            os.unlink(server.socket)
+        running, lines = first_answer(server)
+        if kind is Redis:
+            server.compact(wait_for(server.socket))
+        running.terminate()
+        running.wait()
+        if kind is Judyd:
+            os.unlink(server.socket)
+            server.compact()
+        running, snapshot = first_answer(server)
+        running.terminate()
+        running.wait()
+        print("| %s | %.2f | %.2f |" % (title, lines, snapshot), flush=True)
+        shutil.rmtree(folder)
+
+
+def main():
+    """Both tables."""
+    parser = argparse.ArgumentParser(description=__doc__.splitlines()[0])
+    parser.add_argument("--seconds", type=int, default=4, help="how long each row of clients counts")
+    parser.add_argument("--disk", default=None, help="where the files are made")
+    options = parser.parse_args()
+    rows(options.disk, options.seconds)
+    starts(options.disk)
+
+
+if __name__ == "__main__":
+    main()

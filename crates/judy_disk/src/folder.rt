@@ -1,0 +1,202 @@
+//! The directory of a journal.
+use crate::faults::DiskFault;
+use crate::files::{Growing, NewSnapshot};
+use crate::locks::Locks;
+use crate::names::{Named, Place, read_name};
+use crate::scan::{Found, arrange, out_of_memory};
+use std::alloc::Global;
+use std::fs::{self, Files, OpenFile, OpenOptions};
+use std::io;
+
+/// Puts a number with the others.
+fn put_number(numbers: &mut Vec<u64>, number: u64) -> Result<(), DiskFault> {
+    numbers.push(number).map_err(|_| out_of_memory())
+}
+
+/// The directory of a journal, by its path.
+#[derive(Drop)]
+pub struct Folder<'a, F: Files> {
+    files: &'a F,
+    alloc: Global,
+    path: String,
+}
+
+impl<'a, F: Files> Folder<'a, F> {
+    /// The directory at this path.
+    pub fn new(files: &'a F, alloc: Global, path: String) -> Self {
+        Folder { files, alloc, path }
+    }
+
+    /// The path of the directory.
+    pub fn path(&self) -> &str {
+        self.path.as_str()
+    }
+
+    /// The path of one of its files.
+    fn path_to(&self, place: Place) -> Result<String, DiskFault> {
+        let path = self.path.as_str();
+        let made = match place {
+            Place::Folder => String::from_str(self.alloc, path),
+            place => format!(in self.alloc; "{path}/{place}"),
+        };
+        made.map_err(|e| DiskFault::at(place, io::Error::from(e)))
+    }
+
+    /// Opens one of its files.
+    fn open_with(&self, how: &OpenOptions, place: Place) -> Result<F::File, DiskFault> {
+        let path = self.path_to(place)?;
+        how.open(self.files, path.as_str())
+            .map_err(|e| DiskFault::at(place, e))
+    }
+
+    /// Opens one of its files for reading.
+    pub fn open(&self, place: Place) -> Result<F::File, DiskFault> {
+        self.open_with(OpenOptions::new().read(true), place)
+    }
+
+    /// Secures which files the directory has.
+    pub fn sync(&self) -> Result<(), DiskFault> {
+        let file = self.open_with(OpenOptions::new().read(true), Place::Folder)?;
+        file.sync_all().map_err(|e| DiskFault::at(Place::Folder, e))
+    }
+
+    /// Makes a new segment, which has no byte yet. It is there after a crash too.
+    pub fn begin(&self, number: u64) -> Result<Growing<F>, DiskFault> {
+        let place = Place::Segment(number);
+        let file = self.open_with(OpenOptions::new().append(true).create_new(true), place)?;
+        self.sync()?;
+        Ok(Growing::new(file, place))
+    }
+
+    /// Goes on in a segment behind so many bytes. What follows them is cut off. What is left is
+    /// secured, since a server that was killed may have left it unsecured.
+    pub fn resume(&self, number: u64, len: u64) -> Result<Growing<F>, DiskFault> {
+        let place = Place::Segment(number);
+        let file = self.open_with(OpenOptions::new().append(true), place)?;
+        let growing = Growing::new(file, place);
+        growing.cut(len)?;
+        self.sync()?;
+        Ok(growing)
+    }
+
+    /// Begins a snapshot, which is none until it has its name.
+    pub fn begin_snapshot(&self) -> Result<NewSnapshot<F>, DiskFault> {
+        let place = Place::NewSnapshot;
+        let mut how = OpenOptions::new();
+        let file = self.open_with(how.write(true).create(true).truncate(true), place)?;
+        Ok(NewSnapshot::new(Growing::new(file, place)))
+    }
+
+    /// Gives the snapshot that was written its name, so that it stands for the segments up to this
+    /// number. It must be secured before. That it has its name is secured by `sync`.
+    pub fn name_snapshot(&self, number: u64) -> Result<(), DiskFault> {
+        let from = self.path_to(Place::NewSnapshot)?;
+        let to = self.path_to(Place::Snapshot(number))?;
+        fs::rename(self.files, from.as_str(), to.as_str()).map_err(|e| DiskFault::at(
+            Place::Snapshot(number),
+            e,
+        ))
+    }
+
+    /// Removes a file.
+    pub fn remove(&self, place: Place) -> Result<(), DiskFault> {
+        let path = self.path_to(place)?;
+        fs::remove_file(self.files, path.as_str()).map_err(|e| DiskFault::at(place, e))
+    }
+}
+
+impl<'a, F: Files + Clone + Drop> Folder<'a, F> {
+    /// Which files the directory has. Nothing is changed.
+    pub fn scan(&self) -> Result<Found, DiskFault> {
+        let mut segments = Vec::new(self.alloc);
+        let mut snapshots = Vec::new(self.alloc);
+        let entries = fs::read_dir(&(self.files, self.alloc), self.path.as_str()).map_err(
+            |e| DiskFault::at(Place::Folder, e),
+        )?;
+        for entry in entries {
+            let entry = entry.map_err(|e| DiskFault::at(Place::Folder, e))?;
+            self.put_name(entry.file_name(), &mut segments, &mut snapshots)?;
+        }
+        arrange(self.alloc, segments.as_mut_slice(), snapshots.as_slice())
+    }
+
+    /// Puts a file's number with the others.
+    fn put_name(
+        &self,
+        name: &str,
+        segments: &mut Vec<u64>,
+        snapshots: &mut Vec<u64>,
+    ) -> Result<(), DiskFault> {
+        match read_name(name) {
+            Named::Segment(number) => put_number(segments, number),
+            Named::Snapshot(number) => put_number(snapshots, number),
+            Named::Passed => Ok(()),
+            Named::Other => match String::from_str(self.alloc, name) {
+                Ok(name) => Err(DiskFault::Name(name)),
+                Err(_) => Err(out_of_memory()),
+            },
+        }
+    }
+}
+
+impl<'a, F: Locks> Folder<'a, F> {
+    /// Opens the file of a lock, which is made if it is not there.
+    fn open_lock(&self, place: Place) -> Result<F::File, DiskFault> {
+        let mut how = OpenOptions::new();
+        self.open_with(how.append(true).create(true), place)
+    }
+
+    /// Locks a file, until what is returned is dropped. None if another program has locked it.
+    fn try_lock(&self, place: Place) -> Result<Option<F::File>, DiskFault> {
+        let file = self.open_lock(place)?;
+        match self.files.try_lock(&file) {
+            Ok(true) => Ok(Some(file)),
+            Ok(false) => Ok(None),
+            Err(e) => Err(DiskFault::at(place, e)),
+        }
+    }
+
+    /// Takes the directory as a server does, until what is returned is dropped. None if a server has
+    /// it.
+    pub fn take_if_free(&self) -> Result<Option<F::File>, DiskFault> {
+        self.try_lock(Place::Lock)
+    }
+
+    /// Takes the directory for a server, until what is returned is dropped.
+    pub fn take(&self) -> Result<F::File, DiskFault> {
+        match self.try_lock(Place::Lock)? {
+            Some(lock) => Ok(lock),
+            None => Err(DiskFault::InUse),
+        }
+    }
+
+    /// Takes the closed files for a compaction, until what is returned is dropped.
+    pub fn take_closed(&self) -> Result<F::File, DiskFault> {
+        match self.try_lock(Place::CompactLock)? {
+            Some(lock) => Ok(lock),
+            None => Err(DiskFault::Compacted),
+        }
+    }
+
+    /// Keeps the closed files as they are for a reader, until what is returned is dropped, without
+    /// making a file. It waits while a compaction has them. If there was no compaction yet, or the lock
+    /// cannot be had, they are not kept.
+    pub fn hold_closed_if_there(&self) -> Option<F::File> {
+        let file = self
+            .open_with(OpenOptions::new().read(true), Place::CompactLock)
+            .ok()?;
+        self.files.lock(&file).ok()?;
+        Some(file)
+    }
+
+    /// Keeps the closed files as they are, until what is returned is dropped. It waits while a
+    /// compaction has them.
+    pub fn hold_closed(&self) -> Result<F::File, DiskFault> {
+        let place = Place::CompactLock;
+        let file = self.open_lock(place)?;
+        match self.files.lock(&file) {
+            Ok(()) => Ok(file),
+            Err(e) => Err(DiskFault::at(place, e)),
+        }
+    }
+}

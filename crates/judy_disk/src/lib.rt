@@ -1,0 +1,23 @@
+//! The directory of a journal: which files it has, and how they are read, written and removed.
+//!
+//! Its files are the segments `000000000001.journal`, `000000000002.journal` and so on, perhaps a
+//! snapshot `000000000007.snapshot`, which stands for the segments up to its number, and the locks.
+//! What a file has is no subject here: nothing is known of the bytes that the system keeps.
+#![tactic(auto)]
+
+mod faults;
+mod files;
+mod folder;
+mod locks;
+mod names;
+mod scan;
+
+pub use faults::DiskFault;
+pub use files::{Growing, NewSnapshot};
+pub use folder::Folder;
+pub use locks::Locks;
+pub use names::{Named, Place, read_name};
+pub use scan::{Found, arrange};
+
+#[cfg(test)]
+mod tests;

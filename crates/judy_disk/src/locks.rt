@@ -1,0 +1,26 @@
+//! Locks of files, which end with the program that has them.
+use std::fs::{Files, TryLockError};
+use std::io;
+
+/// A system whose files can be locked.
+pub trait Locks: Files {
+    /// Locks a file until it is closed. False if another program has locked it.
+    fn try_lock(&self, file: &Self::File) -> io::Result<bool>;
+
+    /// Locks a file until it is closed, once no other program has locked it.
+    fn lock(&self, file: &Self::File) -> io::Result<()>;
+}
+
+impl Locks for HostRuntime {
+    fn try_lock(&self, file: &std::fs::File) -> io::Result<bool> {
+        match file.try_lock() {
+            Ok(()) => Ok(true),
+            Err(TryLockError::WouldBlock) => Ok(false),
+            Err(TryLockError::Error(e)) => Err(e),
+        }
+    }
+
+    fn lock(&self, file: &std::fs::File) -> io::Result<()> {
+        file.lock()
+    }
+}

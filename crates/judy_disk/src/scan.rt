@@ -1,0 +1,82 @@
+//! Which files a journal's directory has.
+ghost use Rattle.std.specs.Prelude.{◌≡◌, ℕ};
+
+use crate::faults::DiskFault;
+use crate::names::Place;
+use std::alloc::Global;
+use std::io;
+
+/// The files that a journal is read from, and those that it no longer needs.
+#[derive(Debug, Drop)]
+pub struct Found {
+    /// The greatest snapshot, if there is one. It is read first.
+    pub snapshot: Option<u64>,
+    /// The first segment that is read: the one after the snapshot.
+    pub first: u64,
+    /// The last segment, if there is one. All from the first to it are there.
+    pub last: Option<u64>,
+    /// The older snapshots and segments, which the snapshot stands for.
+    pub old: Vec<Place>,
+}
+
+/// Out of memory, as a fault of the directory.
+pub(crate) fn out_of_memory() -> DiskFault {
+    DiskFault::at(Place::Folder, io::Error::from(io::ErrorKind::OutOfMemory))
+}
+
+/// The greatest number, if there is one.
+fn greatest(numbers: &[u64]) -> Option<u64> {
+    let mut most = None;
+    for number in numbers {
+        if most < Some(*number) {
+            most = Some(*number);
+        }
+    }
+    most
+}
+
+/// Puts a file with those that are no longer needed.
+fn leave(old: &mut Vec<Place>, place: Place) -> Result<(), DiskFault> {
+    old.push(place).map_err(|_| out_of_memory())
+}
+
+/// Arranges the segments and the snapshots of a directory, by their numbers in any order. A segment
+/// that is missing is a fault.
+pub fn arrange(alloc: Global, segments: &mut [u64], snapshots: &[u64]) -> Result<Found, DiskFault> {
+    let snapshot = greatest(snapshots);
+    let mut old = Vec::new(alloc);
+    for number in snapshots {
+        if Some(*number) != snapshot {
+            leave(&mut old, Place::Snapshot(*number))?;
+        }
+    }
+    let first = match snapshot {
+        Some(number) => number.saturating_add(1),
+        None => 1,
+    };
+    segments.sort_unstable();
+    let mut last = None;
+    for number in &*segments {
+        if *number < first {
+            leave(&mut old, Place::Segment(*number))?;
+            continue;
+        }
+        let wanted = match last {
+            Some(before) => u64::saturating_add(before, 1),
+            None => first,
+        };
+        if *number != wanted {
+            return Err(DiskFault::Missing(wanted));
+        }
+        last = Some(*number);
+    }
+    if snapshot.is_some() && last.is_none() {
+        return Err(DiskFault::Missing(first));
+    }
+    Ok(Found {
+        snapshot,
+        first,
+        last,
+        old,
+    })
+}

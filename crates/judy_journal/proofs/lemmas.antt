@@ -1,0 +1,2 @@
+-- The lemmas that proofs of other crates may cite. All other files here are private to this crate.
+pub mod ReplayLemmas

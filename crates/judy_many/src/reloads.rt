@@ -1,0 +1,211 @@
+//! A table that is read again while connections stay open.
+ghost use Rattle.std.specs.Prelude.{◌≡◌, ℕ, List, [], Some, true, false, is_some, MatchBool, option_map};
+ghost use Rattle.judy_model.specs.Speakers.{Speaker};
+ghost use Rattle.judy_protocol.specs.Services.{HasLoggedIn};
+ghost use Rattle.judy_many.specs.Changes.{AreClosed, AreGone, HasChanged, HasReloaded, KeepsTenants, reply_head};
+ghost use Rattle.judy_many.specs.Crowds.{Crowd, Past};
+ghost use Rattle.judy_many.specs.Lives.{SlotDid, view_of};
+ghost use Rattle.judy_many.specs.Nets.{Act, Acts, DidLog};
+ghost use Rattle.judy_many.specs.Queues.{nobody};
+ghost use Rattle.judy_many.specs.Rules.{rules_of};
+ghost use Rattle.judy_many.specs.Slots.{AreKnown, IsKnownSlot};
+ghost use Rattle.judy_many.specs.Stories.{BeginsWith, Story, acts_in, told_head, turns_in};
+ghost use Rattle.judy_many.specs.Stories.Phase.{Sweeps};
+ghost use Rattle.judy_many.specs.declared.serve.Limits.{Limits};
+
+use crate::client::Client;
+use crate::clients::Clients;
+use crate::network::{How, Network, Unread};
+use crate::queue::Left;
+use crate::shows::Shows;
+use crate::warnings::{LINE_LIMIT, add, begin};
+use arrayvec::ArrayVec;
+use std::alloc::Global;
+
+/// What is said of a file that was not read.
+fn name_of(unread: Unread) -> &'static [u8] {
+    match unread {
+        Unread::File => b"the file cannot be read",
+        Unread::Long => b"the file is too long",
+        Unread::Memory => b"out of memory",
+    }
+}
+
+/// Puts the table of a text in force; with a journal only if each tenant stays. False if nothing was
+/// changed. Puts what is said of it into `told`.
+fn change_to<S: Shows>(
+    alloc: Global,
+    service: &mut S,
+    keep: bool,
+    text: &[u8],
+    told: &mut Vec<u8>,
+) -> bool
+    ensures changed { MatchBool result (S.changed service.old text.now service.new) (service.new ≡ service.old) }
+    ensures keeps { result ≡ true → keep ≡ true → KeepsTenants (S.seen service.old) (S.seen service.new) }
+{
+    if keep && !service.keeps(alloc, text) {
+        let _said = told.extend_from_slice(b"the journal has a tenant that is not in it");
+        return false;
+    }
+    service.change(alloc, text, told)
+}
+
+/// Reads the file of the table again, and puts its table in force. False if nothing was changed. Puts
+/// what is said of it into `told`.
+fn change_table<S: Shows, N: Network>(
+    alloc: Global,
+    network: &mut N,
+    service: &mut S,
+    keep: bool,
+    text: &mut Vec<u8>,
+    told: &mut Vec<u8>,
+) -> bool
+    ensures keeps { result ≡ true → keep ≡ true → KeepsTenants (S.seen service.old) (S.seen service.new) }
+    ensures changed { HasChanged (rules_of S.made S.seen S.noted S.status S.changed) result
+        (N.log network.old) (N.log network.new) service.old service.new }
+{
+    text.clear();
+    match network.table(text) {
+        Ok(()) => change_to(alloc, service, keep, text.as_slice(), told),
+        Err(unread) => {
+            let _said = told.extend_from_slice(name_of(unread));
+            false
+        }
+    }
+}
+
+/// Whether the speaker of a client may not go on.
+fn is_gone<S: Shows>(service: &S, speaker: Option<S::Speaker>) -> bool
+    ensures stays { result ≡ false → HasLoggedIn (S.seen service.now).speakers (option_map S.who speaker) }
+    ensures gone { result ≡ true → (who : Speaker) × (option_map S.who speaker ≡ Some who) }
+{
+    match speaker {
+        Some(speaker) => !service.knows(speaker),
+        None => false,
+    }
+}
+
+/// Closes the client in a slot if its speaker may not go on.
+fn close_at<S: Shows, N: Network>(
+    network: &mut N,
+    service: &S,
+    slot: &mut Option<Box<Client<S::Speaker, N::Connection>>>,
+) -> Left
+    ensures did { (more : Story) × DidLog (N.log network.old) (acts_in more) (N.log network.new)
+        × (turns_in more ≡ []) × AreGone (acts_in more)
+        × ((limits : Limits) → limits.status ≡ true → SlotDid limits Sweeps
+        (option_map (λ b. view_of S.who N.number b.value) slot.old)
+        (option_map (λ b. view_of S.who N.number b.value) slot.new) more) }
+    ensures known { IsKnownSlot (λ b. option_map S.who b.value.session.speaker)
+        (S.seen service.now).speakers slot.new }
+{
+    let Some(mut client) = slot.take() else {
+        return Left::More;
+    };
+    if is_gone(service, client.session.speaker) {
+        network.close(&mut client.connection, How::Gone);
+        return Left::Closed;
+    }
+    *slot = Some(client);
+    Left::More
+}
+
+/// Closes the clients whose speakers may not go on.
+fn close_gone<S: Shows, N: Network>(network: &mut N, service: &S, clients: &mut Clients<S, N>)
+    ensures crowd { (limits : Limits) (first now : S) (start : Acts) (past : Past) → limits.status ≡ true
+        → Crowd (λ b. view_of S.who N.number b.value) (rules_of S.made S.seen S.noted S.status S.changed) limits first
+        start Sweeps nobody past (N.log network.old) clients.old.slots.items clients.old.accepted now
+        → Crowd (λ b. view_of S.who N.number b.value) (rules_of S.made S.seen S.noted S.status S.changed) limits first
+        start Sweeps nobody past (N.log network.new) clients.new.slots.items clients.new.accepted now }
+    ensures gone { (gone : List Act) × DidLog (N.log network.old) gone (N.log network.new) × AreGone gone }
+    ensures known { AreKnown (λ b. option_map S.who b.value.session.speaker)
+        (S.seen service.now).speakers clients.new.slots.items }
+{
+    for at in 0..clients.slots.len() {
+        let left = close_at::<S, N>(network, service, &mut clients.slots[at]);
+        clients.queue.settle(at, left);
+        clients.listening = clients.listening.after_close(left == Left::Closed);
+    }
+}
+
+/// The same, if the table was changed.
+fn close_after<S: Shows, N: Network>(
+    changed: bool,
+    network: &mut N,
+    service: &S,
+    clients: &mut Clients<S, N>,
+)
+    requires known { changed ≡ false → AreKnown (λ b. option_map S.who b.value.session.speaker)
+        (S.seen service.now).speakers clients.old.slots.items }
+    ensures crowd { (limits : Limits) (first now : S) (start : Acts) (past : Past) → limits.status ≡ true
+        → Crowd (λ b. view_of S.who N.number b.value) (rules_of S.made S.seen S.noted S.status S.changed) limits first
+        start Sweeps nobody past (N.log network.old) clients.old.slots.items clients.old.accepted now
+        → Crowd (λ b. view_of S.who N.number b.value) (rules_of S.made S.seen S.noted S.status S.changed) limits first
+        start Sweeps nobody past (N.log network.new) clients.new.slots.items clients.new.accepted now }
+    ensures gone { (gone : List Act) × DidLog (N.log network.old) gone (N.log network.new)
+        × AreClosed changed gone }
+    ensures known { AreKnown (λ b. option_map S.who b.value.session.speaker)
+        (S.seen service.now).speakers clients.new.slots.items }
+{
+    if !changed {
+        return;
+    }
+    close_gone(network, service, clients);
+}
+
+/// What the asker is answered.
+fn reply_line(changed: bool, told: &[u8]) -> ArrayVec<u8, LINE_LIMIT>
+    ensures { BeginsWith (reply_head changed) result.items }
+{
+    if changed {
+        let mut line = begin(b"OK");
+        add(&mut line, b"\n");
+        return line;
+    }
+    let mut line = begin(b"ERR ");
+    add(&mut line, told);
+    add(&mut line, b"\n");
+    line
+}
+
+/// What the operator is told.
+fn told_line(changed: bool, told: &[u8]) -> ArrayVec<u8, LINE_LIMIT>
+    ensures { BeginsWith (told_head changed) result.items }
+{
+    if changed {
+        let mut line = begin(b"table read again: ");
+        add(&mut line, told);
+        return line;
+    }
+    let mut line = begin(b"table not read again: ");
+    add(&mut line, told);
+    line
+}
+
+/// Reads the table again, closes the clients whose speakers may not go on, and says so.
+pub fn reload<S: Shows, N: Network>(
+    alloc: Global,
+    network: &mut N,
+    service: &mut S,
+    clients: &mut Clients<S, N>,
+    keep: bool,
+    text: &mut Vec<u8>,
+)
+    requires known { AreKnown (λ b. option_map S.who b.value.session.speaker)
+        (S.seen service.old).speakers clients.old.slots.items }
+    ensures crowd { (limits : Limits) (first : S) (start : Acts) (past : Past) → limits.status ≡ true → keep ≡ is_some limits.journal
+        → Crowd (λ b. view_of S.who N.number b.value) (rules_of S.made S.seen S.noted S.status S.changed) limits first
+        start Sweeps nobody past (N.log network.old) clients.old.slots.items clients.old.accepted service.old
+        → Crowd (λ b. view_of S.who N.number b.value) (rules_of S.made S.seen S.noted S.status S.changed) limits first
+        start Sweeps nobody past (N.log network.new) clients.new.slots.items clients.new.accepted service.new }
+    ensures reloaded { HasReloaded (rules_of S.made S.seen S.noted S.status S.changed)
+        (N.log network.old) (N.log network.new) service.old service.new }
+    ensures known { AreKnown (λ b. option_map S.who b.value.session.speaker)
+        (S.seen service.new).speakers clients.new.slots.items }
+{
+    let mut told = Vec::new(alloc);
+    let changed = change_table(alloc, network, service, keep, text, &mut told);
+    close_after(changed, network, &*service, clients);
+    network.reply(reply_line(changed, told.as_slice()).as_slice());
+    network.warn(told_line(changed, told.as_slice()).as_slice());
+}

@@ -1,0 +1,170 @@
+//! The journal of a server on the system's disk.
+use judy_disk::{DiskFault, Folder, Growing, Locks, Place};
+use judy_recovery::{End, JournalFault, Player, Resumed, recover, resume};
+use std::alloc::Global;
+use std::io::{self, Eprint};
+
+/// The directory of a journal that a server has taken, and its current file. It is no journal before
+/// it is resumed.
+#[derive(Drop)]
+pub struct Directory<'a, F: Locks> {
+    rt: &'a F,
+    folder: Option<Folder<'a, F>>,
+    lock: Option<F::File>,
+    current: Option<Growing<F>>,
+    fault: Option<JournalFault>,
+}
+
+/// The directory at a path.
+fn folder_at<'a, F: Locks>(
+    rt: &'a F,
+    alloc: Global,
+    path: &str,
+) -> Result<Folder<'a, F>, JournalFault> {
+    match String::from_str(alloc, path) {
+        Ok(path) => Ok(Folder::new(rt, alloc, path)),
+        Err(e) => Err(of_disk(DiskFault::at(Place::Folder, io::Error::from(e)))),
+    }
+}
+
+/// A fault of the directory.
+fn of_disk(fault: DiskFault) -> JournalFault {
+    JournalFault::Disk(fault)
+}
+
+/// Tells that a commit was cut off, if one was.
+fn tell_cut<F: Locks + Eprint>(rt: &F, folder: &Folder<'_, F>, end: &Option<End>) {
+    let Some(end) = end else {
+        return;
+    };
+    if end.torn == 0 {
+        return;
+    }
+    let (path, file, torn) = (folder.path(), Place::Segment(end.segment), end.torn);
+    let _ = eprintln!(rt;
+        "judyd: {path}/{file}: cut off {torn} bytes of a commit that was not finished"
+    );
+}
+
+impl<'a, F: Locks + Eprint + Clone + Drop> Directory<'a, F> {
+    /// No directory yet.
+    pub fn new(rt: &'a F) -> Self {
+        Directory {
+            rt,
+            folder: None,
+            lock: None,
+            current: None,
+            fault: None,
+        }
+    }
+
+    /// What the disk refused last, and why.
+    pub fn take_fault(&mut self) -> Option<JournalFault> {
+        self.fault.take()
+    }
+
+    /// Takes the directory, gives its records to a player, and makes it ready for a writer.
+    fn try_resume<P: Player>(
+        &mut self,
+        alloc: Global,
+        path: &str,
+        player: &mut P,
+    ) -> Result<Resumed, JournalFault> {
+        let folder = folder_at(self.rt, alloc, path)?;
+        let _closed = folder.hold_closed().map_err(|e| of_disk(e))?;
+        let lock = folder.take().map_err(|e| of_disk(e))?;
+        let found = folder.scan().map_err(|e| of_disk(e))?;
+        let end = recover(&folder, alloc, &found, player)?;
+        let (resumed, current) = resume(&folder, end).map_err(|e| of_disk(e))?;
+        tell_cut(self.rt, &folder, &end);
+        self.folder = Some(folder);
+        self.lock = Some(lock);
+        self.current = current;
+        Ok(resumed)
+    }
+
+    /// Takes the directory, gives its records to a player, and makes it ready for a writer. None if
+    /// that fails.
+    pub fn resume<P: Player>(
+        &mut self,
+        alloc: Global,
+        path: &str,
+        player: &mut P,
+    ) -> Option<Resumed> {
+        match self.try_resume(alloc, path, player) {
+            Ok(resumed) => Some(resumed),
+            Err(fault) => {
+                self.fault = Some(fault);
+                None
+            }
+        }
+    }
+
+    /// Gives the records of a journal to a player, and changes nothing.
+    fn try_look<P: Player>(
+        &self,
+        alloc: Global,
+        path: &str,
+        player: &mut P,
+    ) -> Result<(), JournalFault> {
+        let folder = folder_at(self.rt, alloc, path)?;
+        let _closed = folder.hold_closed_if_there();
+        let found = folder.scan().map_err(|e| of_disk(e))?;
+        recover(&folder, alloc, &found, player)?;
+        Ok(())
+    }
+
+    /// Gives the records of a journal to a player, and changes nothing. False if that fails.
+    pub fn look<P: Player>(&mut self, alloc: Global, path: &str, player: &mut P) -> bool {
+        match self.try_look(alloc, path, player) {
+            Ok(()) => true,
+            Err(fault) => {
+                self.fault = Some(fault);
+                false
+            }
+        }
+    }
+
+    /// Whether the disk did what was asked. If it did not, it notes why.
+    fn did(&mut self, done: Result<(), DiskFault>) -> bool {
+        match done {
+            Ok(()) => true,
+            Err(fault) => {
+                self.fault = Some(of_disk(fault));
+                false
+            }
+        }
+    }
+
+    /// Makes the file of a segment.
+    pub fn begin(&mut self, segment: u64) -> bool {
+        let Some(folder) = &self.folder else {
+            return false;
+        };
+        match folder.begin(segment) {
+            Ok(current) => {
+                self.current = Some(current);
+                true
+            }
+            Err(fault) => self.did(Err(fault)),
+        }
+    }
+
+    /// Appends bytes to the current file.
+    pub fn keep(&mut self, bytes: &[u8]) -> bool {
+        let Some(current) = &mut self.current else {
+            return false;
+        };
+        let done = current.append(bytes);
+        self.did(done)
+    }
+
+    /// Secures the current file.
+    pub fn sync(&mut self) -> bool {
+        let Some(current) = &self.current else {
+            return false;
+        };
+        let done = current.sync();
+        self.did(done)
+    }
+}

@@ -1,0 +1,135 @@
+//! `judyd serve` with a journal: the service begins with what the journal has.
+ghost use Rattle.std.specs.Prelude.{◌≡◌, ◌≤◌, ℕ, IfOk, IfErr, option_map};
+ghost use Rattle.judy_many.specs.Rules.{rules_of};
+ghost use Rattle.judy_protocol.specs.Serving.{pull_limit};
+ghost use Rattle.judy_programs.specs.Journaled.{ChecksJournaled, HasMade, HasNoWriter, HostsJournaled};
+
+use crate::hosts::Hosts;
+use crate::journals::{Journals, Replays};
+use crate::opens::Opens;
+use crate::socket::{Hosted, begin_on, serve_on};
+use judy_journal::{LAST_SEGMENT, Writer};
+use judy_many::{Limits, Shows, begin_segment};
+use judy_recovery::{Halt, Player, Resumed};
+use std::alloc::Global;
+
+/// A service that the records of a journal are given to.
+#[derive(Drop)]
+struct Playing<S> {
+    alloc: Global,
+    service: S,
+}
+
+impl<S: Replays> Player for Playing<S> {
+    ghost plays = { λ before records after. S.replayed before.service records after.service };
+
+    fn play(&mut self, records: &[u8]) -> Result<(), Halt> {
+        self.service.replay(self.alloc, records)
+    }
+
+    ghost rests = { λ player. S.rests player.service };
+
+    ghost joins = { λ before middle after. S.joins before.service middle.service after.service };
+}
+
+/// A writer that goes on here.
+fn writer_at<H: Hosts>(alloc: Global, system: &mut H, at: Resumed) -> Result<Box<Writer>, Hosted>
+    ensures made { IfOk result (λ w. HasMade w.value (H.log system.old) (H.log system.new)) }
+    ensures none { IfErr result HasNoWriter }
+{
+    let Ok(mut writer) = Box::new(alloc, Writer::new(at.segment, &at.sum, at.size)) else {
+        return Err(Hosted::Memory);
+    };
+    if !at.begins {
+        return Ok(writer);
+    }
+    if at.segment >= LAST_SEGMENT || !begin_segment(system, &mut *writer) {
+        return Err(Hosted::Journal);
+    }
+    Ok(writer)
+}
+
+/// The service with all that the journal has, and the writer that goes on with it.
+fn resume_on<S: Replays + Drop, H: Journals>(
+    alloc: Global,
+    service: S,
+    system: &mut H,
+    directory: &str,
+) -> Result<(S, Box<Writer>), Hosted>
+    ensures made { IfOk result (λ r. HasMade r.1.value (H.log system.old) (H.log system.new)) }
+    ensures none { IfErr result HasNoWriter }
+{
+    let mut playing = Playing { alloc, service };
+    let Some(at) = system.resume(alloc, directory, &mut playing) else {
+        return Err(Hosted::Recovery);
+    };
+    match writer_at(alloc, system, at) {
+        Ok(writer) => Ok((playing.service, writer)),
+        Err(hosted) => Err(hosted),
+    }
+}
+
+/// Serves as `host_on` does, with a journal in this directory. After the memory to reserve, and
+/// before the sockets, the directory is taken and the journal read.
+pub fn host_journaled<S: Opens + Shows + Replays + Drop, H: Journals>(
+    alloc: Global,
+    secret: &[u8],
+    system: &mut H,
+    config: &str,
+    socket: &str,
+    status: Option<&str>,
+    reserve: Option<u32>,
+    limits: Limits,
+    directory: &str,
+) -> Hosted
+    requires files { (f : H.File) (room : ℕ) → room ≤ pull_limit → H.File.can_pull f room }
+    ensures { HostsJournaled (rules_of S.made S.seen S.noted S.status S.changed)
+        (S.is_new secret.now) reserve result config.now socket.now
+        (option_map (λ s. s.now) status.entry) limits (H.log system.old) (H.log system.new) }
+{
+    let begun: Result<S, Hosted> = begin_on(alloc, secret, system, config, reserve);
+    let service = match begun {
+        Ok(service) => service,
+        Err(hosted) => return hosted,
+    };
+    match resume_on(alloc, service, system, directory) {
+        Ok(resumed) => {
+            let (mut service, writer) = resumed;
+            serve_on(
+                alloc,
+                &mut service,
+                system,
+                socket,
+                status,
+                limits,
+                Some(writer),
+            )
+        }
+        Err(hosted) => hosted,
+    }
+}
+
+/// Checks the table as `check_on` does, and then that the journal in this directory can be played.
+pub fn check_journaled<S: Opens + Replays + Drop, H: Journals>(
+    alloc: Global,
+    secret: &[u8],
+    system: &mut H,
+    config: &str,
+    reserve: Option<u32>,
+    directory: &str,
+) -> Hosted
+    requires files { (f : H.File) (room : ℕ) → room ≤ pull_limit → H.File.can_pull f room }
+    ensures { ChecksJournaled (S.is_new secret.now) reserve result config.now
+        (H.log system.old) (H.log system.new) }
+{
+    let begun: Result<S, Hosted> = begin_on(alloc, secret, system, config, reserve);
+    let service = match begun {
+        Ok(service) => service,
+        Err(hosted) => return hosted,
+    };
+    let mut playing = Playing { alloc, service };
+    if system.look(alloc, directory, &mut playing) {
+        return Hosted::Done;
+    }
+    Hosted::Recovery
+}

@@ -1,0 +1,130 @@
+//! Reads a file of a journal in pieces, and gives its records to a player.
+ghost use Rattle.std.specs.Prelude.{◌≤◌, ℕ, OnOk};
+ghost use Rattle.judy_model.specs.Stream.{lines_of};
+ghost use Rattle.judy_journal.specs.Journals.{joined};
+ghost use Rattle.judy_recovery.specs.Played.{ReadsAll, ReadsOn};
+
+use crate::faults::Flaw;
+use crate::player::{Halt, Player};
+use judy_journal::{Damage, Read as Found, Recovery};
+use judy_protocol::cut_line;
+use judy_stream::{Pull, Source};
+
+/// The most bytes that are read at once.
+pub const PIECE: usize = 16384;
+
+/// What comes before the version in the first line of a segment.
+const ANY_VERSION: &[u8; 14] = b"judyd journal ";
+
+/// Why a file is not read to its end.
+#[derive(Clone, Copy, Debug)]
+pub enum Stop {
+    /// A read failed.
+    Fault,
+    /// It has a flaw, at this byte.
+    Flaw(u64, Flaw),
+}
+
+/// How far a file was read.
+#[derive(Clone, Copy, Debug)]
+pub struct Progress {
+    /// Where the last whole commit ended, or the first line.
+    pub whole: u64,
+    /// How many bytes were read.
+    pub seen: u64,
+}
+
+/// Where the record begins that was not played.
+fn start_of(records: &[u8], halt: Halt) -> usize {
+    let mut rest = records;
+    for _ in 0..halt.played {
+        match cut_line(rest) {
+            Some((_, after)) => rest = after,
+            None => return records.len(),
+        }
+    }
+    records.len().saturating_sub(rest.len())
+}
+
+/// Whether these bytes begin a file of another version.
+fn is_other_version(bytes: &[u8]) -> bool {
+    bytes.starts_with(ANY_VERSION) && !bytes.starts_with(b"judyd journal 1 ")
+}
+
+/// What a damage is told as, by the first bytes of the file if it was found among them.
+fn flaw_of(damage: Damage, progress: &Progress, bytes: &[u8]) -> Flaw {
+    if progress.seen == 0 && damage == Damage::Header && is_other_version(bytes) {
+        return Flaw::Version;
+    }
+    Flaw::Damage(damage)
+}
+
+/// Gives the records of a commit that became whole to a player.
+fn play<P: Player>(recovery: &Recovery, player: &mut P, progress: &mut Progress) -> Result<(), Stop>
+    ensures { OnOk result
+        (P.plays player.old (lines_of (joined recovery.now.reading.records)) player.new) }
+{
+    let records = recovery.records();
+    if let Err(halt) = player.play(records) {
+        let line = start_of(records, halt) as u64;
+        let byte = progress.whole.saturating_add(line);
+        return Err(Stop::Flaw(byte, Flaw::Unplayed(halt.why)));
+    }
+    progress.whole = progress.seen;
+    Ok(())
+}
+
+/// Reads the next bytes of a file. Of the commits that become whole in them each is played, in order,
+/// and nothing else is.
+pub fn read_piece<P: Player>(
+    recovery: &mut Recovery,
+    player: &mut P,
+    bytes: &[u8],
+    progress: &mut Progress,
+) -> Result<(), Stop>
+    ensures { OnOk result
+        (ReadsOn P.plays recovery.old bytes.now player.old recovery.new player.new) }
+{
+    let mut rest = bytes;
+    while !rest.is_empty() {
+        match recovery.read(rest) {
+            Ok(Found::More) => {
+                progress.seen = progress.seen.saturating_add(rest.len() as u64);
+                return Ok(());
+            }
+            Ok(Found::Whole(left)) => {
+                let (used, after) = rest.split_at(rest.len() - left);
+                progress.seen = progress.seen.saturating_add(used.len() as u64);
+                play(&*recovery, player, progress)?;
+                rest = after;
+            }
+            Err(damage) => {
+                let flaw = flaw_of(damage, progress, rest);
+                return Err(Stop::Flaw(recovery.place(), flaw));
+            }
+        }
+    }
+    Ok(())
+}
+
+/// Reads a file to its end. Of its commits each that is whole is played, in order, and nothing else is.
+pub fn read_file<R: Source, P: Player>(
+    file: &mut R,
+    recovery: &mut Recovery,
+    player: &mut P,
+    progress: &mut Progress,
+) -> Result<(), Stop>
+    requires ready { (s : R) (room : ℕ) → room ≤ PIECE → R.can_pull s room }
+    ensures { OnOk result (ReadsAll P.plays (R.left file.old) (R.left file.new)
+        recovery.old player.old recovery.new player.new) }
+{
+    let mut piece = [0u8; PIECE];
+    for _ in 0..u64::MAX {
+        match file.pull(&mut piece) {
+            Pull::Bytes(n) => read_piece(recovery, player, &piece[..n], progress)?,
+            Pull::End => return Ok(()),
+            Pull::Fault => return Err(Stop::Fault),
+        }
+    }
+    Err(Stop::Flaw(recovery.place(), Flaw::Damage(Damage::Size)))
+}

@@ -1,0 +1,62 @@
+//! Makes a directory ready for a writer that goes on where a journal ends.
+use crate::ends::{End, FIRST_SUM};
+use crate::reading::first_line_len;
+use judy_disk::{DiskFault, Folder, Growing, Place};
+use judy_journal::SUM_LEN;
+use std::fs::Files;
+
+/// Where a writer goes on.
+#[derive(Clone, Copy, Debug, PartialEq, Eq)]
+pub struct Resumed {
+    /// The segment: 0 if there is none yet.
+    pub segment: u64,
+    /// The checksum after the last commit.
+    pub sum: [u8; SUM_LEN],
+    /// How many bytes the segment has.
+    pub size: u64,
+    /// Whether the next segment has to be begun first: there is no file to go on with.
+    pub begins: bool,
+    /// Whether the segment has its first line, and no commit.
+    pub is_bare: bool,
+}
+
+/// Cuts off what a crash left behind the last whole commit, and opens the last segment. If not even
+/// its first line is whole, it is removed, and a writer begins it anew.
+pub fn resume<F: Files>(
+    folder: &Folder<'_, F>,
+    end: Option<End>,
+) -> Result<(Resumed, Option<Growing<F>>), DiskFault> {
+    let Some(end) = end else {
+        let sum = FIRST_SUM;
+        let first = Resumed {
+            segment: 0,
+            sum,
+            size: 0,
+            begins: true,
+            is_bare: false,
+        };
+        return Ok((first, None));
+    };
+    let sum = end.sum;
+    if end.size == 0 {
+        folder.remove(Place::Segment(end.segment))?;
+        folder.sync()?;
+        let before = Resumed {
+            segment: end.segment.saturating_sub(1),
+            sum,
+            size: 0,
+            begins: true,
+            is_bare: false,
+        };
+        return Ok((before, None));
+    }
+    let growing = folder.resume(end.segment, end.size)?;
+    let here = Resumed {
+        segment: end.segment,
+        sum,
+        size: end.size,
+        begins: false,
+        is_bare: end.size == first_line_len(end.segment),
+    };
+    Ok((here, Some(growing)))
+}

@@ -1,0 +1,63 @@
+//! A source over a file that keeps why a read failed.
+ghost use Rattle.std.specs.Prelude.{◌≡◌};
+
+use judy_stream::{Pull, Source};
+use std::io::{self, Read};
+
+/// A source over a file: each pull is one read. The error of a read that failed is kept.
+#[derive(Drop)]
+pub struct FileReads<R> {
+    file: R,
+    gave: u64,
+    ends: u64,
+    faults: u64,
+    fault: Option<io::Error>,
+}
+
+impl<R: Read> FileReads<R> {
+    /// A source that has read nothing yet.
+    pub fn new(file: R) -> Self
+        ensures left { ⟦<FileReads<R> as Source>⟧.left result ≡ R.remaining file }
+    {
+        FileReads {
+            file,
+            gave: 0,
+            ends: 0,
+            faults: 0,
+            fault: None,
+        }
+    }
+
+    /// The error of the last read that failed, if one did.
+    pub fn take_fault(&mut self) -> Option<io::Error> {
+        self.fault.take()
+    }
+}
+
+impl<R: Read> Source for FileReads<R> {
+    ghost left = { λ r. R.remaining r.file };
+
+    ghost gave = { λ r. r.gave };
+
+    ghost ends = { λ r. r.ends };
+
+    ghost faults = { λ r. r.faults };
+
+    fn pull(&mut self, buf: &mut [u8]) -> Pull {
+        match self.file.read(buf) {
+            Ok(0) => {
+                self.ends = self.ends.saturating_add(1);
+                Pull::End
+            }
+            Ok(n) => {
+                self.gave = self.gave.saturating_add(1);
+                Pull::Bytes(n)
+            }
+            Err(e) => {
+                self.faults = self.faults.saturating_add(1);
+                self.fault = Some(e);
+                Pull::Fault
+            }
+        }
+    }
+}

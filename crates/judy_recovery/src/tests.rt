@@ -1,0 +1,30 @@
+//! What an operator reads of a fault.
+use crate::{Flaw, JournalFault, Reason};
+use judy_disk::Place;
+use judy_journal::Damage;
+use std::test::Fail;
+
+#[test]
+fn faults_tell_file_and_byte(rt: HostRuntime) -> Result<(), Fail> {
+    let fault = JournalFault::File {
+        place: Place::Segment(2),
+        byte: 4711,
+        flaw: Flaw::Unplayed(Reason::Tenant),
+    };
+    let text = format!(in rt.alloc(); "judyd: DIR{fault}")?;
+    assert_eq!(rt;
+        text.as_str(),
+        "judyd: DIR/000000000002.journal: byte 4711: the table lacks the tenant of this record"
+    );
+    let fault = JournalFault::File {
+        place: Place::Snapshot(12),
+        byte: 0,
+        flaw: Flaw::Damage(Damage::Header),
+    };
+    let text = format!(in rt.alloc(); "judyd: DIR{fault}")?;
+    assert_eq!(rt;
+        text.as_str(),
+        "judyd: DIR/000000000012.snapshot: byte 0: damaged: another first line than it should have"
+    );
+    Ok(())
+}

@@ -1,0 +1,62 @@
+-- Whether a table has all tenants in force, one place after another.
+use Rattle.std.proofs.Common.{◌≡◌, ◌∙◌, ◌+◌, ◌&&◌, ◌||◌, ℕ, zero, suc, Bool, true, false, cond, List, [], ◌∷◌, Some, ap, drop, map, refl, subst, sym}
+use Rattle.std.specs.Prelude.{is_some, slice_get}
+use Rattle.std.specs.Str.{bytes_eq}
+use Rattle.std.proofs.lemmas.Iterator.Adapters.{position_from-zero}
+use Rattle.std.specs.List.{position_from}
+use Rattle.judy_table.specs.declared.tenant.Tenant.{Tenant}
+use Rattle.judy_table.specs.Seats.{has_name}
+use Rattle.judy_table.specs.Tenants.{is_vacant, place_of}
+use Rattle.judy_server.specs.Reloads.{has_all, is_kept}
+
+-- a name has a place exactly if some row has it
+named-placed : (name : List ℕ) (ts : List Tenant) → is_some (place_of name ts) ≡ has_name name ts
+named-placed name ts = ap is_some (position_from-zero is_it ts) ∙ from 0 ts
+  where
+    is_it : Tenant → Bool
+    is_it t = bytes_eq t.name name
+
+    from : (place : ℕ) (ts : List Tenant) → is_some (position_from is_it place ts) ≡ has_name name ts
+    from place [] = refl
+    from place (t ∷ ts) = by (is_it t) (from (place + 1) ts)
+      where
+        by : (b : Bool) → is_some (position_from is_it (place + 1) ts) ≡ has_name name ts
+            → is_some (cond b (Some place) (position_from is_it (place + 1) ts)) ≡ (b || has_name name ts)
+        by true e = refl
+        by false e = e
+
+-- a place without a tenant is kept
+pub kept_vacant : (table rows : List Tenant) (t : ℕ) → slice_get (map is_vacant rows) t ≡ Some true → slice_get (map (is_kept table) rows) t ≡ Some true
+kept_vacant table [] t v = cc
+kept_vacant table (r ∷ rows) zero v = let is : is_vacant r ≡ true = cc in ap (λ b. Some (b || has_name r.name table)) is
+kept_vacant table (r ∷ rows) (suc t) v = kept_vacant table rows t v
+
+-- another one is kept if its name is found
+pub kept_named : (table rows : List Tenant) (t : ℕ) (name : List ℕ) (found : Bool) → slice_get (map is_vacant rows) t ≡ Some false
+    → slice_get (map (λ (r : Tenant). r.name) rows) t ≡ Some name → found ≡ is_some (place_of name table)
+    → slice_get (map (is_kept table) rows) t ≡ Some found
+kept_named table [] t name found v n f = cc
+kept_named table (r ∷ rows) zero name found v n f =
+    let is : is_vacant r ≡ false = cc in
+    let named : r.name ≡ name = cc in
+    ap (λ b. Some (b || has_name r.name table)) is
+    ∙ ap Some (ap (λ x. has_name x table) named ∙ sym (named-placed name table) ∙ sym f)
+kept_named table (r ∷ rows) (suc t) name found v n f = kept_named table rows t name found v n f
+
+-- the rows from a place on
+all-from : (table rows : List Tenant) (place : ℕ) (b : Bool) → slice_get (map (is_kept table) rows) place ≡ Some b
+    → has_all (drop place rows) table ≡ (b && has_all (drop (suc place) rows) table)
+all-from table [] place b e = cc
+all-from table (r ∷ rows) zero b e = let is : is_kept table r ≡ b = cc in ap (λ x. x && has_all rows table) is
+all-from table (r ∷ rows) (suc place) b e = all-from table rows place b e
+
+-- one place more, which is kept
+pub all_on : (table rows : List Tenant) (place next : ℕ) (all : Bool) → next ≡ suc place → slice_get (map (is_kept table) rows) place ≡ Some true
+    → has_all (drop place rows) table ≡ all → has_all (drop next rows) table ≡ all
+all_on table rows place next all after is so =
+    subst (λ k. has_all (drop k rows) table ≡ all) (sym after) (sym (all-from table rows place true is) ∙ so)
+
+-- a place that is not kept
+pub not_all : (table rows : List Tenant) (place : ℕ) (all : Bool) → slice_get (map (is_kept table) rows) place ≡ Some false
+    → has_all (drop place rows) table ≡ all → false ≡ all
+not_all table rows place all is so = sym (all-from table rows place false is) ∙ so

@@ -1,0 +1,75 @@
+-- How a new snapshot takes the place of the files that it stands for.
+--     Step                             what is asked of the directory
+--     Logs log acts log'               these steps were asked for and no others, where they are known
+--     is_stale upto place              a snapshot with this number stands for the file
+--     HasRemoved result upto log log'  only such files were removed
+--     HasReplaced result upto log log' the same, and not before the snapshot is there for good
+use Rattle.std.specs.Prelude.{◌≡◌, ◌⊎◌, ◌++◌, ℕ, Bool, false, List, [], ◌∷◌, map, Option, Some, None, Result, Ok, Err, IsTrue, nat_le, nat_lt}
+use Rattle.std.specs.List.{list_all}
+use Rattle.judy_disk.specs.declared.names.Place.{Place}
+use Rattle.judy_disk.specs.declared.names.Place.TheVariants as place
+
+-- what is asked of the directory
+pub data Step : Type 0 where
+  -- the bytes of the new snapshot are secured
+  Secure : Step
+  -- the new snapshot gets the name of the one with this number
+  Rename : ℕ → Step
+  -- which files the directory has is secured
+  Sync : Step
+  -- this file is removed
+  Remove : Place → Step
+
+-- a step came about, or it failed
+pub data Act : Type 0 where
+  Did : Step → Act
+  Failed : Step → Act
+
+-- the steps so far, where they are known
+abbrev pub Acts : Type 0
+Acts = Option (List Act)
+
+-- these were the steps, one after another, and no others
+abbrev pub Logs : Acts → List Act → Acts → Type 0
+Logs None acts log' = Unit {0}
+Logs (Some log) acts log' = log' ≡ Some (log ++ acts)
+
+-- what a step is told as, by its result
+abbrev pub act_of : {T E : Type 0} → Step → Result T E → Act
+act_of step (Ok done) = Did step
+act_of step (Err fault) = Failed step
+
+-- the snapshot with this number stands for the file: it is a segment up to this number, or an older
+-- snapshot
+abbrev pub is_stale : ℕ → Place → Bool
+is_stale upto (place.Segment number) = nat_le number upto
+is_stale upto (place.Snapshot number) = nat_lt number upto
+is_stale upto _ = false
+
+abbrev pub AreStale : ℕ → List Place → Type 0
+AreStale upto places = IsTrue (list_all (is_stale upto) places)
+
+-- these files were removed
+abbrev pub removals : List Place → List Act
+removals places = map (λ p. Did (Remove p)) places
+
+-- Only files that the snapshot stands for were removed. After a failure the last of them is the one
+-- that was not.
+abbrev pub HasRemoved : {T E : Type 0} → Result T E → ℕ → Acts → Acts → Type 0
+HasRemoved (Ok done) upto log log' = (places : List Place) × AreStale upto places × Logs log (removals places) log'
+HasRemoved (Err fault) upto log log' = (places : List Place) × (last : Place) × AreStale upto places × IsTrue (is_stale upto last)
+    × Logs log (removals places ++ Failed (Remove last) ∷ []) log'
+
+-- the snapshot is there for good: secured, then renamed, and then its directory was synced
+abbrev pub placed : ℕ → List Act
+placed upto = Did Secure ∷ Did (Rename upto) ∷ Did Sync ∷ []
+
+-- Before the snapshot is there for good nothing is removed, and then only files that it stands for. A
+-- step that fails is the last one.
+abbrev pub HasReplaced : {T E : Type 0} → Result T E → ℕ → Acts → Acts → Type 0
+HasReplaced (Ok done) upto log log' = (places : List Place) × AreStale upto places × Logs log (placed upto ++ removals places) log'
+HasReplaced (Err fault) upto log log' = Logs log (Failed Secure ∷ []) log'
+    ⊎ Logs log (Did Secure ∷ Failed (Rename upto) ∷ []) log'
+    ⊎ Logs log (Did Secure ∷ Did (Rename upto) ∷ Failed Sync ∷ []) log'
+    ⊎ ((places : List Place) × (last : Place) × AreStale upto places × IsTrue (is_stale upto last)
+    × Logs log (placed upto ++ (removals places ++ Failed (Remove last) ∷ [])) log')

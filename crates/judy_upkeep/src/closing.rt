@@ -1,0 +1,70 @@
+//! Closes the last segment of a journal that no server has.
+ghost use Rattle.std.specs.Prelude.{◌≡◌, ◌<◌, []};
+
+use crate::compacting::Uncompacted;
+use judy_disk::{DiskFault, Folder};
+use judy_journal::{LAST_SEGMENT, Writer};
+use judy_recovery::{Halt, Player, Resumed, recover, resume};
+use std::alloc::Global;
+use std::fs::Files;
+
+/// A player that does nothing with the records.
+#[derive(Drop)]
+struct Nobody;
+
+impl Player for Nobody {
+    /// Nothing is said of the records.
+    ghost plays = { λ _ _ _. Unit {0} };
+
+    fn play(&mut self, _records: &[u8]) -> Result<(), Halt> {
+        Ok(())
+    }
+
+    ghost rests = { λ _. tt };
+
+    ghost joins = { λ _ _ _ _ _ _ _. tt };
+}
+
+/// Begins the segment after this one, with its first line.
+fn begin_next<F: Files>(folder: &Folder<'_, F>, writer: &mut Writer) -> Result<(), DiskFault>
+    requires ended { writer.old.records ≡ [] }
+    requires number { writer.old.segment < LAST_SEGMENT }
+{
+    writer.next_segment();
+    let mut growing = folder.begin(writer.segment())?;
+    growing.append(writer.text())?;
+    growing.sync()
+}
+
+/// Begins the segment after the one where a writer would go on, unless that one has no commit.
+fn begin_after<F: Files>(
+    alloc: Global,
+    folder: &Folder<'_, F>,
+    at: Resumed,
+) -> Result<(), Uncompacted> {
+    if at.is_bare || at.segment >= LAST_SEGMENT {
+        return Ok(());
+    }
+    let Ok(mut writer) = Box::new(alloc, Writer::new(at.segment, &at.sum, at.size)) else {
+        return Err(Uncompacted::Memory);
+    };
+    begin_next(folder, &mut *writer).map_err(|e| Uncompacted::Disk(e))
+}
+
+/// Closes the last segment, if there is one and it has a commit: what a crash left behind its last
+/// whole commit is cut off, and the next segment is begun. No server may have the directory.
+pub fn close_last<F: Files + Clone + Drop>(
+    alloc: Global,
+    folder: &Folder<'_, F>,
+) -> Result<(), Uncompacted> {
+    let found = folder.scan().map_err(|e| Uncompacted::Disk(e))?;
+    let end = match recover(folder, alloc, &found, &mut Nobody) {
+        Ok(end) => end,
+        Err(fault) => return Err(Uncompacted::Journal(fault)),
+    };
+    if end.is_none() {
+        return Ok(());
+    }
+    let (at, _) = resume(folder, end).map_err(|e| Uncompacted::Disk(e))?;
+    begin_after(alloc, folder, at)
+}

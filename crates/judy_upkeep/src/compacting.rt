@@ -1,0 +1,140 @@
+//! Makes one snapshot of the closed segments of a journal.
+use crate::closing::close_last;
+use crate::names::Names;
+use crate::replacing::{Replacing, remove_stale, replace};
+use crate::replaying::Replaying;
+use crate::rewriting::Rewriting;
+use judy_disk::{DiskFault, Folder, Found, Locks, NewSnapshot};
+use judy_journal::Writer;
+use judy_programs::Opens;
+use judy_recovery::{End, JournalFault, recover_closed};
+use std::alloc::Global;
+use std::fs::Files;
+
+/// What a compaction did.
+#[derive(Clone, Copy, Debug, PartialEq, Eq)]
+pub enum Compacted {
+    /// There was no closed segment that a snapshot does not stand for already.
+    Nothing,
+    /// The snapshot with this number stands for all segments up to it.
+    Snapshot(u64),
+}
+
+/// Why there is no new snapshot. The journal is as it was.
+#[derive(Debug, Drop)]
+pub enum Uncompacted {
+    /// The journal cannot be read.
+    Journal(JournalFault),
+    /// The new snapshot cannot be written, or an old file not be removed.
+    Disk(DiskFault),
+    /// Out of memory.
+    Memory,
+    /// Some entries of the journal did not come out of its records.
+    Left,
+}
+
+/// A service with all entries that the closed segments make.
+fn replay_closed<S: Opens + Drop, F: Files>(
+    alloc: Global,
+    secret: &[u8],
+    folder: &Folder<'_, F>,
+    found: &Found,
+    names: &Names,
+) -> Result<Replaying<S>, Uncompacted> {
+    let table = match names.table(alloc) {
+        Ok(table) => table,
+        Err(_) => return Err(Uncompacted::Memory),
+    };
+    let service = match S::open(alloc, secret, table.as_slice()) {
+        Ok(service) => service,
+        Err(_) => return Err(Uncompacted::Memory),
+    };
+    let mut state = Replaying::new(alloc, service);
+    match recover_closed(folder, alloc, found, &mut state) {
+        Ok(_) => Ok(state),
+        Err(fault) => Err(Uncompacted::Journal(fault)),
+    }
+}
+
+/// Begins a snapshot of the segments up to this end.
+fn begin<F: Files>(
+    alloc: Global,
+    folder: &Folder<'_, F>,
+    end: &End,
+) -> Result<(Box<Writer>, NewSnapshot<F>), Uncompacted> {
+    let mut writer = match Box::new(alloc, Writer::new(end.segment, &end.sum, 0)) {
+        Ok(writer) => writer,
+        Err(_) => return Err(Uncompacted::Memory),
+    };
+    let mut file = match folder.begin_snapshot() {
+        Ok(file) => file,
+        Err(fault) => return Err(Uncompacted::Disk(fault)),
+    };
+    writer.begin_snapshot();
+    match file.append(writer.text()) {
+        Ok(()) => Ok((writer, file)),
+        Err(fault) => Err(Uncompacted::Disk(fault)),
+    }
+}
+
+/// Writes all entries of a service to a new snapshot, which has no name yet.
+fn rewrite<S: Opens + Drop, F: Files>(
+    alloc: Global,
+    folder: &Folder<'_, F>,
+    found: &Found,
+    end: &End,
+    state: Replaying<S>,
+) -> Result<NewSnapshot<F>, Uncompacted> {
+    let (writer, file) = begin(alloc, folder, end)?;
+    let mut rewriting = Rewriting::new(state, writer, file);
+    if let Err(fault) = recover_closed(folder, alloc, found, &mut rewriting) {
+        return Err(match rewriting.take_fault() {
+            Some(fault) => Uncompacted::Disk(fault),
+            None => Uncompacted::Journal(fault),
+        });
+    }
+    let (file, state) = match rewriting.finish() {
+        Ok(finished) => finished,
+        Err(Some(fault)) => return Err(Uncompacted::Disk(fault)),
+        Err(None) => return Err(Uncompacted::Left),
+    };
+    if state.service().live_words() > 0 {
+        return Err(Uncompacted::Left);
+    }
+    Ok(file)
+}
+
+/// Makes one snapshot of the snapshot before and of the closed segments. In it each entry is written
+/// once. Then the files that it stands for are removed. All segments but the last are closed; if no
+/// server has the directory, the last is closed first.
+///
+/// If the program ends at any moment, the directory has a journal of the same entries.
+pub fn compact<S: Opens + Drop, F: Locks + Clone + Drop>(
+    alloc: Global,
+    secret: &[u8],
+    folder: &Folder<'_, F>,
+) -> Result<Compacted, Uncompacted> {
+    let _closed = folder.take_closed().map_err(|e| Uncompacted::Disk(e))?;
+    if let Some(_lock) = folder.take_if_free().map_err(|e| Uncompacted::Disk(e))? {
+        close_last(alloc, folder)?;
+    }
+    let found = folder.scan().map_err(|e| Uncompacted::Disk(e))?;
+    let mut names = Names::new(alloc);
+    let closed = match recover_closed(folder, alloc, &found, &mut names) {
+        Ok(closed) => closed,
+        Err(fault) => return Err(Uncompacted::Journal(fault)),
+    };
+    let Some(end) = closed else {
+        let kept = found.snapshot.unwrap_or(0);
+        remove_stale(&mut Replacing::new(folder, None), &found, kept).map_err(|e| Uncompacted::Disk(
+            e,
+        ))?;
+        return Ok(Compacted::Nothing);
+    };
+    let state: Replaying<S> = replay_closed(alloc, secret, folder, &found, &names)?;
+    let file = rewrite(alloc, folder, &found, &end, state)?;
+    replace(&mut Replacing::new(folder, Some(file)), &found, end.segment).map_err(
+        |e| Uncompacted::Disk(e),
+    )?;
+    Ok(Compacted::Snapshot(end.segment))
+}

@@ -1,0 +1,18 @@
+//! What is done with the journal of a server beside serving: its requests are printed, and its files
+//! are made smaller.
+#![tactic(auto)]
+
+mod asked;
+mod closing;
+mod compacting;
+mod names;
+mod printing;
+mod replacing;
+mod replaying;
+mod rewriting;
+
+pub use compacting::{Compacted, Uncompacted, compact};
+pub use printing::{Unprinted, print};
+
+#[cfg(test)]
+mod tests;

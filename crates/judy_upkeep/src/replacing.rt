@@ -1,0 +1,168 @@
+//! The last step of a compaction: the new snapshot takes the place of the files that it stands for.
+ghost use Rattle.std.specs.Prelude.{◌≡◌, [], ◌∷◌, None};
+ghost use Rattle.judy_upkeep.specs.Replacing.{Acts, HasRemoved, HasReplaced, Logs, act_of, is_stale};
+ghost use Rattle.judy_upkeep.specs.Replacing.Step.{Remove, Rename, Secure, Sync};
+
+use judy_disk::{DiskFault, Folder, Found, NewSnapshot, Place};
+use std::fs::Files;
+
+/// A directory with a new snapshot, which has no name yet.
+pub trait Replaces {
+    /// What was asked of the directory so far, where it is known.
+    ghost log: { Self → Acts };
+
+    /// Secures the bytes of the new snapshot.
+    fn secure(&mut self) -> Result<(), DiskFault>
+        ensures { Logs (log self.old) (act_of Secure result ∷ []) (log self.new) };
+
+    /// Gives the new snapshot the name of the one that stands for the segments up to this number.
+    fn rename(&mut self, number: u64) -> Result<(), DiskFault>
+        ensures { Logs (log self.old) (act_of (Rename number) result ∷ []) (log self.new) };
+
+    /// Secures which files the directory has.
+    fn sync(&mut self) -> Result<(), DiskFault>
+        ensures { Logs (log self.old) (act_of Sync result ∷ []) (log self.new) };
+
+    /// Removes a file.
+    fn remove(&mut self, place: Place) -> Result<(), DiskFault>
+        ensures { Logs (log self.old) (act_of (Remove place) result ∷ []) (log self.new) };
+}
+
+/// The directory of a journal, with a new snapshot if one was written. Nothing is known of what the
+/// system does.
+#[derive(Drop)]
+pub struct Replacing<'a, 'b, F: Files> {
+    folder: &'a Folder<'b, F>,
+    file: Option<NewSnapshot<F>>,
+}
+
+impl<'a, 'b, F: Files> Replacing<'a, 'b, F> {
+    /// The directory with this snapshot.
+    pub fn new(folder: &'a Folder<'b, F>, file: Option<NewSnapshot<F>>) -> Self {
+        Replacing { folder, file }
+    }
+}
+
+impl<'a, 'b, F: Files> Replaces for Replacing<'a, 'b, F> {
+    ghost log = { λ _. None };
+
+    fn secure(&mut self) -> Result<(), DiskFault> {
+        match &self.file {
+            Some(file) => file.secure(),
+            None => Ok(()),
+        }
+    }
+
+    fn rename(&mut self, number: u64) -> Result<(), DiskFault> {
+        self.folder.name_snapshot(number)
+    }
+
+    fn sync(&mut self) -> Result<(), DiskFault> {
+        self.folder.sync()
+    }
+
+    fn remove(&mut self, place: Place) -> Result<(), DiskFault> {
+        self.folder.remove(place)
+    }
+}
+
+/// Whether the snapshot with this number stands for a file.
+fn is_stale(place: Place, upto: u64) -> bool
+    ensures { result ≡ is_stale upto place }
+{
+    match place {
+        Place::Segment(number) => number <= upto,
+        Place::Snapshot(number) => number < upto,
+        Place::Folder => false,
+        Place::Lock => false,
+        Place::CompactLock => false,
+        Place::NewSnapshot => false,
+    }
+}
+
+/// Removes a file if the snapshot with this number stands for it.
+fn remove_one<D: Replaces>(directory: &mut D, place: Place, upto: u64) -> Result<(), DiskFault>
+    ensures { HasRemoved result upto (D.log directory.old) (D.log directory.new) }
+{
+    if is_stale(place, upto) {
+        return directory.remove(place);
+    }
+    Ok(())
+}
+
+/// Removes files if the snapshot with this number stands for them.
+fn remove_places<D: Replaces>(
+    directory: &mut D,
+    places: &[Place],
+    upto: u64,
+) -> Result<(), DiskFault>
+    ensures { HasRemoved result upto (D.log directory.old) (D.log directory.new) }
+{
+    for place in places {
+        if let Err(fault) = remove_one(directory, *place, upto) {
+            return Err(fault);
+        }
+    }
+    Ok(())
+}
+
+/// Removes the segments from the first one on that the snapshot with this number stands for.
+fn remove_segments<D: Replaces>(directory: &mut D, first: u64, upto: u64) -> Result<(), DiskFault>
+    ensures { HasRemoved result upto (D.log directory.old) (D.log directory.new) }
+{
+    for number in first..upto.saturating_add(1) {
+        if let Err(fault) = remove_one(directory, Place::Segment(number), upto) {
+            return Err(fault);
+        }
+    }
+    Ok(())
+}
+
+/// Removes the snapshot that was read, if there is one.
+fn remove_snapshot<D: Replaces>(
+    directory: &mut D,
+    snapshot: Option<u64>,
+    upto: u64,
+) -> Result<(), DiskFault>
+    ensures { HasRemoved result upto (D.log directory.old) (D.log directory.new) }
+{
+    match snapshot {
+        Some(number) => remove_one(directory, Place::Snapshot(number), upto),
+        None => Ok(()),
+    }
+}
+
+/// Removes all files that the snapshot with this number stands for, the oldest first, and no other.
+pub fn remove_stale<D: Replaces>(
+    directory: &mut D,
+    found: &Found,
+    upto: u64,
+) -> Result<(), DiskFault>
+    ensures { HasRemoved result upto (D.log directory.old) (D.log directory.new) }
+{
+    if let Err(fault) = remove_places(directory, found.old.as_slice(), upto) {
+        return Err(fault);
+    }
+    if let Err(fault) = remove_snapshot(directory, found.snapshot, upto) {
+        return Err(fault);
+    }
+    remove_segments(directory, found.first, upto)
+}
+
+/// Puts the new snapshot in the place of all files that it stands for, the segments up to this number
+/// and the snapshot before. First its bytes are secured. Then it gets its name, and the directory is
+/// synced. Only then they are removed. After a step that fails there is none.
+pub fn replace<D: Replaces>(directory: &mut D, found: &Found, upto: u64) -> Result<(), DiskFault>
+    ensures { HasReplaced result upto (D.log directory.old) (D.log directory.new) }
+{
+    if let Err(fault) = directory.secure() {
+        return Err(fault);
+    }
+    if let Err(fault) = directory.rename(upto) {
+        return Err(fault);
+    }
+    if let Err(fault) = directory.sync() {
+        return Err(fault);
+    }
+    remove_stale(directory, found, upto)
+}

@@ -1,0 +1,93 @@
+//! Another table is put in force: what tenants that stay, come and go have.
+use crate::house::House;
+use judy_model::{Call, Name, OneCall, Reply};
+use judy_tenants::Speaker;
+use std::process::Abort;
+use std::test::Fail;
+
+// Tables of tenants with the token `abc`: alice may have 2 entries, or 1, or none, and bob 9.
+const BOTH: &str = "[alice]
+sha256 = \"ba7816bf8f01cfea414140de5dae2223b00361a396177a9cb410ff61f20015ad\"
+quota = 2
+[bob]
+sha256 = \"ba7816bf8f01cfea414140de5dae2223b00361a396177a9cb410ff61f20015ad\"
+quota = 9
+";
+
+const ALICE: &str = "[alice]
+sha256 = \"ba7816bf8f01cfea414140de5dae2223b00361a396177a9cb410ff61f20015ad\"
+quota = 1
+";
+
+const NOTHING: &str = "[alice]
+sha256 = \"ba7816bf8f01cfea414140de5dae2223b00361a396177a9cb410ff61f20015ad\"
+quota = 0
+";
+
+/// Checks the reply to a call of the set `ids`.
+fn ids(
+    rt: &impl Abort,
+    house: &mut House,
+    speaker: &Speaker,
+    call: OneCall,
+    want: Reply<'_>,
+) -> Result<(), Fail> {
+    let name = Name::read(b"ids").ok_or("no name")?;
+    let reply = house.ask(rt, speaker, &Call::One(name, call));
+    assert_eq!(rt; reply.reply(), want, "{call:?}");
+    Ok(())
+}
+
+/// A tenant that stays keeps its entries, under its new quota.
+#[test]
+fn one_stays(rt: HostRuntime) -> Result<(), Fail> {
+    let mut house = House::new(&rt, rt.alloc(), BOTH)?;
+    let alice = house.speaker("alice", "abc")?;
+    ids(&rt, &mut house, &alice, OneCall::Set(5), Reply::Int(true))?;
+    assert_eq!(rt; house.change(&rt, ALICE)?, true);
+    ids(&rt, &mut house, &alice, OneCall::Set(6), Reply::Full)?;
+    ids(&rt, &mut house, &alice, OneCall::Test(5), Reply::Int(true))
+}
+
+/// The arrays of a tenant that is gone are freed, also for a tenant of its name in a later table.
+#[test]
+fn one_goes(rt: HostRuntime) -> Result<(), Fail> {
+    let mut house = House::new(&rt, rt.alloc(), BOTH)?;
+    let alice = house.speaker("alice", "abc")?;
+    let bob = house.speaker("bob", "abc")?;
+    ids(&rt, &mut house, &alice, OneCall::Set(5), Reply::Int(true))?;
+    let words = house.live_words();
+    ids(&rt, &mut house, &bob, OneCall::Set(7), Reply::Int(true))?;
+    assert_eq!(rt; house.change(&rt, ALICE)?, true);
+    assert_eq!(rt; house.live_words(), words);
+    assert_eq!(rt; house.change(&rt, BOTH)?, true);
+    let again = house.speaker("bob", "abc")?;
+    ids(&rt, &mut house, &again, OneCall::Test(7), Reply::Int(false))
+}
+
+/// A tenant that is gone may not log in, and who had logged in as it may not speak.
+#[test]
+fn who_may_speak(rt: HostRuntime) -> Result<(), Fail> {
+    let mut house = House::new(&rt, rt.alloc(), BOTH)?;
+    let alice = house.speaker("alice", "abc")?;
+    let bob = house.speaker("bob", "abc")?;
+    assert_eq!(rt; house.change(&rt, ALICE)?, true);
+    assert_eq!(rt; house.login("bob", "abc"), None);
+    assert_eq!(rt; house.login("alice", "abc"), Some(alice));
+    assert!(rt; house.knows(&alice) && !house.knows(&bob));
+    Ok(())
+}
+
+/// A quota below what is held changes nothing.
+#[test]
+fn a_quota_below_what_is_held(rt: HostRuntime) -> Result<(), Fail> {
+    let mut house = House::new(&rt, rt.alloc(), BOTH)?;
+    let alice = house.speaker("alice", "abc")?;
+    let bob = house.speaker("bob", "abc")?;
+    ids(&rt, &mut house, &alice, OneCall::Set(5), Reply::Int(true))?;
+    ids(&rt, &mut house, &bob, OneCall::Set(7), Reply::Int(true))?;
+    assert_eq!(rt; house.change(&rt, NOTHING)?, false);
+    assert_eq!(rt; house.knows(&bob), true);
+    ids(&rt, &mut house, &bob, OneCall::Test(7), Reply::Int(true))?;
+    ids(&rt, &mut house, &alice, OneCall::Set(6), Reply::Int(true))
+}

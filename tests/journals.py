@@ -1,0 +1,177 @@
+"""Journals as docs/FORMATS.md has them, written and read by a program that shares no code with the
+server; and a library that kills a process at a step."""
+
+import os
+import re
+
+SUM = 16  # digits of a checksum
+ZEROS = "0" * SUM
+FACTOR = 1099511628211
+
+# Kills the process before the step DIES_AT of those that change a disk, counted from 1.
+DYING = r"""
+#define _GNU_SOURCE
+#include <dlfcn.h>
+#include <fcntl.h>
+#include <signal.h>
+#include <stdarg.h>
+#include <stdlib.h>
+#include <sys/types.h>
+#include <unistd.h>
+
+static void step(void)
+{
+    static long count;
+    const char *at = getenv("DIES_AT");
+    if (at && ++count == atol(at))
+        kill(getpid(), SIGKILL);
+}
+
+ssize_t write(int fd, const void *bytes, size_t count)
+{
+    static ssize_t (*real)(int, const void *, size_t);
+    if (!real) real = dlsym(RTLD_NEXT, "write");
+    if (fd > 2) step();
+    return real(fd, bytes, count);
+}
+
+int fsync(int fd) { static int (*real)(int); if (!real) real = dlsym(RTLD_NEXT, "fsync"); step(); return real(fd); }
+int fdatasync(int fd) { static int (*real)(int); if (!real) real = dlsym(RTLD_NEXT, "fdatasync"); step(); return real(fd); }
+int unlink(const char *path) { static int (*real)(const char *); if (!real) real = dlsym(RTLD_NEXT, "unlink"); step(); return real(path); }
+
+int rename(const char *from, const char *to)
+{
+    static int (*real)(const char *, const char *);
+    if (!real) real = dlsym(RTLD_NEXT, "rename");
+    step();
+    return real(from, to);
+}
+
+int ftruncate(int fd, off_t size)
+{
+    static int (*real)(int, off_t);
+    if (!real) real = dlsym(RTLD_NEXT, "ftruncate");
+    step();
+    return real(fd, size);
+}
+
+int open(const char *path, int flags, ...)
+{
+    static int (*real)(const char *, int, ...);
+    va_list more;
+    va_start(more, flags);
+    int mode = va_arg(more, int);
+    va_end(more);
+    if (!real) real = dlsym(RTLD_NEXT, "open");
+    if (flags & (O_CREAT | O_TRUNC)) step();
+    return real(path, flags, mode);
+}
+"""
+
+
+def sum_of(before, text):
+    """The checksum after a text."""
+    number = 0
+    for byte in before.encode() + text:
+        number = (number * FACTOR + byte) % 2**64
+    return "%0*x" % (SUM, number)
+
+
+def mark(count, checksum):
+    """The line that ends a commit."""
+    return b"# %d %s\n" % (count, checksum.encode())
+
+
+def commits_text(checksum, commits):
+    """The text of commits, each a list of records, and the checksum after them."""
+    parts = []
+    for records in commits:
+        text = b"".join(record + b"\n" for record in records)
+        checksum = sum_of(checksum, text)
+        parts += [text, mark(len(records), checksum)]
+    return b"".join(parts), checksum
+
+
+def segment_text(number, checksum, commits):
+    """The text of a segment, and the checksum after it."""
+    text, after = commits_text(checksum, commits)
+    return b"judyd journal 1 %d %s\n" % (number, checksum.encode()) + text, after
+
+
+def snapshot_text(number, checksum, commits):
+    """The text of a snapshot of the segments up to a number, whose last commit has this checksum."""
+    text, after = commits_text(checksum, commits)
+    return b"judyd snapshot 1 %d %s\n" % (number, checksum.encode()) + text + mark(0, sum_of(after, b""))
+
+
+def segment_path(folder, number):
+    """The path of a segment."""
+    return os.path.join(folder, "%012d.journal" % number)
+
+
+def snapshot_path(folder, number):
+    """The path of a snapshot."""
+    return os.path.join(folder, "%012d.snapshot" % number)
+
+
+def write(folder, segments, first=1, checksum=ZEROS):
+    """Writes segments, each a list of commits. Returns the checksum after them."""
+    for number, commits in enumerate(segments, first):
+        text, checksum = segment_text(number, checksum, commits)
+        with open(segment_path(folder, number), "wb") as file:
+            file.write(text)
+    return checksum
+
+
+def contents(folder):
+    """The bytes of each file of a directory but its locks."""
+    found = {}
+    for name in sorted(os.listdir(folder)):
+        if not name.endswith("lock"):
+            with open(os.path.join(folder, name), "rb") as file:
+                found[name] = file.read()
+    return found
+
+
+def records_of(folder):
+    """The records of all whole commits of a journal, and how many bytes follow the last. Ends with an
+    AssertionError if the journal is not as docs/FORMATS.md says."""
+    files = contents(folder)
+    snapshots = sorted(name for name in files if re.fullmatch(r"\d{12}\.snapshot", name))
+    checksum, first, records, torn = ZEROS, 1, [], 0
+    if snapshots:
+        number = int(snapshots[-1][:12])
+        head, _, text = files[snapshots[-1]].partition(b"\n")
+        assert head.startswith(b"judyd snapshot 1 %d " % number), head
+        checksum, first = head[-SUM:].decode(), number + 1
+        commits, _, torn = commits_in(text, checksum)
+        assert torn == 0 and commits and commits[-1] == [], "the snapshot does not end"
+        records += [record for commit in commits for record in commit]
+    last = max(int(name[:12]) for name in files if re.fullmatch(r"\d{12}\.journal", name))
+    for number in range(first, last + 1):
+        text = files["%012d.journal" % number]
+        head = b"judyd journal 1 %d %s\n" % (number, checksum.encode())
+        if not text.startswith(head):
+            assert number == last and head.startswith(text), (number, text[:100])
+            return records, len(text)
+        commits, checksum, torn = commits_in(text[len(head) :], checksum)
+        assert torn == 0 or number == last, "segment %d is not whole" % number
+        records += [record for commit in commits for record in commit]
+    return records, torn
+
+
+def commits_in(text, checksum):
+    """The whole commits of a text, the checksum after them, and how many bytes follow."""
+    commits, records, at, whole = [], [], 0, 0
+    while True:
+        end = text.find(b"\n", at)
+        if end < 0:
+            return commits, checksum, len(text) - whole
+        line, at = text[at:end], end + 1
+        if not line.startswith(b"#"):
+            records.append(line)
+            continue
+        checksum = sum_of(checksum, b"".join(record + b"\n" for record in records))
+        assert line + b"\n" == mark(len(records), checksum), line
+        commits.append(records)
+        records, whole = [], at
