@@ -46,15 +46,15 @@ fn names_are_written_as_they_are_read(rt: HostRuntime) -> Result<(), Fail> {
 
 #[test]
 fn segments_after_the_snapshot_are_all_there(rt: HostRuntime) -> Result<(), Fail> {
-    let found = arrange(rt.alloc(), &mut [3, 1, 2], &[]).unwrap();
+    let found = arrange(rt.alloc(), &mut [3, 1, 2], &[])?;
     assert_eq!(rt;
         (found.snapshot, found.first, found.last),
         (None, 1, Some(3))
     );
     assert!(rt; found.old.is_empty());
-    let found = arrange(rt.alloc(), &mut [], &[]).unwrap();
+    let found = arrange(rt.alloc(), &mut [], &[])?;
     assert_eq!(rt; (found.snapshot, found.first, found.last), (None, 1, None));
-    let found = arrange(rt.alloc(), &mut [9, 8, 6, 7], &[3, 7]).unwrap();
+    let found = arrange(rt.alloc(), &mut [9, 8, 6, 7], &[3, 7])?;
     assert_eq!(rt;
         (found.snapshot, found.first, found.last),
         (Some(7), 8, Some(9))

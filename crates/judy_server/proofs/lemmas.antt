@@ -1,9 +1,11 @@
 -- The lemmas that proofs of other crates may cite. All other files here are private to this crate.
+pub mod Answering
 pub mod Calls
 pub mod Commands
 pub mod Counts
 pub mod Crashes
 pub mod Keeping
+pub mod Recorded
 pub mod Space
 pub mod Starts
 pub mod Stays

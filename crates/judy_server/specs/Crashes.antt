@@ -1,12 +1,119 @@
--- The calls of a run of lines, of any connections.
---     answered_in turns   the calls, each with its speaker and its reply
-use Rattle.std.specs.Prelude.{List, [], ◌∷◌, ◌++◌, zip}
+-- A server that crashed, and a service that has played what is left of its journal.
+--     answered_in turns     the calls, each with its speaker and its reply
+--     IsNew service         a service of a table, where no tenant has an entry
+--     Stock                 a journal: the records of a snapshot, whole files, and their commits
+--     records_with s cs     all records, where the files have these commits
+--     HasResumed s w t      the service has played this journal, and the writer goes on with it
+--     HasCrashed s j story t   the crash came after this story; what it left was played on a new service
+--     HaveSame a b          the tenants of one name have the same arrays in both services
+--     IsRestored ..         the arrays are those after the first lines, with all that were answered
+--     CrashesLoseNothing    so it is after a crash at any moment of any run
+use Rattle.std.specs.Prelude.{◌≡◌, ◌≢◌, ◌<◌, ◌+◌, ◌^◌, ℕ, true, List, [], ◌∷◌, ◌++◌, length, zip, IsTrue, Option, Some}
+use Rattle.judy_journal.specs.Acts.{AreWhole, File, Left, MayLeaveAll, disk_after}
+use Rattle.judy_journal.specs.Crashes.{FoundAll}
+use Rattle.judy_journal.specs.Journals.{Commit, is_line, sum_at}
+use Rattle.judy_journal.specs.Writes.{Writing, all_records}
 use Rattle.judy_model.specs.declared.replies.Reply.{Reply}
 use Rattle.judy_model.specs.Speakers.{Event}
 use Rattle.judy_model.specs.Stream.{event_of}
-use Rattle.judy_many.specs.Sessions.{Turn}
+use Rattle.judy_many.specs.Books.{Journal, journal_of}
+use Rattle.judy_many.specs.Crowds.{HasServedMany}
+use Rattle.judy_many.specs.Journaling.{disk_acts, journal_since}
+use Rattle.judy_many.specs.Nets.{Acts}
+use Rattle.judy_many.specs.Nets.Act.{Wrote}
+use Rattle.judy_many.specs.Sessions.{Turn, records_in}
+use Rattle.judy_many.specs.Statuses.{Lasts}
+use Rattle.judy_many.specs.Stories.{Story, acts_in, turns_in}
+use Rattle.judy_many.specs.Stories.Moment.{Did}
+use Rattle.judy_many.specs.declared.network.Sync.{Sync}
+use Rattle.judy_many.specs.declared.network.Sync.TheVariants as sync
+use Rattle.judy_many.specs.declared.serve.Ending.{Ending}
+use Rattle.judy_many.specs.declared.serve.Limits.{Limits}
+use Rattle.judy_table.specs.declared.tenant.Tenant.{Tenant}
+use Rattle.judy_table.specs.Tenants.{place_of}
+use Rattle.judy_tenants.specs.Held.{states_of}
+use Rattle.judy_server.specs.Replays.{AreReplayed}
+use Rattle.judy_server.specs.Rules.{server_rules}
+use Rattle.judy_server.specs.Served.{IsNewService}
+use Rattle.judy_server.specs.Tally.{Tallied}
 
 -- the calls, each with its speaker and its reply
 abbrev pub answered_in : List Turn → List (Event × Reply)
 answered_in [] = []
 answered_in (t ∷ turns) = zip (event_of t.line t.who) t.replies ++ answered_in turns
+
+-- a service of some table, where no tenant has an entry
+abbrev pub IsNew : Tallied → Type 0
+IsNew service = (secret : List ℕ) × (reserve : Option ℕ) × (table : List Tenant) × IsNewService secret reserve table service
+
+-- ---- the journal before and after
+
+-- What a server begins with: the records of a snapshot, if there is one; the number of the segment that it
+-- stands for, and its last checksum; the files of the later segments, and the commits in them.
+pub record Stock : Type 0 where
+  pub snapshot : Commit
+  pub segment : ℕ
+  pub sum : List ℕ
+  pub files : List File
+  pub commits : List Commit
+
+-- all records, in order, where the files have these commits
+abbrev pub records_with : Stock → List Commit → Commit
+records_with s commits = s.snapshot ++ all_records commits
+
+-- The files are whole and synced, and the writer goes on after them. All of their records were played on a
+-- new service, which is now this one.
+pub record HasResumed (s : Stock) (w : Writing) (service : Tallied) : Type 0 where
+  pub line : IsTrue (is_line s.sum)
+  pub some : s.files ≢ []
+  pub whole : AreWhole s.segment s.sum s.files s.commits
+  pub segment_is : w.segment ≡ s.segment + length s.files
+  pub sum_is : w.sum ≡ sum_at s.sum s.commits
+  pub none : w.records ≡ []
+  pub first : Tallied
+  pub new : IsNew first
+  pub played : AreReplayed first (records_with s s.commits) service
+
+-- The machine crashed after this story. These files are left, and these commits are found in them. All
+-- records were played on a new service, which is now this one.
+pub record HasCrashed (s : Stock) (j : Journal) (story : Story) (restored : Tallied) : Type 0 where
+  pub few : (journal_since j story).segment < 2 ^ 64
+  pub left : List Left
+  pub leaves : MayLeaveAll (disk_after s.files (disk_acts (acts_in story))) left
+  pub found : List Commit
+  pub tail : List ℕ
+  pub is_found : FoundAll s.segment s.sum left found tail
+  pub fresh : Tallied
+  pub new : IsNew fresh
+  pub played : AreReplayed fresh (records_with s found) restored
+
+-- ---- what is restored
+
+-- the tenants of one name have the same arrays in both services
+abbrev pub HaveSame : Tallied → Tallied → Type 0
+HaveSame a b = (name : List ℕ) (t u : ℕ) → place_of name a.held.tenants ≡ Some t → place_of name b.held.tenants ≡ Some u
+    → states_of b.held u ≡ states_of a.held t
+
+-- The arrays are those of the service at one moment, after the first lines of a story and before the others.
+pub record IsRestored (rule : Sync) (before : Tallied) (story : Story) (after restored : Tallied) : Type 0 where
+  pub done : Story
+  pub rest : Story
+  pub mid : Tallied
+  pub lines : turns_in done ++ turns_in rest ≡ turns_in story
+  pub run : Lasts server_rules true before done mid
+  pub later : Lasts server_rules true mid rest after
+  pub same : HaveSame mid restored
+  -- where each round is synced, all lines are among them that came before an answer of which a byte was
+  -- written
+  pub answered : rule ≡ sync.Round → (p q : Story) (n : ℕ) (bytes : List ℕ) → story ≡ p ++ Did (Wrote n bytes) ∷ q
+      → (more : List Turn) × (turns_in done ≡ turns_in p ++ more)
+  -- where no record is lost, they are the arrays at the end of the story
+  pub whole : records_in (turns_in rest) ≡ [] → HaveSame after restored
+
+-- A server has played its journal, and has served many clients. It crashes at any moment.
+abbrev pub CrashesLoseNothing : Type 0
+CrashesLoseNothing = (s : Stock) (limits : Limits) (rule : Sync) (w : Writing) (how : Ending) (log log' : Acts) (before after restored : Tallied)
+    → (h : HasServedMany server_rules limits (Some w) how log log' before after) → limits.journal ≡ Some rule
+    → (story later : Story) → h.story ≡ story ++ later
+    → HasResumed s w before → HasCrashed s (journal_of rule true w) story restored
+    → (now : Tallied) × Lasts server_rules true before story now × IsRestored rule before story now restored

@@ -10,7 +10,7 @@ use Rattle.std.specs.Prelude.{◌≡◌, ◌⊎◌, ◌||◌, ℕ, Bool, suc, Li
 use Rattle.std.specs.List.{list_all}
 use Rattle.judy_table.specs.declared.fault.TableFault.{TableFault}
 use Rattle.judy_table.specs.declared.tenant.Tenant.{Tenant}
-use Rattle.judy_table.specs.Seats.{has_name, name_at, seated}
+use Rattle.judy_table.specs.Seats.{AreRows, has_name, name_at, seated}
 use Rattle.judy_table.specs.Tenants.{is_vacant, read_table}
 use Rattle.judy_tenants.specs.Changes.{HasChanged}
 use Rattle.judy_tenants.specs.Held.{IsSoundService, states_of}
@@ -28,6 +28,7 @@ pub record IsReload (old : Tallied) (text : List ℕ) (new : Tallied) : Type 0 w
   pub table : List Tenant
   pub reads : read_table text ≡ Ok table
   pub tenants : new.held.tenants ≡ seated old.held.tenants table
+  pub rows : AreRows new.held.tenants
   pub held : HasChanged old.held new.held
   pub sound : IsSoundService new.held
   pub tally : new.tally ≡ record old.tally { refused = forgotten 0 new.held.tenants old.tally.refused }

@@ -15,7 +15,7 @@ use Rattle.judy_model.specs.Stream.{Heard}
 use Rattle.judy_model.specs.Tenant.{no_arrays}
 use Rattle.judy_protocol.specs.Services.{IsCalled, Seen}
 use Rattle.judy_table.specs.declared.tenant.Tenant.{Tenant}
-use Rattle.judy_table.specs.Seats.{knows, name_at}
+use Rattle.judy_table.specs.Seats.{AreRows, knows, name_at}
 use Rattle.judy_table.specs.Tenants.{login_of}
 use Rattle.judy_directory.specs.Secrets.{start_of}
 use Rattle.judy_tenants.specs.Held.{HasCause, IsSoundService, Keeps, quotas_of, states_of, words_for}
@@ -65,6 +65,7 @@ IsTaken (Some megabytes) region room = (131072 * megabytes ≤ region) × (64 * 
 -- no tenant has an entry, and nothing was refused or counted
 pub record IsNewService (secret : List ℕ) (reserve : Option ℕ) (table : List Tenant) (t : Tallied) : Type 0 where
   pub tenants : t.held.tenants ≡ table
+  pub rows : AreRows t.held.tenants
   pub states : (tenant : ℕ) → states_of t.held tenant ≡ no_arrays
   pub refusals : t.held.refusals ≡ 0
   pub unplaced : t.held.unplaced ≡ 0

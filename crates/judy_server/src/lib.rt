@@ -4,6 +4,7 @@
 
 mod calls;
 mod jobs;
+mod laws;
 mod metrics;
 mod records;
 mod reload;
@@ -12,5 +13,6 @@ mod status;
 mod tally;
 
 pub use jobs::do_job_on;
+pub use laws::crashes_lose_nothing;
 pub use records::{Halt, replay, replay_all};
 pub use server::{Chosen, Server, run};

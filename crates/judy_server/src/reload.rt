@@ -81,6 +81,7 @@ pub fn change<H: KeyHash>(
     match service.change(alloc, table) {
         Ok(()) => {
             forget(&*service, tally);
+            service.rows_are_sound();
             tell_tenants(told, count);
             true
         }

@@ -203,11 +203,14 @@ impl<H: Chosen> Opens for Server<H> {
             Err(fault) => return Err(Unopened::Table(fault)),
         };
         match Service::new(alloc, table, secret, H::chosen()) {
-            Ok(service) => Ok(Server {
-                service,
-                tally: Tally::new(),
-                logins: Logins::new(),
-            }),
+            Ok(service) => {
+                service.rows_are_sound();
+                Ok(Server {
+                    service,
+                    tally: Tally::new(),
+                    logins: Logins::new(),
+                })
+            }
             Err(_) => Err(Unopened::Memory),
         }
     }

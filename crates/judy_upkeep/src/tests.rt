@@ -12,7 +12,7 @@ fn lines_of_insertions(rt: HostRuntime) -> Result<(), Fail> {
         ("JHSA h x 1", "JHSG h x", "JHSD h x", "JHSI h x 3"),
     ];
     for row in rows.iter() {
-        let insertion = insertion_of(row.0.as_bytes()).unwrap();
+        let insertion = insertion_of(row.0.as_bytes()).ok_or("no insertion")?;
         assert_eq!(rt; insertion.looking().as_slice(), row.1.as_bytes());
         assert_eq!(rt; insertion.removing().as_slice(), row.2.as_bytes());
         assert_eq!(rt; insertion.making(3).as_slice(), row.3.as_bytes());

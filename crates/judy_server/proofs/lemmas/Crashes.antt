@@ -1,13 +1,9 @@
--- What a service has after records were played on it.
+-- Records that were played.
 --     played            a record was played: its call was made, and was not refused
 --     replayed-run      the records that were played are those of a run, which keeps the table
+--     named-by-place    the name of a place that a table has is the one that leads there
 --     replayed-tells    the arrays of a tenant are those that the records of its name make
---     turns-answered    lines one after another are a run, whatever their connections
---     crash-restores    records of the first lines of a run are played on another service, where each tenant
---                       has the arrays that it had before the run: then it has those after these lines
---     journal-restores  the same of all records that are kept: those that the run's own service began with, and
---                       then those of its lines
-use Rattle.std.proofs.Common.{◌≡◌, ℕ, Bool, true, false, not, ◌&&◌, cond, List, [], ◌∷◌, ◌++◌, map, zip, Option, Some, None, Result, Ok, Err}
+use Rattle.std.proofs.Common.{◌≡◌, ℕ, true, not, ◌&&◌, cond, List, [], ◌∷◌, map, Option, Some, None, Result, Ok, Err}
 use Rattle.std.proofs.Common.{refl, sym, ◌∙◌, ap, subst, get_or}
 use Rattle.std.specs.List.{filter_map, cons_option}
 use Rattle.std.specs.Str.{bytes_eq}
@@ -15,25 +11,19 @@ use Rattle.std.proofs.lemmas.List.Quantifiers.{position-Some}
 use Rattle.std.proofs.lemmas.Slice.Eq.{bytes_eq-Decides}
 use Rattle.std.proofs.lemmas.Bool.{and_from}
 use Rattle.judy_journal.specs.declared.replays.Unplayed.{Unplayed}
-use Rattle.judy_model.specs.declared.replies.Reply.{Reply}
-use Rattle.judy_journal.specs.Replays.{Places, event_told, outcome, again, HasAnswered, HaveAnswered, AreRecords, IsNamed}
-use Rattle.judy_protocol.specs.Plain.{counts, is_refused}
+use Rattle.judy_journal.specs.Replays.{Places, event_told, again, HaveAnswered, AreRecords, IsNamed}
 use Rattle.judy_journal.specs.Replays.{after_calls, calls_named, event_recorded, RecordedCallsTellAll}
+use Rattle.judy_journal.proofs.lemmas.ReplayLemmas.{asked_again, outcome_is, records_tell_all}
+use Rattle.judy_model.specs.declared.replies.Reply.{Reply}
 use Rattle.judy_model.specs.Speakers.{Event}
-use Rattle.judy_model.specs.Stream.{event_of}
 use Rattle.judy_model.specs.Tenant.{changes}
-use Rattle.judy_journal.proofs.lemmas.ReplayLemmas.{asked_again, outcome_is, HaveAnswered-append, after_records-append, records_tell_all}
-use Rattle.judy_many.specs.Sessions.{AreTurns, Turn, text_of}
-use Rattle.judy_protocol.specs.Services.{AreMade}
+use Rattle.judy_protocol.specs.Plain.{counts}
 use Rattle.judy_table.specs.declared.tenant.Tenant.{Tenant}
 use Rattle.judy_table.specs.Tenants.{place_of, vacant}
-use Rattle.judy_tenants.specs.Held.{Held, IsSoundService, quotas_of, states_of}
-use Rattle.judy_server.specs.Crashes.{answered_in}
+use Rattle.judy_tenants.specs.Held.{IsSoundService, quotas_of, states_of}
 use Rattle.judy_server.specs.Replays.{places_in, PlaysAs, Plays, AreReplayed}
-use Rattle.judy_server.specs.Rules.{server_rules}
-use Rattle.judy_server.specs.Served.{IsServedStep, seen_of}
+use Rattle.judy_server.specs.Served.{IsServedStep}
 use Rattle.judy_server.specs.Tally.{Tallied}
-use Rattle.judy_server.proofs.lemmas.Space.{sound-moments, sound-turns}
 
 -- ---- a record
 
@@ -61,26 +51,31 @@ played old new bytes h = by (event_told (places_in old) bytes) refl h
 
 -- ---- records
 
--- the records that were played are those of a run of calls, which keeps the table
-pub record IsReplayedRun (old : Tallied) (records : List (List ℕ)) (new : Tallied) : Type 0 where
+-- the records that were played are those of a run of calls, which keeps the table; by these places too
+pub record IsReplayedRun (places : Places) (old : Tallied) (records : List (List ℕ)) (new : Tallied) : Type 0 where
   pub answered : List (Event × Reply)
   pub run : HaveAnswered (states_of old.held) answered (states_of new.held)
-  pub are : AreRecords (places_in old) answered records
+  pub are : AreRecords places answered records
   pub sound : IsSoundService new.held
   pub tenants : new.held.tenants ≡ old.held.tenants
 
-pub replayed-run : (records : List (List ℕ)) (old new : Tallied) → IsSoundService old.held → AreReplayed old records new → IsReplayedRun old records new
-replayed-run [] old new s same = record {
+-- what a record asks for by the first places, it asks for by the others
+abbrev pub AskThere : Places → Places → Type 0
+AskThere here there = (bytes : List ℕ) (event : Event) → event_told here bytes ≡ Ok event → event_told there bytes ≡ Ok event
+
+pub replayed-run : (places : Places) (records : List (List ℕ)) (old new : Tallied) → IsSoundService old.held → AskThere (places_in old) places
+    → AreReplayed old records new → IsReplayedRun places old records new
+replayed-run places [] old new s asks same = record {
   answered = [];
   run = λ t. ap (λ (x : Tallied). states_of x.held t) same;
   are = refl;
   sound = subst (λ (x : Tallied). IsSoundService x.held) (sym same) s;
   tenants = ap (λ (x : Tallied). x.held.tenants) same;
 }
-replayed-run (bytes ∷ records) old new s (mid, first, rest) =
+replayed-run places (bytes ∷ records) old new s asks (mid, first, rest) =
     let p = played old mid bytes first in
-    let more : IsReplayedRun mid records new = replayed-run records mid new p.made.sound rest in
-    let places : places_in mid ≡ places_in old = ap {B = Places} (λ (tenants : List Tenant) (name : List ℕ). place_of name tenants) p.made.keeps.tenants in
+    let same : places_in old ≡ places_in mid = ap {B = Places} (λ (tenants : List Tenant) (name : List ℕ). place_of name tenants) (sym p.made.keeps.tenants) in
+    let more : IsReplayedRun places mid records new = replayed-run places records mid new p.made.sound (subst (λ (here : Places). AskThere here places) same asks) rest in
     record {
       answered = (p.event, p.reply) ∷ more.answered;
       run = (
@@ -94,9 +89,8 @@ replayed-run (bytes ∷ records) old new s (mid, first, rest) =
         },
         more.run,
       );
-      are = one_more (event_told (places_in old) bytes) p.event p.reply (map (event_told (places_in old)) records) more.answered
-          (p.asked ∙ ap Ok (sym (asked_again (places_in old) bytes p.event p.asked).0)) p.counted
-          (subst (λ (there : Places). AreRecords there more.answered records) places more.are);
+      are = one_more (event_told places bytes) p.event p.reply (map (event_told places) records) more.answered
+          (asks bytes p.event p.asked ∙ ap Ok (sym (asked_again (places_in old) bytes p.event p.asked).0)) p.counted more.are;
       sound = more.sound;
       tenants = more.tenants ∙ p.made.keeps.tenants;
     }
@@ -120,84 +114,6 @@ pub replayed-tells : RecordedCallsTellAll → (records : List (List ℕ)) (old n
     → (t : ℕ) (name : List ℕ) → place_of name old.held.tenants ≡ Some t
     → states_of new.held t ≡ after_calls (states_of old.held t) (calls_named name records)
 replayed-tells all records old new s h t name found =
-    let run = replayed-run records old new s h in
+    let run = replayed-run (places_in old) records old new s (λ bytes event e. e) h in
     records_tell_all all (states_of old.held) (states_of new.held) run.answered (places_in old) records run.run run.are t name
     (named-by-place old.held.tenants t name found)
-
--- ---- lines
-
--- calls one after another are a run
-pub made-answered : (answered : List (Event × Reply)) (before after : Tallied) → IsSoundService before.held → AreMade IsServedStep before answered after
-    → HaveAnswered (states_of before.held) answered (states_of after.held) × IsSoundService after.held
-made-answered [] before after s same =
-    (λ t. ap (λ (x : Tallied). states_of x.held t) same, subst (λ (x : Tallied). IsSoundService x.held) (sym same) s)
-made-answered (p ∷ ps) before after s (mid, made, rest) =
-    let (more, sound) = made-answered ps mid after made.sound rest in (
-      (
-        states_of mid.held,
-        record {
-          quotas = quotas_of before.held.tenants;
-          now = states_of before.held;
-          same = λ t. refl;
-          form = s.form;
-          served = made.called.served;
-        },
-        more,
-      ),
-      sound,
-    )
-
--- lines one after another are a run
-pub turns-answered : (turns : List Turn) (before after : Tallied) → IsSoundService before.held → AreTurns server_rules before turns after
-    → HaveAnswered (states_of before.held) (answered_in turns) (states_of after.held)
-turns-answered [] before after s same = λ t. ap (λ (x : Tallied). states_of x.held t) same
-turns-answered (turn ∷ turns) before after s (mid, one, rest) =
-    let (first, sound) = made-answered (zip (event_of turn.line turn.who) turn.replies) before one.mid s one.calls in
-    let held : mid.held ≡ one.mid.held = ap (λ (x : Tallied). x.held) one.noted in
-    let more = turns-answered turns mid after (subst IsSoundService (sym held) sound) rest in
-    HaveAnswered-append (states_of before.held) (states_of one.mid.held) (states_of mid.held) (states_of after.held)
-    (zip (event_of turn.line turn.who) turn.replies) (answered_in turns) first (λ t. ap (λ h. states_of h t) held) more
-
--- the arrays of a tenant after these lines are those that the records of its name make
-pub turns-tell : RecordedCallsTellAll → (turns : List Turn) (before after : Tallied) (places : Places) (records : List (List ℕ)) → IsSoundService before.held
-    → AreTurns server_rules before turns after → AreRecords places (answered_in turns) records
-    → (t : ℕ) (name : List ℕ) → IsNamed places t name
-    → states_of after.held t ≡ after_calls (states_of before.held t) (calls_named name records)
-turns-tell all turns before after places records s run are t name named =
-    records_tell_all all (states_of before.held) (states_of after.held) (answered_in turns) places records (turns-answered turns before after s run) are t name named
-
--- ---- a crash
-
--- After a crash the records of the first lines are left, and are played on another service. A tenant that
--- had there the arrays of before the run has those that these lines left: its own entries, whatever the
--- quotas, the places and the other tenants are now.
-pub crash-restores : RecordedCallsTellAll → (done rest : List Turn) (records : List (List ℕ)) (places : Places) (before after fresh restored : Tallied)
-    → IsSoundService before.held → IsSoundService fresh.held → AreTurns server_rules before (done ++ rest) after
-    → AreRecords places (answered_in done) records → AreReplayed fresh records restored
-    → (mid : Tallied) × AreTurns server_rules before done mid × AreTurns server_rules mid rest after
-    × ((name : List ℕ) (t u : ℕ) → IsNamed places t name → place_of name fresh.held.tenants ≡ Some u
-    → states_of before.held t ≡ states_of fresh.held u → states_of restored.held u ≡ states_of mid.held t)
-crash-restores all done rest records places before after fresh restored s s' run are replayed =
-    let (mid, first, sound, more) = sound-moments done rest before after s run in (
-      mid,
-      first,
-      more,
-      λ name t u named found same.
-          replayed-tells all records fresh restored s' replayed u name found
-          ∙ ap (λ x. after_calls x (calls_named name records)) (sym same)
-          ∙ sym (turns-tell all done before mid places records s first are t name named),
-    )
-
--- A service began with the records that were kept, and ran these lines, whose records were kept too. Where all
--- of them are played on another service, each tenant has what it had after these lines.
-pub journal-restores : RecordedCallsTellAll → (kept records : List (List ℕ)) (done : List Turn) (places : Places) (first before mid fresh restored : Tallied)
-    → IsSoundService first.held → IsSoundService fresh.held → AreReplayed first kept before → AreTurns server_rules before done mid
-    → AreRecords places (answered_in done) records → AreReplayed fresh (kept ++ records) restored
-    → (name : List ℕ) (t u : ℕ) → IsNamed places t name → place_of name first.held.tenants ≡ Some t → place_of name fresh.held.tenants ≡ Some u
-    → states_of first.held t ≡ states_of fresh.held u → states_of restored.held u ≡ states_of mid.held t
-journal-restores all kept records done places first before mid fresh restored s s' began run are replayed name t u named here there same =
-    replayed-tells all (kept ++ records) fresh restored s' replayed u name there
-    ∙ after_records-append (states_of fresh.held u) name kept records
-    ∙ ap (λ x. after_calls (after_calls x (calls_named name kept)) (calls_named name records)) (sym same)
-    ∙ ap (λ x. after_calls x (calls_named name records)) (sym (replayed-tells all kept first before s began t name here))
-    ∙ sym (turns-tell all done before mid places records (replayed-run kept first before s began).sound run are t name named)

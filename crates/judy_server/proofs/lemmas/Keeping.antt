@@ -1,6 +1,7 @@
 -- A table that has all tenants in force.
 --     keeps-all    each tenant keeps its arrays and its name when it is put in force
 --     keeps-if     so they do where a look at its text said so
+--     name-of      the name of a place, by its row
 use Rattle.std.proofs.Common.{◌≡◌, ◌∙◌, ◌⊎◌, inl, inr, ◌||◌, ℕ, zero, suc, Bool, true, false, cond, not, List, [], ◌∷◌}
 use Rattle.std.proofs.Common.{length, Option, Some, None, Result, Ok, Err, ap, arith, refl, subst, sym}
 use Rattle.std.specs.Prelude.{IfOk, map, option_map, slice_get, unwrap_or}
@@ -57,7 +58,7 @@ vacant-row (s ∷ ts) each (suc t) r h v = vacant-row ts each.1 t r h v
 
 -- ---- what a place shows, by its row
 
-name-of : (ts : List Tenant) (t : ℕ) (o : Option Tenant) → slice_get ts t ≡ o
+pub name-of : (ts : List Tenant) (t : ℕ) (o : Option Tenant) → slice_get ts t ≡ o
     → name_at ts t ≡ unwrap_or (option_map (λ (r : Tenant). r.name) o) []
 name-of ts t o h =
     ap (λ (x : Option (List ℕ)). unwrap_or x [])
