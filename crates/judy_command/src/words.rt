@@ -29,7 +29,7 @@ impl Model for Word {
 pub enum Sync {
     /// In each round that changed something, before its answers are written.
     Round,
-    /// When so many seconds have passed since the last time: 1 to 4294967295.
+    /// When this number of seconds has passed since the last time: 1 to 4294967295.
     Seconds(u32),
     /// Never: the system chooses.
     Never,
@@ -255,7 +255,8 @@ fn job_of(alloc: Global, name: &str, matches: &ArgMatches<'_>) -> Result<Job, Al
 /// What is wrong with `--sync`, if it is given. `clap` does not see it.
 fn sync_fault(matches: &ArgMatches<'_>) -> Option<&'static str>
     ensures none { result ≡ None → sync_fault (rows_of (found_of matches.now)) ≡ [] }
-    ensures some { IfSome result (λ text. (sync_fault (rows_of (found_of matches.now)) ≡ ErrorKind.ValueValidation ∷ [])
+    ensures some { IfSome result (λ text.
+        (sync_fault (rows_of (found_of matches.now)) ≡ ErrorKind.ValueValidation ∷ [])
         ⊎ (sync_fault (rows_of (found_of matches.now)) ≡ ErrorKind.MissingRequiredArgument ∷ [])) }
 {
     let text = text_of(matches, "sync")?;
@@ -303,7 +304,8 @@ fn obtain(alloc: Global, name: &str, matches: &ArgMatches<'_>) -> Result<Job, Re
     ensures job { IfOk result (λ job. job ≡ job_at name.now (rows_of (found_of matches.now))) }
     ensures faultless { OnOk result (sync_fault (rows_of (found_of matches.now)) ≡ []) }
     ensures refused { IfErr result (StopsBy (sync_fault (rows_of (found_of matches.now)))) }
-    ensures taken { IfErr result (λ why. sync_fault (rows_of (found_of matches.now)) ≡ [] → why ≡ Refusal.Memory) }
+    ensures taken { IfErr result (λ why. sync_fault (rows_of (found_of matches.now)) ≡ []
+        → why ≡ Refusal.Memory) }
 {
     if let Some(text) = sync_fault(matches) {
         return Err(usage(alloc, text));

@@ -37,7 +37,7 @@ impl<F: Files> Growing<F> {
             .map_err(|e| DiskFault::at(self.place, e))
     }
 
-    /// Cuts off what follows so many bytes, and secures the rest.
+    /// Cuts off what follows this number of bytes, and secures the rest.
     pub(crate) fn cut(&self, len: u64) -> Result<(), DiskFault> {
         match self.cut_to(len) {
             Ok(()) => Ok(()),
@@ -45,7 +45,8 @@ impl<F: Files> Growing<F> {
         }
     }
 
-    /// Cuts off what follows so many bytes, and secures the rest. A file that has fewer is at fault.
+    /// Cuts off what follows this number of bytes, and secures the rest. A file that has fewer is at
+    /// fault.
     fn cut_to(&self, len: u64) -> io::Result<()> {
         let size = self.file.metadata()?.len();
         if size < len {

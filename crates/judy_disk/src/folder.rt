@@ -68,7 +68,7 @@ impl<'a, F: Files> Folder<'a, F> {
         Ok(Growing::new(file, place))
     }
 
-    /// Goes on in a segment behind so many bytes. What follows them is cut off. What is left is
+    /// Goes on in a segment after its first `len` bytes. What follows them is cut off. What is left is
     /// secured, since a server that was killed may have left it unsecured.
     pub fn resume(&self, number: u64, len: u64) -> Result<Growing<F>, DiskFault> {
         let place = Place::Segment(number);

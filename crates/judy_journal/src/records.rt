@@ -25,7 +25,8 @@ pub fn read_record(line: &[u8]) -> Option<(&[u8], &[u8])>
 pub fn snapshot_sum(line: &[u8], segment: u64) -> Option<[u8; SUM_LEN]>
     ensures is { IfSome result (λ sum. line.now ≡ snapshot_line segment sum) }
     ensures one { IfSome result (λ sum. IsTrue (is_line line.now) → IsTrue (is_line sum)) }
-    ensures other { result ≡ None → (sum : List ℕ) → length sum ≡ SUM_LEN → line.now ≢ snapshot_line segment sum }
+    ensures other { result ≡ None → (sum : List ℕ) → length sum ≡ SUM_LEN
+        → line.now ≢ snapshot_line segment sum }
 {
     if line.len() < SUM_LEN {
         return None;

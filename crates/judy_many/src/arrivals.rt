@@ -76,7 +76,8 @@ fn accept_at<S: Served, N: Network>(
     ensures arrives { (more : Story)
         × DidLog (N.log network.old) (acts_in more ++ lost_at result) (N.log network.new)
         × Arrives id (has_come result) (option_map (λ b. view_of S.who N.number b.value) slot.new) more }
-    ensures known { (speakers : Speaker → Bool) → IsKnownSlot (λ b. option_map S.who b.value.session.speaker) speakers slot.old
+    ensures known { (speakers : Speaker → Bool)
+        → IsKnownSlot (λ b. option_map S.who b.value.session.speaker) speakers slot.old
         → IsKnownSlot (λ b. option_map S.who b.value.session.speaker) speakers slot.new }
 {
     match network.accept(id, at) {

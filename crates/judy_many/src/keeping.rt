@@ -96,7 +96,8 @@ fn keep_commit<N: Network>(network: &mut N, writer: &mut Writer, clean: &mut boo
     next_if_full(network, writer, clean)
 }
 
-/// Whether what was kept is to be synced now. If so, it notes the second. If the clock fails, it is.
+/// Whether what was kept has to be synced now. If so, it notes the second. If the clock fails, it has
+/// to.
 fn is_due<N: Network>(network: &mut N, rule: Sync, since: &mut u64) -> bool
     ensures log { DidLog (N.log network.old) [] (N.log network.new) }
     ensures round { rule ≡ Sync.Round → result ≡ true }
@@ -115,7 +116,7 @@ fn is_due<N: Network>(network: &mut N, rule: Sync, since: &mut u64) -> bool
     }
 }
 
-/// Syncs what was kept, if it is to be synced now. False if the journal fails.
+/// Syncs what was kept, if it has to be synced now. False if the journal fails.
 fn sync_if_due<N: Network>(
     network: &mut N,
     writer: &Writer,
@@ -201,7 +202,7 @@ impl Keeper {
         }
     }
 
-    /// Whether something that was kept is to be synced later.
+    /// Whether something that was kept still has to be synced.
     pub fn is_owed(&self) -> bool {
         matches!(self.rule, Sync::Seconds(_)) && !self.clean
     }

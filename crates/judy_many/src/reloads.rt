@@ -193,7 +193,8 @@ pub fn reload<S: Shows, N: Network>(
 )
     requires known { AreKnown (λ b. option_map S.who b.value.session.speaker)
         (S.seen service.old).speakers clients.old.slots.items }
-    ensures crowd { (limits : Limits) (first : S) (start : Acts) (past : Past) → limits.status ≡ true → keep ≡ is_some limits.journal
+    ensures crowd { (limits : Limits) (first : S) (start : Acts) (past : Past) → limits.status ≡ true
+        → keep ≡ is_some limits.journal
         → Crowd (λ b. view_of S.who N.number b.value) (rules_of S.made S.seen S.noted S.status S.changed) limits first
         start Sweeps nobody past (N.log network.old) clients.old.slots.items clients.old.accepted service.old
         → Crowd (λ b. view_of S.who N.number b.value) (rules_of S.made S.seen S.noted S.status S.changed) limits first

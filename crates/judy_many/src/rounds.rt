@@ -115,15 +115,15 @@ pub fn listen_all<S: Shows, N: Network>(
 ) -> bool
     requires known { AreKnown (λ b. option_map S.who b.value.session.speaker)
         (S.seen service.old).speakers clients.old.slots.items }
-    ensures crowd { (limits : Limits) (first : S) (start : Acts) (waits : ℕ) (began : Option Journal) → result ≡ true
-        → Crowd (λ b. view_of S.who N.number b.value) (rules_of S.made S.seen S.noted S.status S.changed) limits first
+    ensures crowd { (limits : Limits) (first : S) (start : Acts) (waits : ℕ) (began : Option Journal)
+        → result ≡ true → Crowd (λ b. view_of S.who N.number b.value) (rules_of S.made S.seen S.noted S.status S.changed) limits first
         start Reads nobody (past_of waits began keeper.old)
         (N.log network.old) clients.old.slots.items clients.old.accepted service.old
         → Crowd (λ b. view_of S.who N.number b.value) (rules_of S.made S.seen S.noted S.status S.changed) limits first
         start Reads everybody (past_of waits began keeper.new)
         (N.log network.new) clients.new.slots.items clients.new.accepted service.new }
-    ensures failed { (limits : Limits) (first : S) (start : Acts) (waits : ℕ) (began : Option Journal) → result ≡ false
-        → Crowd (λ b. view_of S.who N.number b.value) (rules_of S.made S.seen S.noted S.status S.changed) limits first
+    ensures failed { (limits : Limits) (first : S) (start : Acts) (waits : ℕ) (began : Option Journal)
+        → result ≡ false → Crowd (λ b. view_of S.who N.number b.value) (rules_of S.made S.seen S.noted S.status S.changed) limits first
         start Reads nobody (past_of waits began keeper.old)
         (N.log network.old) clients.old.slots.items clients.old.accepted service.old
         → HasFailed (λ b. view_of S.who N.number b.value) (rules_of S.made S.seen S.noted S.status S.changed) limits first
@@ -153,7 +153,8 @@ fn tell_at<S: Served, N: Network>(
         × ((limits : Limits) → SlotDid limits Writes
         (option_map (λ b. view_of S.who N.number b.value) slot.old)
         (option_map (λ b. view_of S.who N.number b.value) slot.new) more) }
-    ensures known { (speakers : Speaker → Bool) → IsKnownSlot (λ b. option_map S.who b.value.session.speaker) speakers slot.old
+    ensures known { (speakers : Speaker → Bool)
+        → IsKnownSlot (λ b. option_map S.who b.value.session.speaker) speakers slot.old
         → IsKnownSlot (λ b. option_map S.who b.value.session.speaker) speakers slot.new }
 {
     let Some(mut client) = slot.take() else {

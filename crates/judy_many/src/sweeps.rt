@@ -47,7 +47,8 @@ fn sweep_at<S: Served, N: Network>(
         × SlotDid limits Sweeps
         (option_map (λ b. view_of S.who N.number b.value) slot.old)
         (option_map (λ b. view_of S.who N.number b.value) slot.new) more }
-    ensures known { (speakers : Speaker → Bool) → IsKnownSlot (λ b. option_map S.who b.value.session.speaker) speakers slot.old
+    ensures known { (speakers : Speaker → Bool)
+        → IsKnownSlot (λ b. option_map S.who b.value.session.speaker) speakers slot.old
         → IsKnownSlot (λ b. option_map S.who b.value.session.speaker) speakers slot.new }
 {
     let Some(mut client) = slot.take() else {

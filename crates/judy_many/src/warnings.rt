@@ -94,7 +94,7 @@ fn add_others(line: &mut ArrayVec<u8, LINE_LIMIT>, others: u64)
     add(line, b" more");
 }
 
-/// The line of so many refused log-ins, the last of them with this tenant's name, if it has one.
+/// The line of this number of refused log-ins, the last of them with this tenant's name, if it has one.
 fn logins_line(name: &[u8], count: u64) -> ArrayVec<u8, LINE_LIMIT>
     ensures { BeginsWith (codes "log-in refused: ") result.items }
 {
@@ -104,7 +104,7 @@ fn logins_line(name: &[u8], count: u64) -> ArrayVec<u8, LINE_LIMIT>
     line
 }
 
-/// The line of so many requests that were refused for memory.
+/// The line of this number of requests that were refused for memory.
 fn requests_line(count: u64) -> ArrayVec<u8, LINE_LIMIT>
     ensures { BeginsWith (codes "out of memory: ") result.items }
 {

@@ -62,8 +62,8 @@ fn open_file<S: Opens, R: Source>(alloc: Global, secret: &[u8], source: &mut R) 
     }
 }
 
-/// Takes memory for the arrays of a new service, if so many megabytes are wanted. False: there is
-/// not that much.
+/// Takes this number of megabytes for the arrays of a new service, if any are wanted. False: there
+/// is not that much.
 fn take_reserve<S: Opens>(alloc: Global, service: &mut S, reserve: Option<u32>) -> bool
     ensures taken { IsTrue result → (secret : List ℕ) (tenants : List Tenant)
         → S.is_new secret None tenants service.old → S.is_new secret reserve tenants service.new }
@@ -188,8 +188,8 @@ pub fn host_on<S: Opens + Shows + Drop, H: Hosts>(
     limits: Limits,
 ) -> Hosted
     requires files { (f : H.File) (room : ℕ) → room ≤ pull_limit → H.File.can_pull f room }
-    ensures { IsHosted (rules_of S.made S.seen S.noted S.status S.changed) (S.is_new secret.now) reserve result config.now
-        socket.now (option_map (λ s. s.now) status.entry) limits (H.log system.old) (H.log system.new) }
+    ensures { IsHosted (rules_of S.made S.seen S.noted S.status S.changed) (S.is_new secret.now)
+        reserve result config.now socket.now (option_map (λ s. s.now) status.entry) limits (H.log system.old) (H.log system.new) }
 {
     let begun: Result<S, Hosted> = begin_on(alloc, secret, system, config, reserve);
     let mut service = match begun {

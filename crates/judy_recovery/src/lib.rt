@@ -2,7 +2,7 @@
 //! of each whole commit.
 //!
 //! Nothing is changed here, whatever is found. What is found at the end says where the journal goes
-//! on, and what is to be cut off first.
+//! on, and what has to be cut off first.
 #![tactic(auto)]
 
 mod ends;

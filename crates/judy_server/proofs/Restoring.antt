@@ -141,18 +141,19 @@ found-after : StoriesAreWritten → JournalIsExact → (s : Stock) (rule : Sync)
 found-after written exact s rule w service story restored resumed crash journaled p q cut kept writing all none =
     let (kept', more', d) = written mid kept [] q q [] behind (λ e. refl) (sym (append-nil q)) in
     let last = writer_at (journal_since mid q) kept' more' in
-    let acts : disk_acts (acts_in story) ≡ disk_acts (acts_in p) ++ disk_acts (acts_in q) = ap (λ x. disk_acts (acts_in x)) cut ∙ ap disk_acts (acts-append p q) ∙ disk-append (acts_in p) (acts_in q) in
+    let acts : disk_acts (acts_in story) ≡ disk_acts (acts_in p) ++ disk_acts (acts_in q) =
+    ap (λ x. disk_acts (acts_in x)) cut ∙ ap disk_acts (acts-append p q) ∙ disk-append (acts_in p) (acts_in q) in
     let whole : IsWriting (standing s.segment s.sum s.files s.commits) (disk_acts (acts_in story)) last =
-      subst (λ x. IsWriting x (disk_acts (acts_in story)) last) (begins s rule w service resumed)
-      (subst (λ x. IsWriting (writer_at j s.commits []) x last) (sym acts)
-      (writing-append (writer_at j s.commits []) (writer_at mid kept []) last (disk_acts (acts_in p)) (disk_acts (acts_in q)) writing d.0)) in
+    subst (λ x. IsWriting x (disk_acts (acts_in story)) last) (begins s rule w service resumed)
+    (subst (λ x. IsWriting (writer_at j s.commits []) x last) (sym acts)
+    (writing-append (writer_at j s.commits []) (writer_at mid kept []) last (disk_acts (acts_in p)) (disk_acts (acts_in q)) writing d.0)) in
     let few : (journal_since mid q).segment < 2 ^ 64 = subst (λ (x : Journal). x.segment < 2 ^ 64) (ap (journal_since j) cut ∙ since-append j p q) crash.few in
     let (taken, lost, joins, is) =
-      exact s.segment s.sum s.files s.commits (disk_acts (acts_in story)) last crash.left few resumed.line resumed.whole whole crash.leaves crash.found
-      crash.tail crash.is_found in
+    exact s.segment s.sum s.files s.commits (disk_acts (acts_in story)) last crash.left few resumed.line resumed.whole whole crash.leaves crash.found
+    crash.tail crash.is_found in
     let (grown, grows) = kept-grows (writer_at mid kept []) (disk_acts (acts_in q)) last d.0 in
     let there : all_records crash.found ≡ all_records kept ++ all_records (grown ++ taken) =
-      ap all_records (is ∙ ap (λ x. x ++ taken) grows ∙ append_assoc kept grown taken) ∙ all-append kept (grown ++ taken) in
+    ap all_records (is ∙ ap (λ x. x ++ taken) grows ∙ append_assoc kept grown taken) ∙ all-append kept (grown ++ taken) in
     let end : Commit = (journal_since mid q).records in
     record {
       extra = all_records (grown ++ taken);
@@ -162,7 +163,9 @@ found-after written exact s rule w service story restored resumed crash journale
           (sym (append_assoc (all_records kept) (all_records (grown ++ taken)) (all_records lost ++ end))
           ∙ ap (λ x. x ++ (all_records lost ++ end)) (sym there)
           ∙ sym (append_assoc (all_records crash.found) (all_records lost) end)
-          ∙ ap (λ x. x ++ end) (sym (all-append crash.found lost) ∙ ap all_records (ap (λ x. x ++ lost) is ∙ append_assoc kept' taken lost ∙ ap (λ x. kept' ++ x) joins))
+          ∙ ap (λ x. x ++ end)
+          (sym (all-append crash.found lost)
+          ∙ ap all_records (ap (λ x. x ++ lost) is ∙ append_assoc kept' taken lost ∙ ap (λ x. kept' ++ x) joins))
           ∙ d.1
           ∙ ap (λ x. (all_records (kept ++ []) ++ x) ++ records_in (turns_in q)) none
           ∙ ap (λ x. x ++ records_in (turns_in q)) (append-nil (all_records (kept ++ [])) ∙ ap all_records (append-nil kept)));
@@ -194,15 +197,24 @@ same-arrays all s w before resumed j story restored crash d now lasts is name t 
     let rows = subst AreRows (sym begun.tenants) known.rows in
     let lasted = lasting d before now begun.sound rows lasts in
     let leads : Leads now.held.tenants (places_in now) = leads-itself now.held.tenants lasted.rows.distinct in
-    let leads-first : Leads first.held.tenants (places_in now) = subst (λ ts. Leads ts (places_in now)) begun.tenants (leads-before before.held.tenants now.held.tenants (places_in now) lasted.names leads) in
-    let run = replayed-run (places_in now) start first before known.sound (asks-there first.held.tenants (places_in now) leads-first) resumed.played in
-    let calls = HaveAnswered-append (states_of first.held) (states_of before.held) (states_of before.held) (states_of now.held) run.answered (answered_in (turns_in d)) run.run (λ v. refl) (story-answered d before now begun.sound lasts) in
-    let records = AreRecords-append (places_in now) run.answered (answered_in (turns_in d)) start (records_in (turns_in d)) run.are (story-recorded (places_in now) d before now begun.sound rows lasts leads) in
-    let kept = replayed-run (places_in crash.fresh) (records_with s crash.found) crash.fresh restored fresh.sound (λ bytes event e. e) crash.played in
+    let leads-first : Leads first.held.tenants (places_in now) =
+    subst (λ ts. Leads ts (places_in now)) begun.tenants
+    (leads-before before.held.tenants now.held.tenants (places_in now) lasted.names leads) in
+    let run =
+    replayed-run (places_in now) start first before known.sound (asks-there first.held.tenants (places_in now) leads-first) resumed.played in
+    let calls =
+    HaveAnswered-append (states_of first.held) (states_of before.held) (states_of before.held) (states_of now.held) run.answered
+    (answered_in (turns_in d)) run.run (λ v. refl) (story-answered d before now begun.sound lasts) in
+    let records =
+    AreRecords-append (places_in now) run.answered (answered_in (turns_in d)) start (records_in (turns_in d)) run.are
+    (story-recorded (places_in now) d before now begun.sound rows lasts leads) in
+    let kept =
+    replayed-run (places_in crash.fresh) (records_with s crash.found) crash.fresh restored fresh.sound (λ bytes event e. e) crash.played in
     replayed-tells all (records_with s crash.found) crash.fresh restored fresh.sound crash.played u name
     (subst (λ ts. place_of name ts ≡ Some u) kept.tenants there)
     ∙ ap (λ x. after_calls x (calls_named name (records_with s crash.found))) (fresh.states u ∙ sym (known.states t))
-    ∙ ap (λ rs. after_calls (states_of first.held t) (calls_named name rs)) (ap (λ x. s.snapshot ++ x) is ∙ sym (append_assoc s.snapshot (all_records s.commits) (records_in (turns_in d))))
+    ∙ ap (λ rs. after_calls (states_of first.held t) (calls_named name rs))
+    (ap (λ x. s.snapshot ++ x) is ∙ sym (append_assoc s.snapshot (all_records s.commits) (records_in (turns_in d))))
     ∙ sym
     (records_tell_all all (states_of first.held) (states_of now.held) (run.answered ++ answered_in (turns_in d)) (places_in now)
     (start ++ records_in (turns_in d)) calls records t name (named-by-place now.held.tenants t name here))
@@ -350,7 +362,8 @@ story-cut (Ran n turns ∷ story) before after (now, run, rest) front back h =
     by (λ left e. story-cut story now after rest left back e)
     (turns-cut turns before now run (records_in (turns_in story)) front back (sym (records_in-append turns (turns_in story)) ∙ h))
   where
-    by : ((left : Commit) → records_in (turns_in story) ≡ left ++ back → IsCut now story after left) → AreAll turns (records_in (turns_in story)) front back ⊎ AreCut before turns now front → IsCut before (Ran n turns ∷ story) after front
+    by : ((left : Commit) → records_in (turns_in story) ≡ left ++ back → IsCut now story after left)
+        → AreAll turns (records_in (turns_in story)) front back ⊎ AreCut before turns now front → IsCut before (Ran n turns ∷ story) after front
     by again (inl a) =
         let c = again a.left a.more_is in
         record {
@@ -383,15 +396,17 @@ lines-done [] b done rest extra e h tight = (done, refl)
 lines-done (t ∷ a) b [] [] extra e h tight = cc
 lines-done (t ∷ a) b [] (u ∷ rest) extra e h tight =
     let same : t ≡ u = cc in
-    absurd (tight (ap (λ (x : Turn). x.records) (sym same) ∙ front-none t.records (records_in a ++ extra) (sym h ∙ append_assoc t.records (records_in a) extra)))
+    absurd
+    (tight (ap (λ (x : Turn). x.records) (sym same)
+    ∙ front-none t.records (records_in a ++ extra) (sym h ∙ append_assoc t.records (records_in a) extra)))
 lines-done (t ∷ a) b (u ∷ done) rest extra e h tight =
     let same : t ≡ u = cc in
     let tail : a ++ b ≡ done ++ rest = cc in
     let (more, is) =
-      lines-done a b done rest extra tail
-      (append_cancel_left t.records (records_in a ++ extra) (records_in done)
-      (sym (append_assoc t.records (records_in a) extra) ∙ h ∙ ap (λ (x : Turn). x.records ++ records_in done) (sym same)))
-      tight in
+    lines-done a b done rest extra tail
+    (append_cancel_left t.records (records_in a ++ extra) (records_in done)
+    (sym (append_assoc t.records (records_in a) extra) ∙ h ∙ ap (λ (x : Turn). x.records ++ records_in done) (sym same)))
+    tight in
     (more, ap (λ x. x ∷ done) (sym same) ∙ ap (λ ts. t ∷ ts) is)
 
 -- ---- the whole
@@ -399,10 +414,12 @@ lines-done (t ∷ a) b (u ∷ done) rest extra e h tight =
 pub crash-restores : RecordedCallsTellAll → JournalIsExact → StoriesAreWritten → AnswersAreKept → CrashesLoseNothing
 crash-restores all exact written answers s limits rule w how log log' before after restored h keeps story later cut resumed crash =
     let (now, first, more) = lasts-split story later before after lasts in
-    let found = found-after written exact s rule w before story restored resumed crash journaled [] story refl s.commits refl (sym (append-nil (all_records s.commits))) resumed.none in
+    let found =
+    found-after written exact s rule w before story restored resumed crash journaled [] story refl s.commits refl
+    (sym (append-nil (all_records s.commits))) resumed.none in
     let c = story-cut story before now first found.extra found.lost (sym found.rest_is) in
-    let found_is : all_records crash.found ≡ all_records s.commits ++ found.extra = found.found_is ∙ ap (λ x. x ++ found.extra) (append-nil (all_records s.commits)) in
-    (
+    let found_is : all_records crash.found ≡ all_records s.commits ++ found.extra =
+    found.found_is ∙ ap (λ x. x ++ found.extra) (append-nil (all_records s.commits)) in (
       now,
       first,
       record {
@@ -417,19 +434,20 @@ crash-restores all exact written answers s limits rule w how log log' before aft
             let (kept, more, d, rec, clean) = answers j s.commits [] story p q n bytes journaled (λ e. refl) e in
             let none : more ≡ [] = clean round in
             let before_is : all_records kept ≡ all_records s.commits ++ records_in (turns_in p) =
-              sym (ap (λ x. all_records (kept ++ x)) none ∙ ap all_records (append-nil kept)) ∙ rec
-              ∙ ap (λ x. (all_records (s.commits ++ []) ++ x) ++ records_in (turns_in p)) resumed.none
-              ∙ ap (λ x. x ++ records_in (turns_in p)) (append-nil (all_records (s.commits ++ [])) ∙ ap all_records (append-nil s.commits)) in
+            sym (ap (λ x. all_records (kept ++ x)) none ∙ ap all_records (append-nil kept)) ∙ rec
+            ∙ ap (λ x. (all_records (s.commits ++ []) ++ x) ++ records_in (turns_in p)) resumed.none
+            ∙ ap (λ x. x ++ records_in (turns_in p)) (append-nil (all_records (s.commits ++ [])) ∙ ap all_records (append-nil s.commits)) in
             let empty : (journal_since j p).records ≡ [] =
-              append_cancel_left (all_records (kept ++ more)) (journal_since j p).records []
-              (d.1 ∙ sym rec ∙ sym (append-nil (all_records (kept ++ more)))) in
+            append_cancel_left (all_records (kept ++ more)) (journal_since j p).records []
+            (d.1 ∙ sym rec ∙ sym (append-nil (all_records (kept ++ more)))) in
             let there =
-              found-after written exact s rule w before story restored resumed crash journaled p (Did (Wrote n bytes) ∷ q) e kept
-              (subst (λ x. IsWriting (writer_at j s.commits []) (disk_acts (acts_in p)) (writer_at (journal_since j p) kept x)) none d.0) before_is empty in
+            found-after written exact s rule w before story restored resumed crash journaled p (Did (Wrote n bytes) ∷ q) e kept
+            (subst (λ x. IsWriting (writer_at j s.commits []) (disk_acts (acts_in p)) (writer_at (journal_since j p) kept x)) none d.0) before_is empty in
             lines-done (turns_in p) (turns_in q) (turns_in c.done) (turns_in c.rest) there.extra
             (sym (turns-append p (Did (Wrote n bytes) ∷ q)) ∙ ap turns_in (sym e) ∙ sym c.lines)
             (append_cancel_left (all_records s.commits) (records_in (turns_in p) ++ there.extra) (records_in (turns_in c.done))
-            (sym (append_assoc (all_records s.commits) (records_in (turns_in p)) there.extra) ∙ sym there.found_is ∙ found_is ∙ ap (λ x. all_records s.commits ++ x) (sym c.records)))
+            (sym (append_assoc (all_records s.commits) (records_in (turns_in p)) there.extra) ∙ sym there.found_is ∙ found_is
+            ∙ ap (λ x. all_records s.commits ++ x) (sym c.records)))
             c.tight;
         whole = λ none.
             same-arrays all s w before resumed j story restored crash story now first
@@ -448,4 +466,6 @@ crash-restores all exact written answers s limits rule w how log log' before aft
         (subst (IsJournaled j) cut (subst (λ (o : Option Sync). AreKept (opened o (Some w)) h.story) keeps h.journaled))
 
     lasts : Lasts server_rules true before (story ++ later) after
-    lasts = subst (λ x. Lasts server_rules true before x after) cut (subst (λ (o : Option Sync). Lasts server_rules (is_some o) before h.story after) keeps h.lasts)
+    lasts =
+        subst (λ x. Lasts server_rules true before x after) cut
+        (subst (λ (o : Option Sync). Lasts server_rules (is_some o) before h.story after) keeps h.lasts)

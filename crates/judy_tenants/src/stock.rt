@@ -37,7 +37,7 @@ pub struct Answered<'a> {
     pub after: Place,
 }
 
-/// Takes memory for so many words, and for so many names. No array changes.
+/// Takes memory for `words` words, and for `names` names. No array changes.
 ///
 /// Err: the machine had no memory for a chunk, or for the room.
 pub fn prepare(alloc: Global, stock: &mut Stock, words: u64, names: usize) -> Result<(), NoMemory>

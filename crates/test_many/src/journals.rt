@@ -171,21 +171,36 @@ fn a_full_segment_is_followed_by_the_next(rt: HostRuntime) -> Result<(), Fail> {
     Ok(())
 }
 
-// By seconds the journal is synced once so many have passed; without a rule of its own it never is.
+// The lines of a client that come in two reads.
+const TWO_READS: [u8; 44] = *b"AUTH alice abc\nJ1S a 1\nJ1U a 1\nJ1S a 2\nQUIT\n";
+
+// By seconds the journal is synced once this number of them has passed.
 #[test]
-fn syncs_by_seconds_and_never(rt: HostRuntime) -> Result<(), Fail> {
+fn syncs_by_seconds(rt: HostRuntime) -> Result<(), Fail> {
     let alloc = rt.alloc();
-    let lines = *b"AUTH alice abc\nJ1S a 1\nJ1U a 1\nJ1S a 2\nQUIT\n";
+    let lines = TWO_READS;
+    let times = [Some(3), Some(8), Some(9), Some(13)];
     let parts = [Part {
         step: 23,
         ..giving(&lines)
     }];
-    let times = [Some(3), Some(8), Some(9), Some(13)];
     let mut timed = stage(alloc, &parts)?;
     timed.times = &times;
     let ending = play_with(alloc, &mut timed, journaled(1, Sync::Seconds(5)), 0)?;
     assert_eq!(rt; ending, Ending::Done);
     assert_eq!(rt; timed.asked(), b".a0r0kw0.r0ksw0c0Q".as_slice());
+    Ok(())
+}
+
+// Without a rule of its own it is never synced.
+#[test]
+fn never_syncs(rt: HostRuntime) -> Result<(), Fail> {
+    let alloc = rt.alloc();
+    let lines = TWO_READS;
+    let parts = [Part {
+        step: 23,
+        ..giving(&lines)
+    }];
     let mut never = stage(alloc, &parts)?;
     let ending = play_with(alloc, &mut never, journaled(1, Sync::Never), 0)?;
     assert_eq!(rt; ending, Ending::Done);
@@ -223,10 +238,11 @@ fn records_beyond_one_commit(rt: HostRuntime) -> Result<(), Fail> {
     assert_eq!(rt; count(text, b"bob J1S a 1"), 1500);
     assert_eq!(rt; count(text, b"# "), 3);
     for script in stage.scripts.iter() {
-        assert_eq!(rt;
-            count(script.page.bytes(), b"0") + count(script.page.bytes(), b"1"),
-            300
+        let (zeros, ones) = (
+            count(script.page.bytes(), b"0"),
+            count(script.page.bytes(), b"1"),
         );
+        assert_eq!(rt; zeros.saturating_add(ones), 300);
     }
     Ok(())
 }

@@ -266,7 +266,7 @@ story-recorded places (Ran n turns ∷ story) before after sound rows (mid, run,
     let there : Leads before.held.tenants places = leads-before before.held.tenants after.held.tenants places whole.names leads in
     let same : mid.held.tenants ≡ before.held.tenants = rows-stay turns before mid run in
     let more =
-      story-recorded places story mid after (sound-turns turns before mid sound run).sound (subst AreRows (sym same) rows) rest leads in
+    story-recorded places story mid after (sound-turns turns before mid sound run).sound (subst AreRows (sym same) rows) rest leads in
     subst (λ ps. AreRecords places ps (records_in (turns ++ turns_in story))) (sym (answered-append turns (turns_in story)))
     (subst (λ rs. AreRecords places (answered_in turns ++ answered_in (turns_in story)) rs) (sym (records_in-append turns (turns_in story)))
     (AreRecords-append places (answered_in turns) (answered_in (turns_in story)) (records_in turns) (records_in (turns_in story))
