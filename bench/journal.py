@@ -1,5 +1,5 @@
 #!/usr/bin/env python3
-"""judyd with a journal beside redis with its append-only file, on one disk: bench/journal.py [--seconds S] [--disk DIR]
+"""judyd with a journal beside redis with its append-only file, on one disk: bench/journal.py [--seconds S] [--rounds N] [--disk DIR]
 
 First, persistent clients (persistent.c; half of their calls store, half look): 1, 8 and 64 of them, with 1
 and with 100 calls in flight. The servers are judyd without a journal, with `--sync round` and with
@@ -18,11 +18,12 @@ import glob
 import hashlib
 import os
 import shutil
-import socket
 import subprocess
 import sys
 import tempfile
 import time
+
+from run import wait_for
 
 TOP = os.path.dirname(os.path.dirname(os.path.realpath(__file__)))
 PROGRAM = os.environ.get("JUDYD", os.path.join(TOP, "crates", "judyd", "out", "judyd"))
@@ -30,20 +31,6 @@ NAMES = ("ann", "ben", "cat", "dan")
 LINES = 1_000_000
 STEP = 0x9E3779B97F4A7C15
 PATIENCE = 120.0
-
-
-def wait_for(path):
-    """Waits until a server accepts connections at a path, and returns a connection."""
-    end = time.monotonic() + PATIENCE
-    while time.monotonic() < end:
-        client = socket.socket(socket.AF_UNIX)
-        try:
-            client.connect(path)
-            return client
-        except OSError:
-            client.close()
-            time.sleep(0.005)
-    sys.exit("journal: no server at its socket after %d seconds" % PATIENCE)
 
 
 def size_of(paths):
@@ -158,8 +145,28 @@ class Redis:
             time.sleep(0.05)
 
 
-def rows(disk, seconds):
-    """The table of persistent clients, one row after another."""
+def measured(binary, disk, kind, title, words, clients, inflight, seconds):
+    """One run of persistent clients: calls a second, the server's processor time of a call in
+    microseconds, and the bytes on disk of a call that stores."""
+    folder = tempfile.mkdtemp(dir=disk)
+    server = kind(folder, title, words)
+    server.prepare()
+    running = server.start()
+    wait_for(server.socket, running).close()
+    ran = subprocess.run(
+        [binary, server.socket, str(clients), str(min(clients, 2)), str(seconds), str(inflight), str(running.pid), kind.kind, *kind.log_ins],
+        stdout=subprocess.PIPE, encoding="ascii", check=True,
+    )
+    running.terminate()
+    running.wait()
+    figures = ran.stdout.split()
+    found = int(figures[0]), float(figures[5]) / 1000, server.bytes_a_store()
+    shutil.rmtree(folder)
+    return found
+
+
+def rows(disk, seconds, rounds):
+    """The table of persistent clients, one row after another. The servers take turns in each round."""
     binary = os.path.join(tempfile.mkdtemp(), "persistent")
     subprocess.run(["cc", "-O2", "-o", binary, os.path.join(TOP, "bench", "persistent.c")], check=True)
     kinds = [
@@ -173,26 +180,18 @@ def rows(disk, seconds):
     print("| server | clients | in flight | calls a second | CPU a call, us | bytes a store |\n|---|---|---|---|---|---|")
     for clients in (1, 8, 64):
         for inflight in (1, 100):
-            for kind, title, words in kinds:
-                folder = tempfile.mkdtemp(dir=disk)
-                server = kind(folder, title, words)
-                server.prepare()
-                running = server.start()
-                wait_for(server.socket).close()
-                ran = subprocess.run(
-                    [binary, server.socket, str(clients), str(min(clients, 2)), str(seconds), str(inflight), str(running.pid), kind.kind, *kind.log_ins],
-                    stdout=subprocess.PIPE, encoding="ascii", check=True,
-                )
-                running.terminate()
-                running.wait()
-                figures = ran.stdout.split()
-                print("| %s | %d | %d | %s | %.2f | %.0f |" % (title, clients, inflight, f"{int(figures[0]):,}", float(figures[5]) / 1000, server.bytes_a_store()), flush=True)
-                shutil.rmtree(folder)
+            found = {title: [] for _, title, _ in kinds}
+            for _ in range(rounds):
+                for kind, title, words in kinds:
+                    found[title].append(measured(binary, disk, kind, title, words, clients, inflight, seconds))
+            for title, runs in found.items():
+                rate, cpu, size = sorted(runs)[len(runs) // 2]
+                print("| %s | %d | %d | %s | %.2f | %.0f |" % (title, clients, inflight, f"{rate:,}", cpu, size), flush=True)
 
 
-def fill(server):
+def fill(server, running):
     """Stores different words, and returns when all are answered."""
-    client = wait_for(server.socket)
+    client = wait_for(server.socket, running)
     server.greet(client)
     for start in range(0, LINES, 1000):
         client.sendall(b"".join(server.store(word * STEP % 2**64) for word in range(start, start + 1000)))
@@ -206,7 +205,7 @@ def first_answer(server):
     """Starts a server and returns it with the seconds until its first answer."""
     begun = time.monotonic()
     running = server.start()
-    client = wait_for(server.socket)
+    client = wait_for(server.socket, running)
     server.greet(client)
     return running, time.monotonic() - begun
 
@@ -219,14 +218,14 @@ def starts(disk):
         server = kind(folder, title, words)
         server.prepare()
         running = server.start()
-        fill(server)
+        fill(server, running)
         running.terminate()
         running.wait()
         if kind is Judyd:
             os.unlink(server.socket)
         running, lines = first_answer(server)
         if kind is Redis:
-            server.compact(wait_for(server.socket))
+            server.compact(wait_for(server.socket, running))
         running.terminate()
         running.wait()
         if kind is Judyd:
@@ -242,10 +241,11 @@ def starts(disk):
 def main():
     """Both tables."""
     parser = argparse.ArgumentParser(description=__doc__.splitlines()[0])
-    parser.add_argument("--seconds", type=int, default=4, help="how long each row of clients counts")
+    parser.add_argument("--seconds", type=int, default=4, help="how long each run of clients counts")
+    parser.add_argument("--rounds", type=int, default=3, help="how many runs a row has; it shows the one with the median rate")
     parser.add_argument("--disk", default=None, help="where the files are made")
     options = parser.parse_args()
-    rows(options.disk, options.seconds)
+    rows(options.disk, options.seconds, options.rounds)
     starts(options.disk)
 
 
