@@ -54,6 +54,20 @@ fn answer(alloc: Global, line: &str) -> Result<String, AllocError> {
     }
 }
 
+// How many of these command lines have another answer. Each of them is told.
+fn differences(rt: &HostRuntime, rows: &[(&str, &str)]) -> Result<u32, Fail> {
+    let mut wrong = 0u32;
+    for row in rows.iter() {
+        let got = answer(rt.alloc(), row.0)?;
+        if got.as_str() != row.1 {
+            let line = row.0;
+            eprintln!(rt; "DIFFERS {line:?}: {got}")?;
+            wrong = wrong.saturating_add(1);
+        }
+    }
+    Ok(wrong)
+}
+
 #[test]
 fn command_lines(rt: HostRuntime) -> Result<(), Fail> {
     let rows = [
@@ -77,6 +91,19 @@ fn command_lines(rt: HostRuntime) -> Result<(), Fail> {
         ("--version", "help"),
         ("-V", "help"),
         ("run --version", "usage"),
+        ("serve --check", "usage"),
+        ("run --check", "usage"),
+        ("run --idle 1", "usage"),
+        ("run --clients 1", "usage"),
+    ];
+    let wrong = differences(&rt, &rows)?;
+    assert_eq!(rt; wrong, 0);
+    Ok(())
+}
+
+#[test]
+fn words_of_serve(rt: HostRuntime) -> Result<(), Fail> {
+    let rows = [
         ("serve --socket s", "usage"),
         ("serve --config c", "usage"),
         ("serve --config c --socket s --connections 0", "usage"),
@@ -144,6 +171,15 @@ fn command_lines(rt: HostRuntime) -> Result<(), Fail> {
             "serve --config c --socket s --idle=4294967295 --turn 1",
             "serve c s 64 4294967295 4294967295 1 0 false",
         ),
+    ];
+    let wrong = differences(&rt, &rows)?;
+    assert_eq!(rt; wrong, 0);
+    Ok(())
+}
+
+#[test]
+fn limits_of_serve(rt: HostRuntime) -> Result<(), Fail> {
+    let rows = [
         (
             "serve --config c --socket s --clients 1",
             "serve c s 1 4294967295 0 0 0 false",
@@ -184,6 +220,15 @@ fn command_lines(rt: HostRuntime) -> Result<(), Fail> {
         ("serve --config c --socket s --idle 1 --idle 1", "usage"),
         ("serve --config c --socket s --check=true", "usage"),
         ("serve --config c --socket s --check --check", "usage"),
+    ];
+    let wrong = differences(&rt, &rows)?;
+    assert_eq!(rt; wrong, 0);
+    Ok(())
+}
+
+#[test]
+fn words_of_a_journal(rt: HostRuntime) -> Result<(), Fail> {
+    let rows = [
         (
             "serve --config c --socket s --journal d",
             "serve c s 64 4294967295 0 0 0 false d Round",
@@ -232,20 +277,8 @@ fn command_lines(rt: HostRuntime) -> Result<(), Fail> {
         ("journal --tenant a", "usage"),
         ("journal", "usage"),
         ("run --journal d", "usage"),
-        ("serve --check", "usage"),
-        ("run --check", "usage"),
-        ("run --idle 1", "usage"),
-        ("run --clients 1", "usage"),
     ];
-    let mut wrong = 0u32;
-    for row in rows.iter() {
-        let got = answer(rt.alloc(), row.0)?;
-        if got.as_str() != row.1 {
-            let line = row.0;
-            eprintln!(rt; "DIFFERS {line:?}: {got}")?;
-            wrong = wrong.saturating_add(1);
-        }
-    }
+    let wrong = differences(&rt, &rows)?;
     assert_eq!(rt; wrong, 0);
     Ok(())
 }
