@@ -1,1 +1,2 @@
+mod Chaining
 mod Playing

@@ -1,0 +1,129 @@
+-- How the files of a journal are played one after another.
+use Rattle.std.proofs.Common.{◌≡◌, ◌≢◌, ◌+◌, ◌-◌, ◌≤◌, ℕ, List, [], ◌∷◌, ◌++◌, length, Option, Some, None}
+use Rattle.std.proofs.Common.{refl, sym, ◌∙◌, ap, subst, arith, append_assoc, append-nil, length-append}
+use Rattle.judy_journal.specs.Acts.{Left}
+use Rattle.judy_journal.specs.Journals.{Commit}
+use Rattle.judy_journal.specs.Readings.{tail_of}
+use Rattle.judy_journal.specs.Recovered.{HasEndedSnapshot, IsPosition, IsRecovered, IsUnpacked, Recovering}
+use Rattle.judy_journal.specs.Writes.{all_records, snapshot_line}
+use Rattle.judy_journal.specs.declared.recovery.Position.{Position}
+use Rattle.judy_recovery.specs.Played.{ReadsAll}
+use Rattle.judy_recovery.specs.Whole.{EndsThere, HasRecoveredAll, HasStarted, ReadsFiles, ReadsSegment, segment_before}
+use Rattle.judy_recovery.specs.declared.ends.End.{End}
+use Rattle.judy_recovery.proofs.Playing.{Laws, all_records-append}
+
+-- the size is the position's if the position is in the file of this number, and 0 if not
+pub record IsSizeIn (number : ℕ) (p : Position) (size : ℕ) : Type 0 where
+  pub here : p.segment ≡ number → size ≡ p.size
+  pub none : p.segment ≢ number → size ≡ 0
+
+-- where the last file ends, by the position behind it
+pub ends_there : (number size torn segment : ℕ) (sum : List ℕ) (done : List Left) (text : List ℕ) (commits : List Commit) (r : Recovering)
+    (p : Position) → IsSizeIn number p size → IsPosition segment sum done text commits r p → number ≡ segment + length done + 1
+    → EndsThere segment sum done text commits r (record { segment = number; sum = p.sum; size = size; torn = torn })
+ends_there number size torn segment sum done text commits r p is at there = record {
+  position = p;
+  stands = at;
+  segment_is = there;
+  sum_is = at.sum_is;
+  size_is = λ begun. ap (λ n. n + length (tail_of r.reading)) (is.here (at.here begun ∙ sym there)) ∙ at.size_is begun;
+  none = λ bare. is.none (λ same. omega (arith, same, at.before bare, there));
+}
+
+module _ {P : Type 0} (plays : P → List (List ℕ) → P → Type 0) where
+  -- a snapshot was read to its end, and ended
+  pub snapshot_started : (number : ℕ) (sum : List ℕ) (left left' : Option (List ℕ)) (r r' r'' : Recovering) (old new : P)
+      → IsUnpacked number sum [] [] r → ReadsAll plays left left' r old r' new
+      → ((segment : ℕ) (sum : List ℕ) (text : List ℕ) (commits : List Commit) → IsUnpacked segment sum text commits r'
+          → HasEndedSnapshot segment sum text commits r'')
+      → HasStarted plays (Some number) old r'' new
+  snapshot_started number sum left left' r r' r'' old new was all ended =
+      let h = all.reads.snapshot number sum [] [] was in
+      let e : HasEndedSnapshot number sum all.bytes h.more r'' = ended number sum all.bytes h.more h.read in
+      let records : all_records h.more ≡ all_records e.others =
+      ap all_records e.commits_are ∙ all_records-append e.others ([] ∷ []) ∙ append-nil (all_records e.others) in
+      record {
+        sum = sum;
+        commits = e.others;
+        start = (snapshot_line number sum ++ 10 ∷ all.bytes, e.snapshot);
+        next = e.next;
+        played = subst (λ v. plays old v new) records h.played;
+      }
+
+  -- a source was read to its end, and it was that of a segment
+  pub segment_read : (number size torn : ℕ) (left left' : Option (List ℕ)) (r r' : Recovering) (old new : P) (p : Position)
+      → ReadsAll plays left left' r old r' new → IsSizeIn number p size
+      → ((segment : ℕ) (sum : List ℕ) (done : List Left) (text : List ℕ) (commits : List Commit) → IsRecovered segment sum done text commits r'
+          → IsPosition segment sum done text commits r' p)
+      → ReadsSegment plays number r old (record { segment = number; sum = p.sum; size = size; torn = torn }) r' new
+  segment_read number size torn left left' r r' old new p all is at = record {
+    bytes = all.bytes;
+    reads = all.reads;
+    ends = λ segment sum done text commits h there.
+        ends_there number size torn segment sum done text commits r' p is (at segment sum done text commits h) there;
+  }
+
+  module _ (laws : Laws plays) where
+    -- nothing is played before the first segment if there is no snapshot
+    pub none_started : (sum : List ℕ) (r : Recovering) (p : P) → sum ≡ Rattle.judy_recovery.specs.declared.ends.TheConstants.FIRST_SUM
+        → IsRecovered 0 sum [] [] [] r → HasStarted plays None p r p
+    none_started sum r p is h = record { sum = sum; commits = []; start = (is, refl); next = h; played = laws.rests p }
+
+    -- no files
+    pub files_none : (first : ℕ) (r : Recovering) (p : P) → ReadsFiles plays (first - first) r p r p
+    files_none first r p segment sum done commits h = record {
+      files = [];
+      count_is = omega (arith);
+      more = [];
+      read = subst (λ d. IsRecovered segment sum d [] (commits ++ []) r) (sym (append-nil done))
+          (subst (λ v. IsRecovered segment sum done [] v r) (sym (append-nil commits)) h);
+      played = laws.rests p;
+    }
+
+    -- files and one more
+    pub files_more : (count more number : ℕ) (r r' r'' r''' : Recovering) (old mid new : P) (end : End)
+        → ReadsFiles plays count r old r' mid → ReadsSegment plays number r' mid end r'' new
+        → ((segment : ℕ) (sum : List ℕ) (done : List Left) (text : List ℕ) (commits : List Commit) → IsRecovered segment sum done text commits r''
+            → IsRecovered segment sum (done ++ record { number = segment + length done + 1; bytes = text } ∷ []) [] commits r''')
+        → more ≡ count + 1 → ReadsFiles plays more r old r''' new
+    files_more count more number r r' r'' r''' old mid new end files reads ended is segment sum done commits h =
+        let f = files segment sum done commits h in
+        let k = reads.reads.segments segment sum (done ++ f.files) [] (commits ++ f.more) f.read in
+        let l : Left = record { number = segment + length (done ++ f.files) + 1; bytes = reads.bytes } in
+        let e : IsRecovered segment sum ((done ++ f.files) ++ l ∷ []) [] ((commits ++ f.more) ++ k.more) r''' =
+        ended segment sum (done ++ f.files) reads.bytes ((commits ++ f.more) ++ k.more) k.read in
+        let e' : IsRecovered segment sum (done ++ (f.files ++ l ∷ [])) [] ((commits ++ f.more) ++ k.more) r''' =
+        subst (λ d. IsRecovered segment sum d [] ((commits ++ f.more) ++ k.more) r''') (append_assoc done f.files (l ∷ [])) e in
+        record {
+          files = f.files ++ l ∷ [];
+          count_is = omega (arith, length-append f.files (l ∷ []), f.count_is, is);
+          more = f.more ++ k.more;
+          read = subst (λ v. IsRecovered segment sum (done ++ (f.files ++ l ∷ [])) [] v r''') (append_assoc commits f.more k.more) e';
+          played = subst (λ v. plays old v new) (sym (all_records-append f.more k.more))
+              (laws.joins old mid new (all_records f.more) (all_records k.more) f.played k.played);
+        }
+
+    -- the snapshot, the whole files and the last one
+    pub recovered_all : (snapshot : Option ℕ) (first last : ℕ) (r r' r'' : Recovering) (old p p' new : P) (end : End)
+        → HasStarted plays snapshot old r p → ReadsFiles plays (last - first) r p r' p' → ReadsSegment plays last r' p' end r'' new
+        → first ≡ segment_before snapshot + 1 → first ≤ last → HasRecoveredAll plays snapshot last old end new
+    recovered_all snapshot first last r r' r'' old p p' new end started files reads first_is not_less =
+        let f = files (segment_before snapshot) started.sum [] [] started.next in
+        let k = reads.reads.segments (segment_before snapshot) started.sum f.files [] f.more f.read in
+        let last_is : last ≡ segment_before snapshot + length f.files + 1 = omega (arith, f.count_is, first_is, not_less) in
+        let played : plays p (all_records (f.more ++ k.more)) new =
+        subst (λ v. plays p v new) (sym (all_records-append f.more k.more))
+            (laws.joins p p' new (all_records f.more) (all_records k.more) f.played k.played) in
+        record {
+          sum = started.sum;
+          unpacked = started.commits;
+          start = started.start;
+          done = f.files;
+          text = reads.bytes;
+          commits = f.more ++ k.more;
+          r = r'';
+          read = k.read;
+          last_is = last_is;
+          ends = reads.ends (segment_before snapshot) started.sum f.files reads.bytes (f.more ++ k.more) k.read last_is;
+          played = laws.joins old p new (all_records started.commits) (all_records (f.more ++ k.more)) started.played played;
+        }

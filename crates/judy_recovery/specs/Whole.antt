@@ -1,0 +1,94 @@
+-- What was recovered of all files of a journal: its snapshot, if there is one, and then its segments in order.
+-- `plays old records new` says that these records were played, one after another.
+--     HasStarted plays snapshot old r new              the snapshot was played; r goes on behind it
+--     HasPlayedFiles plays .. count old r new          so many whole files were played
+--     EndsThere segment sum done text commits r end    the journal ends behind these files and this text of the next one
+--     HasRecoveredAll plays snapshot last old end new  the snapshot and the segments up to the last one were played
+--     Recovers plays snapshot last old end new         the same, or there is no segment
+use Rattle.std.specs.Prelude.{◌≡◌, ℕ, ◌<◌, ◌+◌, true, false, List, [], ◌++◌, length, Option, Some, None}
+use Rattle.judy_journal.specs.Acts.{Left}
+use Rattle.judy_journal.specs.Journals.{Commit, sum_at}
+use Rattle.judy_journal.specs.Readings.{tail_of}
+use Rattle.judy_journal.specs.Recovered.{IsPosition, IsRecovered, IsSnapshot, Recovering}
+use Rattle.judy_journal.specs.Writes.{all_records}
+use Rattle.judy_journal.specs.declared.recovery.Position.{Position}
+use Rattle.judy_recovery.specs.Played.{ReadsOn}
+use Rattle.judy_recovery.specs.declared.ends.End.{End}
+use Rattle.judy_recovery.specs.declared.ends.TheConstants.{FIRST_SUM}
+
+-- the segments up to this one need not be read: those that the snapshot stands for
+abbrev pub segment_before : Option ℕ → ℕ
+segment_before None = 0
+segment_before (Some number) = number
+
+-- The first segment that is read continues from this checksum, and these commits come before it: none, or
+-- those of the snapshot.
+abbrev pub IsStart : Option ℕ → List ℕ → List Commit → Type 0
+IsStart None sum commits = (sum ≡ FIRST_SUM) × (commits ≡ [])
+IsStart (Some number) sum commits = (bytes : List ℕ) × IsSnapshot number sum bytes commits
+
+-- the snapshot was read, if there is one, and its records were played. The next bytes are of the segment
+-- after it
+pub record HasStarted {P : Type 0} (plays : P → List (List ℕ) → P → Type 0) (snapshot : Option ℕ)
+    (old : P) (r : Recovering) (new : P) : Type 0 where
+  pub sum : List ℕ
+  pub commits : List Commit
+  pub start : IsStart snapshot sum commits
+  pub next : IsRecovered (segment_before snapshot) sum [] [] [] r
+  pub played : plays old (all_records commits) new
+
+-- So many files were read behind these, each of them whole, and exactly the records of their commits were
+-- played, in order.
+pub record HasPlayedFiles {P : Type 0} (plays : P → List (List ℕ) → P → Type 0)
+    (segment : ℕ) (sum : List ℕ) (done : List Left) (commits : List Commit) (count : ℕ) (old : P) (r : Recovering) (new : P) : Type 0 where
+  pub files : List Left
+  pub count_is : length files ≡ count
+  pub more : List Commit
+  pub read : IsRecovered segment sum (done ++ files) [] (commits ++ more) r
+  pub played : plays old (all_records more) new
+
+-- whole files were read, whatever was read before them
+abbrev pub ReadsFiles : {P : Type 0} → (P → List (List ℕ) → P → Type 0) → ℕ → Recovering → P → Recovering → P → Type 0
+ReadsFiles plays count before old after new = (segment : ℕ) (sum : List ℕ) (done : List Left) (commits : List Commit)
+    → IsRecovered segment sum done [] commits before → HasPlayedFiles plays segment sum done commits count old after new
+
+-- The last file is the one after these whole files. It has this text, and with it these are all commits.
+-- If its first line is whole, what comes after the end's size is no whole commit. If not, the size is 0.
+pub record EndsThere (segment : ℕ) (sum : List ℕ) (done : List Left) (text : List ℕ) (commits : List Commit)
+    (r : Recovering) (end : End) : Type 0 where
+  pub position : Position
+  pub stands : IsPosition segment sum done text commits r position
+  pub segment_is : end.segment ≡ segment + length done + 1
+  pub sum_is : end.sum ≡ sum_at sum commits
+  pub size_is : r.reading.begun ≡ true → end.size + length (tail_of r.reading) ≡ length text
+  pub none : r.reading.begun ≡ false → end.size ≡ 0
+
+-- the segment of this number was read to its end, whatever was read before it
+pub record ReadsSegment {P : Type 0} (plays : P → List (List ℕ) → P → Type 0) (number : ℕ)
+    (before : Recovering) (old : P) (end : End) (after : Recovering) (new : P) : Type 0 where
+  pub bytes : List ℕ
+  pub reads : ReadsOn plays before bytes old after new
+  pub ends : (segment : ℕ) (sum : List ℕ) (done : List Left) (text : List ℕ) (commits : List Commit)
+      → IsRecovered segment sum done text commits after → number ≡ segment + length done + 1
+      → EndsThere segment sum done text commits after end
+
+-- The snapshot was read, if there is one, and then the segments after it, in order and without a gap, up to
+-- the last one. Exactly the records of their whole commits were played, in order: those of the snapshot first.
+pub record HasRecoveredAll {P : Type 0} (plays : P → List (List ℕ) → P → Type 0) (snapshot : Option ℕ) (last : ℕ)
+    (old : P) (end : End) (new : P) : Type 0 where
+  pub sum : List ℕ
+  pub unpacked : List Commit
+  pub start : IsStart snapshot sum unpacked
+  pub done : List Left  -- the files before the last one, each of them whole
+  pub text : List ℕ  -- what the last file has
+  pub commits : List Commit
+  pub r : Recovering
+  pub read : IsRecovered (segment_before snapshot) sum done text commits r
+  pub last_is : last ≡ segment_before snapshot + length done + 1
+  pub ends : EndsThere (segment_before snapshot) sum done text commits r end
+  pub played : plays old (all_records unpacked ++ all_records commits) new
+
+-- all files were read; or there is no segment behind the snapshot, and nothing was played
+abbrev pub Recovers : {P : Type 0} → (P → List (List ℕ) → P → Type 0) → Option ℕ → Option ℕ → P → Option End → P → Type 0
+Recovers plays snapshot last old None new = ((number : ℕ) → last ≡ Some number → number < segment_before snapshot + 1) × plays old [] new
+Recovers plays snapshot last old (Some end) new = (number : ℕ) × (last ≡ Some number) × HasRecoveredAll plays snapshot number old end new
