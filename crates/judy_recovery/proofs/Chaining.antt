@@ -1,10 +1,10 @@
 -- How the files of a journal are played one after another.
-use Rattle.std.proofs.Common.{◌≡◌, ◌≢◌, ◌+◌, ◌-◌, ◌≤◌, ℕ, List, [], ◌∷◌, ◌++◌, length, Option, Some, None}
+use Rattle.std.proofs.Common.{◌≡◌, ◌≢◌, ◌+◌, ◌-◌, ◌≤◌, ◌<◌, ℕ, Bool, true, false, List, [], ◌∷◌, ◌++◌, length, Option, Some, None}
 use Rattle.std.proofs.Common.{refl, sym, ◌∙◌, ap, subst, arith, append_assoc, append-nil, length-append}
-use Rattle.judy_journal.specs.Acts.{Left}
-use Rattle.judy_journal.specs.Journals.{Commit}
-use Rattle.judy_journal.specs.Readings.{tail_of}
-use Rattle.judy_journal.specs.Recovered.{HasEndedSnapshot, IsPosition, IsRecovered, IsUnpacked, Recovering}
+use Rattle.judy_journal.specs.Acts.{AreWhole, Left}
+use Rattle.judy_journal.specs.Journals.{Commit, commits_lines, header, joined, journal_text, sum_at}
+use Rattle.judy_journal.specs.Readings.{front, tail_of}
+use Rattle.judy_journal.specs.Recovered.{HasEndedSnapshot, IsPosition, IsRecovered, IsUnpacked, RecoveredIsWhole, Recovering, RecoveryIsFound, files_kept}
 use Rattle.judy_journal.specs.Writes.{all_records, snapshot_line}
 use Rattle.judy_journal.specs.declared.recovery.Position.{Position}
 use Rattle.judy_recovery.specs.Played.{ReadsAll}
@@ -17,18 +17,44 @@ pub record IsSizeIn (number : ℕ) (p : Position) (size : ℕ) : Type 0 where
   pub here : p.segment ≡ number → size ≡ p.size
   pub none : p.segment ≢ number → size ≡ 0
 
+-- a line has a byte
+has_line : (line rest : List ℕ) → 0 < length (line ++ 10 ∷ rest)
+has_line line rest = omega (arith, length-append line (10 ∷ rest))
+
 -- where the last file ends, by the position behind it
 pub ends_there : (number size torn segment : ℕ) (sum : List ℕ) (done : List Left) (text : List ℕ) (commits : List Commit) (r : Recovering)
-    (p : Position) → IsSizeIn number p size → IsPosition segment sum done text commits r p → number ≡ segment + length done + 1
+    (p : Position) → IsRecovered segment sum done text commits r → IsSizeIn number p size → IsPosition segment sum done text commits r p
+    → number ≡ segment + length done + 1
     → EndsThere segment sum done text commits r (record { segment = number; sum = p.sum; size = size; torn = torn })
-ends_there number size torn segment sum done text commits r p is at there = record {
+ends_there number size torn segment sum done text commits r p h is at there = record {
   position = p;
   stands = at;
   segment_is = there;
   sum_is = at.sum_is;
-  size_is = λ begun. ap (λ n. n + length (tail_of r.reading)) (is.here (at.here begun ∙ sym there)) ∙ at.size_is begun;
+  size_is = size_is;
+  some = λ begun.
+      let all = h.read.text_is ∙ ap (λ b. front b (segment + length done + 1) (sum_at sum h.before) h.here ++ tail_of r.reading) begun in
+      let text' = journal_text (segment + length done + 1) (sum_at sum h.before) h.here in
+      omega (arith, size_is begun, ap length all, length-append text' (tail_of r.reading),
+      has_line (header (segment + length done + 1) (sum_at sum h.before)) (joined (commits_lines (sum_at sum h.before) h.here)));
   none = λ bare. is.none (λ same. omega (arith, same, at.before bare, there));
 }
+  where
+    size_is : r.reading.begun ≡ true → size + length (tail_of r.reading) ≡ length text
+    size_is begun = ap (λ n. n + length (tail_of r.reading)) (is.here (at.here begun ∙ sym there)) ∙ at.size_is begun
+
+-- the files are whole, with the last one up to the end's size
+whole_to_end : RecoveredIsWhole → (segment : ℕ) (sum : List ℕ) (done : List Left) (text : List ℕ) (commits : List Commit) (r : Recovering)
+    (end : End) → IsRecovered segment sum done text commits r → EndsThere segment sum done text commits r end
+    → AreWhole segment sum (files_kept r.reading.begun segment done text end.size) commits
+whole_to_end law segment sum done text commits r end h e = by r.reading.begun refl (law segment sum done text commits r e.position h e.stands).0
+  where
+    by : (b : Bool) → r.reading.begun ≡ b → AreWhole segment sum (files_kept b segment done text e.position.size) commits
+        → AreWhole segment sum (files_kept b segment done text end.size) commits
+    by true begun w =
+        let same : e.position.size ≡ end.size = omega (arith, e.stands.size_is begun, e.size_is begun) in
+        subst (λ n. AreWhole segment sum (files_kept true segment done text n) commits) same w
+    by false bare w = w
 
 module _ {P : Type 0} (plays : P → List (List ℕ) → P → Type 0) where
   -- a snapshot was read to its end, and ended
@@ -60,7 +86,7 @@ module _ {P : Type 0} (plays : P → List (List ℕ) → P → Type 0) where
     bytes = all.bytes;
     reads = all.reads;
     ends = λ segment sum done text commits h there.
-        ends_there number size torn segment sum done text commits r' p is (at segment sum done text commits h) there;
+        ends_there number size torn segment sum done text commits r' p h is (at segment sum done text commits h) there;
   }
 
   module _ (laws : Laws plays) where
@@ -104,16 +130,17 @@ module _ {P : Type 0} (plays : P → List (List ℕ) → P → Type 0) where
         }
 
     -- the snapshot, the whole files and the last one
-    pub recovered_all : (snapshot : Option ℕ) (first last : ℕ) (r r' r'' : Recovering) (old p p' new : P) (end : End)
+    pub recovered_all : RecoveryIsFound → RecoveredIsWhole → (snapshot : Option ℕ) (first last : ℕ) (r r' r'' : Recovering) (old p p' new : P) (end : End)
         → HasStarted plays snapshot old r p → ReadsFiles plays (last - first) r p r' p' → ReadsSegment plays last r' p' end r'' new
         → first ≡ segment_before snapshot + 1 → first ≤ last → HasRecoveredAll plays snapshot last old end new
-    recovered_all snapshot first last r r' r'' old p p' new end started files reads first_is not_less =
+    recovered_all is_found is_whole snapshot first last r r' r'' old p p' new end started files reads first_is not_less =
         let f = files (segment_before snapshot) started.sum [] [] started.next in
         let k = reads.reads.segments (segment_before snapshot) started.sum f.files [] f.more f.read in
         let last_is : last ≡ segment_before snapshot + length f.files + 1 = omega (arith, f.count_is, first_is, not_less) in
         let played : plays p (all_records (f.more ++ k.more)) new =
         subst (λ v. plays p v new) (sym (all_records-append f.more k.more))
             (laws.joins p p' new (all_records f.more) (all_records k.more) f.played k.played) in
+        let ends = reads.ends (segment_before snapshot) started.sum f.files reads.bytes (f.more ++ k.more) k.read last_is in
         record {
           sum = started.sum;
           unpacked = started.commits;
@@ -123,7 +150,9 @@ module _ {P : Type 0} (plays : P → List (List ℕ) → P → Type 0) where
           commits = f.more ++ k.more;
           r = r'';
           read = k.read;
+          found = is_found (segment_before snapshot) started.sum f.files reads.bytes (f.more ++ k.more) r'' k.read;
           last_is = last_is;
-          ends = reads.ends (segment_before snapshot) started.sum f.files reads.bytes (f.more ++ k.more) k.read last_is;
+          ends = ends;
+          whole = whole_to_end is_whole (segment_before snapshot) started.sum f.files reads.bytes (f.more ++ k.more) r'' end k.read ends;
           played = laws.joins old p new (all_records started.commits) (all_records (f.more ++ k.more)) started.played played;
         }

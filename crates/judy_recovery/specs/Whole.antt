@@ -5,16 +5,21 @@
 --     EndsThere segment sum done text commits r end    the journal ends behind these files and this text of the next one
 --     HasRecoveredAll plays snapshot last old end new  the snapshot and the segments up to the last one were played
 --     Recovers plays snapshot last old end new         the same, or there is no segment
-use Rattle.std.specs.Prelude.{◌≡◌, ℕ, ◌<◌, ◌+◌, true, false, List, [], ◌++◌, length, Option, Some, None}
-use Rattle.judy_journal.specs.Acts.{Left}
+--     GoesOn end at                                    a writer goes on where the journal ends
+--     HasPlayedJournal plays old new                   a journal was read and played
+--     HasResumed plays old at new                      the same, and a writer goes on behind it
+use Rattle.std.specs.Prelude.{◌≡◌, ℕ, ◌<◌, ◌+◌, ◌-◌, true, false, List, [], ◌∷◌, ◌++◌, length, Option, Some, None}
+use Rattle.judy_journal.specs.Acts.{AreWhole, File, Left}
+use Rattle.judy_journal.specs.Crashes.{FoundAll}
 use Rattle.judy_journal.specs.Journals.{Commit, sum_at}
 use Rattle.judy_journal.specs.Readings.{tail_of}
-use Rattle.judy_journal.specs.Recovered.{IsPosition, IsRecovered, IsSnapshot, Recovering}
+use Rattle.judy_journal.specs.Recovered.{IsPosition, IsRecovered, IsSnapshot, Recovering, files_kept}
 use Rattle.judy_journal.specs.Writes.{all_records}
 use Rattle.judy_journal.specs.declared.recovery.Position.{Position}
 use Rattle.judy_recovery.specs.Played.{ReadsOn}
 use Rattle.judy_recovery.specs.declared.ends.End.{End}
 use Rattle.judy_recovery.specs.declared.ends.TheConstants.{FIRST_SUM}
+use Rattle.judy_recovery.specs.declared.resuming.Resumed.{Resumed}
 
 -- the segments up to this one need not be read: those that the snapshot stands for
 abbrev pub segment_before : Option ℕ → ℕ
@@ -61,6 +66,7 @@ pub record EndsThere (segment : ℕ) (sum : List ℕ) (done : List Left) (text :
   pub segment_is : end.segment ≡ segment + length done + 1
   pub sum_is : end.sum ≡ sum_at sum commits
   pub size_is : r.reading.begun ≡ true → end.size + length (tail_of r.reading) ≡ length text
+  pub some : r.reading.begun ≡ true → 0 < end.size
   pub none : r.reading.begun ≡ false → end.size ≡ 0
 
 -- the segment of this number was read to its end, whatever was read before it
@@ -71,6 +77,10 @@ pub record ReadsSegment {P : Type 0} (plays : P → List (List ℕ) → P → Ty
   pub ends : (segment : ℕ) (sum : List ℕ) (done : List Left) (text : List ℕ) (commits : List Commit)
       → IsRecovered segment sum done text commits after → number ≡ segment + length done + 1
       → EndsThere segment sum done text commits after end
+
+-- the files of the segments after this one, with the last one
+abbrev pub with_last : ℕ → List Left → List ℕ → List Left
+with_last segment done text = done ++ record { number = segment + length done + 1; bytes = text } ∷ []
 
 -- The snapshot was read, if there is one, and then the segments after it, in order and without a gap, up to
 -- the last one. Exactly the records of their whole commits were played, in order: those of the snapshot first.
@@ -84,11 +94,52 @@ pub record HasRecoveredAll {P : Type 0} (plays : P → List (List ℕ) → P →
   pub commits : List Commit
   pub r : Recovering
   pub read : IsRecovered (segment_before snapshot) sum done text commits r
+  pub found : FoundAll (segment_before snapshot) sum (with_last (segment_before snapshot) done text) commits (tail_of r.reading)
   pub last_is : last ≡ segment_before snapshot + length done + 1
   pub ends : EndsThere (segment_before snapshot) sum done text commits r end
+  pub whole : AreWhole (segment_before snapshot) sum
+      (files_kept r.reading.begun (segment_before snapshot) done text end.size) commits
   pub played : plays old (all_records unpacked ++ all_records commits) new
 
 -- all files were read; or there is no segment behind the snapshot, and nothing was played
 abbrev pub Recovers : {P : Type 0} → (P → List (List ℕ) → P → Type 0) → Option ℕ → Option ℕ → P → Option End → P → Type 0
 Recovers plays snapshot last old None new = ((number : ℕ) → last ≡ Some number → number < segment_before snapshot + 1) × plays old [] new
 Recovers plays snapshot last old (Some end) new = (number : ℕ) × (last ≡ Some number) × HasRecoveredAll plays snapshot number old end new
+
+-- A writer goes on with the journal's checksum. It does so in the last file, behind the end's size. If that is
+-- 0, the last file was removed, and the writer begins it anew; and it begins the first one if there is none.
+abbrev pub GoesOn : Option End → Resumed → Type 0
+GoesOn None at = (at.segment ≡ 0) × (at.sum ≡ FIRST_SUM) × (at.begins ≡ true)
+GoesOn (Some end) at = (at.sum ≡ end.sum)
+    × (0 < end.size → (at.segment ≡ end.segment) × (at.size ≡ end.size) × (at.begins ≡ false))
+    × (end.size ≡ 0 → (at.segment ≡ end.segment - 1) × (at.begins ≡ true))
+
+-- The files of a journal were read: a snapshot, if there is one, and the segments after it, each of them whole
+-- but perhaps the last, which has this tail. Exactly the records of their whole commits were played, in order.
+pub record HasPlayedJournal {P : Type 0} (plays : P → List (List ℕ) → P → Type 0) (old new : P) : Type 0 where
+  pub snapshot : Option ℕ
+  pub sum : List ℕ
+  pub unpacked : List Commit
+  pub start : IsStart snapshot sum unpacked
+  pub files : List Left
+  pub commits : List Commit
+  pub tail : List ℕ
+  pub found : FoundAll (segment_before snapshot) sum files commits tail
+  pub played : plays old (all_records unpacked ++ all_records commits) new
+
+-- The files of a journal were read, and what a crash left behind the last whole commit was cut off. Each of
+-- the files is now whole, and exactly the records of their commits were played, in order: those of the
+-- snapshot first. A writer goes on behind them.
+pub record HasResumed {P : Type 0} (plays : P → List (List ℕ) → P → Type 0) (old : P) (at : Resumed) (new : P) : Type 0 where
+  pub snapshot : Option ℕ
+  pub sum : List ℕ
+  pub unpacked : List Commit
+  pub start : IsStart snapshot sum unpacked
+  pub files : List File  -- those of the segments after the snapshot
+  pub commits : List Commit
+  pub whole : AreWhole (segment_before snapshot) sum files commits
+  pub played : plays old (all_records unpacked ++ all_records commits) new
+  pub segment_is : at.segment ≡ segment_before snapshot + length files
+  pub sum_is : at.sum ≡ sum_at sum commits
+  pub size_is : at.begins ≡ false → (others : List File) × (last : File) × (files ≡ others ++ last ∷ [])
+      × (at.size ≡ length last.synced)

@@ -1,5 +1,5 @@
 //! Reads the files of a journal's directory in order.
-ghost use Rattle.std.specs.Prelude.{◌≡◌, ◌≢◌, ◌≤◌, ◌<◌, ◌+◌, ◌-◌, ◌^◌, ℕ, List, IfOk, OnOk, Option, Some};
+ghost use Rattle.std.specs.Prelude.{◌≡◌, ◌≢◌, ◌≤◌, ◌<◌, ◌+◌, ◌-◌, ◌^◌, ℕ, List, IfOk, IfSome, OnOk, Option, Some, option_map};
 ghost use Rattle.judy_recovery.specs.Played.{ReadsAll};
 ghost use Rattle.judy_recovery.specs.Whole.{HasStarted, ReadsFiles, ReadsSegment, Recovers, segment_before};
 
@@ -10,7 +10,10 @@ use crate::player::Player;
 use crate::sources::FileReads;
 use itoa::Buffer;
 use judy_disk::{DiskFault, Folder, Found, Place};
-use judy_journal::{Damage, LAST_SEGMENT, Position, Recovery, SUM_LEN, snapshot_sum};
+use judy_journal::{
+    Damage, LAST_SEGMENT, Position, Recovery, SUM_LEN, snapshot_sum, what_is_recovered_is_found,
+    what_is_recovered_is_whole,
+};
 use judy_protocol::cut_line;
 use std::alloc::Global;
 use std::fs::Files;
@@ -254,6 +257,8 @@ fn read_files<F: Files, P: Player>(
     let mut recovery = begin(folder, alloc, snapshot, player)?;
     read_closed(folder, &mut *recovery, first, last, player)?;
     let end = read_segment(folder, &mut *recovery, last, player)?;
+    what_is_recovered_is_found();
+    what_is_recovered_is_whole();
     Ok(Some(end))
 }
 
@@ -281,14 +286,15 @@ pub fn recover_closed<F: Files, P: Player>(
     alloc: Global,
     found: &Found,
     player: &mut P,
-) -> Result<Option<End>, JournalFault> {
+) -> Result<Option<End>, JournalFault>
+    ensures played { IfOk result (λ end. Recovers P.plays found.now.snapshot
+        (option_map (λ last. last - 1) found.now.last) player.old end player.new) }
+    ensures whole { IfOk result (λ end. IfSome end (λ e. 0 < e.size)) }
+{
     let last = match found.last {
         Some(last) => last.saturating_sub(1),
         None => return Ok(None),
     };
-    if last < found.first {
-        return Ok(None);
-    }
     let Some(end) = read_files(folder, alloc, found.snapshot, last, player)? else {
         return Ok(None);
     };

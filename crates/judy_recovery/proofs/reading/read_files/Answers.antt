@@ -9,6 +9,7 @@ returns g c =
       c.args.last,
       refl,
       recovered_all g.P.Player.plays (record { rests = g.met.P.Player.rests; joins = g.met.P.Player.joins })
+          c.what_is_recovered_is_found.ensures c.what_is_recovered_is_whole.ensures
           c.args.snapshot c.first_after-first.result c.args.last
           c.deref_mut.result.now c.read_closed.new.recovery c.read_segment.new.recovery
           c.args.player.now c.begin.new.player c.read_closed.new.player c.read_segment.new.player c.in_ok-end.end
