@@ -1,6 +1,7 @@
 //! What a server with a journal asks of the system and of its service.
-ghost use Rattle.std.specs.Prelude.{◌≡◌, ℕ, List, [], ◌++◌, OnOk};
+ghost use Rattle.std.specs.Prelude.{◌≡◌, ℕ, List, [], ◌++◌, IfSome, IsTrue, OnOk};
 ghost use Rattle.judy_model.specs.Stream.{lines_of};
+ghost use Rattle.judy_recovery.specs.Whole.{HasPlayedJournal, HasResumed};
 
 use crate::hosts::Hosts;
 use judy_protocol::Served;
@@ -32,10 +33,12 @@ pub trait Journals: Hosts {
     /// crash left behind the last whole commit. From then on the journal can be gone on with, where
     /// the result says. None: the system knows the fault, and nothing was changed.
     fn resume<P: Player>(&mut self, alloc: Global, path: &str, player: &mut P) -> Option<Resumed>
-        ensures { Self.log self.new ≡ Self.log self.old };
+        ensures log { Self.log self.new ≡ Self.log self.old }
+        ensures played { IfSome result (λ at. HasResumed P.plays player.old at player.new) };
 
     /// Reads the journal, and gives its records to a player. Nothing is changed. False: the system
     /// knows the fault.
     fn look<P: Player>(&mut self, alloc: Global, path: &str, player: &mut P) -> bool
-        ensures { Self.log self.new ≡ Self.log self.old };
+        ensures log { Self.log self.new ≡ Self.log self.old }
+        ensures played { IsTrue result → HasPlayedJournal P.plays player.old player.new };
 }

@@ -35,8 +35,13 @@ ends_there number size torn segment sum done text commits r p h is at there = re
   some = λ begun.
       let all = h.read.text_is ∙ ap (λ b. front b (segment + length done + 1) (sum_at sum h.before) h.here ++ tail_of r.reading) begun in
       let text' = journal_text (segment + length done + 1) (sum_at sum h.before) h.here in
-      omega (arith, size_is begun, ap length all, length-append text' (tail_of r.reading),
-      has_line (header (segment + length done + 1) (sum_at sum h.before)) (joined (commits_lines (sum_at sum h.before) h.here)));
+      omega (
+        arith,
+        size_is begun,
+        ap length all,
+        length-append text' (tail_of r.reading),
+        has_line (header (segment + length done + 1) (sum_at sum h.before)) (joined (commits_lines (sum_at sum h.before) h.here)),
+      );
   none = λ bare. is.none (λ same. omega (arith, same, at.before bare, there));
 }
   where
@@ -61,7 +66,7 @@ module _ {P : Type 0} (plays : P → List (List ℕ) → P → Type 0) where
   pub snapshot_started : (number : ℕ) (sum : List ℕ) (left left' : Option (List ℕ)) (r r' r'' : Recovering) (old new : P)
       → IsUnpacked number sum [] [] r → ReadsAll plays left left' r old r' new
       → ((segment : ℕ) (sum : List ℕ) (text : List ℕ) (commits : List Commit) → IsUnpacked segment sum text commits r'
-          → HasEndedSnapshot segment sum text commits r'')
+      → HasEndedSnapshot segment sum text commits r'')
       → HasStarted plays (Some number) old r'' new
   snapshot_started number sum left left' r r' r'' old new was all ended =
       let h = all.reads.snapshot number sum [] [] was in
@@ -80,7 +85,7 @@ module _ {P : Type 0} (plays : P → List (List ℕ) → P → Type 0) where
   pub segment_read : (number size torn : ℕ) (left left' : Option (List ℕ)) (r r' : Recovering) (old new : P) (p : Position)
       → ReadsAll plays left left' r old r' new → IsSizeIn number p size
       → ((segment : ℕ) (sum : List ℕ) (done : List Left) (text : List ℕ) (commits : List Commit) → IsRecovered segment sum done text commits r'
-          → IsPosition segment sum done text commits r' p)
+      → IsPosition segment sum done text commits r' p)
       → ReadsSegment plays number r old (record { segment = number; sum = p.sum; size = size; torn = torn }) r' new
   segment_read number size torn left left' r r' old new p all is at = record {
     bytes = all.bytes;
@@ -110,7 +115,7 @@ module _ {P : Type 0} (plays : P → List (List ℕ) → P → Type 0) where
     pub files_more : (count more number : ℕ) (r r' r'' r''' : Recovering) (old mid new : P) (end : End)
         → ReadsFiles plays count r old r' mid → ReadsSegment plays number r' mid end r'' new
         → ((segment : ℕ) (sum : List ℕ) (done : List Left) (text : List ℕ) (commits : List Commit) → IsRecovered segment sum done text commits r''
-            → IsRecovered segment sum (done ++ record { number = segment + length done + 1; bytes = text } ∷ []) [] commits r''')
+        → IsRecovered segment sum (done ++ record { number = segment + length done + 1; bytes = text } ∷ []) [] commits r''')
         → more ≡ count + 1 → ReadsFiles plays more r old r''' new
     files_more count more number r r' r'' r''' old mid new end files reads ended is segment sum done commits h =
         let f = files segment sum done commits h in
@@ -139,7 +144,7 @@ module _ {P : Type 0} (plays : P → List (List ℕ) → P → Type 0) where
         let last_is : last ≡ segment_before snapshot + length f.files + 1 = omega (arith, f.count_is, first_is, not_less) in
         let played : plays p (all_records (f.more ++ k.more)) new =
         subst (λ v. plays p v new) (sym (all_records-append f.more k.more))
-            (laws.joins p p' new (all_records f.more) (all_records k.more) f.played k.played) in
+        (laws.joins p p' new (all_records f.more) (all_records k.more) f.played k.played) in
         let ends = reads.ends (segment_before snapshot) started.sum f.files reads.bytes (f.more ++ k.more) k.read last_is in
         record {
           sum = started.sum;

@@ -14,10 +14,10 @@ returns g c =
           c.deref_mut.result.now c.read_closed.new.recovery c.read_segment.new.recovery
           c.args.player.now c.begin.new.player c.read_closed.new.player c.read_segment.new.player c.in_ok-end.end
           (subst (λ r. HasStarted g.P.Player.plays c.args.snapshot c.args.player.now r c.begin.new.player)
-              (sym c.deref_mut.ensures.value) c.in_ok-recovery.ensures.started)
+          (sym c.deref_mut.ensures.value) c.in_ok-recovery.ensures.started)
           (c.in_ok-read_closed.ensures ordered)
           (subst (λ r. ReadsSegment g.P.Player.plays c.args.last r c.read_closed.new.player c.in_ok-end.end
-                  c.read_segment.new.recovery c.read_segment.new.player)
-              c.deref_mut-2.ensures.value c.in_ok-end.ensures)
+          c.read_segment.new.recovery c.read_segment.new.player)
+          c.deref_mut-2.ensures.value c.in_ok-end.ensures)
           (c.first_after-first.ensures.follows c.in_ok-recovery.ensures.follows) ordered,
     )

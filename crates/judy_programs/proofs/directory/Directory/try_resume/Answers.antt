@@ -1,0 +1,8 @@
+use Rattle.judy_recovery.proofs.Standing.{journal_resumed}
+use Rattle.judy_programs.proofs.directory.Directory.try_resume.Goals as goal
+
+pub returns : goal.returns
+returns g c =
+    journal_resumed g.P.Player.plays c.in_ok-found.found.snapshot c.in_ok-found.found.last
+    c.args.player.now c.in_ok-end.end c.in-Ok.ready.0 c.recover.new.player
+    c.in_ok-end.ensures c.in-Ok.ensures
