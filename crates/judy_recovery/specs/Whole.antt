@@ -6,8 +6,8 @@
 --     HasRecoveredAll plays snapshot last old end new  the snapshot and the segments up to the last one were played
 --     Recovers plays snapshot last old end new         the same, or there is no segment
 --     GoesOn end at                                    a writer goes on where the journal ends
---     HasPlayedJournal plays old new                   a journal was read and played
---     HasResumed plays old at new                      the same, and a writer goes on behind it
+--     HasPlayedJournal plays kept old new              a journal of these files was read and played
+--     HasResumed plays kept old at new                 the same, and a writer goes on behind it
 use Rattle.std.specs.Prelude.{◌≡◌, ℕ, ◌<◌, ◌+◌, ◌-◌, true, false, List, [], ◌∷◌, ◌++◌, length, Option, Some, None}
 use Rattle.judy_journal.specs.Acts.{AreWhole, File, Left}
 use Rattle.judy_journal.specs.Crashes.{FoundAll}
@@ -114,32 +114,31 @@ GoesOn (Some end) at = (at.sum ≡ end.sum)
     × (0 < end.size → (at.segment ≡ end.segment) × (at.size ≡ end.size) × (at.begins ≡ false))
     × (end.size ≡ 0 → (at.segment ≡ end.segment - 1) × (at.begins ≡ true))
 
--- The files of a journal were read: a snapshot, if there is one, and the segments after it, each of them whole
--- but perhaps the last, which has this tail. Exactly the records of their whole commits were played, in order.
-pub record HasPlayedJournal {P : Type 0} (plays : P → List (List ℕ) → P → Type 0) (old new : P) : Type 0 where
+-- What a journal's directory has: the number of its snapshot, if there is one; the checksum that the first
+-- segment after it continues from; the commits of the snapshot; and the files of the segments after it.
+pub record Kept : Type 0 where
   pub snapshot : Option ℕ
   pub sum : List ℕ
   pub unpacked : List Commit
-  pub start : IsStart snapshot sum unpacked
   pub files : List Left
+
+-- A journal of these files was read: a snapshot, if there is one, and the segments after it, each of them whole
+-- but perhaps the last, which has this tail. Exactly the records of their whole commits were played, in order:
+-- those of the snapshot first.
+pub record HasPlayedJournal {P : Type 0} (plays : P → List (List ℕ) → P → Type 0) (kept : Kept) (old new : P) : Type 0 where
+  pub start : IsStart kept.snapshot kept.sum kept.unpacked
   pub commits : List Commit
   pub tail : List ℕ
-  pub found : FoundAll (segment_before snapshot) sum files commits tail
-  pub played : plays old (all_records unpacked ++ all_records commits) new
+  pub found : FoundAll (segment_before kept.snapshot) kept.sum kept.files commits tail
+  pub played : plays old (all_records kept.unpacked ++ all_records commits) new
 
--- The files of a journal were read, and what a crash left behind the last whole commit was cut off. Each of
--- the files is now whole, and exactly the records of their commits were played, in order: those of the
--- snapshot first. A writer goes on behind them.
-pub record HasResumed {P : Type 0} (plays : P → List (List ℕ) → P → Type 0) (old : P) (at : Resumed) (new : P) : Type 0 where
-  pub snapshot : Option ℕ
-  pub sum : List ℕ
-  pub unpacked : List Commit
-  pub start : IsStart snapshot sum unpacked
-  pub files : List File  -- those of the segments after the snapshot
-  pub commits : List Commit
-  pub whole : AreWhole (segment_before snapshot) sum files commits
-  pub played : plays old (all_records unpacked ++ all_records commits) new
-  pub segment_is : at.segment ≡ segment_before snapshot + length files
-  pub sum_is : at.sum ≡ sum_at sum commits
+-- A journal of these files was read and played, and what a crash left behind the last whole commit was cut off.
+-- The files that are left are whole and have all commits that were found. A writer goes on behind them.
+pub record HasResumed {P : Type 0} (plays : P → List (List ℕ) → P → Type 0) (kept : Kept) (old : P) (at : Resumed) (new : P) : Type 0 where
+  pub journal : HasPlayedJournal plays kept old new
+  pub files : List File
+  pub whole : AreWhole (segment_before kept.snapshot) kept.sum files journal.commits
+  pub segment_is : at.segment ≡ segment_before kept.snapshot + length files
+  pub sum_is : at.sum ≡ sum_at kept.sum journal.commits
   pub size_is : at.begins ≡ false → (others : List File) × (last : File) × (files ≡ others ++ last ∷ [])
       × (at.size ≡ length last.synced)
