@@ -5,8 +5,8 @@
 --     HostsJournaled hosted ..        the whole
 -- The service with which serving begins is the new one of the table after exactly the records that were read: those
 -- of a snapshot, if there is one, and of the whole commits of the segments after it, in order. The writer goes on
--- behind these commits, with their checksum. Nothing is known of the disk itself: that the bytes that were read are
--- those that an earlier run has written is what the system promises.
+-- behind these commits, with their checksum. What was read is what the directory may have (`has`). For the disk of
+-- a real system this says nothing: that it gives the bytes that an earlier run has written is what the system promises.
 use Rattle.std.specs.Prelude.{◌≡◌, ◌⊎◌, ℕ, true, false, List, [], Option, Some}
 use Rattle.judy_journal.specs.Writes.{Writing, begun}
 use Rattle.judy_many.specs.Books.{journal_of}
@@ -18,7 +18,7 @@ use Rattle.judy_programs.specs.Asking.{Log}
 use Rattle.judy_programs.specs.Hosting.{HasBegun, Refuses, Serves}
 use Rattle.judy_programs.specs.declared.socket.Hosted.{Hosted}
 use Rattle.judy_programs.specs.declared.socket.Hosted.TheVariants as hosted
-use Rattle.judy_recovery.specs.Whole.{HasPlayedJournal, HasResumed}
+use Rattle.judy_recovery.specs.Whole.{HasPlayedJournal, HasResumed, Kept}
 use Rattle.judy_recovery.specs.declared.resuming.Resumed.{Resumed}
 use Rattle.judy_table.specs.declared.tenant.Tenant.{Tenant}
 
@@ -40,8 +40,10 @@ HasMade at w log log' = ((at.begins ≡ false) × (w ≡ writer_there at) × (lo
 abbrev pub HasNoWriter : Hosted → Type 0
 HasNoWriter how = (how ≡ hosted.Recovery) ⊎ (how ≡ hosted.Memory) ⊎ (how ≡ hosted.Journal)
 
--- a service is new by how many megabytes were taken for its arrays; so many are wanted, if any are. It plays records
-module _ {S : Type 0} (rules : Rules S) (replays : S → List (List ℕ) → S → Type 0) (is_new : Option ℕ → List Tenant → S → Type 0) (reserve : Option ℕ) where
+-- a service is new by how many megabytes were taken for its arrays; so many are wanted, if any are. Records can be
+-- played to it (`replays`). The directory may have some journal (`has`)
+module _ {S : Type 0} (rules : Rules S) (replays : S → List (List ℕ) → S → Type 0) (has : Kept → Type 0)
+    (is_new : Option ℕ → List Tenant → S → Type 0) (reserve : Option ℕ) where
   -- the file gave a service, and the journal cannot be gone on with. No socket was made
   pub record HasNoJournal (how : Hosted) (config : List ℕ) (log : Log) : Type 0 where
     pub fresh : S
@@ -56,9 +58,11 @@ module _ {S : Type 0} (rules : Rules S) (replays : S → List (List ℕ) → S �
     pub fresh : S
     pub start : Log
     pub begun : HasBegun (is_new reserve) config log start fresh
+    pub kept : Kept
+    pub read : has kept
     pub at : Resumed
     pub before : S
-    pub played : HasResumed replays fresh at before
+    pub played : HasResumed replays kept fresh at before
     pub writer : Writing
     pub ready : Log
     pub made : HasMade at writer start ready
@@ -70,13 +74,16 @@ module _ {S : Type 0} (rules : Rules S) (replays : S → List (List ℕ) → S �
       ⊎ HasNoJournal how config log ⊎ HasServedOn how config socket watch limits log log'
 
 -- the table's file gave a service, and its journal can be played; or why not
-module _ {S : Type 0} (replays : S → List (List ℕ) → S → Type 0) (is_new : Option ℕ → List Tenant → S → Type 0) (reserve : Option ℕ) where
+module _ {S : Type 0} (replays : S → List (List ℕ) → S → Type 0) (has : Kept → Type 0)
+    (is_new : Option ℕ → List Tenant → S → Type 0) (reserve : Option ℕ) where
   -- the file gave a service, and the records of the journal were played to it
   pub record HasPlayedAll (config : List ℕ) (log log' : Log) : Type 0 where
     pub fresh : S
     pub begun : HasBegun (is_new reserve) config log log' fresh
+    pub kept : Kept
+    pub read : has kept
     pub after : S
-    pub played : HasPlayedJournal replays fresh after
+    pub played : HasPlayedJournal replays kept fresh after
 
   abbrev pub ChecksJournaled : Hosted → List ℕ → Log → Log → Type 0
   ChecksJournaled how config log log' = Refuses is_new reserve how config log log'

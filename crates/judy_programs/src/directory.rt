@@ -1,6 +1,6 @@
 //! The journal of a server on the system's disk.
 ghost use Rattle.std.specs.Prelude.{IfOk, IfSome, IsTrue, OnOk};
-ghost use Rattle.judy_recovery.specs.Whole.{HasPlayedJournal, HasResumed};
+ghost use Rattle.judy_recovery.specs.Whole.{HasPlayedJournal, HasResumed, Kept};
 
 use judy_disk::{DiskFault, Folder, Growing, Locks, Place};
 use judy_recovery::{End, JournalFault, Player, Resumed, recover, resume};
@@ -73,7 +73,7 @@ impl<'a, F: Locks + Eprint + Clone + Drop> Directory<'a, F> {
         path: &str,
         player: &mut P,
     ) -> Result<Resumed, JournalFault>
-        ensures { IfOk result (λ at. HasResumed P.plays player.old at player.new) }
+        ensures { IfOk result (λ at. (kept : Kept) × HasResumed P.plays kept player.old at player.new) }
     {
         let folder = folder_at(self.rt, alloc, path)?;
         let _closed = folder.hold_closed().map_err(|e| of_disk(e))?;
@@ -99,7 +99,7 @@ impl<'a, F: Locks + Eprint + Clone + Drop> Directory<'a, F> {
         path: &str,
         player: &mut P,
     ) -> Option<Resumed>
-        ensures { IfSome result (λ at. HasResumed P.plays player.old at player.new) }
+        ensures { IfSome result (λ at. (kept : Kept) × HasResumed P.plays kept player.old at player.new) }
     {
         match self.try_resume(alloc, path, player) {
             Ok(resumed) => Some(resumed),
@@ -117,7 +117,7 @@ impl<'a, F: Locks + Eprint + Clone + Drop> Directory<'a, F> {
         path: &str,
         player: &mut P,
     ) -> Result<(), JournalFault>
-        ensures { OnOk result (HasPlayedJournal P.plays player.old player.new) }
+        ensures { OnOk result ((kept : Kept) × HasPlayedJournal P.plays kept player.old player.new) }
     {
         let folder = folder_at(self.rt, alloc, path)?;
         let _closed = folder.hold_closed_if_there();
@@ -128,7 +128,7 @@ impl<'a, F: Locks + Eprint + Clone + Drop> Directory<'a, F> {
 
     /// Gives the records of a journal to a player, and changes nothing. False if that fails.
     pub fn look<P: Player>(&mut self, alloc: Global, path: &str, player: &mut P) -> bool
-        ensures { IsTrue result → HasPlayedJournal P.plays player.old player.new }
+        ensures { IsTrue result → (kept : Kept) × HasPlayedJournal P.plays kept player.old player.new }
     {
         match self.try_look(alloc, path, player) {
             Ok(()) => true,
