@@ -8,7 +8,7 @@ use Rattle.judy_journal.specs.Recovered.{HasEndedSnapshot, IsPosition, IsRecover
 use Rattle.judy_journal.specs.Writes.{all_records, snapshot_line}
 use Rattle.judy_journal.specs.declared.recovery.Position.{Position}
 use Rattle.judy_recovery.specs.Played.{ReadsAll}
-use Rattle.judy_recovery.specs.Whole.{EndsThere, HasRecoveredAll, HasStarted, ReadsFiles, ReadsSegment, segment_before}
+use Rattle.judy_recovery.specs.Whole.{AllGave, EndsThere, Gave, HasRecoveredAll, HasStarted, ReadsFiles, ReadsSegment, segment_before}
 use Rattle.judy_recovery.specs.declared.ends.End.{End}
 use Rattle.judy_recovery.proofs.Playing.{Laws, all_records-append}
 
@@ -61,14 +61,19 @@ whole_to_end law segment sum done text commits r end h e = by r.reading.begun re
         subst (λ n. AreWhole segment sum (files_kept true segment done text n) commits) same w
     by false bare w = w
 
-module _ {P : Type 0} (plays : P → List (List ℕ) → P → Type 0) where
+module _ {P File : Type 0} (plays : P → List (List ℕ) → P → Type 0) (remaining : File → Option (List ℕ)) where
+  -- files and one more gave their bytes
+  gave-append : (files : List Left) (l : Left) → AllGave remaining files → Gave remaining l.bytes → AllGave remaining (files ++ l ∷ [])
+  gave-append [] l all given = (given, tt)
+  gave-append (f ∷ files) l (first, all) given = (first, gave-append files l all given)
+
   -- a snapshot was read to its end, and ended
-  pub snapshot_started : (number : ℕ) (sum : List ℕ) (left left' : Option (List ℕ)) (r r' r'' : Recovering) (old new : P)
-      → IsUnpacked number sum [] [] r → ReadsAll plays left left' r old r' new
+  pub snapshot_started : (number : ℕ) (sum : List ℕ) (file : File) (left' : Option (List ℕ)) (r r' r'' : Recovering) (old new : P)
+      → IsUnpacked number sum [] [] r → ReadsAll plays (remaining file) left' r old r' new
       → ((segment : ℕ) (sum : List ℕ) (text : List ℕ) (commits : List Commit) → IsUnpacked segment sum text commits r'
       → HasEndedSnapshot segment sum text commits r'')
-      → HasStarted plays (Some number) old r'' new
-  snapshot_started number sum left left' r r' r'' old new was all ended =
+      → HasStarted plays remaining (Some number) old r'' new
+  snapshot_started number sum file left' r r' r'' old new was all ended =
       let h = all.reads.snapshot number sum [] [] was in
       let e : HasEndedSnapshot number sum all.bytes h.more r'' = ended number sum all.bytes h.more h.read in
       let records : all_records h.more ≡ all_records e.others =
@@ -77,18 +82,20 @@ module _ {P : Type 0} (plays : P → List (List ℕ) → P → Type 0) where
         sum = sum;
         commits = e.others;
         start = (snapshot_line number sum ++ 10 ∷ all.bytes, e.snapshot);
+        given = (all.bytes, (file, left', all.given, all.ended), e.snapshot);
         next = e.next;
         played = subst (λ v. plays old v new) records h.played;
       }
 
   -- a source was read to its end, and it was that of a segment
-  pub segment_read : (number size torn : ℕ) (left left' : Option (List ℕ)) (r r' : Recovering) (old new : P) (p : Position)
-      → ReadsAll plays left left' r old r' new → IsSizeIn number p size
+  pub segment_read : (number size torn : ℕ) (file : File) (left' : Option (List ℕ)) (r r' : Recovering) (old new : P) (p : Position)
+      → ReadsAll plays (remaining file) left' r old r' new → IsSizeIn number p size
       → ((segment : ℕ) (sum : List ℕ) (done : List Left) (text : List ℕ) (commits : List Commit) → IsRecovered segment sum done text commits r'
       → IsPosition segment sum done text commits r' p)
-      → ReadsSegment plays number r old (record { segment = number; sum = p.sum; size = size; torn = torn }) r' new
-  segment_read number size torn left left' r r' old new p all is at = record {
+      → ReadsSegment plays remaining number r old (record { segment = number; sum = p.sum; size = size; torn = torn }) r' new
+  segment_read number size torn file left' r r' old new p all is at = record {
     bytes = all.bytes;
+    given = (file, left', all.given, all.ended);
     reads = all.reads;
     ends = λ segment sum done text commits h there.
         ends_there number size torn segment sum done text commits r' p h is (at segment sum done text commits h) there;
@@ -97,14 +104,15 @@ module _ {P : Type 0} (plays : P → List (List ℕ) → P → Type 0) where
   module _ (laws : Laws plays) where
     -- nothing is played before the first segment if there is no snapshot
     pub none_started : (sum : List ℕ) (r : Recovering) (p : P) → sum ≡ Rattle.judy_recovery.specs.declared.ends.TheConstants.FIRST_SUM
-        → IsRecovered 0 sum [] [] [] r → HasStarted plays None p r p
-    none_started sum r p is h = record { sum = sum; commits = []; start = (is, refl); next = h; played = laws.rests p }
+        → IsRecovered 0 sum [] [] [] r → HasStarted plays remaining None p r p
+    none_started sum r p is h = record { sum = sum; commits = []; start = (is, refl); given = tt; next = h; played = laws.rests p }
 
     -- no files
-    pub files_none : (first : ℕ) (r : Recovering) (p : P) → ReadsFiles plays (first - first) r p r p
+    pub files_none : (first : ℕ) (r : Recovering) (p : P) → ReadsFiles plays remaining (first - first) r p r p
     files_none first r p segment sum done commits h = record {
       files = [];
       count_is = omega (arith);
+      given = tt;
       more = [];
       read = subst (λ d. IsRecovered segment sum d [] (commits ++ []) r) (sym (append-nil done))
           (subst (λ v. IsRecovered segment sum done [] v r) (sym (append-nil commits)) h);
@@ -113,10 +121,10 @@ module _ {P : Type 0} (plays : P → List (List ℕ) → P → Type 0) where
 
     -- files and one more
     pub files_more : (count more number : ℕ) (r r' r'' r''' : Recovering) (old mid new : P) (end : End)
-        → ReadsFiles plays count r old r' mid → ReadsSegment plays number r' mid end r'' new
+        → ReadsFiles plays remaining count r old r' mid → ReadsSegment plays remaining number r' mid end r'' new
         → ((segment : ℕ) (sum : List ℕ) (done : List Left) (text : List ℕ) (commits : List Commit) → IsRecovered segment sum done text commits r''
         → IsRecovered segment sum (done ++ record { number = segment + length done + 1; bytes = text } ∷ []) [] commits r''')
-        → more ≡ count + 1 → ReadsFiles plays more r old r''' new
+        → more ≡ count + 1 → ReadsFiles plays remaining more r old r''' new
     files_more count more number r r' r'' r''' old mid new end files reads ended is segment sum done commits h =
         let f = files segment sum done commits h in
         let k = reads.reads.segments segment sum (done ++ f.files) [] (commits ++ f.more) f.read in
@@ -128,6 +136,7 @@ module _ {P : Type 0} (plays : P → List (List ℕ) → P → Type 0) where
         record {
           files = f.files ++ l ∷ [];
           count_is = omega (arith, length-append f.files (l ∷ []), f.count_is, is);
+          given = gave-append f.files l f.given reads.given;
           more = f.more ++ k.more;
           read = subst (λ v. IsRecovered segment sum (done ++ (f.files ++ l ∷ [])) [] v r''') (append_assoc commits f.more k.more) e';
           played = subst (λ v. plays old v new) (sym (all_records-append f.more k.more))
@@ -136,8 +145,8 @@ module _ {P : Type 0} (plays : P → List (List ℕ) → P → Type 0) where
 
     -- the snapshot, the whole files and the last one
     pub recovered_all : RecoveryIsFound → RecoveredIsWhole → (snapshot : Option ℕ) (first last : ℕ) (r r' r'' : Recovering) (old p p' new : P) (end : End)
-        → HasStarted plays snapshot old r p → ReadsFiles plays (last - first) r p r' p' → ReadsSegment plays last r' p' end r'' new
-        → first ≡ segment_before snapshot + 1 → first ≤ last → HasRecoveredAll plays snapshot last old end new
+        → HasStarted plays remaining snapshot old r p → ReadsFiles plays remaining (last - first) r p r' p' → ReadsSegment plays remaining last r' p' end r'' new
+        → first ≡ segment_before snapshot + 1 → first ≤ last → HasRecoveredAll plays remaining snapshot last old end new
     recovered_all is_found is_whole snapshot first last r r' r'' old p p' new end started files reads first_is not_less =
         let f = files (segment_before snapshot) started.sum [] [] started.next in
         let k = reads.reads.segments (segment_before snapshot) started.sum f.files [] f.more f.read in
@@ -156,6 +165,8 @@ module _ {P : Type 0} (plays : P → List (List ℕ) → P → Type 0) where
           r = r'';
           read = k.read;
           found = is_found (segment_before snapshot) started.sum f.files reads.bytes (f.more ++ k.more) r'' k.read;
+          began = started.given;
+          given = gave-append f.files (record { number = segment_before snapshot + length f.files + 1; bytes = reads.bytes }) f.given reads.given;
           last_is = last_is;
           ends = ends;
           whole = whole_to_end is_whole (segment_before snapshot) started.sum f.files reads.bytes (f.more ++ k.more) r'' end k.read ends;

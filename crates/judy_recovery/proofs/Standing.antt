@@ -28,15 +28,15 @@ length-front n text more all = omega (arith, length-take n text, all)
 abbrev none_kept : Kept
 none_kept = record { snapshot = None; sum = FIRST_SUM; unpacked = []; files = [] }
 
-module _ {P : Type 0} (plays : P → List (List ℕ) → P → Type 0) where
+module _ {P F : Type 0} (plays : P → List (List ℕ) → P → Type 0) (remaining : F → Option (List ℕ)) where
   -- what the directory has
-  abbrev pub kept_by : (snapshot last : Option ℕ) (old : P) (end : Option End) (new : P) → Recovers plays snapshot last old end new → Kept
+  abbrev pub kept_by : (snapshot last : Option ℕ) (old : P) (end : Option End) (new : P) → Recovers plays remaining snapshot last old end new → Kept
   kept_by snapshot last old None new h = none_kept
   kept_by snapshot last old (Some end) new (number, is, h) =
       record { snapshot = snapshot; sum = h.sum; unpacked = h.unpacked; files = with_last (segment_before snapshot) h.done h.text }
 
   -- what was recovered was played
-  pub journal_played : (snapshot last : Option ℕ) (old : P) (end : Option End) (new : P) → (h : Recovers plays snapshot last old end new)
+  pub journal_played : (snapshot last : Option ℕ) (old : P) (end : Option End) (new : P) → (h : Recovers plays remaining snapshot last old end new)
       → HasPlayedJournal plays (kept_by snapshot last old end new h) old new
   journal_played snapshot last old None new (none, played) =
       record { start = (refl, refl); commits = []; tail = []; found = (refl, refl); played = played }
@@ -45,7 +45,7 @@ module _ {P : Type 0} (plays : P → List (List ℕ) → P → Type 0) where
 
   -- the writer goes on behind what was recovered
   pub journal_resumed : (snapshot last : Option ℕ) (old : P) (end : Option End) (at : Resumed) (new : P)
-      → (h : Recovers plays snapshot last old end new) → GoesOn end at → HasResumed plays (kept_by snapshot last old end new h) old at new
+      → (h : Recovers plays remaining snapshot last old end new) → GoesOn end at → HasResumed plays (kept_by snapshot last old end new h) old at new
   journal_resumed snapshot last old None at new (none, played) (segment, sum, begins) = record {
     journal = record { start = (refl, refl); commits = []; tail = []; found = (refl, refl); played = played };
     files = [];

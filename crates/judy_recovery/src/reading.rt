@@ -122,7 +122,7 @@ fn read_snapshot<F: Files, P: Player>(
     player: &mut P,
 ) -> Result<Box<Recovery>, JournalFault>
     ensures started { IfOk result
-        (λ r. HasStarted P.plays (Some number) player.old r.value player.new) }
+        (λ r. HasStarted P.plays F.File.remaining (Some number) player.old r.value player.new) }
     ensures follows { OnOk result (number < LAST_SEGMENT) }
 {
     let place = Place::Snapshot(number);
@@ -152,7 +152,7 @@ fn begin<F: Files, P: Player>(
     player: &mut P,
 ) -> Result<Box<Recovery>, JournalFault>
     ensures started { IfOk result
-        (λ r. HasStarted P.plays snapshot player.old r.value player.new) }
+        (λ r. HasStarted P.plays F.File.remaining snapshot player.old r.value player.new) }
     ensures follows { OnOk result (segment_before snapshot < LAST_SEGMENT) }
 {
     match snapshot {
@@ -191,7 +191,7 @@ fn read_segment<F: Files, P: Player>(
     number: u64,
     player: &mut P,
 ) -> Result<End, JournalFault>
-    ensures { IfOk result (λ end. ReadsSegment P.plays number
+    ensures { IfOk result (λ end. ReadsSegment P.plays F.File.remaining number
         recovery.old player.old end recovery.new player.new) }
 {
     let place = Place::Segment(number);
@@ -222,7 +222,7 @@ fn read_closed<F: Files, P: Player>(
     last: u64,
     player: &mut P,
 ) -> Result<(), JournalFault>
-    ensures { OnOk result (first ≤ last → ReadsFiles P.plays (last - first)
+    ensures { OnOk result (first ≤ last → ReadsFiles P.plays F.File.remaining (last - first)
         recovery.old player.old recovery.new player.new) }
 {
     for number in first..last {
@@ -248,7 +248,7 @@ fn read_files<F: Files, P: Player>(
     player: &mut P,
 ) -> Result<Option<End>, JournalFault>
     ensures { IfOk result
-        (λ end. Recovers P.plays snapshot (Some last) player.old end player.new) }
+        (λ end. Recovers P.plays F.File.remaining snapshot (Some last) player.old end player.new) }
 {
     let first = first_after(snapshot);
     if last < first {
@@ -271,7 +271,7 @@ pub fn recover<F: Files, P: Player>(
     player: &mut P,
 ) -> Result<Option<End>, JournalFault>
     ensures { IfOk result
-        (λ end. Recovers P.plays found.now.snapshot found.now.last player.old end player.new) }
+        (λ end. Recovers P.plays F.File.remaining found.now.snapshot found.now.last player.old end player.new) }
 {
     match found.last {
         Some(last) => read_files(folder, alloc, found.snapshot, last, player),
@@ -287,7 +287,7 @@ pub fn recover_closed<F: Files, P: Player>(
     found: &Found,
     player: &mut P,
 ) -> Result<Option<End>, JournalFault>
-    ensures played { IfOk result (λ end. Recovers P.plays found.now.snapshot
+    ensures played { IfOk result (λ end. Recovers P.plays F.File.remaining found.now.snapshot
         (option_map (λ last. last - 1) found.now.last) player.old end player.new) }
     ensures whole { IfOk result (λ end. IfSome end (λ e. 0 < e.size)) }
 {
