@@ -1,7 +1,8 @@
 //! Reads the files of a journal's directory in order.
 ghost use Rattle.std.specs.Prelude.{◌≡◌, ◌≢◌, ◌≤◌, ◌<◌, ◌+◌, ◌-◌, ◌^◌, ℕ, List, IfOk, IfSome, OnOk, Option, Some, option_map};
 ghost use Rattle.judy_recovery.specs.Played.{ReadsAll};
-ghost use Rattle.judy_recovery.specs.Whole.{HasStarted, ReadsFiles, ReadsSegment, Recovers, segment_before};
+ghost use Rattle.judy_recovery.specs.Whole.{HasStarted, ReadsFiles, ReadsSegment};
+ghost use Rattle.judy_recovery.specs.Whole.{Recovers, segment_before};
 
 use crate::ends::{End, FIRST_SUM};
 use crate::faults::{Flaw, JournalFault};
