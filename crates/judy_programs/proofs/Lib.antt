@@ -1,4 +1,5 @@
 pub mod lemmas
 mod Begins
 mod Programs
+mod Resuming
 mod TableLines

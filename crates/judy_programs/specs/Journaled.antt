@@ -1,11 +1,13 @@
 -- What `judyd serve` does with a journal.
---     HasMade w log log'              this writer goes on, and the next segment was begun first if it had to be
+--     HasMade at w log log'           this writer goes on there, and the next segment was begun first if it had to be
 --     HasNoJournal ..                 there is a service, and the journal cannot be gone on with
---     HasServedOn ..                  there is a service, the journal was read, and connections were served with it
+--     HasServedOn ..                  there is a service, the journal was played to it, and connections were served with it
 --     HostsJournaled hosted ..        the whole
--- Nothing is known here of the bytes on the disk, and so nothing of the arrays with which a service begins
--- that has read a journal.
-use Rattle.std.specs.Prelude.{◌≡◌, ◌⊎◌, ℕ, true, false, List, [], ◌∷◌, Option, Some, None, Result, Ok, Err}
+-- The service with which serving begins is the new one of the table after exactly the records that were read: those
+-- of a snapshot, if there is one, and of the whole commits of the segments after it, in order. The writer goes on
+-- behind these commits, with their checksum. What was read is what the directory may have (`has`). For the disk of
+-- a real system this says nothing: that it gives the bytes that an earlier run has written is what the system promises.
+use Rattle.std.specs.Prelude.{◌≡◌, ◌⊎◌, ℕ, true, false, List, [], Option, Some}
 use Rattle.judy_journal.specs.Writes.{Writing, begun}
 use Rattle.judy_many.specs.Books.{journal_of}
 use Rattle.judy_many.specs.Journaling.{HasWritten}
@@ -16,23 +18,32 @@ use Rattle.judy_programs.specs.Asking.{Log}
 use Rattle.judy_programs.specs.Hosting.{HasBegun, Refuses, Serves}
 use Rattle.judy_programs.specs.declared.socket.Hosted.{Hosted}
 use Rattle.judy_programs.specs.declared.socket.Hosted.TheVariants as hosted
+use Rattle.judy_recovery.specs.Whole.{HasPlayedJournal, HasResumed, Kept}
+use Rattle.judy_recovery.specs.declared.resuming.Resumed.{Resumed}
 use Rattle.judy_table.specs.declared.tenant.Tenant.{Tenant}
 
--- the file of the next segment was made, with its header, and synced
-abbrev pub HasOpenedNext : Writing → Log → Log → Type 0
-HasOpenedNext w log log' = (old : Writing) × (w ≡ begun old)
+-- a writer that goes on there, and has no record yet
+abbrev pub writer_there : Resumed → Writing
+writer_there at = record { segment = at.segment; sum = at.sum; size = at.size; records = []; text = [] }
+
+-- the file of the segment after that of this writer was made, with its header, and synced
+abbrev pub HasOpenedNext : Writing → Writing → Log → Log → Type 0
+HasOpenedNext old w log log' = (w ≡ begun old)
     × ((rule : Sync) → HasWritten true (journal_of rule true old) (journal_of rule true w) log log')
 
--- the writer goes on in a file that is there, or in the next one
-abbrev pub HasMade : Writing → Log → Log → Type 0
-HasMade w log log' = (log' ≡ log) ⊎ HasOpenedNext w log log'
+-- the writer goes on in the file that is there, or in the next one
+abbrev pub HasMade : Resumed → Writing → Log → Log → Type 0
+HasMade at w log log' = ((at.begins ≡ false) × (w ≡ writer_there at) × (log' ≡ log))
+    ⊎ ((at.begins ≡ true) × HasOpenedNext (writer_there at) w log log')
 
 -- there is no writer: no memory for it, or the file of the next segment cannot be made or written
 abbrev pub HasNoWriter : Hosted → Type 0
 HasNoWriter how = (how ≡ hosted.Recovery) ⊎ (how ≡ hosted.Memory) ⊎ (how ≡ hosted.Journal)
 
--- a service is new by how many megabytes were taken for its arrays; so many are wanted, if any are
-module _ {S : Type 0} (rules : Rules S) (is_new : Option ℕ → List Tenant → S → Type 0) (reserve : Option ℕ) where
+-- a service is new by how many megabytes were taken for its arrays; so many are wanted, if any are. Records can be
+-- played to it (`replays`). The directory may have some journal (`has`)
+module _ {S : Type 0} (rules : Rules S) (replays : S → List (List ℕ) → S → Type 0) (has : Kept → Type 0)
+    (is_new : Option ℕ → List Tenant → S → Type 0) (reserve : Option ℕ) where
   -- the file gave a service, and the journal cannot be gone on with. No socket was made
   pub record HasNoJournal (how : Hosted) (config : List ℕ) (log : Log) : Type 0 where
     pub fresh : S
@@ -40,16 +51,21 @@ module _ {S : Type 0} (rules : Rules S) (is_new : Option ℕ → List Tenant →
     pub begun : HasBegun (is_new reserve) config log start fresh
     pub cause : HasNoWriter how
 
-  -- The file gave a service, the journal was read, then the sockets were made, and the connections that came
-  -- were served: no answer was written before what it tells was kept in the journal.
+  -- The file gave a service, and the records of the journal were played to it. The writer goes on behind them.
+  -- Then the sockets were made, and the connections that came were served by the service that had played them: no
+  -- answer was written before what it tells was kept in the journal.
   pub record HasServedOn (how : Hosted) (config socket : List ℕ) (watch : Option (List ℕ)) (limits : Limits) (log log' : Log) : Type 0 where
     pub fresh : S
     pub start : Log
     pub begun : HasBegun (is_new reserve) config log start fresh
+    pub kept : Kept
+    pub read : has kept
+    pub at : Resumed
+    pub before : S
+    pub played : HasResumed replays kept fresh at before
     pub writer : Writing
     pub ready : Log
-    pub made : HasMade writer start ready
-    pub before : S
+    pub made : HasMade at writer start ready
     pub after : S
     pub served : Serves rules how socket watch limits (Some writer) ready log' before after
 
@@ -58,7 +74,18 @@ module _ {S : Type 0} (rules : Rules S) (is_new : Option ℕ → List Tenant →
       ⊎ HasNoJournal how config log ⊎ HasServedOn how config socket watch limits log log'
 
 -- the table's file gave a service, and its journal can be played; or why not
-module _ {S : Type 0} (is_new : Option ℕ → List Tenant → S → Type 0) (reserve : Option ℕ) where
+module _ {S : Type 0} (replays : S → List (List ℕ) → S → Type 0) (has : Kept → Type 0)
+    (is_new : Option ℕ → List Tenant → S → Type 0) (reserve : Option ℕ) where
+  -- the file gave a service, and the records of the journal were played to it
+  pub record HasPlayedAll (config : List ℕ) (log log' : Log) : Type 0 where
+    pub fresh : S
+    pub begun : HasBegun (is_new reserve) config log log' fresh
+    pub kept : Kept
+    pub read : has kept
+    pub after : S
+    pub played : HasPlayedJournal replays kept fresh after
+
   abbrev pub ChecksJournaled : Hosted → List ℕ → Log → Log → Type 0
   ChecksJournaled how config log log' = Refuses is_new reserve how config log log'
-      ⊎ (((how ≡ hosted.Done) ⊎ (how ≡ hosted.Recovery)) × ((fresh : S) × HasBegun (is_new reserve) config log log' fresh))
+      ⊎ ((how ≡ hosted.Done) × HasPlayedAll config log log')
+      ⊎ ((how ≡ hosted.Recovery) × ((fresh : S) × HasBegun (is_new reserve) config log log' fresh))

@@ -1,4 +1,7 @@
 //! The journal of a server on the system's disk.
+ghost use Rattle.std.specs.Prelude.{IfOk, IfSome, IsTrue, OnOk};
+ghost use Rattle.judy_recovery.specs.Whole.{HasPlayedJournal, HasResumed, Kept};
+
 use judy_disk::{DiskFault, Folder, Growing, Locks, Place};
 use judy_recovery::{End, JournalFault, Player, Resumed, recover, resume};
 use std::alloc::Global;
@@ -69,13 +72,18 @@ impl<'a, F: Locks + Eprint + Clone + Drop> Directory<'a, F> {
         alloc: Global,
         path: &str,
         player: &mut P,
-    ) -> Result<Resumed, JournalFault> {
+    ) -> Result<Resumed, JournalFault>
+        ensures { IfOk result (λ at. (kept : Kept) × HasResumed P.plays kept player.old at player.new) }
+    {
         let folder = folder_at(self.rt, alloc, path)?;
         let _closed = folder.hold_closed().map_err(|e| of_disk(e))?;
         let lock = folder.take().map_err(|e| of_disk(e))?;
         let found = folder.scan().map_err(|e| of_disk(e))?;
         let end = recover(&folder, alloc, &found, player)?;
-        let (resumed, current) = resume(&folder, end).map_err(|e| of_disk(e))?;
+        let (resumed, current) = match resume(&folder, end) {
+            Ok(ready) => ready,
+            Err(fault) => return Err(of_disk(fault)),
+        };
         tell_cut(self.rt, &folder, &end);
         self.folder = Some(folder);
         self.lock = Some(lock);
@@ -90,7 +98,9 @@ impl<'a, F: Locks + Eprint + Clone + Drop> Directory<'a, F> {
         alloc: Global,
         path: &str,
         player: &mut P,
-    ) -> Option<Resumed> {
+    ) -> Option<Resumed>
+        ensures { IfSome result (λ at. (kept : Kept) × HasResumed P.plays kept player.old at player.new) }
+    {
         match self.try_resume(alloc, path, player) {
             Ok(resumed) => Some(resumed),
             Err(fault) => {
@@ -106,7 +116,9 @@ impl<'a, F: Locks + Eprint + Clone + Drop> Directory<'a, F> {
         alloc: Global,
         path: &str,
         player: &mut P,
-    ) -> Result<(), JournalFault> {
+    ) -> Result<(), JournalFault>
+        ensures { OnOk result ((kept : Kept) × HasPlayedJournal P.plays kept player.old player.new) }
+    {
         let folder = folder_at(self.rt, alloc, path)?;
         let _closed = folder.hold_closed_if_there();
         let found = folder.scan().map_err(|e| of_disk(e))?;
@@ -115,7 +127,9 @@ impl<'a, F: Locks + Eprint + Clone + Drop> Directory<'a, F> {
     }
 
     /// Gives the records of a journal to a player, and changes nothing. False if that fails.
-    pub fn look<P: Player>(&mut self, alloc: Global, path: &str, player: &mut P) -> bool {
+    pub fn look<P: Player>(&mut self, alloc: Global, path: &str, player: &mut P) -> bool
+        ensures { IsTrue result → (kept : Kept) × HasPlayedJournal P.plays kept player.old player.new }
+    {
         match self.try_look(alloc, path, player) {
             Ok(()) => true,
             Err(fault) => {

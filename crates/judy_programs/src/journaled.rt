@@ -3,6 +3,8 @@ ghost use Rattle.std.specs.Prelude.{◌≡◌, ◌≤◌, ℕ, IfOk, IfErr, opti
 ghost use Rattle.judy_many.specs.Rules.{rules_of};
 ghost use Rattle.judy_protocol.specs.Serving.{pull_limit};
 ghost use Rattle.judy_programs.specs.Journaled.{ChecksJournaled, HasMade, HasNoWriter, HostsJournaled};
+ghost use Rattle.judy_recovery.specs.Whole.{HasResumed, Kept};
+ghost use Rattle.judy_recovery.specs.declared.resuming.Resumed.{Resumed as At};
 
 use crate::hosts::Hosts;
 use crate::journals::{Journals, Replays};
@@ -34,7 +36,7 @@ impl<S: Replays> Player for Playing<S> {
 
 /// A writer that goes on here.
 fn writer_at<H: Hosts>(alloc: Global, system: &mut H, at: Resumed) -> Result<Box<Writer>, Hosted>
-    ensures made { IfOk result (λ w. HasMade w.value (H.log system.old) (H.log system.new)) }
+    ensures made { IfOk result (λ w. HasMade at w.value (H.log system.old) (H.log system.new)) }
     ensures none { IfErr result HasNoWriter }
 {
     let Ok(mut writer) = Box::new(alloc, Writer::new(at.segment, &at.sum, at.size)) else {
@@ -56,7 +58,9 @@ fn resume_on<S: Replays + Drop, H: Journals>(
     system: &mut H,
     directory: &str,
 ) -> Result<(S, Box<Writer>), Hosted>
-    ensures made { IfOk result (λ r. HasMade r.1.value (H.log system.old) (H.log system.new)) }
+    ensures made { IfOk result (λ r. (kept : Kept) × (at : At)
+        × H.may_have directory.now kept × HasResumed S.replayed kept service at r.0
+        × HasMade at r.1.value (H.log system.old) (H.log system.new)) }
     ensures none { IfErr result HasNoWriter }
 {
     let mut playing = Playing { alloc, service };
@@ -83,8 +87,8 @@ pub fn host_journaled<S: Opens + Shows + Replays + Drop, H: Journals>(
     directory: &str,
 ) -> Hosted
     requires files { (f : H.File) (room : ℕ) → room ≤ pull_limit → H.File.can_pull f room }
-    ensures { HostsJournaled (rules_of S.made S.seen S.noted S.status S.changed)
-        (S.is_new secret.now) reserve result config.now socket.now
+    ensures { HostsJournaled (rules_of S.made S.seen S.noted S.status S.changed) S.replayed
+        (H.may_have directory.now) (S.is_new secret.now) reserve result config.now socket.now
         (option_map (λ s. s.now) status.entry) limits (H.log system.old) (H.log system.new) }
 {
     let begun: Result<S, Hosted> = begin_on(alloc, secret, system, config, reserve);
@@ -119,7 +123,8 @@ pub fn check_journaled<S: Opens + Replays + Drop, H: Journals>(
     directory: &str,
 ) -> Hosted
     requires files { (f : H.File) (room : ℕ) → room ≤ pull_limit → H.File.can_pull f room }
-    ensures { ChecksJournaled (S.is_new secret.now) reserve result config.now
+    ensures { ChecksJournaled S.replayed (H.may_have directory.now)
+        (S.is_new secret.now) reserve result config.now
         (H.log system.old) (H.log system.new) }
 {
     let begun: Result<S, Hosted> = begin_on(alloc, secret, system, config, reserve);

@@ -1,6 +1,7 @@
 //! What a server with a journal asks of the system and of its service.
-ghost use Rattle.std.specs.Prelude.{◌≡◌, ℕ, List, [], ◌++◌, OnOk};
+ghost use Rattle.std.specs.Prelude.{◌≡◌, ℕ, List, [], ◌++◌, IfSome, IsTrue, OnOk};
 ghost use Rattle.judy_model.specs.Stream.{lines_of};
+ghost use Rattle.judy_recovery.specs.Whole.{HasPlayedJournal, HasResumed, Kept};
 
 use crate::hosts::Hosts;
 use judy_protocol::Served;
@@ -28,14 +29,21 @@ pub trait Replays: Served {
 
 /// A system with the directory of a journal. Its log has nothing of what is read there.
 pub trait Journals: Hosts {
+    /// The directory at this path may have this journal. Nothing is known of it, if nothing is said.
+    ghost may_have: { List ℕ → Kept → Type 0 } = { λ _ _. Unit {0} };
+
     /// Takes the directory, reads the journal, and gives its records to a player. Cuts off what a
     /// crash left behind the last whole commit. From then on the journal can be gone on with, where
     /// the result says. None: the system knows the fault, and nothing was changed.
     fn resume<P: Player>(&mut self, alloc: Global, path: &str, player: &mut P) -> Option<Resumed>
-        ensures { Self.log self.new ≡ Self.log self.old };
+        ensures log { Self.log self.new ≡ Self.log self.old }
+        ensures played { IfSome result (λ at. (kept : Kept) × may_have path.now kept
+            × HasResumed P.plays kept player.old at player.new) };
 
     /// Reads the journal, and gives its records to a player. Nothing is changed. False: the system
     /// knows the fault.
     fn look<P: Player>(&mut self, alloc: Global, path: &str, player: &mut P) -> bool
-        ensures { Self.log self.new ≡ Self.log self.old };
+        ensures log { Self.log self.new ≡ Self.log self.old }
+        ensures played { IsTrue result → (kept : Kept) × may_have path.now kept
+            × HasPlayedJournal P.plays kept player.old player.new };
 }

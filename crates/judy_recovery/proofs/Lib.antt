@@ -1,1 +1,3 @@
+mod Chaining
 mod Playing
+pub mod Standing

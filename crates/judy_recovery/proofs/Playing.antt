@@ -1,10 +1,10 @@
 -- How the commits of a file are played.
-use Rattle.std.proofs.Common.{◌≡◌, ◌+◌, ◌-◌, ◌≤◌, ℕ, suc, Bool, true, false, List, [], ◌∷◌, ◌++◌, length, take, drop}
-use Rattle.std.proofs.Common.{refl, sym, ◌∙◌, ap, subst, arith, append_assoc, append-nil, length-append, take-append-drop, Option, Some, None, Result, Ok, Err}
+use Rattle.std.proofs.Common.{◌≡◌, ◌-◌, ℕ, suc, true, List, [], ◌∷◌, ◌++◌, length, take, drop}
+use Rattle.std.proofs.Common.{refl, sym, ◌∙◌, ap, subst, arith, append_assoc, append-nil, length-append, take-append-drop, Option, Ok}
 use Rattle.std.specs.Prelude.{IsTrue}
 use Rattle.std.specs.List.{list_all}
-use Rattle.std.proofs.KnownBytes.{Consumes-nil, Consumes-trans}
-use Rattle.std.specs.Io.KnownBytes.{Consumes, IsAtEnd}
+use Rattle.std.proofs.KnownBytes.{Consumes-trans}
+use Rattle.std.specs.Io.KnownBytes.{Consumes}
 use Rattle.judy_model.specs.Stream.{lines_of}
 use Rattle.judy_model.proofs.lemmas.LineLemmas.{lines_of-line}
 use Rattle.judy_model.proofs.lemmas.TestLemmas.{and_left, and_right}
@@ -14,7 +14,7 @@ use Rattle.judy_journal.specs.Recovered.{HasRecovered, HasUnpacked, IsRecovered,
 use Rattle.judy_journal.specs.Writes.{all_records}
 use Rattle.judy_journal.specs.declared.reader.Read.{Read}
 use Rattle.judy_journal.specs.declared.reader.Read.TheVariants.{More, Whole}
-use Rattle.judy_recovery.specs.Played.{HasPlayed, ReadsAll, ReadsOn}
+use Rattle.judy_recovery.specs.Played.{HasPlayed, ReadsOn}
 
 -- ---- records as text
 
@@ -28,7 +28,7 @@ lines_of-records (r ∷ records) h =
     ∙ ap (λ v. r ∷ v) (lines_of-records records rest)
 
 -- the records of commits and of more
-all_records-append : (a b : List Commit) → all_records (a ++ b) ≡ all_records a ++ all_records b
+pub all_records-append : (a b : List Commit) → all_records (a ++ b) ≡ all_records a ++ all_records b
 all_records-append [] b = refl
 all_records-append (x ∷ a) b = ap (λ v. x ++ v) (all_records-append a b) ∙ sym (append_assoc x (all_records a) (all_records b))
 

@@ -1,6 +1,8 @@
 //! Reads the files of a journal's directory in order.
-ghost use Rattle.std.specs.Prelude.{◌≤◌, ℕ, List, OnOk, Option};
+ghost use Rattle.std.specs.Prelude.{◌≡◌, ◌≢◌, ◌≤◌, ◌<◌, ◌+◌, ◌-◌, ◌^◌, ℕ, List, IfOk, IfSome, OnOk, Option, Some, option_map};
 ghost use Rattle.judy_recovery.specs.Played.{ReadsAll};
+ghost use Rattle.judy_recovery.specs.Whole.{HasStarted, ReadsFiles, ReadsSegment};
+ghost use Rattle.judy_recovery.specs.Whole.{Recovers, segment_before};
 
 use crate::ends::{End, FIRST_SUM};
 use crate::faults::{Flaw, JournalFault};
@@ -9,7 +11,10 @@ use crate::player::Player;
 use crate::sources::FileReads;
 use itoa::Buffer;
 use judy_disk::{DiskFault, Folder, Found, Place};
-use judy_journal::{Damage, Recovery, SUM_LEN, snapshot_sum};
+use judy_journal::{
+    Damage, LAST_SEGMENT, Position, Recovery, SUM_LEN, snapshot_sum, what_is_recovered_is_found,
+    what_is_recovered_is_whole,
+};
 use judy_protocol::cut_line;
 use std::alloc::Global;
 use std::fs::Files;
@@ -62,7 +67,9 @@ fn read_rest<R: Read + Drop, P: Player>(
 }
 
 /// A recovery on the heap, since it is large.
-fn boxed(alloc: Global, place: Place, recovery: Recovery) -> Result<Box<Recovery>, JournalFault> {
+fn boxed(alloc: Global, place: Place, recovery: Recovery) -> Result<Box<Recovery>, JournalFault>
+    ensures { IfOk result (λ b. b.value ≡ recovery) }
+{
     match Box::new(alloc, recovery) {
         Ok(recovery) => Ok(recovery),
         Err(_) => Err(fault_at(place, 0, Flaw::Memory)),
@@ -114,7 +121,11 @@ fn read_snapshot<F: Files, P: Player>(
     alloc: Global,
     number: u64,
     player: &mut P,
-) -> Result<Box<Recovery>, JournalFault> {
+) -> Result<Box<Recovery>, JournalFault>
+    ensures started { IfOk result
+        (λ r. HasStarted P.plays F.File.remaining (Some number) player.old r.value player.new) }
+    ensures follows { OnOk result (number < LAST_SEGMENT) }
+{
     let place = Place::Snapshot(number);
     let mut file = match folder.open(place) {
         Ok(file) => file,
@@ -128,7 +139,8 @@ fn read_snapshot<F: Files, P: Player>(
     };
     read_rest(file, place, &mut *recovery, player, &mut progress)?;
     match recovery.end_snapshot() {
-        Ok(()) => Ok(recovery),
+        Ok(()) if number < LAST_SEGMENT => Ok(recovery),
+        Ok(()) => Err(fault_at(place, progress.whole, Flaw::Damage(Damage::Number))),
         Err(damage) => Err(fault_at(place, progress.whole, Flaw::Damage(damage))),
     }
 }
@@ -137,13 +149,40 @@ fn read_snapshot<F: Files, P: Player>(
 fn begin<F: Files, P: Player>(
     folder: &Folder<'_, F>,
     alloc: Global,
-    found: &Found,
+    snapshot: Option<u64>,
     player: &mut P,
-) -> Result<Box<Recovery>, JournalFault> {
-    match found.snapshot {
+) -> Result<Box<Recovery>, JournalFault>
+    ensures started { IfOk result
+        (λ r. HasStarted P.plays F.File.remaining snapshot player.old r.value player.new) }
+    ensures follows { OnOk result (segment_before snapshot < LAST_SEGMENT) }
+{
+    match snapshot {
         Some(number) => read_snapshot(folder, alloc, number, player),
         None => boxed(alloc, Place::Segment(1), Recovery::new(0, &FIRST_SUM)),
     }
+}
+
+/// The first segment that is read: the one after the snapshot.
+fn first_after(snapshot: Option<u64>) -> u64
+    ensures no_more { result ≤ segment_before snapshot + 1 }
+    ensures follows { segment_before snapshot < LAST_SEGMENT → result ≡ segment_before snapshot + 1 }
+{
+    match snapshot {
+        Some(number) => number.saturating_add(1),
+        None => 1,
+    }
+}
+
+/// How many bytes of the segment of this number are kept. Without a whole first line there are none:
+/// a writer would go on in the segment before.
+fn size_in(number: u64, position: &Position) -> u64
+    ensures here { position.now.segment ≡ number → result ≡ position.now.size }
+    ensures none { position.now.segment ≢ number → result ≡ 0 }
+{
+    if position.segment == number {
+        return position.size;
+    }
+    0
 }
 
 /// Reads the next segment.
@@ -152,7 +191,10 @@ fn read_segment<F: Files, P: Player>(
     recovery: &mut Recovery,
     number: u64,
     player: &mut P,
-) -> Result<End, JournalFault> {
+) -> Result<End, JournalFault>
+    ensures { IfOk result (λ end. ReadsSegment P.plays F.File.remaining number
+        recovery.old player.old end recovery.new player.new) }
+{
     let place = Place::Segment(number);
     let file = match folder.open(place) {
         Ok(file) => file,
@@ -164,42 +206,61 @@ fn read_segment<F: Files, P: Player>(
     };
     read_rest(file, place, recovery, player, &mut progress)?;
     let position = recovery.position();
-    // Without a whole first line a writer would go on in the segment before.
-    let size = if position.segment == number {
-        position.size
-    } else {
-        0
-    };
-    let sum = position.sum;
+    let size = size_in(number, &position);
     Ok(End {
         segment: number,
-        sum,
+        sum: position.sum,
         size,
         torn: progress.seen.saturating_sub(size),
     })
 }
 
-/// Reads the snapshot and the segments up to `last`, each of which is whole but perhaps the last.
+/// Reads the segments from `first` to the one before `last`, each of which is whole.
+fn read_closed<F: Files, P: Player>(
+    folder: &Folder<'_, F>,
+    recovery: &mut Recovery,
+    first: u64,
+    last: u64,
+    player: &mut P,
+) -> Result<(), JournalFault>
+    ensures { OnOk result (first ≤ last → ReadsFiles P.plays F.File.remaining (last - first)
+        recovery.old player.old recovery.new player.new) }
+{
+    for number in first..last {
+        let here = read_segment(folder, recovery, number, player)?;
+        match recovery.next_file() {
+            Ok(()) => {}
+            Err(damage) => {
+                let place = Place::Segment(number);
+                return Err(fault_at(place, here.size, Flaw::Damage(damage)));
+            }
+        }
+    }
+    Ok(())
+}
+
+/// Reads the snapshot and the segments up to `last`, each of which is whole but perhaps the last. None
+/// if there is no segment up to it behind the snapshot: then nothing is read.
 fn read_files<F: Files, P: Player>(
     folder: &Folder<'_, F>,
     alloc: Global,
-    found: &Found,
+    snapshot: Option<u64>,
     last: u64,
     player: &mut P,
-) -> Result<Option<End>, JournalFault> {
-    let mut recovery = begin(folder, alloc, found, player)?;
-    let mut end = None;
-    for number in found.first..=last {
-        let here = read_segment(folder, &mut *recovery, number, player)?;
-        if number < last
-            && let Err(damage) = recovery.next_file()
-        {
-            let place = Place::Segment(number);
-            return Err(fault_at(place, here.size, Flaw::Damage(damage)));
-        }
-        end = Some(here);
+) -> Result<Option<End>, JournalFault>
+    ensures { IfOk result
+        (λ end. Recovers P.plays F.File.remaining snapshot (Some last) player.old end player.new) }
+{
+    let first = first_after(snapshot);
+    if last < first {
+        return Ok(None);
     }
-    Ok(end)
+    let mut recovery = begin(folder, alloc, snapshot, player)?;
+    read_closed(folder, &mut *recovery, first, last, player)?;
+    let end = read_segment(folder, &mut *recovery, last, player)?;
+    what_is_recovered_is_found();
+    what_is_recovered_is_whole();
+    Ok(Some(end))
 }
 
 /// Reads all files of a journal, and gives the records of each whole commit to the player. Returns
@@ -209,9 +270,12 @@ pub fn recover<F: Files, P: Player>(
     alloc: Global,
     found: &Found,
     player: &mut P,
-) -> Result<Option<End>, JournalFault> {
+) -> Result<Option<End>, JournalFault>
+    ensures { IfOk result
+        (λ end. Recovers P.plays F.File.remaining found.now.snapshot found.now.last player.old end player.new) }
+{
     match found.last {
-        Some(last) => read_files(folder, alloc, found, last, player),
+        Some(last) => read_files(folder, alloc, found.snapshot, last, player),
         None => Ok(None),
     }
 }
@@ -223,15 +287,16 @@ pub fn recover_closed<F: Files, P: Player>(
     alloc: Global,
     found: &Found,
     player: &mut P,
-) -> Result<Option<End>, JournalFault> {
+) -> Result<Option<End>, JournalFault>
+    ensures played { IfOk result (λ end. Recovers P.plays F.File.remaining found.now.snapshot
+        (option_map (λ last. last - 1) found.now.last) player.old end player.new) }
+    ensures whole { IfOk result (λ end. IfSome end (λ e. 0 < e.size)) }
+{
     let last = match found.last {
         Some(last) => last.saturating_sub(1),
         None => return Ok(None),
     };
-    if last < found.first {
-        return Ok(None);
-    }
-    let Some(end) = read_files(folder, alloc, found, last, player)? else {
+    let Some(end) = read_files(folder, alloc, found.snapshot, last, player)? else {
         return Ok(None);
     };
     if end.torn > 0 || end.size == 0 {

@@ -1,4 +1,7 @@
 //! Makes a directory ready for a writer that goes on where a journal ends.
+ghost use Rattle.std.specs.Prelude.{IfOk};
+ghost use Rattle.judy_recovery.specs.Whole.{GoesOn};
+
 use crate::ends::{End, FIRST_SUM};
 use crate::reading::first_line_len;
 use judy_disk::{DiskFault, Folder, Growing, Place};
@@ -25,7 +28,9 @@ pub struct Resumed {
 pub fn resume<F: Files>(
     folder: &Folder<'_, F>,
     end: Option<End>,
-) -> Result<(Resumed, Option<Growing<F>>), DiskFault> {
+) -> Result<(Resumed, Option<Growing<F>>), DiskFault>
+    ensures { IfOk result (λ r. GoesOn end r.0) }
+{
     let Some(end) = end else {
         let sum = FIRST_SUM;
         let first = Resumed {

@@ -1,0 +1,168 @@
+-- What was recovered of all files of a journal: its snapshot, if there is one, and then its segments in order.
+-- `plays old records new` says that these records were played, one after another. `remaining file` is what is known
+-- of the bytes that a file has still to give.
+--     HasStarted plays remaining snapshot old r new              the snapshot was played; r goes on behind it
+--     HasPlayedFiles plays remaining .. count old r new          so many whole files were played
+--     EndsThere segment sum done text commits r end              the journal ends in this text, behind these files
+--     HasRecoveredAll plays remaining snapshot last old end new  the snapshot and the segments up to the last were played
+--     Recovers plays remaining snapshot last old end new         the same, or there is no segment
+--     GoesOn end at                                              a writer goes on where the journal ends
+--     HasPlayedJournal plays kept old new                        a journal of these files was read and played
+--     HasResumed plays kept old at new                           the same, and a writer goes on behind it
+use Rattle.std.specs.Prelude.{◌≡◌, ℕ, ◌<◌, ◌+◌, ◌-◌, true, false, List, [], ◌∷◌, ◌++◌, length, Option, Some, None}
+use Rattle.std.specs.Io.KnownBytes.{Consumes, IsAtEnd}
+use Rattle.judy_journal.specs.Acts.{AreWhole, File, Left}
+use Rattle.judy_journal.specs.Crashes.{FoundAll}
+use Rattle.judy_journal.specs.Journals.{Commit, sum_at}
+use Rattle.judy_journal.specs.Readings.{tail_of}
+use Rattle.judy_journal.specs.Recovered.{IsPosition, IsRecovered, IsSnapshot, Recovering, files_kept}
+use Rattle.judy_journal.specs.Writes.{all_records, snapshot_line}
+use Rattle.judy_journal.specs.declared.recovery.Position.{Position}
+use Rattle.judy_recovery.specs.Played.{ReadsOn}
+use Rattle.judy_recovery.specs.declared.ends.End.{End}
+use Rattle.judy_recovery.specs.declared.ends.TheConstants.{FIRST_SUM}
+use Rattle.judy_recovery.specs.declared.resuming.Resumed.{Resumed}
+
+-- the segments up to this one need not be read: those that the snapshot stands for
+abbrev pub segment_before : Option ℕ → ℕ
+segment_before None = 0
+segment_before (Some number) = number
+
+-- The first segment that is read continues from this checksum, and these commits come before it: none, or
+-- those of the snapshot.
+abbrev pub IsStart : Option ℕ → List ℕ → List Commit → Type 0
+IsStart None sum commits = (sum ≡ FIRST_SUM) × (commits ≡ [])
+IsStart (Some number) sum commits = (bytes : List ℕ) × IsSnapshot number sum bytes commits
+
+-- a file that was opened gave these bytes, and then its end
+abbrev pub Gave : {F : Type 0} → (F → Option (List ℕ)) → List ℕ → Type 0
+Gave {F} remaining bytes = (file : F) × (left : Option (List ℕ)) × Consumes (remaining file) left bytes × IsAtEnd left
+
+-- each of these files gave its bytes
+abbrev pub AllGave : {F : Type 0} → (F → Option (List ℕ)) → List Left → Type 0
+AllGave remaining [] = Unit {0}
+AllGave remaining (l ∷ left) = Gave remaining l.bytes × AllGave remaining left
+
+-- the snapshot's file gave what comes after its first line, if there is a snapshot
+abbrev pub GaveStart : {F : Type 0} → (F → Option (List ℕ)) → Option ℕ → List ℕ → List Commit → Type 0
+GaveStart remaining None sum commits = Unit {0}
+GaveStart remaining (Some number) sum commits = (text : List ℕ) × Gave remaining text
+    × IsSnapshot number sum (snapshot_line number sum ++ 10 ∷ text) commits
+
+-- the snapshot was read, if there is one, and its records were played. The next bytes are of the segment
+-- after it
+pub record HasStarted {P F : Type 0} (plays : P → List (List ℕ) → P → Type 0) (remaining : F → Option (List ℕ)) (snapshot : Option ℕ)
+    (old : P) (r : Recovering) (new : P) : Type 0 where
+  pub sum : List ℕ
+  pub commits : List Commit
+  pub start : IsStart snapshot sum commits
+  pub given : GaveStart remaining snapshot sum commits
+  pub next : IsRecovered (segment_before snapshot) sum [] [] [] r
+  pub played : plays old (all_records commits) new
+
+-- So many files were read behind these, each of them whole, and exactly the records of their commits were
+-- played, in order.
+pub record HasPlayedFiles {P F : Type 0} (plays : P → List (List ℕ) → P → Type 0) (remaining : F → Option (List ℕ))
+    (segment : ℕ) (sum : List ℕ) (done : List Left) (commits : List Commit) (count : ℕ) (old : P) (r : Recovering) (new : P) : Type 0 where
+  pub files : List Left
+  pub count_is : length files ≡ count
+  pub given : AllGave remaining files
+  pub more : List Commit
+  pub read : IsRecovered segment sum (done ++ files) [] (commits ++ more) r
+  pub played : plays old (all_records more) new
+
+-- whole files were read, whatever was read before them
+abbrev pub ReadsFiles : {P F : Type 0} → (P → List (List ℕ) → P → Type 0) → (F → Option (List ℕ)) → ℕ
+    → Recovering → P → Recovering → P → Type 0
+ReadsFiles plays remaining count before old after new = (segment : ℕ) (sum : List ℕ) (done : List Left) (commits : List Commit)
+    → IsRecovered segment sum done [] commits before → HasPlayedFiles plays remaining segment sum done commits count old after new
+
+-- The last file is the one after these whole files. It has this text, and with it these are all commits.
+-- If its first line is whole, what comes after the end's size is no whole commit. If not, the size is 0.
+pub record EndsThere (segment : ℕ) (sum : List ℕ) (done : List Left) (text : List ℕ) (commits : List Commit)
+    (r : Recovering) (end : End) : Type 0 where
+  pub position : Position
+  pub stands : IsPosition segment sum done text commits r position
+  pub segment_is : end.segment ≡ segment + length done + 1
+  pub sum_is : end.sum ≡ sum_at sum commits
+  pub size_is : r.reading.begun ≡ true → end.size + length (tail_of r.reading) ≡ length text
+  pub some : r.reading.begun ≡ true → 0 < end.size
+  pub none : r.reading.begun ≡ false → end.size ≡ 0
+
+-- the segment of this number was read to its end, whatever was read before it
+pub record ReadsSegment {P F : Type 0} (plays : P → List (List ℕ) → P → Type 0) (remaining : F → Option (List ℕ)) (number : ℕ)
+    (before : Recovering) (old : P) (end : End) (after : Recovering) (new : P) : Type 0 where
+  pub bytes : List ℕ
+  pub given : Gave remaining bytes
+  pub reads : ReadsOn plays before bytes old after new
+  pub ends : (segment : ℕ) (sum : List ℕ) (done : List Left) (text : List ℕ) (commits : List Commit)
+      → IsRecovered segment sum done text commits after → number ≡ segment + length done + 1
+      → EndsThere segment sum done text commits after end
+
+-- the files of the segments after this one, with the last one
+abbrev pub with_last : ℕ → List Left → List ℕ → List Left
+with_last segment done text = done ++ record { number = segment + length done + 1; bytes = text } ∷ []
+
+-- The snapshot was read, if there is one, and then the segments after it, in order and without a gap, up to
+-- the last one. Exactly the records of their whole commits were played, in order: those of the snapshot first.
+pub record HasRecoveredAll {P F : Type 0} (plays : P → List (List ℕ) → P → Type 0) (remaining : F → Option (List ℕ))
+    (snapshot : Option ℕ) (last : ℕ) (old : P) (end : End) (new : P) : Type 0 where
+  pub sum : List ℕ
+  pub unpacked : List Commit
+  pub start : IsStart snapshot sum unpacked
+  pub done : List Left  -- the files before the last one, each of them whole
+  pub text : List ℕ  -- what the last file has
+  pub commits : List Commit
+  pub r : Recovering
+  pub read : IsRecovered (segment_before snapshot) sum done text commits r
+  pub found : FoundAll (segment_before snapshot) sum (with_last (segment_before snapshot) done text) commits (tail_of r.reading)
+  pub began : GaveStart remaining snapshot sum unpacked
+  pub given : AllGave remaining (with_last (segment_before snapshot) done text)
+  pub last_is : last ≡ segment_before snapshot + length done + 1
+  pub ends : EndsThere (segment_before snapshot) sum done text commits r end
+  pub whole : AreWhole (segment_before snapshot) sum
+      (files_kept r.reading.begun (segment_before snapshot) done text end.size) commits
+  pub played : plays old (all_records unpacked ++ all_records commits) new
+
+-- all files were read; or there is no segment behind the snapshot, and nothing was played
+abbrev pub Recovers : {P F : Type 0} → (P → List (List ℕ) → P → Type 0) → (F → Option (List ℕ)) → Option ℕ → Option ℕ
+    → P → Option End → P → Type 0
+Recovers plays remaining snapshot last old None new = ((number : ℕ) → last ≡ Some number → number < segment_before snapshot + 1) × plays old [] new
+Recovers plays remaining snapshot last old (Some end) new = (number : ℕ) × (last ≡ Some number) × HasRecoveredAll plays remaining snapshot number old end new
+
+-- A writer goes on with the journal's checksum. It does so in the last file, behind the end's size. If that is
+-- 0, the last file was removed, and the writer begins it anew; and it begins the first one if there is none.
+abbrev pub GoesOn : Option End → Resumed → Type 0
+GoesOn None at = (at.segment ≡ 0) × (at.sum ≡ FIRST_SUM) × (at.begins ≡ true)
+GoesOn (Some end) at = (at.sum ≡ end.sum)
+    × (0 < end.size → (at.segment ≡ end.segment) × (at.size ≡ end.size) × (at.begins ≡ false))
+    × (end.size ≡ 0 → (at.segment ≡ end.segment - 1) × (at.begins ≡ true))
+
+-- What a journal's directory has: the number of its snapshot, if there is one; the checksum that the first
+-- segment after it continues from; the commits of the snapshot; and the files of the segments after it.
+pub record Kept : Type 0 where
+  pub snapshot : Option ℕ
+  pub sum : List ℕ
+  pub unpacked : List Commit
+  pub files : List Left
+
+-- A journal of these files was read: a snapshot, if there is one, and the segments after it, each of them whole
+-- but perhaps the last, which has this tail. Exactly the records of their whole commits were played, in order:
+-- those of the snapshot first.
+pub record HasPlayedJournal {P : Type 0} (plays : P → List (List ℕ) → P → Type 0) (kept : Kept) (old new : P) : Type 0 where
+  pub start : IsStart kept.snapshot kept.sum kept.unpacked
+  pub commits : List Commit
+  pub tail : List ℕ
+  pub found : FoundAll (segment_before kept.snapshot) kept.sum kept.files commits tail
+  pub played : plays old (all_records kept.unpacked ++ all_records commits) new
+
+-- A journal of these files was read and played, and what a crash left behind the last whole commit was cut off.
+-- The files that are left are whole and have all commits that were found. A writer goes on behind them.
+pub record HasResumed {P : Type 0} (plays : P → List (List ℕ) → P → Type 0) (kept : Kept) (old : P) (at : Resumed) (new : P) : Type 0 where
+  pub journal : HasPlayedJournal plays kept old new
+  pub files : List File
+  pub whole : AreWhole (segment_before kept.snapshot) kept.sum files journal.commits
+  pub segment_is : at.segment ≡ segment_before kept.snapshot + length files
+  pub sum_is : at.sum ≡ sum_at kept.sum journal.commits
+  pub size_is : at.begins ≡ false → (others : List File) × (last : File) × (files ≡ others ++ last ∷ [])
+      × (at.size ≡ length last.synced)
