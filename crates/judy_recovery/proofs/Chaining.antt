@@ -1,8 +1,9 @@
 -- How the files of a journal are played one after another.
 use Rattle.std.proofs.Common.{◌≡◌, ◌≢◌, ◌+◌, ◌-◌, ◌≤◌, ◌<◌, ℕ, Bool, true, false, List, [], ◌∷◌, ◌++◌, length, Option, Some, None}
 use Rattle.std.proofs.Common.{refl, sym, ◌∙◌, ap, subst, arith, append_assoc, append-nil, length-append}
+use Rattle.std.specs.Prelude.{IsTrue}
 use Rattle.judy_journal.specs.Acts.{AreWhole, Left}
-use Rattle.judy_journal.specs.Journals.{Commit, commits_lines, header, joined, journal_text, sum_at}
+use Rattle.judy_journal.specs.Journals.{Commit, is_line, commits_lines, header, joined, journal_text, sum_at}
 use Rattle.judy_journal.specs.Readings.{front, tail_of}
 use Rattle.judy_journal.specs.Recovered.{HasEndedSnapshot, IsPosition, IsRecovered, IsUnpacked, RecoveredIsWhole, Recovering, RecoveryIsFound, files_kept}
 use Rattle.judy_journal.specs.Writes.{all_records, snapshot_line}
@@ -69,11 +70,11 @@ module _ {P File : Type 0} (plays : P → List (List ℕ) → P → Type 0) (rem
 
   -- a snapshot was read to its end, and ended
   pub snapshot_started : (number : ℕ) (sum : List ℕ) (file : File) (left' : Option (List ℕ)) (r r' r'' : Recovering) (old new : P)
-      → IsUnpacked number sum [] [] r → ReadsAll plays (remaining file) left' r old r' new
+      → IsTrue (is_line sum) → IsUnpacked number sum [] [] r → ReadsAll plays (remaining file) left' r old r' new
       → ((segment : ℕ) (sum : List ℕ) (text : List ℕ) (commits : List Commit) → IsUnpacked segment sum text commits r'
       → HasEndedSnapshot segment sum text commits r'')
       → HasStarted plays remaining (Some number) old r'' new
-  snapshot_started number sum file left' r r' r'' old new was all ended =
+  snapshot_started number sum file left' r r' r'' old new line was all ended =
       let h = all.reads.snapshot number sum [] [] was in
       let e : HasEndedSnapshot number sum all.bytes h.more r'' = ended number sum all.bytes h.more h.read in
       let records : all_records h.more ≡ all_records e.others =
@@ -81,7 +82,7 @@ module _ {P File : Type 0} (plays : P → List (List ℕ) → P → Type 0) (rem
       record {
         sum = sum;
         commits = e.others;
-        start = (snapshot_line number sum ++ 10 ∷ all.bytes, e.snapshot);
+        start = (line, snapshot_line number sum ++ 10 ∷ all.bytes, e.snapshot);
         given = (all.bytes, (file, left', all.given, all.ended), e.snapshot);
         next = e.next;
         played = subst (λ v. plays old v new) records h.played;

@@ -9,11 +9,11 @@
 --     GoesOn end at                                              a writer goes on where the journal ends
 --     HasPlayedJournal plays kept old new                        a journal of these files was read and played
 --     HasResumed plays kept old at new                           the same, and a writer goes on behind it
-use Rattle.std.specs.Prelude.{◌≡◌, ℕ, ◌<◌, ◌+◌, ◌-◌, true, false, List, [], ◌∷◌, ◌++◌, length, Option, Some, None}
+use Rattle.std.specs.Prelude.{◌≡◌, ℕ, ◌<◌, ◌+◌, ◌-◌, true, false, List, [], ◌∷◌, ◌++◌, length, IsTrue, Option, Some, None}
 use Rattle.std.specs.Io.KnownBytes.{Consumes, IsAtEnd}
 use Rattle.judy_journal.specs.Acts.{AreWhole, File, Left}
 use Rattle.judy_journal.specs.Crashes.{FoundAll}
-use Rattle.judy_journal.specs.Journals.{Commit, sum_at}
+use Rattle.judy_journal.specs.Journals.{Commit, is_line, sum_at}
 use Rattle.judy_journal.specs.Readings.{tail_of}
 use Rattle.judy_journal.specs.Recovered.{IsPosition, IsRecovered, IsSnapshot, Recovering, files_kept}
 use Rattle.judy_journal.specs.Writes.{all_records, snapshot_line}
@@ -32,7 +32,7 @@ segment_before (Some number) = number
 -- those of the snapshot.
 abbrev pub IsStart : Option ℕ → List ℕ → List Commit → Type 0
 IsStart None sum commits = (sum ≡ FIRST_SUM) × (commits ≡ [])
-IsStart (Some number) sum commits = (bytes : List ℕ) × IsSnapshot number sum bytes commits
+IsStart (Some number) sum commits = IsTrue (is_line sum) × (bytes : List ℕ) × IsSnapshot number sum bytes commits
 
 -- a file that was opened gave these bytes, and then its end
 abbrev pub Gave : {F : Type 0} → (F → Option (List ℕ)) → List ℕ → Type 0

@@ -1,5 +1,6 @@
 //! Reads the files of a journal's directory in order.
-ghost use Rattle.std.specs.Prelude.{◌≡◌, ◌≢◌, ◌≤◌, ◌<◌, ◌+◌, ◌-◌, ◌^◌, ℕ, List, IfOk, IfSome, OnOk, Option, Some, option_map};
+ghost use Rattle.std.specs.Prelude.{◌≡◌, ◌≢◌, ◌≤◌, ◌<◌, ◌+◌, ◌-◌, ◌^◌, ℕ, List, IfOk, IfSome, OnOk, IsTrue, Option, Some, option_map};
+ghost use Rattle.judy_journal.specs.Journals.{is_line};
 ghost use Rattle.judy_recovery.specs.Played.{ReadsAll};
 ghost use Rattle.judy_recovery.specs.Whole.{HasStarted, ReadsFiles, ReadsSegment};
 ghost use Rattle.judy_recovery.specs.Whole.{Recovers, segment_before};
@@ -91,10 +92,9 @@ pub(crate) fn first_line_len(segment: u64) -> u64 {
 
 /// Reads the first line of a snapshot of the segments up to this one, with its line feed. Returns its
 /// checksum, and how many bytes it has.
-fn read_first_line<R: Read>(
-    file: &mut R,
-    number: u64,
-) -> Result<([u8; SUM_LEN], u64), JournalFault> {
+fn read_first_line<R: Read>(file: &mut R, number: u64) -> Result<([u8; SUM_LEN], u64), JournalFault>
+    ensures { IfOk result (λ r. IsTrue (is_line r.0)) }
+{
     let place = Place::Snapshot(number);
     let mut room = [0u8; LINE_ROOM];
     let len = SNAPSHOT_FRONT + digits_of(number) + 1 + SUM_LEN + 1;

@@ -8,6 +8,7 @@
 --     HaveSame a b          the tenants of one name have the same arrays in both services
 --     IsRestored ..         the arrays are those after the first lines, with all that were answered
 --     CrashesLoseNothing    so it is after a crash at any moment of any run
+--     StartsGoOn            a server that starts with a journal has played it, and goes on behind it
 use Rattle.std.specs.Prelude.{◌≡◌, ◌≢◌, ◌<◌, ◌+◌, ◌^◌, ℕ, true, List, [], ◌∷◌, ◌++◌, length, zip, IsTrue, Option, Some}
 use Rattle.judy_journal.specs.Acts.{AreWhole, File, Left, MayLeaveAll, disk_after}
 use Rattle.judy_journal.specs.Crashes.{FoundAll}
@@ -29,6 +30,10 @@ use Rattle.judy_many.specs.declared.network.Sync.{Sync}
 use Rattle.judy_many.specs.declared.network.Sync.TheVariants as sync
 use Rattle.judy_many.specs.declared.serve.Ending.{Ending}
 use Rattle.judy_many.specs.declared.serve.Limits.{Limits}
+use Rattle.judy_programs.specs.Asking.{Log}
+use Rattle.judy_programs.specs.Journaled.{HasServedOn}
+use Rattle.judy_programs.specs.declared.socket.Hosted.{Hosted}
+use Rattle.judy_recovery.specs.Whole.{Kept, segment_before}
 use Rattle.judy_table.specs.declared.tenant.Tenant.{Tenant}
 use Rattle.judy_table.specs.Tenants.{place_of}
 use Rattle.judy_tenants.specs.Held.{states_of}
@@ -117,3 +122,11 @@ CrashesLoseNothing = (s : Stock) (limits : Limits) (rule : Sync) (w : Writing) (
     → (story later : Story) → h.story ≡ story ++ later
     → HasResumed s w before → HasCrashed s (journal_of rule true w) story restored
     → (now : Tallied) × Lasts server_rules true before story now × IsRestored rule before story now restored
+
+-- A server that started with a journal has played it on a new service, and its writer goes on behind it. The
+-- snapshot, the segment that it stands for and its checksum are those of the directory.
+abbrev pub StartsGoOn : Type 1
+StartsGoOn = (has : Kept → Type 0) (secret : List ℕ) (reserve : Option ℕ) (how : Hosted) (config socket : List ℕ) (watch : Option (List ℕ)) (limits : Limits) (log log' : Log)
+    → (h : HasServedOn server_rules AreReplayed has (IsNewService secret) reserve how config socket watch limits log log')
+    → (s : Stock) × (s.snapshot ≡ all_records h.kept.unpacked) × (s.segment ≡ segment_before h.kept.snapshot) × (s.sum ≡ h.kept.sum)
+    × HasResumed s h.writer h.before

@@ -16,6 +16,8 @@ use Rattle.judy_programs.specs.Program.{HasRun}
 use Rattle.judy_programs.specs.Finish.{host_status, host_text, run_status, run_text}
 use Rattle.judy_programs.specs.declared.program.Ran.{Ran}
 use Rattle.judy_programs.specs.declared.socket.Hosted.{Hosted}
+use Rattle.judy_recovery.specs.Whole.{Kept}
+use Rattle.judy_server.specs.Replays.{AreReplayed}
 use Rattle.judy_server.specs.Served.{IsServedStep, IsNewService, seen_of, held_words}
 use Rattle.judy_server.specs.Rules.{server_rules}
 
@@ -40,50 +42,12 @@ limits_of clients connections idle turn watch directory w = record {
   journal = rule_of directory w;
 }
 
--- connections were served, with a journal if a directory is given
-abbrev pub HostsBy : Option (List ℕ) → List ℕ → Option ℕ → Hosted → List ℕ → List ℕ → Option (List ℕ) → Limits → Log → Log → Type 0
-HostsBy None secret reserve hosted config socket watch limits log log' =
-    Hosts server_rules (IsNewService secret) reserve hosted config socket watch limits log log'
-HostsBy (Some directory) secret reserve hosted config socket watch limits log log' =
-    HostsJournaled server_rules (IsNewService secret) reserve hosted config socket watch limits log log'
-
--- the file was only checked, and the journal if a directory is given
-abbrev pub ChecksBy : Option (List ℕ) → List ℕ → Option ℕ → Hosted → List ℕ → Log → Log → Type 0
-ChecksBy None secret reserve hosted config log log' = Checks (IsNewService secret) reserve hosted config log log'
-ChecksBy (Some directory) secret reserve hosted config log log' = ChecksJournaled (IsNewService secret) reserve hosted config log log'
-
--- Connections were served, or the file was only checked. First this many megabytes were taken for the
--- arrays, if so many are wanted.
-abbrev pub ServesBy : Bool → Option (List ℕ) → List ℕ → Option ℕ → Hosted → List ℕ → List ℕ → Option (List ℕ) → Limits → Log → Log → Type 0
-ServesBy false directory secret reserve hosted config socket watch limits log log' =
-    HostsBy directory secret reserve hosted config socket watch limits log log'
-ServesBy true directory secret reserve hosted config socket watch limits log log' = ChecksBy directory secret reserve hosted config log log'
-
 -- the job is one of the two programs
 abbrev pub IsProgram : Job → Type 0
 IsProgram (job.Run words) = Unit {0}
 IsProgram (job.Serve config socket watch clients connections idle turn reserve directory w check) = Unit {0}
 IsProgram (job.Compact directory) = ⊥
 IsProgram (job.Journal directory tenant) = ⊥
-
--- What the job did with a secret: its status and its line on standard error, if any, follow from how it ended for
--- exactly this input. `from` and `to` are what the standard streams showed before and after.
-abbrev pub HasDone : List ℕ → Job → ℕ → Option (List ℕ) → Wire → Wire → Log → Log → Type 0
-HasDone secret (job.Run words) status text from to log log' = (ran : Ran)
-    × HasRun IsServedStep seen_of held_words (IsNewService secret None) words ran from to
-    × (status ≡ run_status ran) × (text ≡ run_text ran) × (log' ≡ log)
-HasDone secret (job.Serve config socket watch clients connections idle turn reserve directory w check) status text from to log log' = (hosted : Hosted)
-    × ServesBy check directory secret reserve hosted config socket watch (limits_of clients connections idle turn watch directory w) log log'
-    × (status ≡ host_status hosted) × (text ≡ host_text hosted) × (to ≡ from)
-HasDone secret (job.Compact directory) status text from to log log' = ⊥
-HasDone secret (job.Journal directory tenant) status text from to log log' = ⊥
-
--- The system drew a secret, once, and the job was done with this secret.
-pub record HasDoneDrawn (job : Job) (status : ℕ) (text : Option (List ℕ)) (from to : Wire) (log log' : Log) : Type 0 where
-  pub secret : List ℕ
-  pub mid : Log
-  pub drawn : Logs log (Drawn secret ∷ []) mid
-  pub done : HasDone secret job status text from to mid log'
 
 -- The system gave no random bytes. Nothing else was asked of it, and nothing was read or written.
 pub record HasNoSecret (ended : ℕ) (line : Option (List ℕ)) (from to : Wire) (log log' : Log) : Type 0 where
@@ -92,6 +56,46 @@ pub record HasNoSecret (ended : ℕ) (line : Option (List ℕ)) (from to : Wire)
   pub text : line ≡ Some (codes "judyd: random fault")
   pub streams : to ≡ from
 
--- What the program does for a job.
-abbrev pub Does : Job → ℕ → Option (List ℕ) → Wire → Wire → Log → Log → Type 0
-Does job status text from to log log' = HasDoneDrawn job status text from to log log' ⊎ HasNoSecret status text from to log log'
+-- the directory at a path may have a journal (`has`)
+module _ (has : List ℕ → Kept → Type 0) where
+  -- connections were served, with a journal if a directory is given
+  abbrev pub HostsBy : Option (List ℕ) → List ℕ → Option ℕ → Hosted → List ℕ → List ℕ → Option (List ℕ) → Limits → Log → Log → Type 0
+  HostsBy None secret reserve hosted config socket watch limits log log' =
+      Hosts server_rules (IsNewService secret) reserve hosted config socket watch limits log log'
+  HostsBy (Some directory) secret reserve hosted config socket watch limits log log' =
+      HostsJournaled server_rules AreReplayed (has directory) (IsNewService secret) reserve hosted config socket watch limits log log'
+
+  -- the file was only checked, and the journal if a directory is given
+  abbrev pub ChecksBy : Option (List ℕ) → List ℕ → Option ℕ → Hosted → List ℕ → Log → Log → Type 0
+  ChecksBy None secret reserve hosted config log log' = Checks (IsNewService secret) reserve hosted config log log'
+  ChecksBy (Some directory) secret reserve hosted config log log' = ChecksJournaled AreReplayed (has directory) (IsNewService secret) reserve hosted config log log'
+
+  -- Connections were served, or the file was only checked. First this many megabytes were taken for the
+  -- arrays, if so many are wanted.
+  abbrev pub ServesBy : Bool → Option (List ℕ) → List ℕ → Option ℕ → Hosted → List ℕ → List ℕ → Option (List ℕ) → Limits → Log → Log → Type 0
+  ServesBy false directory secret reserve hosted config socket watch limits log log' =
+      HostsBy directory secret reserve hosted config socket watch limits log log'
+  ServesBy true directory secret reserve hosted config socket watch limits log log' = ChecksBy directory secret reserve hosted config log log'
+
+  -- What the job did with a secret: its status and its line on standard error, if any, follow from how it ended for
+  -- exactly this input. `from` and `to` are what the standard streams showed before and after.
+  abbrev pub HasDone : List ℕ → Job → ℕ → Option (List ℕ) → Wire → Wire → Log → Log → Type 0
+  HasDone secret (job.Run words) status text from to log log' = (ran : Ran)
+      × HasRun IsServedStep seen_of held_words (IsNewService secret None) words ran from to
+      × (status ≡ run_status ran) × (text ≡ run_text ran) × (log' ≡ log)
+  HasDone secret (job.Serve config socket watch clients connections idle turn reserve directory w check) status text from to log log' = (hosted : Hosted)
+      × ServesBy check directory secret reserve hosted config socket watch (limits_of clients connections idle turn watch directory w) log log'
+      × (status ≡ host_status hosted) × (text ≡ host_text hosted) × (to ≡ from)
+  HasDone secret (job.Compact directory) status text from to log log' = ⊥
+  HasDone secret (job.Journal directory tenant) status text from to log log' = ⊥
+
+  -- The system drew a secret, once, and the job was done with this secret.
+  pub record HasDoneDrawn (job : Job) (status : ℕ) (text : Option (List ℕ)) (from to : Wire) (log log' : Log) : Type 0 where
+    pub secret : List ℕ
+    pub mid : Log
+    pub drawn : Logs log (Drawn secret ∷ []) mid
+    pub done : HasDone secret job status text from to mid log'
+
+  -- What the program does for a job.
+  abbrev pub Does : Job → ℕ → Option (List ℕ) → Wire → Wire → Log → Log → Type 0
+  Does job status text from to log log' = HasDoneDrawn job status text from to log log' ⊎ HasNoSecret status text from to log log'

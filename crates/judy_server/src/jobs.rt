@@ -48,7 +48,7 @@ fn check_by<K: Chosen, H: Journals>(
     directory: Option<&str>,
 ) -> Hosted
     requires files { (f : H.File) (room : ℕ) → room ≤ pull_limit → H.File.can_pull f room }
-    ensures { ChecksBy (option_map (λ s. s.now) directory.entry) secret.now reserve result file.now
+    ensures { ChecksBy H.may_have (option_map (λ s. s.now) directory.entry) secret.now reserve result file.now
         (H.log system.old) (H.log system.new) }
 {
     match directory {
@@ -72,7 +72,7 @@ fn host_by<K: Chosen, H: Journals>(
     directory: Option<&str>,
 ) -> Hosted
     requires files { (f : H.File) (room : ℕ) → room ≤ pull_limit → H.File.can_pull f room }
-    ensures { HostsBy (option_map (λ s. s.now) directory.entry) secret.now reserve result file.now
+    ensures { HostsBy H.may_have (option_map (λ s. s.now) directory.entry) secret.now reserve result file.now
         path.now (option_map (λ s. s.now) watch.entry) limits (H.log system.old) (H.log system.new) }
 {
     match directory {
@@ -97,7 +97,7 @@ fn do_job_with<K: Chosen, R: Source, W: Sink, H: Journals>(
     requires script { (s : R) (room : ℕ) → room ≤ pull_limit → R.can_pull s room }
     requires written { MaySend W.taken W.pending IsSent writer.old W.can_push W.can_flush }
     requires files { (f : H.File) (room : ℕ) → room ≤ pull_limit → H.File.can_pull f room }
-    ensures { HasDone secret.now job.now result.0 (option_map (λ s. s.now) result.1)
+    ensures { HasDone H.may_have secret.now job.now result.0 (option_map (λ s. s.now) result.1)
         (wire R.left R.gave R.ends R.faults W.taken W.pending W.faults reader.old writer.old)
         (wire R.left R.gave R.ends R.faults W.taken W.pending W.faults reader.new writer.new)
         (H.log system.old) (H.log system.new) }
@@ -158,7 +158,7 @@ pub fn do_job_on<K: Chosen, R: Source, W: Sink, H: Journals>(
     requires script { (s : R) (room : ℕ) → room ≤ pull_limit → R.can_pull s room }
     requires written { MaySend W.taken W.pending IsSent writer.old W.can_push W.can_flush }
     requires files { (f : H.File) (room : ℕ) → room ≤ pull_limit → H.File.can_pull f room }
-    ensures { Does job.now result.0 (option_map (λ s. s.now) result.1)
+    ensures { Does H.may_have job.now result.0 (option_map (λ s. s.now) result.1)
         (wire R.left R.gave R.ends R.faults W.taken W.pending W.faults reader.old writer.old)
         (wire R.left R.gave R.ends R.faults W.taken W.pending W.faults reader.new writer.new)
         (H.log system.old) (H.log system.new) }

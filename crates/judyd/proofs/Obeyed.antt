@@ -4,17 +4,19 @@ use Rattle.judy_command.specs.declared.words.Job.{Job}
 use Rattle.judy_command.specs.declared.words.Job.TheVariants as job
 use Rattle.judy_protocol.specs.Serving.{Wire}
 use Rattle.judy_programs.specs.Asking.{Log}
+use Rattle.judy_recovery.specs.Whole.{Kept}
 use Rattle.judy_server.specs.Jobs.{Does, HasDone}
 use Rattle.judyd.specs.Obeying.{HasEnded, IsFinished}
 
-ended : (secret : List ℕ) (j : Job) (status : ℕ) (text : Option (List ℕ)) (from to : Wire) (log log' : Log)
-    → HasDone secret j status text from to log log' → HasEnded j status text
-ended secret (job.Run words) status text from to log log' h = (h.0, h.2, h.3)
-ended secret (job.Serve config socket watch clients connections idle turn reserve journal sync check) status text from to log log' h = (h.0, h.2, h.3)
-ended secret (job.Compact directory) status text from to log log' h = absurd h
-ended secret (job.Journal directory tenant) status text from to log log' h = absurd h
+module _ (has : List ℕ → Kept → Type 0) where
+  ended : (secret : List ℕ) (j : Job) (status : ℕ) (text : Option (List ℕ)) (from to : Wire) (log log' : Log)
+      → HasDone has secret j status text from to log log' → HasEnded j status text
+  ended secret (job.Run words) status text from to log log' h = (h.0, h.2, h.3)
+  ended secret (job.Serve config socket watch clients connections idle turn reserve journal sync check) status text from to log log' h = (h.0, h.2, h.3)
+  ended secret (job.Compact directory) status text from to log log' h = absurd h
+  ended secret (job.Journal directory tenant) status text from to log log' h = absurd h
 
-pub finished : (j : Job) (status : ℕ) (text : Option (List ℕ)) (from to : Wire) (log log' : Log)
-    → Does j status text from to log log' → IsFinished j status text
-finished j status text from to log log' (inl done) = inl (ended done.secret j status text from to done.mid log' done.done)
-finished j status text from to log log' (inr none) = inr (none.status, none.text)
+  pub finished : (j : Job) (status : ℕ) (text : Option (List ℕ)) (from to : Wire) (log log' : Log)
+      → Does has j status text from to log log' → IsFinished j status text
+  finished j status text from to log log' (inl done) = inl (ended done.secret j status text from to done.mid log' done.done)
+  finished j status text from to log log' (inr none) = inr (none.status, none.text)

@@ -11,6 +11,7 @@ use Rattle.judy_command.specs.declared.words.Job.TheVariants as job
 use Rattle.judy_protocol.specs.Serving.{Wire}
 use Rattle.judy_programs.specs.Asking.{Log, Logs}
 use Rattle.judy_many.specs.Nets.Step.{Drawn, Undrawn}
+use Rattle.judy_recovery.specs.Whole.{Kept}
 use Rattle.judy_server.specs.Jobs.{HasDone, HasDoneDrawn, HasNoSecret}
 
 -- without random bytes nothing is served
@@ -18,19 +19,21 @@ pub no-secret : (ended : ℕ) (line : Option (List ℕ)) (from to : Wire) (log l
     → (ended ≡ 4) × (line ≡ Some (codes "judyd: random fault")) × (to ≡ from) × Logs log (Undrawn ∷ []) log'
 no-secret ended line from to log log' h = (h.status, h.text, h.streams, h.asked)
 
--- `run` opens no file and no socket
-pub run-asks-nothing : (secret : List ℕ) (words : Bool) (status : ℕ) (text : Option (List ℕ)) (from to : Wire) (log log' : Log)
-    → HasDone secret (job.Run words) status text from to log log' → log' ≡ log
-run-asks-nothing secret words status text from to log log' (how, has_run, is, told, same) = same
+-- whatever journal a directory may have
+module _ (has : List ℕ → Kept → Type 0) where
+  -- `run` opens no file and no socket
+  pub run-asks-nothing : (secret : List ℕ) (words : Bool) (status : ℕ) (text : Option (List ℕ)) (from to : Wire) (log log' : Log)
+      → HasDone has secret (job.Run words) status text from to log log' → log' ≡ log
+  run-asks-nothing secret words status text from to log log' (how, has_run, is, told, same) = same
 
--- `serve` neither reads standard input nor writes standard output
-pub serve-says-nothing : (secret config socket : List ℕ) (watch : Option (List ℕ)) (clients connections : ℕ) (idle turn reserve : Option ℕ) (directory : Option (List ℕ)) (sync : Sync) (check : Bool)
-    (status : ℕ) (text : Option (List ℕ)) (from to : Wire) (log log' : Log)
-    → HasDone secret (job.Serve config socket watch clients connections idle turn reserve directory sync check) status text from to log log' → to ≡ from
-serve-says-nothing secret config socket watch clients connections idle turn reserve directory sync check status text from to log log' (hosted, serves, is, told, same) = same
+  -- `serve` neither reads standard input nor writes standard output
+  pub serve-says-nothing : (secret config socket : List ℕ) (watch : Option (List ℕ)) (clients connections : ℕ) (idle turn reserve : Option ℕ) (directory : Option (List ℕ)) (sync : Sync) (check : Bool)
+      (status : ℕ) (text : Option (List ℕ)) (from to : Wire) (log log' : Log)
+      → HasDone has secret (job.Serve config socket watch clients connections idle turn reserve directory sync check) status text from to log log' → to ≡ from
+  serve-says-nothing secret config socket watch clients connections idle turn reserve directory sync check status text from to log log' (hosted, serves, is, told, same) = same
 
--- the first that is asked of the system is a secret, and the job is done with it
-pub drawn-once : (asked : Job) (status : ℕ) (text : Option (List ℕ)) (from to : Wire) (log log' : Log)
-    → (h : HasDoneDrawn asked status text from to log log')
-    → Logs log (Drawn h.secret ∷ []) h.mid × HasDone h.secret asked status text from to h.mid log'
-drawn-once asked status text from to log log' h = (h.drawn, h.done)
+  -- the first that is asked of the system is a secret, and the job is done with it
+  pub drawn-once : (asked : Job) (status : ℕ) (text : Option (List ℕ)) (from to : Wire) (log log' : Log)
+      → (h : HasDoneDrawn has asked status text from to log log')
+      → Logs log (Drawn h.secret ∷ []) h.mid × HasDone has h.secret asked status text from to h.mid log'
+  drawn-once asked status text from to log log' h = (h.drawn, h.done)

@@ -12,7 +12,7 @@ returns-in-Ok-end_snapshot-clause-started g c =
     let left = c.in_ok-read_rest.ensures.0 in
     snapshot_started g.P.Player.plays g.F.File.Read.remaining c.args.number c.in_ok-sum.sum c.read_first_line.new.file left
     c.deref_mut.result.now c.deref_mut-2.result.now c.end_snapshot.new.self c.args.player.now c.read_rest.new.player
-    was
+    c.in_ok-sum.ensures was
     (subst (λ r. ReadsAll g.P.Player.plays (left-of c.read_first_line.new.file) left c.deref_mut.result.now c.args.player.now r c.read_rest.new.player)
     (sym c.deref_mut-2.ensures.value) c.in_ok-read_rest.ensures.1)
     c.in-Ok-end_snapshot.ensures.ended

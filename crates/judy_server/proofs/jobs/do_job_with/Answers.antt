@@ -16,7 +16,7 @@ moved P a a' b b' w w' s s' d d' r r' ea eb ew es ed er h =
 pub returns-else-check : goal.returns-else-check
 returns-else-check g c = rw (c.in-Serve.is, c.if-check.false) (
   c.host_by-hosted.result,
-  moved (λ a b w s d r. HostsBy d c.args.secret.now c.in-Serve.reserve c.host_by-hosted.result a b w
+  moved (λ a b w s d r. HostsBy g.H.Journals.may_have d c.args.secret.now c.in-Serve.reserve c.host_by-hosted.result a b w
       (record { clients = c.in-Serve.clients; connections = c.in-Serve.connections; idle = c.in-Serve.idle; turn = c.in-Serve.turn; status = s; journal = r })
       (g.H.Network.log c.args.system.now) (g.H.Network.log c.host_by-hosted.new.system))
       c.as_str-file.result.now c.in-Serve.config c.as_str-path.result.now c.in-Serve.socket _ c.in-Serve.status c.is_some.result (is_some c.in-Serve.status)
@@ -35,7 +35,7 @@ checked P a a' d d' ea ed h = subst (λ x. P x d') ea (subst (λ x. P a x) ed h)
 pub returns-then-check : goal.returns-then-check
 returns-then-check g c = rw (c.in-Serve.is, c.if-check.true) (
   c.check_by-looked.result,
-  checked (λ a d. ChecksBy d c.args.secret.now c.in-Serve.reserve c.check_by-looked.result a (g.H.Network.log c.args.system.now)
+  checked (λ a d. ChecksBy g.H.Journals.may_have d c.args.secret.now c.in-Serve.reserve c.check_by-looked.result a (g.H.Network.log c.args.system.now)
       (g.H.Network.log c.check_by-looked.new.system))
       c.as_str-file.result.now c.in-Serve.config _ c.in-Serve.journal
       (c.as_str-file.ensures.value ∙ c.config.view_is) c.text_of-directory.ensures c.check_by-looked.ensures,
