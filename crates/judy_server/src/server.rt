@@ -26,7 +26,7 @@ use judy_programs::{Opens, Ran, Replays, Unopened, run_with};
 use judy_protocol::{Line, Refusal, Served};
 use judy_recovery::{Halt as Stopped, Reason};
 use judy_stream::{Sink, Source};
-use judy_table::{Speaker, Table, TenantId};
+use judy_table::{Speaker, Table, TableFault, TenantId};
 use judy_tenants::{KeyHash, Service, Sha256Hash};
 use std::alloc::{AllocError, Global};
 use std::marker::Model;
@@ -93,15 +93,19 @@ impl<H: Chosen> Model for Server<H> {
 }
 
 impl<H: Chosen> Server<H> {
-    /// Whether the table of this text has each tenant that is in force, so that its arrays stay. False
-    /// if there is no memory to tell.
+    /// Whether the table of this text has each tenant that is in force, so that its arrays stay. True
+    /// for a text with a fault, whose table is never put in force. False if there is no memory to tell.
     pub fn keeps_table(&self, alloc: Global, text: &[u8]) -> bool
         ensures { result ≡ true → (after : Tallied) → IsReload self.now text.now after
             → AllStay self.now after }
     {
         self.service.is_at_all_times();
         self.service.rows_are_sound();
-        keeps_all(alloc, &self.service, text).unwrap_or(false)
+        match keeps_all(alloc, &self.service, text) {
+            Ok(all) => all,
+            Err(TableFault::Memory) => false,
+            Err(_) => true,
+        }
     }
 }
 
