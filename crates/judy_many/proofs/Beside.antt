@@ -98,28 +98,10 @@ pub record IsKeepingOne (limits : Limits) (a : Act) : Type 0 where
   pub status : (text : List ℕ) → Tells text a
 
 keeping_one : (limits : Limits) (a : Act) → is_some limits.journal ≡ true → IsKeeping a → IsKeepingOne limits a
-keeping_one limits (Came m) e h = absurd h
-keeping_one limits Refused e h = absurd h
-keeping_one limits (Read m bytes) e h = absurd h
-keeping_one limits (Ended m) e h = absurd h
-keeping_one limits (Broke m) e h = absurd h
-keeping_one limits (Wrote m bytes) e h = absurd h
-keeping_one limits (Failed m) e h = absurd h
-keeping_one limits (Closed m how) e h = absurd h
-keeping_one limits Waited e h = absurd h
-keeping_one limits Lost e h = absurd h
-keeping_one limits (Asked s) e h = absurd h
-keeping_one limits (Questioned q) e h = absurd h
-keeping_one limits (Reported text) e h = absurd h
-keeping_one limits (Warned text) e h = absurd h
-keeping_one limits (Tabled text) e h = absurd h
-keeping_one limits Untabled e h = absurd h
-keeping_one limits (Replied text) e h = absurd h
 keeping_one limits (Began k) e h = record { foreign = λ n. refl; came = refl; closed = refl; within = e; writes = λ wrote. refl; silent = λ share. refl; unlost = refl; waited = refl; status = λ text. tt }
 keeping_one limits (Kept text) e h = record { foreign = λ n. refl; came = refl; closed = refl; within = e; writes = λ wrote. refl; silent = λ share. refl; unlost = refl; waited = refl; status = λ text. tt }
-keeping_one limits Unkept e h = absurd h
 keeping_one limits Synced e h = record { foreign = λ n. refl; came = refl; closed = refl; within = e; writes = λ wrote. refl; silent = λ share. refl; unlost = refl; waited = refl; status = λ text. tt }
-keeping_one limits Unsynced e h = absurd h
+keeping_one limits act e h = absurd h
 
 pub keeping : (limits : Limits) (acts : List Act) → is_some limits.journal ≡ true → AreKeeping acts → IsBeside limits (told acts)
 keeping limits [] e h = record {

@@ -189,25 +189,6 @@ module _ {B S : Type 0} (view : B → View) (rules : Rules S) (apart : KeepsApar
           (record { before = f.crowd.story; act = a; fails = fails; last = refl; once = f.crowd.is_told.unlost })
 
       failed : (a : Act) → IsFailure a → DidLog f.mid (a ∷ []) log → HasServedMany rules limits writer ending.Journal start log first now
-      failed (Came m) e k = absurd e
-      failed Refused e k = absurd e
-      failed (Read m bytes) e k = absurd e
-      failed (Ended m) e k = absurd e
-      failed (Broke m) e k = absurd e
-      failed (Wrote m bytes) e k = absurd e
-      failed (Failed m) e k = absurd e
-      failed (Closed m how) e k = absurd e
-      failed Waited e k = absurd e
-      failed Lost e k = absurd e
-      failed (Asked s) e k = absurd e
-      failed (Questioned q) e k = absurd e
-      failed (Reported text) e k = absurd e
-      failed (Warned text) e k = absurd e
-      failed (Tabled text) e k = absurd e
-      failed Untabled e k = absurd e
-      failed (Replied text) e k = absurd e
-      failed (Began s) e k = absurd e
-      failed (Kept text) e k = absurd e
       failed Unkept e k = ended Unkept e refl (with, tt) k (λ n. refl) refl refl (λ wrote. ((tt, tt), refl)) (λ share. refl) refl refl (tt, refl)
-      failed Synced e k = absurd e
       failed Unsynced e k = ended Unsynced e refl (with, tt) k (λ n. refl) refl refl (λ wrote. ((tt, tt), refl)) (λ share. refl) refl refl (tt, refl)
+      failed act e k = absurd e

@@ -37,28 +37,12 @@ keeps_allowed limits (Some i) j a h k = subst (MayKeep limits) (sym k.1) h
 -- ---- where nothing is kept, run or written
 
 abbrev pub is_quiet_act : Act → Bool
-is_quiet_act (Came m) = true
-is_quiet_act Refused = true
-is_quiet_act (Read m bytes) = true
-is_quiet_act (Ended m) = true
-is_quiet_act (Broke m) = true
 is_quiet_act (Wrote m bytes) = false
 is_quiet_act (Failed m) = false
-is_quiet_act (Closed m how) = true
-is_quiet_act Waited = true
-is_quiet_act Lost = true
-is_quiet_act (Asked s) = true
-is_quiet_act (Questioned q) = true
-is_quiet_act (Reported text) = true
-is_quiet_act (Warned text) = true
-is_quiet_act (Tabled text) = true
-is_quiet_act Untabled = true
-is_quiet_act (Replied text) = true
 is_quiet_act (Began k) = false
 is_quiet_act (Kept text) = false
-is_quiet_act Unkept = true
 is_quiet_act Synced = false
-is_quiet_act Unsynced = true
+is_quiet_act act = true
 
 abbrev pub is_quiet : Story → Bool
 is_quiet [] = true
@@ -78,28 +62,12 @@ right true b h = h
 right false b h = absurd (never h)
 
 quiet_after : (j : Journal) (a : Act) → is_quiet_act a ≡ true → MayHappen j (Did a) × (journal_after j (Did a) ≡ j)
-quiet_after j (Came m) h = (tt, refl)
-quiet_after j Refused h = (tt, refl)
-quiet_after j (Read m bytes) h = (tt, refl)
-quiet_after j (Ended m) h = (tt, refl)
-quiet_after j (Broke m) h = (tt, refl)
 quiet_after j (Wrote m bytes) h = absurd (never h)
 quiet_after j (Failed m) h = absurd (never h)
-quiet_after j (Closed m how) h = (tt, refl)
-quiet_after j Waited h = (tt, refl)
-quiet_after j Lost h = (tt, refl)
-quiet_after j (Asked s) h = (tt, refl)
-quiet_after j (Questioned q) h = (tt, refl)
-quiet_after j (Reported text) h = (tt, refl)
-quiet_after j (Warned text) h = (tt, refl)
-quiet_after j (Tabled text) h = (tt, refl)
-quiet_after j Untabled h = (tt, refl)
-quiet_after j (Replied text) h = (tt, refl)
 quiet_after j (Began k) h = absurd (never h)
 quiet_after j (Kept text) h = absurd (never h)
-quiet_after j Unkept h = (tt, refl)
 quiet_after j Synced h = absurd (never h)
-quiet_after j Unsynced h = (tt, refl)
+quiet_after j act h = (tt, refl)
 
 quiet_since : (j : Journal) (story : Story) → is_quiet story ≡ true → IsJournaled j story × (journal_since j story ≡ j)
 quiet_since j [] h = (tt, refl)
@@ -118,28 +86,14 @@ keeps_quiet (Some j) story h = let k = quiet_since j story h in (k.0, ap Some (s
 
 -- where nothing is written: its records are added
 unwritten_after : (n : ℕ) (j : Journal) (a : Act) → is_of n a ≡ true → share_of a Share.Writing ≡ 0 → MayHappen j (Did a) × (journal_after j (Did a) ≡ j)
-unwritten_after n j (Came m) h w = (tt, refl)
-unwritten_after n j Refused h w = (tt, refl)
-unwritten_after n j (Read m bytes) h w = (tt, refl)
-unwritten_after n j (Ended m) h w = (tt, refl)
-unwritten_after n j (Broke m) h w = (tt, refl)
 unwritten_after n j (Wrote m bytes) h w = absurd (omega (arith, w))
 unwritten_after n j (Failed m) h w = absurd (omega (arith, w))
-unwritten_after n j (Closed m how) h w = (tt, refl)
-unwritten_after n j Waited h w = (tt, refl)
-unwritten_after n j Lost h w = (tt, refl)
-unwritten_after n j (Asked s) h w = (tt, refl)
-unwritten_after n j (Questioned q) h w = (tt, refl)
-unwritten_after n j (Reported text) h w = (tt, refl)
-unwritten_after n j (Warned text) h w = (tt, refl)
-unwritten_after n j (Tabled text) h w = (tt, refl)
-unwritten_after n j Untabled h w = (tt, refl)
-unwritten_after n j (Replied text) h w = (tt, refl)
 unwritten_after n j (Began k) h w = absurd (never h)
 unwritten_after n j (Kept text) h w = absurd (never h)
 unwritten_after n j Unkept h w = absurd (never h)
 unwritten_after n j Synced h w = absurd (never h)
 unwritten_after n j Unsynced h w = absurd (never h)
+unwritten_after n j act h w = (tt, refl)
 
 unwritten : (n : ℕ) (j : Journal) (story : Story) → Mine n story → times Share.Writing story ≡ 0
     → IsJournaled j story × (Some (journal_since j story) ≡ noted_by (records_in (turns_in story)) (Some j))
@@ -158,28 +112,14 @@ unwritten n j (Changed text ∷ story) h w = absurd (never h.0)
 
 -- where no line is run: the journal stays
 unrun_after : (n : ℕ) (j : Journal) (a : Act) → is_of n a ≡ true → IsSettled j → MayHappen j (Did a) × (journal_after j (Did a) ≡ j)
-unrun_after n j (Came m) h s = (tt, refl)
-unrun_after n j Refused h s = (tt, refl)
-unrun_after n j (Read m bytes) h s = (tt, refl)
-unrun_after n j (Ended m) h s = (tt, refl)
-unrun_after n j (Broke m) h s = (tt, refl)
 unrun_after n j (Wrote m bytes) h s = (s, refl)
 unrun_after n j (Failed m) h s = (s, refl)
-unrun_after n j (Closed m how) h s = (tt, refl)
-unrun_after n j Waited h s = (tt, refl)
-unrun_after n j Lost h s = (tt, refl)
-unrun_after n j (Asked t) h s = (tt, refl)
-unrun_after n j (Questioned q) h s = (tt, refl)
-unrun_after n j (Reported text) h s = (tt, refl)
-unrun_after n j (Warned text) h s = (tt, refl)
-unrun_after n j (Tabled text) h s = (tt, refl)
-unrun_after n j Untabled h s = (tt, refl)
-unrun_after n j (Replied text) h s = (tt, refl)
 unrun_after n j (Began k) h s = absurd (never h)
 unrun_after n j (Kept text) h s = absurd (never h)
 unrun_after n j Unkept h s = absurd (never h)
 unrun_after n j Synced h s = absurd (never h)
 unrun_after n j Unsynced h s = absurd (never h)
+unrun_after n j act h s = (tt, refl)
 
 unrun : (n : ℕ) (j : Journal) (story : Story) → Mine n story → times Share.Running story ≡ 0 → IsSettled j
     → IsJournaled j story × (Some (journal_since j story) ≡ noted_by (records_in (turns_in story)) (Some j))

@@ -1,3 +1,4 @@
+mod Accepting
 mod Beside
 pub mod Chaining
 mod Closing

@@ -28,27 +28,13 @@ never e = cc
 
 is_other : (n m : ℕ) (x : Act) → is_of n x ≡ true → m ≢ n → is_of m x ≡ false
 is_other n m (Came k) e d = eq_other k n m e d
-is_other n m Refused e d = absurd (never e)
 is_other n m (Read k bytes) e d = eq_other k n m e d
 is_other n m (Ended k) e d = eq_other k n m e d
 is_other n m (Broke k) e d = eq_other k n m e d
 is_other n m (Wrote k bytes) e d = eq_other k n m e d
 is_other n m (Failed k) e d = eq_other k n m e d
 is_other n m (Closed k how) e d = eq_other k n m e d
-is_other n m Waited e d = absurd (never e)
-is_other n m Lost e d = absurd (never e)
-is_other n m (Asked s) e d = absurd (never e)
-is_other n m (Questioned q) e d = absurd (never e)
-is_other n m (Reported text) e d = absurd (never e)
-is_other n m (Warned text) e d = absurd (never e)
-is_other n m (Tabled text) e d = absurd (never e)
-is_other n m Untabled e d = absurd (never e)
-is_other n m (Replied text) e d = absurd (never e)
-is_other n m (Began k) e d = absurd (never e)
-is_other n m (Kept text) e d = absurd (never e)
-is_other n m Unkept e d = absurd (never e)
-is_other n m Synced e d = absurd (never e)
-is_other n m Unsynced e d = absurd (never e)
+is_other n m act e d = absurd (never e)
 
 pub belongs_other : (n m : ℕ) (x : Moment) → belongs n x ≡ true → m ≢ n → belongs m x ≡ false
 belongs_other n m (Did a) e d = is_other n m a e d

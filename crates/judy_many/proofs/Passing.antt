@@ -13,28 +13,8 @@ use Rattle.judy_many.proofs.Stepping.{AreTurns-append}
 
 -- an answer that is no report
 untold : (text : List ℕ) (a : Act) → reports_by a ≡ 0 → Tells text a
-untold text (Came m) e = tt
-untold text Refused e = tt
-untold text (Read m bytes) e = tt
-untold text (Ended m) e = tt
-untold text (Broke m) e = tt
-untold text (Wrote m bytes) e = tt
-untold text (Failed m) e = tt
-untold text (Closed m how) e = tt
-untold text Waited e = tt
-untold text Lost e = tt
-untold text (Asked s) e = tt
-untold text (Questioned q) e = tt
 untold text (Reported told) e = absurd (omega (arith, e))
-untold text (Warned told) e = tt
-untold text (Tabled told) e = tt
-untold text Untabled e = tt
-untold text (Replied told) e = tt
-untold text (Began k) e = tt
-untold text (Kept told) e = tt
-untold text Unkept e = tt
-untold text Synced e = tt
-untold text Unsynced e = tt
+untold text act e = tt
 
 some : (text : List ℕ) (texts : List (List ℕ)) → text ∷ texts ≡ [] → ⊥
 some text texts e = cc

@@ -125,28 +125,10 @@ pub piece_ran : (n : ℕ) (turns : List Turn) → IsPiece n Phase.Reads (Ran n t
 piece_ran n turns = record { mine = (eq-eqb n n refl, tt); once = λ share. omega arith; came = refl; unclosed = refl; within = λ limits. tt; part = ((refl, tt), refl) }
 
 one_read : (n : ℕ) (a : Act) → IsRead n a → IsPiece n Phase.Reads (Did a ∷ [])
-one_read n (Came m) h = absurd h
-one_read n Refused h = absurd h
 one_read n (Read m bytes) h = record { mine = (h, tt); once = λ share. omega arith; came = refl; unclosed = refl; within = λ limits. (tt, tt); part = ((tt, tt), refl) }
 one_read n (Ended m) h = record { mine = (h, tt); once = λ share. omega arith; came = refl; unclosed = refl; within = λ limits. (tt, tt); part = ((tt, tt), refl) }
 one_read n (Broke m) h = record { mine = (h, tt); once = λ share. omega arith; came = refl; unclosed = refl; within = λ limits. (tt, tt); part = ((tt, tt), refl) }
-one_read n (Wrote m bytes) h = absurd h
-one_read n (Failed m) h = absurd h
-one_read n (Closed m how) h = absurd h
-one_read n Waited h = absurd h
-one_read n Lost h = absurd h
-one_read n (Asked s) h = absurd h
-one_read n (Questioned q) h = absurd h
-one_read n (Reported text) h = absurd h
-one_read n (Warned text) h = absurd h
-one_read n (Tabled text) h = absurd h
-one_read n Untabled h = absurd h
-one_read n (Replied text) h = absurd h
-one_read n (Began k) h = absurd h
-one_read n (Kept text) h = absurd h
-one_read n Unkept h = absurd h
-one_read n Synced h = absurd h
-one_read n Unsynced h = absurd h
+one_read n act h = absurd h
 
 -- at most one read is at most once a share of a turn
 pub reads_once : (n : ℕ) (acts : List Act) → AreReads n acts → length acts ≤ 1 → (share : Share) → times share (told acts) ≤ reading share
@@ -154,28 +136,10 @@ reads_once n [] h few share = omega arith
 reads_once n (a ∷ []) h few share = let e = one_share n a h.0 share in omega (arith, e)
   where
     one_share : (n : ℕ) (a : Act) → IsRead n a → (share : Share) → share_of a share ≡ reading share
-    one_share n (Came m) h share = absurd h
-    one_share n Refused h share = absurd h
     one_share n (Read m bytes) h share = refl
     one_share n (Ended m) h share = refl
     one_share n (Broke m) h share = refl
-    one_share n (Wrote m bytes) h share = absurd h
-    one_share n (Failed m) h share = absurd h
-    one_share n (Closed m how) h share = absurd h
-    one_share n Waited h share = absurd h
-    one_share n Lost h share = absurd h
-    one_share n (Asked s) h share = absurd h
-    one_share n (Questioned q) h share = absurd h
-    one_share n (Reported text) h share = absurd h
-    one_share n (Warned text) h share = absurd h
-    one_share n (Tabled text) h share = absurd h
-    one_share n Untabled h share = absurd h
-    one_share n (Replied text) h share = absurd h
-    one_share n (Began k) h share = absurd h
-    one_share n (Kept text) h share = absurd h
-    one_share n Unkept h share = absurd h
-    one_share n Synced h share = absurd h
-    one_share n Unsynced h share = absurd h
+    one_share n act h share = absurd h
 reads_once n (a ∷ b ∷ acts) h few share = absurd (omega (arith, few))
 
 pub piece_reads : (n : ℕ) (acts : List Act) → AreReads n acts → length acts ≤ 1 → IsPiece n Phase.Reads (told acts)
@@ -184,28 +148,9 @@ piece_reads n (a ∷ []) h few = one_read n a h.0
 piece_reads n (a ∷ b ∷ acts) h few = absurd (omega (arith, few))
 
 one_write : (n : ℕ) (a : Act) → IsWrite n a → IsPiece n Phase.Writes (Did a ∷ [])
-one_write n (Came m) h = absurd h
-one_write n Refused h = absurd h
-one_write n (Read m bytes) h = absurd h
-one_write n (Ended m) h = absurd h
-one_write n (Broke m) h = absurd h
 one_write n (Wrote m bytes) h = record { mine = (h, tt); once = λ share. omega arith; came = refl; unclosed = refl; within = λ limits. (tt, tt); part = λ wrote. (tt, tt) }
 one_write n (Failed m) h = record { mine = (h, tt); once = λ share. omega arith; came = refl; unclosed = refl; within = λ limits. (tt, tt); part = λ wrote. (tt, tt) }
-one_write n (Closed m how) h = absurd h
-one_write n Waited h = absurd h
-one_write n Lost h = absurd h
-one_write n (Asked s) h = absurd h
-one_write n (Questioned q) h = absurd h
-one_write n (Reported text) h = absurd h
-one_write n (Warned text) h = absurd h
-one_write n (Tabled text) h = absurd h
-one_write n Untabled h = absurd h
-one_write n (Replied text) h = absurd h
-one_write n (Began k) h = absurd h
-one_write n (Kept text) h = absurd h
-one_write n Unkept h = absurd h
-one_write n Synced h = absurd h
-one_write n Unsynced h = absurd h
+one_write n act h = absurd h
 
 pub piece_writes : (n : ℕ) (acts : List Act) → AreWrites n acts → length acts ≤ 1 → IsPiece n Phase.Writes (told acts)
 piece_writes n [] h few = piece_none n Phase.Writes
@@ -214,28 +159,8 @@ piece_writes n (a ∷ b ∷ acts) h few = absurd (omega (arith, few))
 
 -- reads and writes close nothing
 plain_end : (a : Act) → closed_by a ≡ 0 → ends_well a ≡ false
-plain_end (Came m) h = refl
-plain_end Refused h = refl
-plain_end (Read m bytes) h = refl
-plain_end (Ended m) h = refl
-plain_end (Broke m) h = refl
-plain_end (Wrote m bytes) h = refl
-plain_end (Failed m) h = refl
 plain_end (Closed m how) h = absurd (omega (arith, h))
-plain_end Waited h = refl
-plain_end Lost h = refl
-plain_end (Asked s) h = refl
-plain_end (Questioned q) h = refl
-plain_end (Reported text) h = refl
-plain_end (Warned text) h = refl
-plain_end (Tabled text) h = refl
-plain_end Untabled h = refl
-plain_end (Replied text) h = refl
-plain_end (Began k) h = refl
-plain_end (Kept text) h = refl
-plain_end Unkept h = refl
-plain_end Synced h = refl
-plain_end Unsynced h = refl
+plain_end act h = refl
 
 pub plain_ends : (acts : List Act) → closed_in acts ≡ 0 → end_well acts ≡ false
 plain_ends [] h = refl

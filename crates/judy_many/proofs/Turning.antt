@@ -129,7 +129,6 @@ since_quiet n wrote count (m ∷ story) h e = since_quiet n (writes_after wrote 
 
     after : (m : Moment) → writes_after wrote m ≡ false → turns_after n Share.Writing count m ≡ 0
     after (Did (Came k)) e = same (k == n) e
-    after (Did Refused) e = h e
     after (Did (Read k bytes)) e = same (k == n) e
     after (Did (Ended k)) e = same (k == n) e
     after (Did (Broke k)) e = same (k == n) e
@@ -137,21 +136,8 @@ since_quiet n wrote count (m ∷ story) h e = since_quiet n (writes_after wrote 
     after (Did (Failed k)) e = absurd (never e)
     after (Did (Closed k how)) e = same (k == n) e
     after (Did Waited) e = refl
-    after (Did Lost) e = h e
-    after (Did (Asked s)) e = h e
-    after (Did (Questioned q)) e = h e
-    after (Did (Reported text)) e = h e
-    after (Did (Warned text)) e = h e
-    after (Did (Tabled text)) e = h e
-    after (Did Untabled) e = h e
-    after (Did (Replied text)) e = h e
-    after (Did (Began k)) e = h e
-    after (Did (Kept text)) e = h e
-    after (Did Unkept) e = h e
-    after (Did Synced) e = h e
-    after (Did Unsynced) e = h e
     after (Ran k turns) e = same (k == n) e
-    after (Changed text) e = h e
+    after moment e = h e
 
 -- ---- pieces
 

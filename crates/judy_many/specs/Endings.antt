@@ -15,31 +15,11 @@ use Rattle.judy_many.specs.Stories.Moment.{Did}
 -- how often the listener, the wait or the journal failed for good, or a stop was asked for: the server
 -- then ends
 abbrev pub lost_by : Act → ℕ
-lost_by (Came m) = 0
-lost_by Refused = 0
-lost_by (Read m bytes) = 0
-lost_by (Ended m) = 0
-lost_by (Broke m) = 0
-lost_by (Wrote m bytes) = 0
-lost_by (Failed m) = 0
-lost_by (Closed m how) = 0
-lost_by Waited = 0
 lost_by Lost = 1
-lost_by (Asked s) = 0
-lost_by (Questioned question.Nothing) = 0
-lost_by (Questioned question.Status) = 0
 lost_by (Questioned question.Stop) = 1
-lost_by (Questioned question.Reload) = 0
-lost_by (Reported text) = 0
-lost_by (Warned text) = 0
-lost_by (Tabled text) = 0
-lost_by Untabled = 0
-lost_by (Replied text) = 0
-lost_by (Began k) = 0
-lost_by (Kept text) = 0
 lost_by Unkept = 1
-lost_by Synced = 0
 lost_by Unsynced = 1
+lost_by act = 0
 
 abbrev pub lost_in : List Act → ℕ
 lost_in [] = 0
@@ -47,28 +27,8 @@ lost_in (a ∷ acts) = lost_by a + lost_in acts
 
 -- how often a status was told
 abbrev pub reports_by : Act → ℕ
-reports_by (Came m) = 0
-reports_by Refused = 0
-reports_by (Read m bytes) = 0
-reports_by (Ended m) = 0
-reports_by (Broke m) = 0
-reports_by (Wrote m bytes) = 0
-reports_by (Failed m) = 0
-reports_by (Closed m how) = 0
-reports_by Waited = 0
-reports_by Lost = 0
-reports_by (Asked s) = 0
-reports_by (Questioned q) = 0
 reports_by (Reported text) = 1
-reports_by (Warned text) = 0
-reports_by (Tabled text) = 0
-reports_by Untabled = 0
-reports_by (Replied text) = 0
-reports_by (Began k) = 0
-reports_by (Kept text) = 0
-reports_by Unkept = 0
-reports_by Synced = 0
-reports_by Unsynced = 0
+reports_by act = 0
 
 abbrev pub reports_in : List Act → ℕ
 reports_in [] = 0

@@ -25,30 +25,11 @@ kept_after true j = record j { sum = sum_after j.sum j.records; records = []; cl
 kept_after false j = record j { begun = true; clean = false }
 
 abbrev pub journal_after : Journal → Moment → Journal
-journal_after j (Did (Came m)) = j
-journal_after j (Did Refused) = j
-journal_after j (Did (Read m bytes)) = j
-journal_after j (Did (Ended m)) = j
-journal_after j (Did (Broke m)) = j
-journal_after j (Did (Wrote m bytes)) = j
-journal_after j (Did (Failed m)) = j
-journal_after j (Did (Closed m how)) = j
-journal_after j (Did Waited) = j
-journal_after j (Did Lost) = j
-journal_after j (Did (Asked s)) = j
-journal_after j (Did (Questioned q)) = j
-journal_after j (Did (Reported text)) = j
-journal_after j (Did (Warned text)) = j
-journal_after j (Did (Tabled text)) = j
-journal_after j (Did Untabled) = j
-journal_after j (Did (Replied text)) = j
 journal_after j (Did (Began k)) = record j { segment = k; begun = false }
 journal_after j (Did (Kept text)) = kept_after j.begun j
-journal_after j (Did Unkept) = j
 journal_after j (Did Synced) = record j { clean = true }
-journal_after j (Did Unsynced) = j
 journal_after j (Ran n turns) = noted (records_in turns) j
-journal_after j (Changed text) = j
+journal_after j moment = j
 
 abbrev pub journal_since : Journal → Story → Journal
 journal_since j [] = j
@@ -79,30 +60,11 @@ pub record IsNext (j : Journal) (segment : ℕ) : Type 0 where
 
 -- what may happen next, by the journal before it
 abbrev pub MayHappen : Journal → Moment → Type 0
-MayHappen j (Did (Came m)) = Unit {0}
-MayHappen j (Did Refused) = Unit {0}
-MayHappen j (Did (Read m bytes)) = Unit {0}
-MayHappen j (Did (Ended m)) = Unit {0}
-MayHappen j (Did (Broke m)) = Unit {0}
 MayHappen j (Did (Wrote m bytes)) = IsSettled j
 MayHappen j (Did (Failed m)) = IsSettled j
-MayHappen j (Did (Closed m how)) = Unit {0}
-MayHappen j (Did Waited) = Unit {0}
-MayHappen j (Did Lost) = Unit {0}
-MayHappen j (Did (Asked s)) = Unit {0}
-MayHappen j (Did (Questioned q)) = Unit {0}
-MayHappen j (Did (Reported text)) = Unit {0}
-MayHappen j (Did (Warned text)) = Unit {0}
-MayHappen j (Did (Tabled text)) = Unit {0}
-MayHappen j (Did Untabled) = Unit {0}
-MayHappen j (Did (Replied text)) = Unit {0}
 MayHappen j (Did (Began k)) = IsNext j k
 MayHappen j (Did (Kept text)) = IsText j.begun j text
-MayHappen j (Did Unkept) = Unit {0}
-MayHappen j (Did Synced) = Unit {0}
-MayHappen j (Did Unsynced) = Unit {0}
-MayHappen j (Ran n turns) = Unit {0}
-MayHappen j (Changed text) = Unit {0}
+MayHappen j moment = Unit {0}
 
 abbrev pub IsJournaled : Journal → Story → Type 0
 IsJournaled j [] = Unit {0}
@@ -133,28 +95,10 @@ MayKeep limits (Some j) = is_some limits.journal ≡ true
 
 -- the acts on the disk among the answers of the system
 abbrev pub disk_act : Act → List DiskAct
-disk_act (Came m) = []
-disk_act Refused = []
-disk_act (Read m bytes) = []
-disk_act (Ended m) = []
-disk_act (Broke m) = []
-disk_act (Wrote m bytes) = []
-disk_act (Failed m) = []
-disk_act (Closed m how) = []
-disk_act Waited = []
-disk_act Lost = []
-disk_act (Asked s) = []
-disk_act (Questioned q) = []
-disk_act (Reported text) = []
-disk_act (Warned text) = []
-disk_act (Tabled text) = []
-disk_act Untabled = []
-disk_act (Replied text) = []
 disk_act (Began k) = FileBegan k ∷ []
 disk_act (Kept text) = FileKept text ∷ []
-disk_act Unkept = []
 disk_act Synced = FileSynced ∷ []
-disk_act Unsynced = []
+disk_act act = []
 
 abbrev pub disk_acts : List Act → List DiskAct
 disk_acts [] = []
@@ -193,28 +137,10 @@ AnswersAreKept = (j : Journal) (kept more : List Commit) (story p q : Story) (n 
 
 -- the journal was written
 abbrev pub IsKeeping : Act → Type 0
-IsKeeping (Came m) = ⊥
-IsKeeping Refused = ⊥
-IsKeeping (Read m bytes) = ⊥
-IsKeeping (Ended m) = ⊥
-IsKeeping (Broke m) = ⊥
-IsKeeping (Wrote m bytes) = ⊥
-IsKeeping (Failed m) = ⊥
-IsKeeping (Closed m how) = ⊥
-IsKeeping Waited = ⊥
-IsKeeping Lost = ⊥
-IsKeeping (Asked s) = ⊥
-IsKeeping (Questioned q) = ⊥
-IsKeeping (Reported text) = ⊥
-IsKeeping (Warned text) = ⊥
-IsKeeping (Tabled text) = ⊥
-IsKeeping Untabled = ⊥
-IsKeeping (Replied text) = ⊥
 IsKeeping (Began k) = Unit {0}
 IsKeeping (Kept text) = Unit {0}
-IsKeeping Unkept = ⊥
 IsKeeping Synced = Unit {0}
-IsKeeping Unsynced = ⊥
+IsKeeping act = ⊥
 
 abbrev pub AreKeeping : List Act → Type 0
 AreKeeping [] = Unit {0}
@@ -222,28 +148,9 @@ AreKeeping (a ∷ acts) = IsKeeping a × AreKeeping acts
 
 -- writing to it failed
 abbrev pub IsFailure : Act → Type 0
-IsFailure (Came m) = ⊥
-IsFailure Refused = ⊥
-IsFailure (Read m bytes) = ⊥
-IsFailure (Ended m) = ⊥
-IsFailure (Broke m) = ⊥
-IsFailure (Wrote m bytes) = ⊥
-IsFailure (Failed m) = ⊥
-IsFailure (Closed m how) = ⊥
-IsFailure Waited = ⊥
-IsFailure Lost = ⊥
-IsFailure (Asked s) = ⊥
-IsFailure (Questioned q) = ⊥
-IsFailure (Reported text) = ⊥
-IsFailure (Warned text) = ⊥
-IsFailure (Tabled text) = ⊥
-IsFailure Untabled = ⊥
-IsFailure (Replied text) = ⊥
-IsFailure (Began k) = ⊥
-IsFailure (Kept text) = ⊥
 IsFailure Unkept = Unit {0}
-IsFailure Synced = ⊥
 IsFailure Unsynced = Unit {0}
+IsFailure act = ⊥
 
 -- these were the answers, and the journal afterwards
 pub record Writes (before : Journal) (acts : List Act) (after : Journal) : Type 0 where

@@ -23,28 +23,8 @@ use Rattle.judy_many.specs.Stories.Moment.{Did}
 
 -- the bytes that were read
 abbrev pub read_by : Act → List ℕ
-read_by (Came m) = []
-read_by Refused = []
 read_by (Read m bytes) = bytes
-read_by (Ended m) = []
-read_by (Broke m) = []
-read_by (Wrote m bytes) = []
-read_by (Failed m) = []
-read_by (Closed m how) = []
-read_by Waited = []
-read_by Lost = []
-read_by (Asked s) = []
-read_by (Questioned q) = []
-read_by (Reported text) = []
-read_by (Warned text) = []
-read_by (Tabled text) = []
-read_by Untabled = []
-read_by (Replied text) = []
-read_by (Began k) = []
-read_by (Kept text) = []
-read_by Unkept = []
-read_by Synced = []
-read_by Unsynced = []
+read_by act = []
 
 abbrev pub read_in : List Act → List ℕ
 read_in [] = []
@@ -52,28 +32,8 @@ read_in (a ∷ acts) = read_by a ++ read_in acts
 
 -- the bytes that were written
 abbrev pub wrote_by : Act → List ℕ
-wrote_by (Came m) = []
-wrote_by Refused = []
-wrote_by (Read m bytes) = []
-wrote_by (Ended m) = []
-wrote_by (Broke m) = []
 wrote_by (Wrote m bytes) = bytes
-wrote_by (Failed m) = []
-wrote_by (Closed m how) = []
-wrote_by Waited = []
-wrote_by Lost = []
-wrote_by (Asked s) = []
-wrote_by (Questioned q) = []
-wrote_by (Reported text) = []
-wrote_by (Warned text) = []
-wrote_by (Tabled text) = []
-wrote_by Untabled = []
-wrote_by (Replied text) = []
-wrote_by (Began k) = []
-wrote_by (Kept text) = []
-wrote_by Unkept = []
-wrote_by Synced = []
-wrote_by Unsynced = []
+wrote_by act = []
 
 abbrev pub wrote_in : List Act → List ℕ
 wrote_in [] = []
@@ -83,35 +43,11 @@ wrote_in (a ∷ acts) = wrote_by a ++ wrote_in acts
 abbrev pub is_orderly : How → Bool
 is_orderly how.Quit = true
 is_orderly how.End = true
-is_orderly how.Fault = false
-is_orderly how.Idle = false
-is_orderly how.Over = false
-is_orderly how.Memory = false
-is_orderly how.Gone = false
+is_orderly other = false
 
 abbrev pub ends_well : Act → Bool
-ends_well (Came m) = false
-ends_well Refused = false
-ends_well (Read m bytes) = false
-ends_well (Ended m) = false
-ends_well (Broke m) = false
-ends_well (Wrote m bytes) = false
-ends_well (Failed m) = false
 ends_well (Closed m how) = is_orderly how
-ends_well Waited = false
-ends_well Lost = false
-ends_well (Asked s) = false
-ends_well (Questioned q) = false
-ends_well (Reported text) = false
-ends_well (Warned text) = false
-ends_well (Tabled text) = false
-ends_well Untabled = false
-ends_well (Replied text) = false
-ends_well (Began k) = false
-ends_well (Kept text) = false
-ends_well Unkept = false
-ends_well Synced = false
-ends_well Unsynced = false
+ends_well act = false
 
 abbrev pub end_well : List Act → Bool
 end_well [] = false

@@ -25,7 +25,7 @@ pub record Turn : Type 0 where
   pub line : Heard
   pub replies : List Reply
   pub after : Option Speaker
-  -- its record in a journal, if its call changed arrays
+  -- its record in a journal, if its call may have changed arrays
   pub records : Commit
 
 -- the lines
@@ -63,7 +63,7 @@ Speaks who (t ∷ turns) last = (t.who ≡ who) × (length t.replies ≡ length 
 
 -- One line was run: its speaker may speak, by the table in force; its speaker afterwards is by the names
 -- and tokens in force; its call was made, if it makes one, and then it was counted, with its answer. Its
--- record is that of its call, if that changed arrays.
+-- record is that of its call, if that may have changed arrays.
 pub record IsTurn {S : Type 0} (rules : Rules S) (before : S) (t : Turn) (after : S) : Type 0 where
   pub mid : S
   pub known : HasLoggedIn (rules.seen before).speakers t.who

@@ -18,28 +18,8 @@ use Rattle.judy_many.specs.Stories.Moment.{Changed, Did, Ran}
 
 -- the text that is told is the status of this service, or empty where there is no memory for it
 abbrev pub Tells : List ℕ → Act → Type 0
-Tells status (Came m) = Unit {0}
-Tells status Refused = Unit {0}
-Tells status (Read m bytes) = Unit {0}
-Tells status (Ended m) = Unit {0}
-Tells status (Broke m) = Unit {0}
-Tells status (Wrote m bytes) = Unit {0}
-Tells status (Failed m) = Unit {0}
-Tells status (Closed m how) = Unit {0}
-Tells status Waited = Unit {0}
-Tells status Lost = Unit {0}
-Tells status (Asked s) = Unit {0}
-Tells status (Questioned q) = Unit {0}
 Tells status (Reported text) = (text ≡ status) ⊎ (text ≡ [])
-Tells status (Warned text) = Unit {0}
-Tells status (Tabled text) = Unit {0}
-Tells status Untabled = Unit {0}
-Tells status (Replied text) = Unit {0}
-Tells status (Began k) = Unit {0}
-Tells status (Kept text) = Unit {0}
-Tells status Unkept = Unit {0}
-Tells status Synced = Unit {0}
-Tells status Unsynced = Unit {0}
+Tells status act = Unit {0}
 
 -- A stop was asked for, or that the table is read again; or nothing was; or the status, which was told.
 -- Without a status socket nothing is asked.

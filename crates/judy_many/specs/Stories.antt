@@ -57,27 +57,13 @@ told (a ∷ acts) = Did a ∷ told acts
 -- whether an answer is this connection's
 abbrev pub is_of : ℕ → Act → Bool
 is_of n (Came m) = m == n
-is_of n Refused = false
 is_of n (Read m bytes) = m == n
 is_of n (Ended m) = m == n
 is_of n (Broke m) = m == n
 is_of n (Wrote m bytes) = m == n
 is_of n (Failed m) = m == n
 is_of n (Closed m how) = m == n
-is_of n Waited = false
-is_of n Lost = false
-is_of n (Asked s) = false
-is_of n (Questioned q) = false
-is_of n (Reported text) = false
-is_of n (Warned text) = false
-is_of n (Tabled text) = false
-is_of n Untabled = false
-is_of n (Replied text) = false
-is_of n (Began k) = false
-is_of n (Kept text) = false
-is_of n Unkept = false
-is_of n Synced = false
-is_of n Unsynced = false
+is_of n act = false
 
 -- whether a moment is this connection's
 abbrev pub belongs : ℕ → Moment → Bool
@@ -97,28 +83,10 @@ Mine n (m ∷ story) = (belongs n m ≡ true) × Mine n story
 
 -- they are answers to reads of this connection
 abbrev pub IsRead : ℕ → Act → Type 0
-IsRead n (Came m) = ⊥
-IsRead n Refused = ⊥
 IsRead n (Read m bytes) = (m == n) ≡ true
 IsRead n (Ended m) = (m == n) ≡ true
 IsRead n (Broke m) = (m == n) ≡ true
-IsRead n (Wrote m bytes) = ⊥
-IsRead n (Failed m) = ⊥
-IsRead n (Closed m how) = ⊥
-IsRead n Waited = ⊥
-IsRead n Lost = ⊥
-IsRead n (Asked s) = ⊥
-IsRead n (Questioned q) = ⊥
-IsRead n (Reported text) = ⊥
-IsRead n (Warned text) = ⊥
-IsRead n (Tabled text) = ⊥
-IsRead n Untabled = ⊥
-IsRead n (Replied text) = ⊥
-IsRead n (Began k) = ⊥
-IsRead n (Kept text) = ⊥
-IsRead n Unkept = ⊥
-IsRead n Synced = ⊥
-IsRead n Unsynced = ⊥
+IsRead n act = ⊥
 
 abbrev pub AreReads : ℕ → List Act → Type 0
 AreReads n [] = Unit {0}
@@ -126,28 +94,9 @@ AreReads n (a ∷ acts) = IsRead n a × AreReads n acts
 
 -- they are answers to writes to this connection
 abbrev pub IsWrite : ℕ → Act → Type 0
-IsWrite n (Came m) = ⊥
-IsWrite n Refused = ⊥
-IsWrite n (Read m bytes) = ⊥
-IsWrite n (Ended m) = ⊥
-IsWrite n (Broke m) = ⊥
 IsWrite n (Wrote m bytes) = (m == n) ≡ true
 IsWrite n (Failed m) = (m == n) ≡ true
-IsWrite n (Closed m how) = ⊥
-IsWrite n Waited = ⊥
-IsWrite n Lost = ⊥
-IsWrite n (Asked s) = ⊥
-IsWrite n (Questioned q) = ⊥
-IsWrite n (Reported text) = ⊥
-IsWrite n (Warned text) = ⊥
-IsWrite n (Tabled text) = ⊥
-IsWrite n Untabled = ⊥
-IsWrite n (Replied text) = ⊥
-IsWrite n (Began k) = ⊥
-IsWrite n (Kept text) = ⊥
-IsWrite n Unkept = ⊥
-IsWrite n Synced = ⊥
-IsWrite n Unsynced = ⊥
+IsWrite n act = ⊥
 
 abbrev pub AreWrites : ℕ → List Act → Type 0
 AreWrites n [] = Unit {0}
@@ -155,53 +104,14 @@ AreWrites n (a ∷ acts) = IsWrite n a × AreWrites n acts
 
 -- whether an answer says that a connection sends no more
 abbrev pub is_end : Act → Bool
-is_end (Came m) = false
-is_end Refused = false
-is_end (Read m bytes) = false
 is_end (Ended m) = true
-is_end (Broke m) = false
-is_end (Wrote m bytes) = false
-is_end (Failed m) = false
-is_end (Closed m how) = false
-is_end Waited = false
-is_end Lost = false
-is_end (Asked s) = false
-is_end (Questioned q) = false
-is_end (Reported text) = false
-is_end (Warned text) = false
-is_end (Tabled text) = false
-is_end Untabled = false
-is_end (Replied text) = false
-is_end (Began k) = false
-is_end (Kept text) = false
-is_end Unkept = false
-is_end Synced = false
-is_end Unsynced = false
+is_end act = false
 
 -- whether it says that a read or a write failed
 abbrev pub is_fault : Act → Bool
-is_fault (Came m) = false
-is_fault Refused = false
-is_fault (Read m bytes) = false
-is_fault (Ended m) = false
 is_fault (Broke m) = true
-is_fault (Wrote m bytes) = false
 is_fault (Failed m) = true
-is_fault (Closed m how) = false
-is_fault Waited = false
-is_fault Lost = false
-is_fault (Asked s) = false
-is_fault (Questioned q) = false
-is_fault (Reported text) = false
-is_fault (Warned text) = false
-is_fault (Tabled text) = false
-is_fault Untabled = false
-is_fault (Replied text) = false
-is_fault (Began k) = false
-is_fault (Kept text) = false
-is_fault Unkept = false
-is_fault Synced = false
-is_fault Unsynced = false
+is_fault act = false
 
 -- what a read, and a write, says of the connection
 abbrev pub TellsRead : Got → List Act → Type 0
@@ -218,27 +128,7 @@ TellsWrite sent.Fault acts = list_any is_fault acts ≡ true
 -- how many connections came
 abbrev pub came_by : Act → ℕ
 came_by (Came m) = 1
-came_by Refused = 0
-came_by (Read m bytes) = 0
-came_by (Ended m) = 0
-came_by (Broke m) = 0
-came_by (Wrote m bytes) = 0
-came_by (Failed m) = 0
-came_by (Closed m how) = 0
-came_by Waited = 0
-came_by Lost = 0
-came_by (Asked s) = 0
-came_by (Questioned q) = 0
-came_by (Reported text) = 0
-came_by (Warned text) = 0
-came_by (Tabled text) = 0
-came_by Untabled = 0
-came_by (Replied text) = 0
-came_by (Began k) = 0
-came_by (Kept text) = 0
-came_by Unkept = 0
-came_by Synced = 0
-came_by Unsynced = 0
+came_by act = 0
 
 abbrev pub came_in : List Act → ℕ
 came_in [] = 0
@@ -246,28 +136,8 @@ came_in (a ∷ acts) = came_by a + came_in acts
 
 -- how many were closed
 abbrev pub closed_by : Act → ℕ
-closed_by (Came m) = 0
-closed_by Refused = 0
-closed_by (Read m bytes) = 0
-closed_by (Ended m) = 0
-closed_by (Broke m) = 0
-closed_by (Wrote m bytes) = 0
-closed_by (Failed m) = 0
 closed_by (Closed m how) = 1
-closed_by Waited = 0
-closed_by Lost = 0
-closed_by (Asked s) = 0
-closed_by (Questioned q) = 0
-closed_by (Reported text) = 0
-closed_by (Warned text) = 0
-closed_by (Tabled text) = 0
-closed_by Untabled = 0
-closed_by (Replied text) = 0
-closed_by (Began k) = 0
-closed_by (Kept text) = 0
-closed_by Unkept = 0
-closed_by Synced = 0
-closed_by Unsynced = 0
+closed_by act = 0
 
 abbrev pub closed_in : List Act → ℕ
 closed_in [] = 0
@@ -275,30 +145,10 @@ closed_in (a ∷ acts) = closed_by a + closed_in acts
 
 -- Whether bytes were written since the server last waited, if this says whether they were before.
 abbrev pub writes_after : Bool → Moment → Bool
-writes_after wrote (Did (Came m)) = wrote
-writes_after wrote (Did Refused) = wrote
-writes_after wrote (Did (Read m bytes)) = wrote
-writes_after wrote (Did (Ended m)) = wrote
-writes_after wrote (Did (Broke m)) = wrote
 writes_after wrote (Did (Wrote m bytes)) = true
 writes_after wrote (Did (Failed m)) = true
-writes_after wrote (Did (Closed m how)) = wrote
 writes_after wrote (Did Waited) = false
-writes_after wrote (Did Lost) = wrote
-writes_after wrote (Did (Asked s)) = wrote
-writes_after wrote (Did (Questioned q)) = wrote
-writes_after wrote (Did (Reported text)) = wrote
-writes_after wrote (Did (Warned text)) = wrote
-writes_after wrote (Did (Tabled text)) = wrote
-writes_after wrote (Did Untabled) = wrote
-writes_after wrote (Did (Replied text)) = wrote
-writes_after wrote (Did (Began k)) = wrote
-writes_after wrote (Did (Kept text)) = wrote
-writes_after wrote (Did Unkept) = wrote
-writes_after wrote (Did Synced) = wrote
-writes_after wrote (Did Unsynced) = wrote
-writes_after wrote (Ran n turns) = wrote
-writes_after wrote (Changed text) = wrote
+writes_after wrote moment = wrote
 
 abbrev pub writes_since : Bool → Story → Bool
 writes_since wrote [] = wrote
@@ -317,13 +167,10 @@ IsPhased wrote (m ∷ story) = MayCome wrote m × IsPhased (writes_after wrote m
 
 -- a connection may be closed for this reason
 abbrev pub IsAllowed : Limits → How → Type 0
-IsAllowed limits how.Quit = Unit {0}
-IsAllowed limits how.End = Unit {0}
-IsAllowed limits how.Fault = Unit {0}
 IsAllowed limits how.Idle = is_some limits.idle ≡ true
 IsAllowed limits how.Over = is_some limits.turn ≡ true
-IsAllowed limits how.Memory = Unit {0}
 IsAllowed limits how.Gone = limits.status ≡ true
+IsAllowed limits other = Unit {0}
 
 -- one text is the beginning of another
 abbrev pub BeginsWith : List ℕ → List ℕ → Type 0
@@ -344,16 +191,7 @@ IsWarning limits text = BeginsWith (codes "log-in refused: ") text ⊎ BeginsWit
 -- were answered only where there is a status socket, and bytes were kept only where there is a journal.
 -- Nothing else was asked of the system, but to warn the operator.
 abbrev pub IsWithin : Limits → Act → Type 0
-IsWithin limits (Came m) = Unit {0}
-IsWithin limits Refused = Unit {0}
-IsWithin limits (Read m bytes) = Unit {0}
-IsWithin limits (Ended m) = Unit {0}
-IsWithin limits (Broke m) = Unit {0}
-IsWithin limits (Wrote m bytes) = Unit {0}
-IsWithin limits (Failed m) = Unit {0}
 IsWithin limits (Closed m how) = IsAllowed limits how
-IsWithin limits Waited = Unit {0}
-IsWithin limits Lost = Unit {0}
 IsWithin limits (Asked s) = ⊥
 IsWithin limits (Questioned q) = limits.status ≡ true
 IsWithin limits (Reported text) = limits.status ≡ true
@@ -366,6 +204,7 @@ IsWithin limits (Kept text) = is_some limits.journal ≡ true
 IsWithin limits Unkept = is_some limits.journal ≡ true
 IsWithin limits Synced = is_some limits.journal ≡ true
 IsWithin limits Unsynced = is_some limits.journal ≡ true
+IsWithin limits act = Unit {0}
 
 abbrev pub AreWithin : Limits → List Act → Type 0
 AreWithin limits [] = Unit {0}
@@ -439,28 +278,12 @@ writing Share.Writing = 1
 
 -- how often an answer, a moment or a story is such a share of a turn
 abbrev pub share_of : Act → Share → ℕ
-share_of (Came m) share = 0
-share_of Refused share = 0
 share_of (Read m bytes) share = reading share
 share_of (Ended m) share = reading share
 share_of (Broke m) share = reading share
 share_of (Wrote m bytes) share = writing share
 share_of (Failed m) share = writing share
-share_of (Closed m how) share = 0
-share_of Waited share = 0
-share_of Lost share = 0
-share_of (Asked s) share = 0
-share_of (Questioned q) share = 0
-share_of (Reported text) share = 0
-share_of (Warned text) share = 0
-share_of (Tabled text) share = 0
-share_of Untabled share = 0
-share_of (Replied text) share = 0
-share_of (Began k) share = 0
-share_of (Kept text) share = 0
-share_of Unkept share = 0
-share_of Synced share = 0
-share_of Unsynced share = 0
+share_of act share = 0
 
 abbrev pub share_by : Moment → Share → ℕ
 share_by (Did a) share = share_of a share
@@ -482,28 +305,8 @@ IsOnce phase more = (share : Share) → times share more ≤ most phase share
 
 -- whether the server waited
 abbrev pub is_wait : Act → Bool
-is_wait (Came m) = false
-is_wait Refused = false
-is_wait (Read m bytes) = false
-is_wait (Ended m) = false
-is_wait (Broke m) = false
-is_wait (Wrote m bytes) = false
-is_wait (Failed m) = false
-is_wait (Closed m how) = false
 is_wait Waited = true
-is_wait Lost = false
-is_wait (Asked s) = false
-is_wait (Questioned q) = false
-is_wait (Reported text) = false
-is_wait (Warned text) = false
-is_wait (Tabled text) = false
-is_wait Untabled = false
-is_wait (Replied text) = false
-is_wait (Began k) = false
-is_wait (Kept text) = false
-is_wait Unkept = false
-is_wait Synced = false
-is_wait Unsynced = false
+is_wait act = false
 
 abbrev pub waits_by : Moment → Bool
 waits_by (Did a) = is_wait a

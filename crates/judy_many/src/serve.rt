@@ -202,7 +202,7 @@ fn ask<S: Shows, N: Network>(
 /// is read again.
 ///
 /// With a rule when it is synced, the writer goes on with a journal. Then in each round the records of
-/// the lines that changed arrays are kept before the answers are written.
+/// the lines that may have changed arrays are kept before the answers are written.
 pub fn serve_many<S: Shows, N: Network>(
     alloc: Global,
     network: &mut N,

@@ -79,7 +79,7 @@ fn append(answers: &mut ArrayVec<u8, ANSWERS_LIMIT>, text: &[u8])
     let _fits = answers.try_extend_from_slice(text);
 }
 
-/// Adds the record of a line that was run to those that are to be kept, if it changed arrays.
+/// Adds the record of a line that was run to those that are to be kept, if it may have changed arrays.
 fn note_line<S: Shows>(
     keeper: &mut Keeper,
     service: &S,

@@ -59,16 +59,11 @@ module _ {S : Type 0} (is_new : Option ℕ → List Tenant → S → Type 0) (re
   -- the file with the table gave no service
   pub no_service : (how : Hosted) (config : List ℕ) (left left' : MaybeBytes) (log log' : Log)
       → IsShut how left left' → Logs log (Opened config left ∷ Shut left' ∷ []) log' → Refuses is_new reserve how config log log'
-  no_service hosted.Done config left left' log log' h a = absurd h
-  no_service hosted.Stopped config left left' log log' h a = absurd h
-  no_service hosted.Recovery config left left' log log' h a = absurd h
-  no_service hosted.Journal config left left' log log' h a = absurd h
-  no_service hosted.Socket config left left' log log' h a = absurd h
-  no_service hosted.Reserve config left left' log log' h a = absurd h
   no_service hosted.Config config left left' log log' h a = inr (record { left = left; left' = left'; shut = h; asked = a })
   no_service hosted.Long config left left' log log' h a = record { left = left; left' = left'; shut = h; asked = a }
   no_service (hosted.Table f) config left left' log log' h a = record { left = left; left' = left'; shut = h; asked = a }
   no_service hosted.Memory config left left' log log' h a = record { left = left; left' = left'; shut = h; asked = a }
+  no_service other config left left' log log' h a = absurd h
 
   -- the file gave a service, and so much memory was taken for it
   pub begins : (config : List ℕ) (left left' : MaybeBytes) (log log' : Log) (s s' : S) → HasOpened (is_new None) left left' s
@@ -97,25 +92,16 @@ module _ {S : Type 0} (is_new : Option ℕ → List Tenant → S → Type 0) (re
   checks_none hosted.Stopped config log log' h = absurd h
   checks_none hosted.Recovery config log log' h = absurd h
   checks_none hosted.Journal config log log' h = absurd h
-  checks_none hosted.Socket config log log' h = h
-  checks_none hosted.Config config log log' h = h
-  checks_none hosted.Long config log log' h = h
-  checks_none (hosted.Table f) config log log' h = h
-  checks_none hosted.Memory config log log' h = h
-  checks_none hosted.Reserve config log log' h = h
+  checks_none other config log log' h = h
 
   pub hosts_none : (rules : Rules S) (how : Hosted) (config socket : List ℕ) (watch : Option (List ℕ)) (limits : Limits) (log log' : Log)
       → Refuses is_new reserve how config log log' → Hosts rules is_new reserve how config socket watch limits log log'
-  hosts_none rules hosted.Done config socket watch limits log log' h = absurd h
-  hosts_none rules hosted.Stopped config socket watch limits log log' h = absurd h
-  hosts_none rules hosted.Recovery config socket watch limits log log' h = absurd h
-  hosts_none rules hosted.Journal config socket watch limits log log' h = absurd h
-  hosts_none rules hosted.Socket config socket watch limits log log' h = absurd h
   hosts_none rules hosted.Config config socket watch limits log log' h = h
   hosts_none rules hosted.Long config socket watch limits log log' h = h
   hosts_none rules (hosted.Table f) config socket watch limits log log' h = h
   hosts_none rules hosted.Memory config socket watch limits log log' h = inl h
   hosts_none rules hosted.Reserve config socket watch limits log log' h = h
+  hosts_none rules other config socket watch limits log log' h = absurd h
 
 -- ---- a service and its sockets
 

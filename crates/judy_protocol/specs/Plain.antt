@@ -1,7 +1,7 @@
 -- Bytes of one line, and the calls that are recorded.
 --     is_plain bytes                no byte is a line feed
 --     is_refused reply              the reply says that nothing changed
---     counts event reply            the call changed arrays
+--     counts event reply            the call may have changed arrays
 --     has_changed events replies    the same of a line's call, if it makes one
 use Rattle.std.specs.Prelude.{ℕ, Bool, true, false, not, ◌&&◌, ◌==◌, List, [], ◌∷◌}
 use Rattle.std.specs.List.{list_all}
@@ -20,7 +20,7 @@ is_refused ReadOnly = true
 is_refused Memory = true
 is_refused _ = false
 
--- whether the call changed its tenant's arrays; such calls are recorded
+-- whether the call may have changed its tenant's arrays; such calls are recorded
 abbrev pub counts : Event → Reply → Bool
 counts event reply = changes event.call && not (is_refused reply)
 

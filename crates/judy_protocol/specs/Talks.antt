@@ -75,7 +75,7 @@ module _ {S : Type 0} (made : Made S) (login : Login) where
     pub run : AreMade made before (zip (event_of line who) replies) after
     pub text_is : text ≡ answer_from login who (line ∷ []) replies
 
-  -- The same, and whether the line made a call that changed arrays, so that it is recorded.
+  -- The same, and whether the line made a call that may have changed arrays, so that it is recorded.
   pub record HasRun (line : Heard) (who who' : Option Speaker) (before after : S) (text : List ℕ) (changed : Bool) : Type 0 where
     pub turn : Turn line who who' before after text
     pub changed_is : changed ≡ has_changed (event_of line who) turn.replies

@@ -164,7 +164,7 @@ fn is_refused(reply: &Reply<'_>) -> bool
     matches!(reply, Reply::Full | Reply::ReadOnly | Reply::Memory)
 }
 
-/// Whether a call with this reply changed arrays.
+/// Whether a call with this reply may have changed arrays: it is one that changes them, and was not refused.
 fn counts(call: &Call<'_>, reply: &Reply<'_>) -> bool
     ensures { result ≡ (changes call.now && not (is_refused_lem reply.now)) }
 {
@@ -172,7 +172,7 @@ fn counts(call: &Call<'_>, reply: &Reply<'_>) -> bool
 }
 
 /// Makes a call for the speaker, and writes the answer. Without a speaker the answer is `ERR AUTH`.
-/// Returns whether the call changed arrays, so that it is recorded.
+/// Returns whether the call may have changed arrays, so that it is recorded.
 fn make_call<S: Served>(
     alloc: Global,
     service: &mut S,
@@ -202,7 +202,7 @@ fn make_call<S: Served>(
 }
 
 /// Runs what a line asks for, and writes its answer. It replaces the contents of the buffer.
-/// Returns whether the line made a call that changed arrays, so that it is recorded.
+/// Returns whether the line made a call that may have changed arrays, so that it is recorded.
 pub fn run<S: Served>(
     alloc: Global,
     service: &mut S,

@@ -19,15 +19,7 @@ use Rattle.judyd.specs.Obeying.{IsFinished}
 run-silent : (how : Ran) → run_status how ≡ 0 → run_text how ≡ None
 run-silent (ran.Served ends.Quit) e = refl
 run-silent (ran.Served ends.End) e = refl
-run-silent (ran.Served ends.ReadFault) e = absurd (omega (arith, e))
-run-silent (ran.Served ends.WriteFault) e = absurd (omega (arith, e))
-run-silent (ran.Served ends.Limit) e = absurd (omega (arith, e))
-run-silent (ran.Table f) e = absurd (omega (arith, e))
-run-silent ran.Cut e = absurd (omega (arith, e))
-run-silent ran.Long e = absurd (omega (arith, e))
-run-silent ran.Memory e = absurd (omega (arith, e))
-run-silent ran.Read e = absurd (omega (arith, e))
-run-silent ran.Write e = absurd (omega (arith, e))
+run-silent other e = absurd (omega (arith, e))
 
 run-told : (how : Ran) → run_status how ≢ 0 → (line : List ℕ) × run_text how ≡ Some line
 run-told (ran.Served ends.Quit) h = absurd (h refl)
@@ -45,14 +37,7 @@ run-told ran.Write h = (codes "judyd: write fault", refl)
 host-silent : (how : Hosted) → host_status how ≡ 0 → host_text how ≡ None
 host-silent host.Done e = refl
 host-silent host.Stopped e = refl
-host-silent host.Config e = absurd (omega (arith, e))
-host-silent host.Long e = absurd (omega (arith, e))
-host-silent (host.Table f) e = absurd (omega (arith, e))
-host-silent host.Memory e = absurd (omega (arith, e))
-host-silent host.Reserve e = absurd (omega (arith, e))
-host-silent host.Socket e = absurd (omega (arith, e))
-host-silent host.Recovery e = absurd (omega (arith, e))
-host-silent host.Journal e = absurd (omega (arith, e))
+host-silent other e = absurd (omega (arith, e))
 
 -- a journal that cannot be gone on with is told by the system's line alone, with its file and its byte
 host-told : (how : Hosted) → host_status how ≢ 0 → ((line : List ℕ) × host_text how ≡ Some line) ⊎ ((host_status how ≡ 3) × (host_text how ≡ None))
