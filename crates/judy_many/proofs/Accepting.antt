@@ -29,7 +29,10 @@ pub accepted : {B S : Type 0} (view : B → View) (rules : Rules S) (limits : Li
 accepted view rules limits first start past now log log' slots count i one came arrival s within free few is once (more, did, arrives) h =
     let cut = cut_log log log' (acts_in more) (lost_at arrival) did in
     let sum : count + (if has_come arrival then 1 else 0) ≡ count + one
-    = ap (λ n. count + n) (sym (once ∙ ap (λ (b : Bool). (if b then 1 else 0)) is)) in
-    (cut.0, cut.2, subst (λ k. Crowd view rules limits first start Reads nobody past cut.0 (slice_set slots i s) k now) sum
-    (crowd_seat view rules limits first start past log cut.0 slots count now i (has_come arrival) s more within
-    (λ b. free_slot slots i b free) few h cut.1 arrives))
+    = ap (λ n. count + n) (sym (once ∙ ap (λ (b : Bool). (if b then 1 else 0)) is)) in (
+      cut.0,
+      cut.2,
+      subst (λ k. Crowd view rules limits first start Reads nobody past cut.0 (slice_set slots i s) k now) sum
+          (crowd_seat view rules limits first start past log cut.0 slots count now i (has_come arrival) s more within
+          (λ b. free_slot slots i b free) few h cut.1 arrives),
+    )

@@ -48,13 +48,13 @@ pub loop-try-preserved : goal.loop-try-preserved
 loop-try-preserved g c = record {
   crowd = λ first now start past h.
       let (mid, last, seated) = accepted _ _ c.args.limits first start past now _ _ c.loop-try.clients.slots.items c.loop-try.clients.accepted c.in-Some.at
-    _ _ c.accept_at-arrival.result c.accept_at-arrival.new.slot (omega (arith, c.in-Some.ensures.slots)) c.in-Some.ensures.free (omega arith)
-    c.has_come.ensures c.one_if.ensures c.accept_at-arrival.ensures.arrives (c.loop-try.invariant.crowd first now start past h) in
+      _ _ c.accept_at-arrival.result c.accept_at-arrival.new.slot (omega (arith, c.in-Some.ensures.slots)) c.in-Some.ensures.free (omega arith)
+      c.has_come.ensures c.one_if.ensures c.accept_at-arrival.ensures.arrives (c.loop-try.invariant.crowd first now start past h) in
       idle (λ b. view_of g.S.Served.who g.N.Network.number b.value) (rules_of g.S.Served.made g.S.Served.seen g.S.Shows.noted g.S.Shows.status g.S.Shows.changed) c.args.limits
       first start Reads nobody past _ _ _ _ now
       (subst (λ r. DidLog mid (lost_at r) (g.N.Network.log c.accept_at-arrival.new.network)) c.in-Came.is last) seated;
   known = λ speakers k. known-change _ speakers _ _ c.index_mut.result.now _ (omega (arith, c.in-Some.ensures.slots)) c.index_mut.ensures.value
-    (c.accept_at-arrival.ensures.known speakers) (c.loop-try.invariant.known speakers k);
+      (c.accept_at-arrival.ensures.known speakers) (c.loop-try.invariant.known speakers k);
 }
 
 pub returns-then-limits-clients-clause-crowd : goal.returns-then-limits-clients-clause-crowd
