@@ -9,13 +9,14 @@
 --     HasRun words how from to        the same, and what the streams show then
 --     ServesSoFar ..                  all lines that came so far are answered, and none asked to
 --                                     quit
+--     MayPullScript ..                the source may be pulled while that is so
 use Rattle.std.specs.Prelude.{◌≡◌, ◌≢◌, ◌⊎◌, ◌+◌, ◌-◌, ◌^◌, ◌<◌, ◌≤◌, ℕ, Bool, true, false, List, [], ◌++◌, length, codes, decimal, Ok, Err, if◌then◌else◌}
 use Rattle.std.specs.Io.KnownBytes.{Appends, Consumes, IsAtEnd, prepend_known}
 use Rattle.judy_model.specs.Replies.{line}
-use Rattle.judy_stream.specs.Streams.{IsFlushed, counted}
+use Rattle.judy_stream.specs.Streams.{IsFlushed, SinkOf, SourceOf, counted}
 use Rattle.judy_protocol.specs.Services.{Made, Seen}
 use Rattle.judy_protocol.specs.Sending.{AreAnswers}
-use Rattle.judy_protocol.specs.Serving.{MaybeBytes, Ends, IsPrompt, Wire, ends_by, read_faults_by, reads_limit, write_faults_by}
+use Rattle.judy_protocol.specs.Serving.{MaybeBytes, Ends, IsPrompt, Wire, ends_by, pull_limit, read_faults_by, reads_limit, write_faults_by}
 use Rattle.judy_protocol.specs.declared.connection.End.{End}
 use Rattle.judy_protocol.specs.declared.connection.End.TheVariants as ends
 use Rattle.judy_table.specs.Tenants.{read_table}
@@ -212,3 +213,11 @@ module _ {S : Type 0} (made : Made S) (seen : S → Seen) (words_in : S → ℕ)
       pub reads : read_table text ≡ Ok tenants
       pub fresh : is_new tenants before
       pub prompt : IsPrompt made seen (prepend_known script mid) left' before taken taken' pending pending'
+
+    -- After the table the source may be pulled, into at most 4,096 bytes, once all lines of the script
+    -- that it gave so far have their answers, written and flushed, and none of them asked to quit.
+    -- `from` is what the streams showed before the table was read.
+    abbrev pub MayPullScript : {R W : Type 0} → SourceOf R → SinkOf W → Wire → Type 0
+    MayPullScript {R} {W} source sink from = (r : R) (w : W) (room : ℕ) → room ≤ pull_limit
+        → ServesSoFar from.left (source.left r) from.taken (sink.taken w) from.pending (sink.pending w)
+        → source.can_pull r room

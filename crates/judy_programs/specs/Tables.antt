@@ -2,11 +2,14 @@
 --     IsTable stream text script the stream is this table, a line `---`, and then the script
 --     IsLong given               however the input goes on, it has no table of at most 65,536 bytes
 --     IsOpen given               no table has ended yet, and one of at most 65,536 bytes still may
+--     MayPullTable source r      a source may be pulled while that is so of what it gave
 use Rattle.std.specs.Prelude.{◌≡◌, ◌<◌, ◌≤◌, ◌||◌, ℕ, Bool, true, false, List, [], ◌∷◌, ◌++◌, codes, length, Option}
 use Rattle.std.specs.List.{list_any}
 use Rattle.std.specs.Str.{bytes_eq}
 use Rattle.std.specs.Io.KnownBytes.{Consumes}
+use Rattle.judy_stream.specs.Streams.{SourceOf}
 use Rattle.judy_model.specs.Stream.{lines_of, rest_of}
+use Rattle.judy_protocol.specs.Serving.{pull_limit}
 
 -- the line that ends the table: three dashes, with or without a carriage return
 abbrev pub is_mark : List ℕ → Bool
@@ -45,3 +48,9 @@ pub record IsOpen (given : List ℕ) : Type 0 where
 -- pulled.
 abbrev pub ReadsOn : Option (List ℕ) → Option (List ℕ) → Type 0
 ReadsOn left left' = (given : List ℕ) × Consumes left left' given × IsOpen given
+
+-- From a state of the source on, it may be pulled, into at most 4,096 bytes, while no table has ended
+-- in what it gave and one still may.
+abbrev pub MayPullTable : {R : Type 0} → SourceOf R → R → Type 0
+MayPullTable {R} source first = (now : R) (room : ℕ) → room ≤ pull_limit
+    → ReadsOn (source.left first) (source.left now) → source.can_pull now room

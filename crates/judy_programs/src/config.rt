@@ -1,6 +1,7 @@
 //! Reads a file with a table of tenants.
-ghost use Rattle.std.specs.Prelude.{◌≡◌, ◌<◌, ◌≤◌, ℕ, [], length};
+ghost use Rattle.std.specs.Prelude.{◌≡◌, [], length};
 ghost use Rattle.std.specs.Io.KnownBytes.{Consumes};
+ghost use Rattle.judy_stream.specs.Streams.{MayAlwaysPull};
 ghost use Rattle.judy_protocol.specs.Serving.{pull_limit};
 ghost use Rattle.judy_programs.specs.TableEnds.{IsReadBy, file_ends, file_faults};
 
@@ -27,11 +28,11 @@ pub enum FileRead {
 /// bytes to `bytes`, which must be empty.
 pub fn read_file<R: Source>(r: &mut R, bytes: &mut ArrayVec<u8, FILE_LIMIT>) -> FileRead
     requires empty { bytes.old.items ≡ [] }
-    requires ready { (s : R) (room : ℕ) → room ≤ pull_limit → R.can_pull s room }
-    ensures given { Consumes (R.left r.old) (R.left r.new) bytes.new.items }
-    ensures read { IsReadBy result bytes.new.items (R.left r.new) }
-    ensures ends { R.ends r.new ≡ file_ends result (R.ends r.old) }
-    ensures faults { R.faults r.new ≡ file_faults result (R.faults r.old) }
+    requires ready { MayAlwaysPull R.source pull_limit }
+    ensures given { Consumes (R.source.left r.old) (R.source.left r.new) bytes.new.items }
+    ensures read { IsReadBy result bytes.new.items (R.source.left r.new) }
+    ensures ends { R.source.ends r.new ≡ file_ends result (R.source.ends r.old) }
+    ensures faults { R.source.faults r.new ≡ file_faults result (R.source.faults r.old) }
 {
     let mut pulled = [0u8; PULL_LIMIT];
     while bytes.len() <= TABLE_LIMIT {

@@ -1,6 +1,7 @@
 //! `judyd serve` with a journal: the service begins with what the journal has.
-ghost use Rattle.std.specs.Prelude.{◌≡◌, ◌≤◌, ℕ, IfOk, IfErr, option_map};
+ghost use Rattle.std.specs.Prelude.{◌≡◌, IfOk, IfErr, option_map};
 ghost use Rattle.judy_many.specs.Rules.{rules_of};
+ghost use Rattle.judy_stream.specs.Streams.{MayAlwaysPull};
 ghost use Rattle.judy_protocol.specs.Serving.{pull_limit};
 ghost use Rattle.judy_programs.specs.Journaled.{ChecksJournaled, HasMade, HasNoWriter, HostsJournaled};
 ghost use Rattle.judy_recovery.specs.Whole.{HasResumed, Kept};
@@ -86,7 +87,7 @@ pub fn host_journaled<S: Opens + Shows + Replays + Drop, H: Journals>(
     limits: Limits,
     directory: &str,
 ) -> Hosted
-    requires files { (f : H.File) (room : ℕ) → room ≤ pull_limit → H.File.can_pull f room }
+    requires files { MayAlwaysPull H.File.source pull_limit }
     ensures { HostsJournaled (rules_of S.made S.seen S.noted S.status S.changed) S.replayed
         (H.may_have directory.now) (S.is_new secret.now) reserve result config.now socket.now
         (option_map (λ s. s.now) status.entry) limits (H.log system.old) (H.log system.new) }
@@ -122,7 +123,7 @@ pub fn check_journaled<S: Opens + Replays + Drop, H: Journals>(
     reserve: Option<u32>,
     directory: &str,
 ) -> Hosted
-    requires files { (f : H.File) (room : ℕ) → room ≤ pull_limit → H.File.can_pull f room }
+    requires files { MayAlwaysPull H.File.source pull_limit }
     ensures { ChecksJournaled S.replayed (H.may_have directory.now)
         (S.is_new secret.now) reserve result config.now
         (H.log system.old) (H.log system.new) }

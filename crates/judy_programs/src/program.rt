@@ -1,10 +1,9 @@
 //! The whole of `judyd run`, over any source and sink, and for any kind of service.
-ghost use Rattle.std.specs.Prelude.{◌≡◌, ◌≤◌, ℕ, None, true, length};
-ghost use Rattle.std.specs.Io.KnownBytes.{prepend_known};
+ghost use Rattle.std.specs.Prelude.{◌≡◌, ◌≤◌, None, true, length};
 ghost use Rattle.judy_protocol.specs.Sending.{MaySend};
-ghost use Rattle.judy_protocol.specs.Serving.{IsPrompt, pull_limit, wire, with_first};
-ghost use Rattle.judy_programs.specs.Program.{HasRun, HasRunOn, IsSent, ServesSoFar, is_refused, tells_words, words_line};
-ghost use Rattle.judy_programs.specs.Tables.{ReadsOn};
+ghost use Rattle.judy_protocol.specs.Serving.{MayPull, pull_limit, wire, with_first};
+ghost use Rattle.judy_programs.specs.Program.{HasRun, HasRunOn, IsSent, MayPullScript, is_refused, tells_words, words_line};
+ghost use Rattle.judy_programs.specs.Tables.{MayPullTable};
 
 use crate::opens::{Opens, Unopened};
 use crate::reading::{HELD_LIMIT, Reading, read_table};
@@ -78,14 +77,12 @@ pub fn run_on<S: Opens, R: Source, W: Sink>(
     words: bool,
 ) -> Ran
     requires short { length first.now ≤ pull_limit }
-    requires prompt { (s : R) (k : W) (room : ℕ) → room ≤ pull_limit
-        → IsPrompt S.made S.seen (prepend_known first.now (R.left r.old)) (R.left s) service.old
-        (W.taken w.old) (W.taken k) (W.pending w.old) (W.pending k) → R.can_pull s room }
-    requires answers { MaySend W.taken W.pending IsSent w.old W.can_push W.can_flush }
+    requires prompt { MayPull S.made S.seen R.source W.sink service.old
+        (with_first first.now (wire R.source W.sink r.old w.old)) }
+    requires answers { MaySend W.sink IsSent w.old }
     ensures { HasRunOn S.made S.seen S.words_in words result service.old service.new
-        (with_first first.now
-        (wire R.left R.gave R.ends R.faults W.taken W.pending W.faults r.old w.old))
-        (wire R.left R.gave R.ends R.faults W.taken W.pending W.faults r.new w.new) }
+        (with_first first.now (wire R.source W.sink r.old w.old))
+        (wire R.source W.sink r.new w.new) }
 {
     let end = serve_after(alloc, service, first, r, w, READS_LIMIT);
     let n = service.live_words();
@@ -112,15 +109,13 @@ pub fn run_with<S: Opens + Drop, R: Source, W: Sink>(
     w: &mut W,
     words: bool,
 ) -> Ran
-    requires table { (s : R) (room : ℕ) → room ≤ pull_limit → ReadsOn (R.left r.old) (R.left s)
-        → R.can_pull s room }
-    requires prompt { (s : R) (k : W) (room : ℕ) → room ≤ pull_limit
-        → ServesSoFar S.made S.seen S.words_in (S.is_new secret.now None) (R.left r.old) (R.left s)
-        (W.taken w.old) (W.taken k) (W.pending w.old) (W.pending k) → R.can_pull s room }
-    requires answers { MaySend W.taken W.pending IsSent w.old W.can_push W.can_flush }
+    requires table { MayPullTable R.source r.old }
+    requires prompt { MayPullScript S.made S.seen S.words_in (S.is_new secret.now None)
+        R.source W.sink (wire R.source W.sink r.old w.old) }
+    requires answers { MaySend W.sink IsSent w.old }
     ensures runs { HasRun S.made S.seen S.words_in (S.is_new secret.now None) words result
-        (wire R.left R.gave R.ends R.faults W.taken W.pending W.faults r.old w.old)
-        (wire R.left R.gave R.ends R.faults W.taken W.pending W.faults r.new w.new) }
+        (wire R.source W.sink r.old w.old)
+        (wire R.source W.sink r.new w.new) }
     ensures quiet { is_refused result ≡ true → w.new ≡ w.old }
 {
     let mut bytes: ArrayVec<u8, HELD_LIMIT> = ArrayVec::new();

@@ -1,9 +1,8 @@
 //! Reads the table of tenants from the front of the input.
-ghost use Rattle.std.specs.Prelude.{◌≡◌, ◌+◌, ◌-◌, ◌^◌, ◌<◌, ◌≤◌, ◌++◌, ℕ, [], length};
+ghost use Rattle.std.specs.Prelude.{◌≡◌, ◌+◌, ◌-◌, ◌^◌, ◌<◌, ◌≤◌, ◌++◌, [], length};
 ghost use Rattle.std.specs.Io.KnownBytes.{Consumes};
-ghost use Rattle.judy_protocol.specs.Serving.{pull_limit};
 ghost use Rattle.judy_programs.specs.TableEnds.{Finds, HasLines, Reads, reading_ends, reading_faults};
-ghost use Rattle.judy_programs.specs.Tables.{ReadsOn};
+ghost use Rattle.judy_programs.specs.Tables.{MayPullTable};
 
 use crate::table_end::{TableEnd, find_end};
 use arrayvec::ArrayVec;
@@ -52,14 +51,13 @@ fn add_pulled(bytes: &mut ArrayVec<u8, HELD_LIMIT>, pulled: &[u8], lines: usize)
 /// may still end.
 pub fn read_table<R: Source>(r: &mut R, bytes: &mut ArrayVec<u8, HELD_LIMIT>) -> Reading
     requires empty { bytes.old.items ≡ [] }
-    requires open { (s : R) (room : ℕ) → room ≤ pull_limit → ReadsOn (R.left r.old) (R.left s)
-        → R.can_pull s room }
-    ensures given { Consumes (R.left r.old) (R.left r.new) bytes.new.items }
-    ensures table { Reads result bytes.new.items (R.left r.new) }
-    ensures ends { R.ends r.new ≡ reading_ends result (R.ends r.old) }
-    ensures faults { R.faults r.new ≡ reading_faults result (R.faults r.old) }
-    ensures more { R.gave r.new < 2 ^ 64 - 1 → R.gave r.old ≤ R.gave r.new }
-    ensures reads { R.gave r.new ≤ R.gave r.old + 65541 }
+    requires open { MayPullTable R.source r.old }
+    ensures given { Consumes (R.source.left r.old) (R.source.left r.new) bytes.new.items }
+    ensures table { Reads result bytes.new.items (R.source.left r.new) }
+    ensures ends { R.source.ends r.new ≡ reading_ends result (R.source.ends r.old) }
+    ensures faults { R.source.faults r.new ≡ reading_faults result (R.source.faults r.old) }
+    ensures more { R.source.gave r.new < 2 ^ 64 - 1 → R.source.gave r.old ≤ R.source.gave r.new }
+    ensures reads { R.source.gave r.new ≤ R.source.gave r.old + 65541 }
 {
     let mut lines = 0;
     let mut pulled = [0u8; PULL_LIMIT];

@@ -1,6 +1,7 @@
 //! The whole of `judyd serve`: the table, the socket, and many connections at once.
-ghost use Rattle.std.specs.Prelude.{◌≡◌, ◌≤◌, ℕ, List, None, IfErr, IfOk, IsFalse, IsSome, IsTrue, option_map};
+ghost use Rattle.std.specs.Prelude.{◌≡◌, ℕ, List, None, IfErr, IfOk, IsFalse, IsSome, IsTrue, option_map};
 ghost use Rattle.judy_many.specs.Rules.{rules_of};
+ghost use Rattle.judy_stream.specs.Streams.{MayAlwaysPull};
 ghost use Rattle.judy_protocol.specs.Serving.{pull_limit};
 ghost use Rattle.judy_programs.specs.Hosting.{Begins, Checks, Hosts as IsHosted, Serves, Watches};
 ghost use Rattle.judy_programs.specs.Opening.{HasOpened, IsShut, open_ends, open_faults};
@@ -43,12 +44,12 @@ pub enum Hosted {
 
 /// The service of the table that a source has.
 fn open_file<S: Opens, R: Source>(alloc: Global, secret: &[u8], source: &mut R) -> Result<S, Hosted>
-    requires ready { (s : R) (room : ℕ) → room ≤ pull_limit → R.can_pull s room }
+    requires ready { MayAlwaysPull R.source pull_limit }
     ensures opened { IfOk result
-        (λ s. HasOpened (S.is_new secret.now None) (R.left source.old) (R.left source.new) s) }
-    ensures refused { IfErr result (λ how. IsShut how (R.left source.old) (R.left source.new)) }
-    ensures ends { R.ends source.new ≡ open_ends result (R.ends source.old) }
-    ensures faults { R.faults source.new ≡ open_faults result (R.faults source.old) }
+        (λ s. HasOpened (S.is_new secret.now None) (R.source.left source.old) (R.source.left source.new) s) }
+    ensures refused { IfErr result (λ how. IsShut how (R.source.left source.old) (R.source.left source.new)) }
+    ensures ends { R.source.ends source.new ≡ open_ends result (R.source.ends source.old) }
+    ensures faults { R.source.faults source.new ≡ open_faults result (R.source.faults source.old) }
 {
     let mut bytes: ArrayVec<u8, FILE_LIMIT> = ArrayVec::new();
     match read_file(source, &mut bytes) {
@@ -84,7 +85,7 @@ pub fn begin_on<S: Opens + Drop, H: Hosts>(
     config: &str,
     reserve: Option<u32>,
 ) -> Result<S, Hosted>
-    requires files { (f : H.File) (room : ℕ) → room ≤ pull_limit → H.File.can_pull f room }
+    requires files { MayAlwaysPull H.File.source pull_limit }
     ensures { Begins (S.is_new secret.now) reserve result config.now
         (H.log system.old) (H.log system.new) }
 {
@@ -112,7 +113,7 @@ pub fn check_on<S: Opens + Drop, H: Hosts>(
     config: &str,
     reserve: Option<u32>,
 ) -> Hosted
-    requires files { (f : H.File) (room : ℕ) → room ≤ pull_limit → H.File.can_pull f room }
+    requires files { MayAlwaysPull H.File.source pull_limit }
     ensures { Checks (S.is_new secret.now) reserve result config.now
         (H.log system.old) (H.log system.new) }
 {
@@ -187,7 +188,7 @@ pub fn host_on<S: Opens + Shows + Drop, H: Hosts>(
     reserve: Option<u32>,
     limits: Limits,
 ) -> Hosted
-    requires files { (f : H.File) (room : ℕ) → room ≤ pull_limit → H.File.can_pull f room }
+    requires files { MayAlwaysPull H.File.source pull_limit }
     ensures { IsHosted (rules_of S.made S.seen S.noted S.status S.changed) (S.is_new secret.now)
         reserve result config.now socket.now (option_map (λ s. s.now) status.entry) limits (H.log system.old) (H.log system.new) }
 {

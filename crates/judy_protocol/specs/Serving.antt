@@ -4,11 +4,12 @@
 --                                  get alone
 --     Ends end ..                  what was read, run and written, by how the serving ended
 --     IsPrompt ..                  all lines that came so far have their answers
+--     MayPull ..                   the source may be pulled once they have
 --     Serves how most .. from to   the whole: what was run, and what the connection shows
 use Rattle.std.specs.Prelude.{◌≡◌, ◌≢◌, ℕ, ◌+◌, ◌-◌, ◌^◌, ◌<◌, ◌≤◌, Bool, false, true, List, [], ◌++◌, map, zip, length, Option, None}
 use Rattle.std.specs.List.{list_any}
 use Rattle.std.specs.Io.KnownBytes.{Consumes, Appends, IsAtEnd, prepend_known}
-use Rattle.judy_stream.specs.Streams.{IsFlushed, counted}
+use Rattle.judy_stream.specs.Streams.{IsFlushed, SinkOf, SourceOf, counted}
 use Rattle.judy_model.specs.declared.replies.Reply.{Reply}
 use Rattle.judy_model.specs.Service.{AreServed}
 use Rattle.judy_model.specs.Worlds.{AreTheOnly}
@@ -56,15 +57,15 @@ pub record Wire : Type 0 where
   pub write_faults : ℕ
 
 -- what a source r and a sink w show
-abbrev pub wire : {R W : Type 0} → (R → MaybeBytes) → (R → ℕ) → (R → ℕ) → (R → ℕ) → (W → MaybeBytes) → (W → Bool) → (W → ℕ) → R → W → Wire
-wire left gave ends read_faults taken pending write_faults r w = record {
-  left = left r;
-  gave = gave r;
-  ends = ends r;
-  read_faults = read_faults r;
-  taken = taken w;
-  pending = pending w;
-  write_faults = write_faults w;
+abbrev pub wire : {R W : Type 0} → SourceOf R → SinkOf W → R → W → Wire
+wire source sink r w = record {
+  left = source.left r;
+  gave = source.gave r;
+  ends = source.ends r;
+  read_faults = source.faults r;
+  taken = sink.taken w;
+  pending = sink.pending w;
+  write_faults = sink.faults w;
 }
 
 -- the same connection before these bytes of its source were read
@@ -174,6 +175,14 @@ module _ {S : Type 0} (made : Made S) (seen : S → Seen) where
     pub after : S
     pub run : AllOpen left left' before after taken taken'
     pub flushed : IsFlushed pending pending'
+
+  -- A connection is to be served, from this state of the service on. Its source may be pulled, into
+  -- at most 4,096 bytes, once all lines that it gave so far have their answers, written and flushed,
+  -- and none of them asked to quit.
+  abbrev pub MayPull : {R W : Type 0} → SourceOf R → SinkOf W → S → Wire → Type 0
+  MayPull {R} {W} source sink before from = (r : R) (w : W) (room : ℕ) → room ≤ pull_limit
+      → IsPrompt from.left (source.left r) before from.taken (sink.taken w) from.pending (sink.pending w)
+      → source.can_pull r room
 
   -- A connection was served, starting without a speaker, and this is how it ended. At most `most`
   -- reads gave bytes.

@@ -1,10 +1,9 @@
 //! Serves one connection.
-ghost use Rattle.std.specs.Prelude.{◌≡◌, ◌≢◌, ◌≤◌, ℕ, Some, length, MatchOption, option_map};
-ghost use Rattle.std.specs.Io.KnownBytes.{prepend_known};
+ghost use Rattle.std.specs.Prelude.{◌≡◌, ◌≢◌, ◌≤◌, Some, length, MatchOption, option_map};
 ghost use Rattle.judy_stream.specs.Streams.{IsFlushed};
 ghost use Rattle.judy_protocol.specs.Sending.{AreAnswers, MaySend};
 ghost use Rattle.judy_protocol.specs.Services.{HasLoggedIn};
-ghost use Rattle.judy_protocol.specs.Serving.{IsPrompt, Serves, pull_limit, reads_limit, wire, with_first};
+ghost use Rattle.judy_protocol.specs.Serving.{MayPull, Serves, pull_limit, reads_limit, wire, with_first};
 ghost use Rattle.judy_protocol.specs.Talks.{Hears, Stops, stop_faults, talk};
 
 use crate::cutting::cut_line;
@@ -62,20 +61,20 @@ fn feed<S: Served, W: Sink>(
 ) -> Option<Stop>
     requires short { length pulled.now ≤ pull_limit }
     requires known { HasLoggedIn (S.seen service.old).speakers (option_map S.who speaker.old) }
-    requires answers { MaySend W.taken W.pending AreAnswers sink.old W.can_push W.can_flush }
+    requires answers { MaySend W.sink AreAnswers sink.old }
     ensures heard { MatchOption result
         (Hears S.made (S.seen service.old).logins pulled.now
-        (talk S.who held.old speaker.old service.old (W.taken sink.old))
-        (talk S.who held.new speaker.new service.new (W.taken sink.new)))
+        (talk S.who held.old speaker.old service.old (W.sink.taken sink.old))
+        (talk S.who held.new speaker.new service.new (W.sink.taken sink.new)))
         (λ how. Stops S.made (S.seen service.old).logins how pulled.now
-        (talk S.who held.old speaker.old service.old (W.taken sink.old)) service.new
-        (W.taken sink.new)) }
+        (talk S.who held.old speaker.old service.old (W.sink.taken sink.old)) service.new
+        (W.sink.taken sink.new)) }
     ensures logins { (S.seen service.new).logins ≡ (S.seen service.old).logins }
     ensures speakers { (S.seen service.new).speakers ≡ (S.seen service.old).speakers }
     ensures known { HasLoggedIn (S.seen service.new).speakers (option_map S.who speaker.new) }
     ensures flushed { result ≢ Some Stop.WriteFault
-        → IsFlushed (W.pending sink.old) (W.pending sink.new) }
-    ensures faults { W.faults sink.new ≡ stop_faults result (W.faults sink.old) }
+        → IsFlushed (W.sink.pending sink.old) (W.sink.pending sink.new) }
+    ensures faults { W.sink.faults sink.new ≡ stop_faults result (W.sink.faults sink.old) }
 {
     let mut rest = pulled;
     while let Some((chunk, after)) = cut_line(rest) {
@@ -109,15 +108,12 @@ pub fn serve_after<S: Served, R: Source, W: Sink>(
 ) -> End
     requires limit { 1 ≤ limit }
     requires short { length first.now ≤ pull_limit }
-    requires prompt { (s : R) (k : W) (room : ℕ) → room ≤ pull_limit
-        → IsPrompt S.made S.seen (prepend_known first.now (R.left source.old))
-        (R.left s) service.old
-        (W.taken sink.old) (W.taken k) (W.pending sink.old) (W.pending k) → R.can_pull s room }
-    requires answers { MaySend W.taken W.pending AreAnswers sink.old W.can_push W.can_flush }
+    requires prompt { MayPull S.made S.seen R.source W.sink service.old
+        (with_first first.now (wire R.source W.sink source.old sink.old)) }
+    requires answers { MaySend W.sink AreAnswers sink.old }
     ensures { Serves S.made S.seen result limit service.old service.new
-        (with_first first.now
-        (wire R.left R.gave R.ends R.faults W.taken W.pending W.faults source.old sink.old))
-        (wire R.left R.gave R.ends R.faults W.taken W.pending W.faults source.new sink.new) }
+        (with_first first.now (wire R.source W.sink source.old sink.old))
+        (wire R.source W.sink source.new sink.new) }
 {
     // Two laws: calls one after another are one run, and another service gives the same replies.
     one_call_is_a_run();
@@ -183,13 +179,12 @@ pub fn serve_up_to<S: Served, R: Source, W: Sink>(
     limit: u64,
 ) -> End
     requires limit { 1 ≤ limit }
-    requires prompt { (s : R) (k : W) (room : ℕ) → room ≤ pull_limit
-        → IsPrompt S.made S.seen (R.left source.old) (R.left s) service.old
-        (W.taken sink.old) (W.taken k) (W.pending sink.old) (W.pending k) → R.can_pull s room }
-    requires answers { MaySend W.taken W.pending AreAnswers sink.old W.can_push W.can_flush }
+    requires prompt { MayPull S.made S.seen R.source W.sink service.old
+        (wire R.source W.sink source.old sink.old) }
+    requires answers { MaySend W.sink AreAnswers sink.old }
     ensures { Serves S.made S.seen result limit service.old service.new
-        (wire R.left R.gave R.ends R.faults W.taken W.pending W.faults source.old sink.old)
-        (wire R.left R.gave R.ends R.faults W.taken W.pending W.faults source.new sink.new) }
+        (wire R.source W.sink source.old sink.old)
+        (wire R.source W.sink source.new sink.new) }
 {
     serve_after(alloc, service, b"", source, sink, limit)
 }
@@ -201,13 +196,12 @@ pub fn serve<S: Served, R: Source, W: Sink>(
     source: &mut R,
     sink: &mut W,
 ) -> End
-    requires prompt { (s : R) (k : W) (room : ℕ) → room ≤ pull_limit
-        → IsPrompt S.made S.seen (R.left source.old) (R.left s) service.old
-        (W.taken sink.old) (W.taken k) (W.pending sink.old) (W.pending k) → R.can_pull s room }
-    requires answers { MaySend W.taken W.pending AreAnswers sink.old W.can_push W.can_flush }
+    requires prompt { MayPull S.made S.seen R.source W.sink service.old
+        (wire R.source W.sink source.old sink.old) }
+    requires answers { MaySend W.sink AreAnswers sink.old }
     ensures { Serves S.made S.seen result reads_limit service.old service.new
-        (wire R.left R.gave R.ends R.faults W.taken W.pending W.faults source.old sink.old)
-        (wire R.left R.gave R.ends R.faults W.taken W.pending W.faults source.new sink.new) }
+        (wire R.source W.sink source.old sink.old)
+        (wire R.source W.sink source.new sink.new) }
 {
     serve_up_to(alloc, service, source, sink, READS_LIMIT)
 }

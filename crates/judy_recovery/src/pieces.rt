@@ -1,5 +1,6 @@
 //! Reads a file of a journal in pieces, and gives its records to a player.
-ghost use Rattle.std.specs.Prelude.{◌≤◌, ℕ, OnOk};
+ghost use Rattle.std.specs.Prelude.{OnOk};
+ghost use Rattle.judy_stream.specs.Streams.{MayAlwaysPull};
 ghost use Rattle.judy_model.specs.Stream.{lines_of};
 ghost use Rattle.judy_journal.specs.Journals.{joined};
 ghost use Rattle.judy_recovery.specs.Played.{ReadsAll, ReadsOn};
@@ -114,8 +115,8 @@ pub fn read_file<R: Source, P: Player>(
     player: &mut P,
     progress: &mut Progress,
 ) -> Result<(), Stop>
-    requires ready { (s : R) (room : ℕ) → room ≤ PIECE → R.can_pull s room }
-    ensures { OnOk result (ReadsAll P.plays (R.left file.old) (R.left file.new)
+    requires ready { MayAlwaysPull R.source PIECE }
+    ensures { OnOk result (ReadsAll P.plays (R.source.left file.old) (R.source.left file.new)
         recovery.old player.old recovery.new player.new) }
 {
     let mut piece = [0u8; PIECE];

@@ -1,5 +1,6 @@
 //! A source over a file that keeps why a read failed.
 ghost use Rattle.std.specs.Prelude.{◌≡◌};
+ghost use Rattle.judy_stream.specs.Streams.{any_pull};
 
 use judy_stream::{Pull, Source};
 use std::io::{self, Read};
@@ -17,7 +18,7 @@ pub struct FileReads<R> {
 impl<R: Read> FileReads<R> {
     /// A source that has read nothing yet.
     pub fn new(file: R) -> Self
-        ensures left { ⟦<FileReads<R> as Source>⟧.left result ≡ R.remaining file }
+        ensures left { ⟦<FileReads<R> as Source>⟧.source.left result ≡ R.remaining file }
     {
         FileReads {
             file,
@@ -35,13 +36,13 @@ impl<R: Read> FileReads<R> {
 }
 
 impl<R: Read> Source for FileReads<R> {
-    ghost left = { λ r. R.remaining r.file };
-
-    ghost gave = { λ r. r.gave };
-
-    ghost ends = { λ r. r.ends };
-
-    ghost faults = { λ r. r.faults };
+    ghost source = { record {
+      left = λ r. R.remaining r.file;
+      gave = λ r. r.gave;
+      ends = λ r. r.ends;
+      faults = λ r. r.faults;
+      can_pull = any_pull;
+    } };
 
     fn pull(&mut self, buf: &mut [u8]) -> Pull {
         match self.file.read(buf) {

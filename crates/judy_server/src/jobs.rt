@@ -1,5 +1,6 @@
 //! Does what the command line asks for, over any streams and any system.
-ghost use Rattle.std.specs.Prelude.{◌≡◌, ◌≤◌, ℕ, option_map};
+ghost use Rattle.std.specs.Prelude.{◌≡◌, option_map};
+ghost use Rattle.judy_stream.specs.Streams.{MayAlwaysPull};
 ghost use Rattle.judy_protocol.specs.Sending.{MaySend};
 ghost use Rattle.judy_protocol.specs.Serving.{pull_limit, wire};
 ghost use Rattle.judy_server.specs.Jobs.{ChecksBy, Does, HasDone, HostsBy, IsProgram, rule_of};
@@ -47,7 +48,7 @@ fn check_by<K: Chosen, H: Journals>(
     reserve: Option<u32>,
     directory: Option<&str>,
 ) -> Hosted
-    requires files { (f : H.File) (room : ℕ) → room ≤ pull_limit → H.File.can_pull f room }
+    requires files { MayAlwaysPull H.File.source pull_limit }
     ensures { ChecksBy H.may_have (option_map (λ s. s.now) directory.entry) secret.now reserve result file.now
         (H.log system.old) (H.log system.new) }
 {
@@ -71,7 +72,7 @@ fn host_by<K: Chosen, H: Journals>(
     limits: Limits,
     directory: Option<&str>,
 ) -> Hosted
-    requires files { (f : H.File) (room : ℕ) → room ≤ pull_limit → H.File.can_pull f room }
+    requires files { MayAlwaysPull H.File.source pull_limit }
     ensures { HostsBy H.may_have (option_map (λ s. s.now) directory.entry) secret.now reserve result file.now
         path.now (option_map (λ s. s.now) watch.entry) limits (H.log system.old) (H.log system.new) }
 {
@@ -94,12 +95,12 @@ fn do_job_with<K: Chosen, R: Source, W: Sink, H: Journals>(
     system: &mut H,
 ) -> (u8, Option<&'static str>)
     requires serves { IsProgram job.now }
-    requires script { (s : R) (room : ℕ) → room ≤ pull_limit → R.can_pull s room }
-    requires written { MaySend W.taken W.pending IsSent writer.old W.can_push W.can_flush }
-    requires files { (f : H.File) (room : ℕ) → room ≤ pull_limit → H.File.can_pull f room }
+    requires script { MayAlwaysPull R.source pull_limit }
+    requires written { MaySend W.sink IsSent writer.old }
+    requires files { MayAlwaysPull H.File.source pull_limit }
     ensures { HasDone H.may_have secret.now job.now result.0 (option_map (λ s. s.now) result.1)
-        (wire R.left R.gave R.ends R.faults W.taken W.pending W.faults reader.old writer.old)
-        (wire R.left R.gave R.ends R.faults W.taken W.pending W.faults reader.new writer.new)
+        (wire R.source W.sink reader.old writer.old)
+        (wire R.source W.sink reader.new writer.new)
         (H.log system.old) (H.log system.new) }
 {
     match job {
@@ -155,12 +156,12 @@ pub fn do_job_on<K: Chosen, R: Source, W: Sink, H: Journals>(
     system: &mut H,
 ) -> (u8, Option<&'static str>)
     requires serves { IsProgram job.now }
-    requires script { (s : R) (room : ℕ) → room ≤ pull_limit → R.can_pull s room }
-    requires written { MaySend W.taken W.pending IsSent writer.old W.can_push W.can_flush }
-    requires files { (f : H.File) (room : ℕ) → room ≤ pull_limit → H.File.can_pull f room }
+    requires script { MayAlwaysPull R.source pull_limit }
+    requires written { MaySend W.sink IsSent writer.old }
+    requires files { MayAlwaysPull H.File.source pull_limit }
     ensures { Does H.may_have job.now result.0 (option_map (λ s. s.now) result.1)
-        (wire R.left R.gave R.ends R.faults W.taken W.pending W.faults reader.old writer.old)
-        (wire R.left R.gave R.ends R.faults W.taken W.pending W.faults reader.new writer.new)
+        (wire R.source W.sink reader.old writer.old)
+        (wire R.source W.sink reader.new writer.new)
         (H.log system.old) (H.log system.new) }
 {
     let Some(secret) = system.secret() else {

@@ -1,15 +1,15 @@
 //! The tenants of a table, as a connection and a program see them.
-ghost use Rattle.std.specs.Prelude.{◌≡◌, ◌≤◌, ℕ, None, true};
+ghost use Rattle.std.specs.Prelude.{◌≡◌, None, true};
 ghost use Rattle.std.proofs.Common.{ap, refl};
 ghost use Rattle.judy_table.specs.Shown.{seen};
 ghost use Rattle.judy_protocol.specs.Sending.{MaySend};
-ghost use Rattle.judy_protocol.specs.Serving.{pull_limit, wire};
-ghost use Rattle.judy_programs.specs.Program.{HasRun, IsSent, ServesSoFar, is_refused};
+ghost use Rattle.judy_protocol.specs.Serving.{wire};
+ghost use Rattle.judy_programs.specs.Program.{HasRun, IsSent, MayPullScript, is_refused};
 ghost use Rattle.judy_tenants.proofs.lemmas.Changed.{keeps-or-empties};
 ghost use Rattle.judy_server.specs.Reloads.{AllStay, IsReload};
 ghost use Rattle.judy_server.specs.Served.{IsServedStep, IsNewService, IsNoted, seen_of, held_words};
 ghost use Rattle.judy_model.specs.Stream.{lines_of};
-ghost use Rattle.judy_programs.specs.Tables.{ReadsOn};
+ghost use Rattle.judy_programs.specs.Tables.{MayPullTable};
 ghost use Rattle.judy_server.specs.Replays.{AreReplayed, AreReplayed-append, Plays, PlaysAll};
 ghost use Rattle.judy_server.specs.Status.{status_of};
 ghost use Rattle.judy_server.specs.Tally.{Tallied};
@@ -307,15 +307,13 @@ pub fn run<H: Chosen, R: Source, W: Sink>(
     w: &mut W,
     words: bool,
 ) -> Ran
-    requires table { (s : R) (room : ℕ) → room ≤ pull_limit → ReadsOn (R.left r.old) (R.left s)
-        → R.can_pull s room }
-    requires prompt { (s : R) (k : W) (room : ℕ) → room ≤ pull_limit
-        → ServesSoFar IsServedStep seen_of held_words (IsNewService secret.now None) (R.left r.old) (R.left s)
-        (W.taken w.old) (W.taken k) (W.pending w.old) (W.pending k) → R.can_pull s room }
-    requires answers { MaySend W.taken W.pending IsSent w.old W.can_push W.can_flush }
+    requires table { MayPullTable R.source r.old }
+    requires prompt { MayPullScript IsServedStep seen_of held_words (IsNewService secret.now None)
+        R.source W.sink (wire R.source W.sink r.old w.old) }
+    requires answers { MaySend W.sink IsSent w.old }
     ensures runs { HasRun IsServedStep seen_of held_words (IsNewService secret.now None) words result
-        (wire R.left R.gave R.ends R.faults W.taken W.pending W.faults r.old w.old)
-        (wire R.left R.gave R.ends R.faults W.taken W.pending W.faults r.new w.new) }
+        (wire R.source W.sink r.old w.old)
+        (wire R.source W.sink r.new w.new) }
     ensures quiet { is_refused result ≡ true → w.new ≡ w.old }
 {
     run_with::<Server<H>, R, W>(alloc, secret, r, w, words)

@@ -18,9 +18,9 @@
 mod handles;
 mod memory;
 
-ghost use Rattle.std.specs.Prelude.{◌≡◌, ◌<◌, ℕ, Bool, List, length, Option};
+ghost use Rattle.std.specs.Prelude.{◌≡◌, ◌<◌, length};
 ghost use Rattle.std.specs.Io.KnownBytes.{Keeps};
-ghost use Rattle.judy_stream.specs.Streams.{Pulls, EndsAtEnd, gave_after, ends_after, faults_after, Pushes, push_faults_after, flush_faults_after, pending_after, pending_flushed};
+ghost use Rattle.judy_stream.specs.Streams.{SourceOf, SinkOf, Pulls, EndsAtEnd, gave_after, ends_after, faults_after, Pushes, push_faults_after, flush_faults_after, pending_after, pending_flushed};
 
 pub use handles::{Reads, Writes};
 pub use memory::{Page, Refusal, Tape};
@@ -48,22 +48,9 @@ pub enum Push {
 
 /// Something to read bytes from.
 pub trait Source {
-    /// The bytes that are still to come, where they are known.
-    ghost left: { Self → Option (List ℕ) };
-
-    /// How many pulls gave bytes.
-    ghost gave: { Self → ℕ };
-
-    /// How many pulls reported the end.
-    ghost ends: { Self → ℕ };
-
-    /// How many pulls failed.
-    ghost faults: { Self → ℕ };
-
-    /// When a pull into a buffer of this many bytes is allowed. For example, a source that waits
-    /// for its replies may be pulled only once they are written: otherwise the pull would never
-    /// return.
-    ghost can_pull: { Self → ℕ → Type 0 } = { λ _ _. Unit {0} };
+    /// What it shows: the bytes that are still to come, and how many pulls gave bytes, reported the
+    /// end and failed. It also says when a pull is allowed. `specs/Streams.antt` has each field.
+    ghost source: { SourceOf Self };
 
     /// Moves the next bytes to the front of the buffer, and counts the answer. The source chooses
     /// how many.
@@ -73,47 +60,36 @@ pub trait Source {
     /// `End` and `Fault`.
     fn pull(&mut self, buf: &mut [u8]) -> Pull
         requires room { 0 < length buf.old }
-        requires ready { can_pull self.old (length buf.old) }
-        ensures bytes { Pulls result (left self.old) (left self.new) buf.new }
-        ensures end { EndsAtEnd result (left self.new) }
-        ensures gave { gave self.new ≡ gave_after result (gave self.old) }
-        ensures ends { ends self.new ≡ ends_after result (ends self.old) }
-        ensures faults { faults self.new ≡ faults_after result (faults self.old) };
+        requires ready { source.can_pull self.old (length buf.old) }
+        ensures bytes { Pulls result (source.left self.old) (source.left self.new) buf.new }
+        ensures end { EndsAtEnd result (source.left self.new) }
+        ensures gave { source.gave self.new ≡ gave_after result (source.gave self.old) }
+        ensures ends { source.ends self.new ≡ ends_after result (source.ends self.old) }
+        ensures faults { source.faults self.new ≡ faults_after result (source.faults self.old) };
 }
 
 /// Something to write bytes to.
 pub trait Sink {
-    /// The bytes taken so far, where they are known.
-    ghost taken: { Self → Option (List ℕ) };
-
-    /// How many pushes failed or took nothing, plus how many flushes failed.
-    ghost faults: { Self → ℕ };
-
-    /// Whether bytes were taken since the last successful flush.
-    ghost pending: { Self → Bool };
-
-    /// When these bytes may be pushed. A sink can refuse bytes that are not a whole answer this
-    /// way.
-    ghost can_push: { Self → List ℕ → Type 0 } = { λ _ _. Unit {0} };
-
-    /// When the sink may be flushed. A sink can refuse a flush of nothing this way.
-    ghost can_flush: { Self → Type 0 } = { λ _. Unit {0} };
+    /// What it shows: the bytes taken so far, how many pushes and flushes failed, and whether bytes
+    /// wait for a flush. It also says when a push and a flush are allowed. `specs/Streams.antt` has
+    /// each field.
+    ghost sink: { SinkOf Self };
 
     /// Takes bytes from the front of the slice, and counts a failure. The sink chooses how many.
     ///
     /// The slice must not be empty, so an answer of 0 bytes is a failure.
     fn push(&mut self, bytes: &[u8]) -> Push
         requires some { 0 < length bytes.now }
-        requires ready { can_push self.old bytes.now }
-        ensures bytes { Pushes result (taken self.old) (taken self.new) bytes.now }
-        ensures faults { faults self.new ≡ push_faults_after result (faults self.old) }
-        ensures pending { pending self.new ≡ pending_after result (pending self.old) };
+        requires ready { sink.can_push self.old bytes.now }
+        ensures bytes { Pushes result (sink.taken self.old) (sink.taken self.new) bytes.now }
+        ensures faults { sink.faults self.new ≡ push_faults_after result (sink.faults self.old) }
+        ensures pending { sink.pending self.new ≡ pending_after result (sink.pending self.old) };
 
     /// Flushes the bytes that were taken, and returns whether that succeeded. `false` is counted as
     /// a failure; the bytes taken stay as they were.
     fn flush(&mut self) -> bool
-        requires ready { can_flush self.old }
-        ensures bytes { Keeps (taken self.old) (taken self.new) }
-        ensures faults { faults self.new ≡ flush_faults_after result (faults self.old) }
-        ensures pending { pending self.new ≡ pending_flushed result (pending self.old) };
+        requires ready { sink.can_flush self.old }
+        ensures bytes { Keeps (sink.taken self.old) (sink.taken self.new) }
+        ensures faults { sink.faults self.new ≡ flush_faults_after result (sink.faults self.old) }
+        ensures pending { sink.pending self.new ≡ pending_flushed result (sink.pending self.old) };
 }

@@ -2,7 +2,7 @@
 //! allocate nothing.
 ghost use Rattle.std.specs.Prelude.{◌≡◌, ◌<◌, ◌≤◌, [], drop, length, Some, false};
 ghost use Rattle.std.specs.Io.KnownBytes.{Keeps};
-ghost use Rattle.judy_stream.specs.Streams.{Pulls, EndsAtEnd, given, gave_after, ends_after, faults_after, Pushes, push_faults_after, flush_faults_after, pending_after, pending_flushed};
+ghost use Rattle.judy_stream.specs.Streams.{any_flush, any_pull, any_push, Pulls, EndsAtEnd, given, gave_after, ends_after, faults_after, Pushes, push_faults_after, flush_faults_after, pending_after, pending_flushed};
 ghost use Rattle.judy_stream.specs.Tapes.{next_stop, stops, tape_answer, tape_after, page_answer, page_after, page_flush, page_flushed, refused};
 
 use crate::{Pull, Push, Sink, Source};
@@ -109,13 +109,13 @@ impl<'a> Tape<'a> {
 }
 
 impl<'a> Source for Tape<'a> {
-    ghost left = { λ t. Some (drop t.at t.whole) };
-
-    ghost gave = { λ t. t.gave };
-
-    ghost ends = { λ t. t.ends };
-
-    ghost faults = { λ t. t.faults };
+    ghost source = { record {
+      left = λ t. Some (drop t.at t.whole);
+      gave = λ t. t.gave;
+      ends = λ t. t.ends;
+      faults = λ t. t.faults;
+      can_pull = any_pull;
+    } };
 
     fn pull(&mut self, buf: &mut [u8]) -> Pull
         requires room { 0 < length buf.old }
@@ -247,11 +247,13 @@ impl<const N: usize> Page<N> {
 }
 
 impl<const N: usize> Sink for Page<N> {
-    ghost taken = { λ p. Some p.bytes };
-
-    ghost pending = { λ p. p.pending };
-
-    ghost faults = { λ p. p.faults };
+    ghost sink = { record {
+      taken = λ p. Some p.bytes;
+      faults = λ p. p.faults;
+      pending = λ p. p.pending;
+      can_push = any_push;
+      can_flush = any_flush;
+    } };
 
     fn push(&mut self, bytes: &[u8]) -> Push
         requires { 0 < length bytes.now }

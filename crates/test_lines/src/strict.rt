@@ -14,15 +14,13 @@ struct Narrow<'a> {
 }
 
 impl<'a> Source for Narrow<'a> {
-    ghost left = { λ s. ⟦<Tape<'a> as Source>⟧.left s.tape };
-
-    ghost gave = { λ s. ⟦<Tape<'a> as Source>⟧.gave s.tape };
-
-    ghost ends = { λ s. ⟦<Tape<'a> as Source>⟧.ends s.tape };
-
-    ghost faults = { λ s. ⟦<Tape<'a> as Source>⟧.faults s.tape };
-
-    ghost can_pull = { λ s room. room ≤ 4096 };
+    ghost source = { record {
+      left = λ s. ⟦<Tape<'a> as Source>⟧.source.left s.tape;
+      gave = λ s. ⟦<Tape<'a> as Source>⟧.source.gave s.tape;
+      ends = λ s. ⟦<Tape<'a> as Source>⟧.source.ends s.tape;
+      faults = λ s. ⟦<Tape<'a> as Source>⟧.source.faults s.tape;
+      can_pull = λ s room. room ≤ 4096;
+    } };
 
     fn pull(&mut self, buf: &mut [u8]) -> Pull {
         self.tape.pull(buf)
@@ -39,15 +37,13 @@ struct WholeLines {
 }
 
 impl Sink for WholeLines {
-    ghost taken = { λ s. ⟦<Page<40960> as Sink>⟧.taken s.page };
-
-    ghost faults = { λ s. ⟦<Page<40960> as Sink>⟧.faults s.page };
-
-    ghost pending = { λ s. ⟦<Page<40960> as Sink>⟧.pending s.page };
-
-    ghost can_push = { λ s bytes. (text : List ℕ) × bytes ≡ text ++ 10 ∷ [] };
-
-    ghost can_flush = { λ s. ⟦<Page<40960> as Sink>⟧.pending s.page ≡ true };
+    ghost sink = { record {
+      taken = λ s. ⟦<Page<40960> as Sink>⟧.sink.taken s.page;
+      faults = λ s. ⟦<Page<40960> as Sink>⟧.sink.faults s.page;
+      pending = λ s. ⟦<Page<40960> as Sink>⟧.sink.pending s.page;
+      can_push = λ s bytes. (text : List ℕ) × bytes ≡ text ++ 10 ∷ [];
+      can_flush = λ s. ⟦<Page<40960> as Sink>⟧.sink.pending s.page ≡ true;
+    } };
 
     fn push(&mut self, bytes: &[u8]) -> Push {
         self.pushes = self.pushes.saturating_add(1);

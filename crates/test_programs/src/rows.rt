@@ -1,5 +1,5 @@
 //! Scripts and their replies, each with a new service of the same two tenants.
-ghost use Rattle.std.specs.Prelude.{◌≤◌, ℕ};
+ghost use Rattle.judy_stream.specs.Streams.{MayAlwaysPull};
 ghost use Rattle.judy_protocol.specs.Sending.{MaySend};
 ghost use Rattle.judy_programs.specs.Program.{IsSent};
 
@@ -16,8 +16,8 @@ pub type Tenants = Server<Sha256Hash>;
 
 /// Runs an input with the service of the program. Names are looked up with this secret.
 pub fn run<R: Source, W: Sink>(alloc: Global, r: &mut R, w: &mut W, words: bool) -> Ran
-    requires script { (s : R) (room : ℕ) → room ≤ 4096 → R.can_pull s room }
-    requires answers { MaySend W.taken W.pending IsSent w.old W.can_push W.can_flush }
+    requires script { MayAlwaysPull R.source 4096 }
+    requires answers { MaySend W.sink IsSent w.old }
 {
     judy_server::run::<Sha256Hash, R, W>(alloc, b"secret", r, w, words)
 }

@@ -3,7 +3,7 @@
 use Rattle.std.proofs.Common.{arith, ◌≡◌, ◌<◌, ◌≤◌, ℕ, Bool, List, [], ◌∷◌, ◌++◌, length, Option, Some, None, ap, sym, ◌∙◌, subst, refl, append_assoc, append-nil}
 use Rattle.std.specs.Prelude.{codes}
 use Rattle.std.proofs.lemmas.List.{length-append}
-use Rattle.judy_stream.specs.Streams.{IsFlushed}
+use Rattle.judy_stream.specs.Streams.{IsFlushed, SinkOf}
 use Rattle.judy_model.specs.declared.replies.Reply.{Reply}
 use Rattle.judy_model.specs.declared.requests.Line.TheVariants as request
 use Rattle.judy_model.specs.Replies.{line, reply_words, text as text_of}
@@ -11,7 +11,7 @@ use Rattle.judy_model.specs.Speakers.{Speaker}
 use Rattle.judy_model.specs.Stream.{Heard, Login, events_from, welcome, answer_from}
 use Rattle.judy_model.specs.Stream.Heard.{TooLong, Unclear, Asked}
 use Rattle.judy_protocol.specs.Services.{Made}
-use Rattle.judy_protocol.specs.Serving.{MaybeBytes, answers_limit}
+use Rattle.judy_protocol.specs.Serving.{answers_limit}
 use Rattle.judy_protocol.specs.Talks.{Gathers}
 use Rattle.judy_protocol.specs.Sending.{AreAnswers, MaySend}
 use Rattle.judy_protocol.specs.declared.held.Held.{Held}
@@ -96,11 +96,10 @@ gathered_answers made login bytes quit held held' who who' before after text g s
 
 -- what may be sent from a state on may be sent from a later one in which no more bytes wait; the
 -- same holds for fewer texts
-pub MaySend-later : {W : Type 0} (taken : W → MaybeBytes) (pending : W → Bool) (IsText IsOther : List ℕ → Type 0) (first later : W)
-    (can_push : W → List ℕ → Type 0) (can_flush : W → Type 0) → ((text : List ℕ) → IsOther text → IsText text)
-    → IsFlushed (pending first) (pending later)
-    → MaySend taken pending IsText first can_push can_flush → MaySend taken pending IsOther later can_push can_flush
-MaySend-later taken pending IsText IsOther first later can_push can_flush is flushed may = record {
+pub MaySend-later : {W : Type 0} (sink : SinkOf W) (IsText IsOther : List ℕ → Type 0) (first later : W)
+    → ((text : List ℕ) → IsOther text → IsText text) → IsFlushed (sink.pending first) (sink.pending later)
+    → MaySend sink IsText first → MaySend sink IsOther later
+MaySend-later sink IsText IsOther first later is flushed may = record {
   push = λ now rest some left. may.push now rest some (record {
     before = left.before;
     front = left.front;

@@ -4,9 +4,9 @@ use Rattle.judy_programs.proofs.config.read_file.Given as goal
 
 abbrev pub invariant-loop-pulled : goal.invariant-loop-pulled
 invariant-loop-pulled g l = record {
-  given : Consumes (g.R.Source.left l.fn.r) (g.R.Source.left l.r) l.bytes.items;
-  ends : g.R.Source.ends l.r ≡ g.R.Source.ends l.fn.r;
-  faults : g.R.Source.faults l.r ≡ g.R.Source.faults l.fn.r;
+  given : Consumes (g.R.Source.source.left l.fn.r) (g.R.Source.source.left l.r) l.bytes.items;
+  ends : g.R.Source.source.ends l.r ≡ g.R.Source.source.ends l.fn.r;
+  faults : g.R.Source.source.faults l.r ≡ g.R.Source.source.faults l.fn.r;
 }
 
 abbrev pub decreases-loop-pulled : goal.decreases-loop-pulled

@@ -4,7 +4,7 @@ use Rattle.judy_programs.proofs.program.run_with.Goals as goal
 
 pub run_on-requires-clause-prompt : goal.run_on-requires-clause-prompt
 run_on-requires-clause-prompt g c = λ s k room few p. c.requires.prompt s k room few (record {
-  mid = g.R.Source.left c.read_table.new.r;
+  mid = g.R.Source.source.left c.read_table.new.r;
   text = c.split_at.result.0.now;
   script = c.split_at-in-Table.result.1.now;
   tenants = c.in-Ok.ensures.opened.0;

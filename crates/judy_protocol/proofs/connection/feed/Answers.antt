@@ -26,7 +26,7 @@ send-requires-clause-some g c =
 pub send-requires-clause-answers : goal.send-requires-clause-answers
 send-requires-clause-answers g c =
     let are = gathered_answers _ _ _ _ _ _ _ _ _ _ _ c.gather-gathered.ensures.gathers.2 c.gather-gathered.ensures.short in
-    MaySend-later _ _ AreAnswers _ c.args.sink.now c.loop-chunk.sink _ _ (λ text e. subst AreAnswers (sym (e ∙ c.as_slice.ensures.value)) are)
+    MaySend-later _ AreAnswers _ c.args.sink.now c.loop-chunk.sink (λ text e. subst AreAnswers (sym (e ∙ c.as_slice.ensures.value)) are)
     c.loop-chunk.invariant.flushed c.requires.answers
 
 pub returns-then-not-send-clause-heard : goal.returns-then-not-send-clause-heard
@@ -39,7 +39,7 @@ returns-then-not-send-clause-heard g c =
       kept = h.0;
       cut = k.0;
       unheard = c.gather-gathered.result.rest.now;
-      mid = talk g.S.Served.who c.loop-chunk.held c.loop-chunk.speaker c.loop-chunk.service (g.W.Sink.taken c.loop-chunk.sink);
+      mid = talk g.S.Served.who c.loop-chunk.held c.loop-chunk.speaker c.loop-chunk.service (g.W.Sink.sink.taken c.loop-chunk.sink);
       quit = c.gather-gathered.result.quit;
       held = c.gather-gathered.new.held;
       who = _;
@@ -66,7 +66,7 @@ returns-then-gathered-clause-heard g c =
       kept = h.0;
       cut = k.0;
       unheard = c.gather-gathered.result.rest.now;
-      mid = talk g.S.Served.who c.loop-chunk.held c.loop-chunk.speaker c.loop-chunk.service (g.W.Sink.taken c.loop-chunk.sink);
+      mid = talk g.S.Served.who c.loop-chunk.held c.loop-chunk.speaker c.loop-chunk.service (g.W.Sink.sink.taken c.loop-chunk.sink);
       quit = c.gather-gathered.result.quit;
       held = c.gather-gathered.new.held;
       who = _;
@@ -79,7 +79,7 @@ returns-then-gathered-clause-heard g c =
       gathers = gathers;
       short = c.gather-gathered.ensures.short;
       split = append-nil text;
-      written = subst (Appends (g.W.Sink.taken c.loop-chunk.sink) (g.W.Sink.taken c.send.new.sink)) c.as_slice.ensures.value
+      written = subst (Appends (g.W.Sink.sink.taken c.loop-chunk.sink) (g.W.Sink.sink.taken c.send.new.sink)) c.as_slice.ensures.value
           (c.send.ensures.sent c.if-not-send.false);
       by = (c.if-gathered.true, refl);
     }
@@ -89,7 +89,7 @@ loop-chunk-preserved g c =
     let h = c.loop-chunk.invariant.heard in
     let k = c.gather-gathered.ensures.gathers in
     let gathers = rw (c.loop-chunk.invariant.logins, c.if-gathered.false) at k.2 in
-    let sent = subst (Appends (g.W.Sink.taken c.loop-chunk.sink) (g.W.Sink.taken c.send.new.sink)) c.as_slice.ensures.value
+    let sent = subst (Appends (g.W.Sink.sink.taken c.loop-chunk.sink) (g.W.Sink.sink.taken c.send.new.sink)) c.as_slice.ensures.value
     (c.send.ensures.sent c.if-not-send.false) in
     record {
       heard = (
@@ -108,8 +108,8 @@ loop-chunk-preserved g c =
 pub returns-clause-heard : goal.returns-clause-heard
 returns-clause-heard g c =
     let h = c.loop-chunk.invariant.heard in
-    let first = talk g.S.Served.who c.args.held.now c.args.speaker.now c.args.service.now (g.W.Sink.taken c.args.sink.now) in
-    let mid = talk g.S.Served.who c.loop-chunk.held c.loop-chunk.speaker c.loop-chunk.service (g.W.Sink.taken c.loop-chunk.sink) in
+    let first = talk g.S.Served.who c.args.held.now c.args.speaker.now c.args.service.now (g.W.Sink.sink.taken c.args.sink.now) in
+    let mid = talk g.S.Served.who c.loop-chunk.held c.loop-chunk.speaker c.loop-chunk.service (g.W.Sink.sink.taken c.loop-chunk.sink) in
     let last = record mid { held = c.hold.new.self } in
     let whole = Hears-append _ _ h.0 c.loop-chunk.rest.now first mid last h.2 (Hears-chunk _ _ c.loop-chunk.rest.now mid c.hold.new.self c.in_default.ensures c.hold.ensures) in
     rw h.1 at whole

@@ -35,10 +35,10 @@ pub loop-pulls-init : goal.loop-pulls-init
 loop-pulls-init g c = record {
   heard = (
     c.args.first.now,
-    Consumes-prepend c.args.first.now (g.R.Source.left c.args.source.now),
-    c.in-None.ensures.heard c.args.service.now (g.W.Sink.taken c.args.sink.now) []
+    Consumes-prepend c.args.first.now (g.R.Source.source.left c.args.source.now),
+    c.in-None.ensures.heard c.args.service.now (g.W.Sink.sink.taken c.args.sink.now) []
         (begun g.S.Served.made (g.S.Served.seen c.args.service.now).logins g.S.Served.who _ c.args.service.now
-        (g.W.Sink.taken c.args.sink.now) c.new-held.ensures),
+        (g.W.Sink.sink.taken c.args.sink.now) c.new-held.ensures),
   );
   logins = c.in-None.ensures.logins;
   speakers = c.in-None.ensures.speakers;
@@ -57,9 +57,9 @@ returns-in-Some-Quit g c =
     record {
       served = all_quit g.S.Served.made g.S.Served.seen g.met.S.Served.apart c.served_runs_go_on.ensures c.one_call_is_a_run.ensures
           c.tenants_are_answered_equally.ensures _ _ [] c.args.first.now _ _ _ _ _
-          (Consumes-prepend c.args.first.now (g.R.Source.left c.args.source.now)) c.requires.short
+          (Consumes-prepend c.args.first.now (g.R.Source.source.left c.args.source.now)) c.requires.short
           (begun g.S.Served.made (g.S.Served.seen c.args.service.now).logins g.S.Served.who _ c.args.service.now
-          (g.W.Sink.taken c.args.sink.now) c.new-held.ensures) stops;
+          (g.W.Sink.sink.taken c.args.sink.now) c.new-held.ensures) stops;
       end = λ e. cc;
       flushed = λ h. (rw c.in-Some-Quit.field-0-is at c.in-Some-Quit.ensures.flushed) unlike;
       ends = refl;
@@ -75,9 +75,9 @@ returns-in-Some-WriteFault g c =
     record {
       served = part_run g.S.Served.made g.S.Served.seen g.met.S.Served.apart c.served_runs_go_on.ensures c.one_call_is_a_run.ensures
           c.tenants_are_answered_equally.ensures _ _ [] c.args.first.now _ _ _ _ _
-          (Consumes-prepend c.args.first.now (g.R.Source.left c.args.source.now)) c.requires.short
+          (Consumes-prepend c.args.first.now (g.R.Source.source.left c.args.source.now)) c.requires.short
           (begun g.S.Served.made (g.S.Served.seen c.args.service.now).logins g.S.Served.who _ c.args.service.now
-          (g.W.Sink.taken c.args.sink.now) c.new-held.ensures) stops;
+          (g.W.Sink.sink.taken c.args.sink.now) c.new-held.ensures) stops;
       end = λ e. cc;
       flushed = λ h. absurd (h refl);
       ends = refl;
@@ -89,7 +89,7 @@ returns-in-Some-WriteFault g c =
 
 pub feed-requires-in-Bytes-clause-answers : goal.feed-requires-in-Bytes-clause-answers
 feed-requires-in-Bytes-clause-answers g c =
-    MaySend-later _ _ AreAnswers AreAnswers c.args.sink.now c.loop-pulls.sink _ _ (λ text is. is) c.loop-pulls.invariant.flushed c.requires.answers
+    MaySend-later _ AreAnswers AreAnswers c.args.sink.now c.loop-pulls.sink (λ text is. is) c.loop-pulls.invariant.flushed c.requires.answers
 
 pub pull-requires-clause-ready : goal.pull-requires-clause-ready
 pull-requires-clause-ready g c = c.requires.prompt c.loop-pulls.source c.loop-pulls.sink _ (omega arith) (record {

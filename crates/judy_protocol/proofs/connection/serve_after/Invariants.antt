@@ -8,16 +8,16 @@ use Rattle.judy_protocol.proofs.connection.serve_after.Given as goal
 
 abbrev pub invariant-loop-pulls : goal.invariant-loop-pulls
 invariant-loop-pulls g l = record {
-  heard : (stream : List ℕ) × Consumes (prepend_known l.fn.first (g.R.Source.left l.fn.source)) (g.R.Source.left l.source) stream
-      × Told g.S.Served.made (g.S.Served.seen l.fn.service).logins l.fn.service (g.W.Sink.taken l.fn.sink) stream
-      (talk g.S.Served.who l.held l.speaker l.service (g.W.Sink.taken l.sink));
+  heard : (stream : List ℕ) × Consumes (prepend_known l.fn.first (g.R.Source.source.left l.fn.source)) (g.R.Source.source.left l.source) stream
+      × Told g.S.Served.made (g.S.Served.seen l.fn.service).logins l.fn.service (g.W.Sink.sink.taken l.fn.sink) stream
+      (talk g.S.Served.who l.held l.speaker l.service (g.W.Sink.sink.taken l.sink));
   logins : (g.S.Served.seen l.service).logins ≡ (g.S.Served.seen l.fn.service).logins;
   speakers : (g.S.Served.seen l.service).speakers ≡ (g.S.Served.seen l.fn.service).speakers;
   known : HasLoggedIn (g.S.Served.seen l.service).speakers (option_map g.S.Served.who l.speaker);
-  flushed : IsFlushed (g.W.Sink.pending l.fn.sink) (g.W.Sink.pending l.sink);
-  ends : g.R.Source.ends l.source ≡ g.R.Source.ends l.fn.source;
-  read_faults : g.R.Source.faults l.source ≡ g.R.Source.faults l.fn.source;
-  write_faults : g.W.Sink.faults l.sink ≡ g.W.Sink.faults l.fn.sink;
-  gave : g.R.Source.gave l.source < 2 ^ 64 - 1 → g.R.Source.gave l.source ≡ g.R.Source.gave l.fn.source + l._pulls;
-  few : g.R.Source.gave l.source ≤ g.R.Source.gave l.fn.source + l._pulls;
+  flushed : IsFlushed (g.W.Sink.sink.pending l.fn.sink) (g.W.Sink.sink.pending l.sink);
+  ends : g.R.Source.source.ends l.source ≡ g.R.Source.source.ends l.fn.source;
+  read_faults : g.R.Source.source.faults l.source ≡ g.R.Source.source.faults l.fn.source;
+  write_faults : g.W.Sink.sink.faults l.sink ≡ g.W.Sink.sink.faults l.fn.sink;
+  gave : g.R.Source.source.gave l.source < 2 ^ 64 - 1 → g.R.Source.source.gave l.source ≡ g.R.Source.source.gave l.fn.source + l._pulls;
+  few : g.R.Source.source.gave l.source ≤ g.R.Source.source.gave l.fn.source + l._pulls;
 }
