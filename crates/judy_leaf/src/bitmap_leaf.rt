@@ -10,8 +10,9 @@ ghost use Rattle.judy_leaf.specs.Calls.{PutsInLinear, PutsInBits, RemovesInBits,
 
 use crate::answers::{Put, Removed};
 use crate::block::{refer, refer_bits};
-use crate::convert::{narrow, shares, widen};
-use crate::{bitmap, linear};
+use crate::bitmap::{self, Bits};
+use crate::convert::{narrow, widen};
+use crate::linear::{self, Linear};
 use judy_arena::{Arena, Block, Kind};
 use std::alloc::Global;
 
@@ -27,7 +28,11 @@ pub(crate) fn outgrow(values: bool, arena: &mut Arena, block: Block, key: u64, v
     ensures region { Draws arena.old arena.new (length (words_of arena.old.blocks block)) result }
     ensures memory { Takes (blocks_for result) arena.old arena.new }
 {
-    if !shares(values, arena.words(block), key) {
+    let leaf = Linear {
+        words: arena.words(block),
+        values,
+    };
+    if !leaf.shares(key) {
         return Put::Split;
     }
     let words = arena.words_mut(block);
@@ -81,7 +86,7 @@ pub(crate) fn insert(
     if key - key % 256 != words[1] {
         return Put::Split;
     }
-    match bitmap::get(values, words, key) {
+    match (Bits { words, values }).get(key) {
         Some(was) => Put::Present(was),
         None => add(values, alloc, arena, block, key, value),
     }
@@ -94,7 +99,7 @@ pub(crate) fn remove(values: bool, arena: &mut Arena, block: Block, key: u64) ->
     ensures memory { TakesNothing arena.old arena.new }
 {
     let words = arena.words(block);
-    if !bitmap::has(values, words, key) {
+    if !(Bits { words, values }).has(key) {
         return Removed::Absent;
     }
     let count = words[0] as usize;

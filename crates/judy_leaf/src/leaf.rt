@@ -11,8 +11,9 @@ ghost use Rattle.judy_leaf.specs.Leaf.{IsLeaf, leaf_entries, leaf_numbers, leaf_
 ghost use Rattle.judy_leaf.specs.Calls.{LeafBecomes, Makes, LeafPuts, LeafRemoves, Draws, DrawsNew, blocks_for};
 
 use crate::answers::{Put, Removed};
-use crate::gather::{gather, value_at};
-use crate::{bitmap, bitmap_leaf, bits_query, linear, linear_leaf};
+use crate::gather::gather;
+use crate::opened::{Opened, open};
+use crate::{bitmap, bitmap_leaf, linear, linear_leaf};
 use judy_arena::{Arena, Kind, NoMemory, Ref};
 use std::alloc::Global;
 
@@ -99,22 +100,15 @@ pub fn part(
     ensures region { DrawsNew arena.old arena.new result }
     ensures memory { Takes (if is_ok result then 1 else 0) arena.old arena.new }
 {
+    let leaf = open(values, arena, leaf);
     if count == 1 {
-        let key = key_at(values, arena, leaf, from);
-        let value = value_at(values, arena, leaf, from);
+        let (key, value) = leaf.entry_at(from);
         return linear_leaf::single(values, alloc, arena, key, value);
     }
     let mut keys = [0; 31];
     let mut vals = [0; 31];
     let count = count as usize;
-    gather(
-        values,
-        arena,
-        leaf,
-        from,
-        &mut keys[..count],
-        &mut vals[..count],
-    );
+    gather(leaf, from, &mut keys[..count], &mut vals[..count]);
     linear_leaf::make(values, alloc, arena, &keys[..count], &vals[..count])
 }
 
@@ -152,14 +146,10 @@ pub fn get(values: bool, arena: &Arena, leaf: Ref, key: u64) -> Option<u64>
     requires { IsLeaf values arena.now.blocks leaf }
     ensures { result ≡ value_of word_order (leaf_entries values arena.now.blocks leaf) key }
 {
-    let Some(block) = leaf.block() else {
-        return None;
-    };
-    let words = arena.words(block);
-    if is_linear(leaf) {
-        linear::get(values, words, key)
-    } else {
-        bitmap::get(values, words, key)
+    match open(values, arena, leaf) {
+        Opened::Nothing => None,
+        Opened::Linear(leaf) => leaf.get(key),
+        Opened::Bits(leaf) => leaf.get(key),
     }
 }
 
@@ -168,14 +158,10 @@ pub fn find(values: bool, arena: &Arena, leaf: Ref, key: u64) -> Option<u64>
     requires { IsLeaf values arena.now.blocks leaf }
     ensures { result ≡ rank_of (leaf_entries values arena.now.blocks leaf) key }
 {
-    let Some(block) = leaf.block() else {
-        return None;
-    };
-    let words = arena.words(block);
-    if is_linear(leaf) {
-        linear::find(values, words, key)
-    } else {
-        bitmap::find(values, words, key)
+    match open(values, arena, leaf) {
+        Opened::Nothing => None,
+        Opened::Linear(leaf) => leaf.find(key),
+        Opened::Bits(leaf) => leaf.find(key),
     }
 }
 
@@ -184,14 +170,10 @@ pub fn nth(values: bool, arena: &Arena, leaf: Ref, rank: u64) -> Option<u64>
     requires { IsLeaf values arena.now.blocks leaf }
     ensures { result ≡ slice_get (map (λ e. e.0) (leaf_entries values arena.now.blocks leaf)) rank }
 {
-    let Some(block) = leaf.block() else {
-        return None;
-    };
-    let words = arena.words(block);
-    if is_linear(leaf) {
-        linear::nth(values, words, rank)
-    } else {
-        bitmap::nth(values, words, rank)
+    match open(values, arena, leaf) {
+        Opened::Nothing => None,
+        Opened::Linear(leaf) => leaf.nth(rank),
+        Opened::Bits(leaf) => leaf.nth(rank),
     }
 }
 
@@ -227,14 +209,10 @@ pub fn first_entry(values: bool, arena: &Arena, leaf: Ref, x: u64) -> Option<(u6
     requires { IsLeaf values arena.now.blocks leaf }
     ensures { result ≡ first word_order (leaf_entries values arena.now.blocks leaf) x }
 {
-    let Some(block) = leaf.block() else {
-        return None;
-    };
-    let words = arena.words(block);
-    if is_linear(leaf) {
-        linear::first_entry(values, words, x)
-    } else {
-        bits_query::first_entry(values, words, x)
+    match open(values, arena, leaf) {
+        Opened::Nothing => None,
+        Opened::Linear(leaf) => leaf.first_entry(x),
+        Opened::Bits(leaf) => leaf.first_entry(x),
     }
 }
 
@@ -243,14 +221,10 @@ pub fn last_entry(values: bool, arena: &Arena, leaf: Ref, x: u64) -> Option<(u64
     requires { IsLeaf values arena.now.blocks leaf }
     ensures { result ≡ last word_order (leaf_entries values arena.now.blocks leaf) x }
 {
-    let Some(block) = leaf.block() else {
-        return None;
-    };
-    let words = arena.words(block);
-    if is_linear(leaf) {
-        linear::last_entry(values, words, x)
-    } else {
-        bits_query::last_entry(values, words, x)
+    match open(values, arena, leaf) {
+        Opened::Nothing => None,
+        Opened::Linear(leaf) => leaf.last_entry(x),
+        Opened::Bits(leaf) => leaf.last_entry(x),
     }
 }
 
@@ -259,14 +233,10 @@ pub fn count(values: bool, arena: &Arena, leaf: Ref, a: u64, b: u64) -> u64
     requires { IsLeaf values arena.now.blocks leaf }
     ensures { result ≡ count (leaf_entries values arena.now.blocks leaf) a b }
 {
-    let Some(block) = leaf.block() else {
-        return 0;
-    };
-    let words = arena.words(block);
-    if is_linear(leaf) {
-        linear::count(values, words, a, b) as u64
-    } else {
-        bits_query::count(values, words, a, b)
+    match open(values, arena, leaf) {
+        Opened::Nothing => 0,
+        Opened::Linear(leaf) => leaf.count(a, b),
+        Opened::Bits(leaf) => leaf.count(a, b),
     }
 }
 
@@ -295,14 +265,10 @@ pub fn first_empty(values: bool, arena: &Arena, leaf: Ref, x: u64) -> Option<u64
     requires { IsLeaf values arena.now.blocks leaf }
     ensures { result ≡ first_empty (leaf_entries values arena.now.blocks leaf) x }
 {
-    let Some(block) = leaf.block() else {
-        return Some(x);
-    };
-    let words = arena.words(block);
-    if is_linear(leaf) {
-        linear::first_empty(values, words, x)
-    } else {
-        bits_query::first_empty(values, words, x)
+    match open(values, arena, leaf) {
+        Opened::Nothing => Some(x),
+        Opened::Linear(leaf) => leaf.first_empty(x),
+        Opened::Bits(leaf) => leaf.first_empty(x),
     }
 }
 
@@ -311,13 +277,9 @@ pub fn last_empty(values: bool, arena: &Arena, leaf: Ref, x: u64) -> Option<u64>
     requires { IsLeaf values arena.now.blocks leaf }
     ensures { result ≡ last_empty (leaf_entries values arena.now.blocks leaf) x }
 {
-    let Some(block) = leaf.block() else {
-        return Some(x);
-    };
-    let words = arena.words(block);
-    if is_linear(leaf) {
-        linear::last_empty(values, words, x)
-    } else {
-        bits_query::last_empty(values, words, x)
+    match open(values, arena, leaf) {
+        Opened::Nothing => Some(x),
+        Opened::Linear(leaf) => leaf.last_empty(x),
+        Opened::Bits(leaf) => leaf.last_empty(x),
     }
 }

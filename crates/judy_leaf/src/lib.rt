@@ -19,6 +19,7 @@ pub mod laws;
 mod leaf;
 mod linear;
 mod linear_leaf;
+mod opened;
 mod shift;
 
 pub use answers::{Put, Removed};

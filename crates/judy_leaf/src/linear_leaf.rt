@@ -11,7 +11,7 @@ ghost use Rattle.judy_leaf.specs.Calls.{Makes, PutsInLinear, RemovesInLinear, Dr
 use crate::answers::{Put, Removed};
 use crate::bitmap_leaf::outgrow;
 use crate::block::refer;
-use crate::linear;
+use crate::linear::{self, Linear};
 use judy_arena::{Arena, Block, Kind, NoMemory, Ref};
 use std::alloc::Global;
 
@@ -130,9 +130,12 @@ pub(crate) fn insert(
     ensures region { Draws arena.old arena.new (length (words_of arena.old.blocks block)) result }
     ensures memory { Takes (blocks_for result) arena.old arena.new }
 {
-    let words = arena.words(block);
-    match linear::search(values, words, key) {
-        Ok(place) => Put::Present(linear::value_at(values, words, place)),
+    let leaf = Linear {
+        words: arena.words(block),
+        values,
+    };
+    match leaf.search(key) {
+        Ok(place) => Put::Present(leaf.value_at(place)),
         Err(place) => enter(values, alloc, arena, block, place, key, value),
     }
 }
@@ -143,12 +146,15 @@ pub(crate) fn remove(values: bool, arena: &mut Arena, block: Block, key: u64) ->
     ensures removal { RemovesInLinear values arena.old arena.new block key result }
     ensures memory { TakesNothing arena.old arena.new }
 {
-    let words = arena.words(block);
-    let Ok(place) = linear::search(values, words, key) else {
+    let leaf = Linear {
+        words: arena.words(block),
+        values,
+    };
+    let Ok(place) = leaf.search(key) else {
         return Removed::Absent;
     };
-    let value = linear::value_at(values, words, place);
-    let count = words[0] as usize;
+    let value = leaf.value_at(place);
+    let count = leaf.words[0] as usize;
     if count == 1 {
         arena.release(block);
         return Removed::Emptied(value);

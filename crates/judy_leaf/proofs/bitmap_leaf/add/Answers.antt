@@ -1,4 +1,4 @@
-use Rattle.std.proofs.Common.{◌≡◌, ◌+◌, ◌<◌, ◌≤◌, false, length, List, ℕ, Some, [], ◌∷◌, ap, sym, ◌∙◌, refl, subst, arith}
+use Rattle.std.proofs.Common.{◌≡◌, ◌+◌, ◌≤◌, length, List, ℕ, Some, [], ◌∷◌, ap, sym, ◌∙◌, refl, subst, arith}
 use Rattle.judy_arena.specs.Blocks.{words_of}
 use Rattle.judy_model.specs.Contents.{word_order, with_entry, has_key}
 use Rattle.judy_leaf.specs.Linear.{leaf_count}

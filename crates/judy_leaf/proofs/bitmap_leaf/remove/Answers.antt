@@ -1,11 +1,11 @@
-use Rattle.std.proofs.Common.{◌≡◌, ◌+◌, ◌-◌, ◌<◌, ◌≤◌, cond, length, take, get_or, List, ℕ, Some, [], ◌∷◌, is_some, ap, sym, ◌∙◌, refl, subst, arith}
+use Rattle.std.proofs.Common.{◌≡◌, ◌+◌, ◌-◌, ◌<◌, ◌≤◌, cond, length, List, ℕ, Some, [], ◌∷◌, ap, sym, ◌∙◌, refl, subst, arith}
 use Rattle.judy_arena.specs.Blocks.{words_of}
 use Rattle.judy_arena.specs.Room.{room}
 use Rattle.judy_leaf.proofs.RoomFacts.{covers, seven, backed, bitmap-less, cut-sized}
 use Rattle.judy_arena.specs.declared.refs.Kind.TheVariants.{LinearLeaf, BitmapLeaf}
 use Rattle.judy_arena.proofs.lemmas.RoomLaws.{room-mono}
 use Rattle.judy_model.specs.Contents.{word_order, without_key, value_of}
-use Rattle.judy_leaf.specs.Linear.{leaf_count, linear_size, linear_entries, IsLinear}
+use Rattle.judy_leaf.specs.Linear.{leaf_count, linear_size}
 use Rattle.judy_leaf.specs.Bytes.{bitmap_size, bitmap_entries, IsBits}
 use Rattle.judy_leaf.proofs.LinearLaws.{cut}
 use Rattle.judy_leaf.proofs.BitmapLaws.{bits-live, bits-few, cut-bits}

@@ -1,4 +1,4 @@
-use Rattle.std.proofs.Common.{◌≡◌, is_some, ap}
+use Rattle.std.proofs.Common.{is_some, ap}
 use Rattle.judy_arena.specs.Blocks.{words_of}
 use Rattle.judy_leaf.proofs.LinearLaws.{look-other}
 use Rattle.judy_leaf.proofs.linear_leaf.enter.Goals as goal

@@ -1,4 +1,4 @@
-use Rattle.std.proofs.Common.{◌≡◌, Bool, ◌+◌, ◌-◌, ◌<◌, ◌≤◌, length, take, List, ℕ, Some, [], ◌∷◌, is_some, ap, sym, ◌∙◌, refl, subst, arith}
+use Rattle.std.proofs.Common.{◌≡◌, Bool, ◌+◌, ◌-◌, ◌≤◌, length, take, List, ℕ, Some, [], ◌∷◌, is_some, ap, sym, ◌∙◌, refl, subst, arith}
 use Rattle.std.specs.Prelude.{slice_get, map}
 use Rattle.judy_arena.specs.Blocks.{words_of}
 use Rattle.judy_arena.specs.Room.{room}
@@ -9,9 +9,8 @@ use Rattle.judy_model.specs.Contents.{word_order, without_key, value_of}
 use Rattle.judy_leaf.specs.Leaf.{IsLinearLeaf}
 use Rattle.judy_leaf.specs.Linear.{leaf_count, linear_size, linear_entries, IsLinear, GoesTo, StandsAt}
 use Rattle.judy_leaf.proofs.EntryLaws.{one-gone}
-use Rattle.judy_leaf.proofs.LinearLaws.{SameLeaf, look-other, value-found, linear-live, linear-length, size-less, cut}
+use Rattle.judy_leaf.proofs.LinearLaws.{look-other, value-found, linear-live, linear-length, size-less, cut}
 use Rattle.judy_leaf.proofs.lemmas.LeafLaws.{becomes, emptied, named, here-frame, write-frame, lent, lent-words}
-use Rattle.judy_leaf.proofs.RoomFacts.{linear-spare}
 use Rattle.judy_leaf.proofs.linear_leaf.remove.Goals as goal
 
 -- a leaf with one key less, in a block that is cut to the words that it uses
@@ -28,19 +27,19 @@ found v f x leaf p key y is at e = value-found v f leaf p key y (subst (λ l. St
 pub returns-in_default-clause-removal : goal.returns-in_default-clause-removal
 returns-in_default-clause-removal c =
     let f : List ℕ = words_of c.args.arena.now.blocks c.args.block in
-    let at : GoesTo c.words-words.result.now c.args.key c.in_default.field-0 = c.in_default.ensures in (
+    let at : GoesTo c.words.result.now c.args.key c.in_default.field-0 = c.in_default.ensures in (
       ap is_some (look-other c.args.values f c.requires.0 c.in_default.field-0 c.args.key
-          (subst (λ x. GoesTo x c.args.key c.in_default.field-0) c.words-words.ensures at)),
+          (subst (λ x. GoesTo x c.args.key c.in_default.field-0) c.words.ensures at)),
       (refl, refl),
     )
 
 pub returns-then-count-eq1-clause-removal : goal.returns-then-count-eq1-clause-removal
 returns-then-count-eq1-clause-removal c =
     let f : List ℕ = words_of c.args.arena.now.blocks c.args.block in
-    let value = found c.args.values f c.words-words.result.now c.requires.0 c.in-Ok.place c.args.key c.value_at-value.result
-    c.words-words.ensures c.in-Ok.ensures c.value_at-value.ensures in
+    let value = found c.args.values f c.words.result.now c.requires.0 c.in-Ok.place c.args.key c.value_at-value.result
+    c.words.ensures c.in-Ok.ensures c.value_at-value.ensures in
     let one : length (linear_entries c.args.values f) ≡ 1 = linear-length c.args.values f c.requires.0 ∙ ap leaf_count
-    (sym c.words-words.ensures) ∙ c.if-count-eq1.true in (
+    (sym c.words.ensures) ∙ c.if-count-eq1.true in (
       value,
       one-gone (linear_entries c.args.values f) c.args.key one (ap is_some value),
       emptied c.args.values c.args.arena.now
@@ -52,8 +51,8 @@ shrink-requires-clause-within c =
     let w : List ℕ = c.remove.new.words in
     let size : length w ≡ length (words_of c.args.arena.now.blocks c.args.block) = c.remove.auto.words ∙ ap length c.words_mut.ensures.value in
     let e = lent-words c.args.arena.now c.args.block w size in
-    let s = fewer c.args.values c.words_mut.result.now w c.words-words.result.now c.size.result c.remove.ensures.leaf
-    (c.words-words.ensures ∙ sym c.words_mut.ensures.value) c.remove.ensures.count c.size.ensures in
+    let s = fewer c.args.values c.words_mut.result.now w c.words.result.now c.size.result c.remove.ensures.leaf
+    (c.words.ensures ∙ sym c.words_mut.ensures.value) c.remove.ensures.count c.size.ensures in
     subst (λ l. c.size.result ≤ length l) (sym e) (subst (λ m. m ≤ length w) (sym s) c.remove.ensures.leaf.room)
 
 pub returns-clause-removal : goal.returns-clause-removal
@@ -62,16 +61,16 @@ returns-clause-removal c =
     let w : List ℕ = c.remove.new.words in
     let size : length w ≡ length f = c.remove.auto.words ∙ ap length c.words_mut.ensures.value in
     let e = lent-words c.args.arena.now c.args.block w size in
-    let s = fewer c.args.values c.words_mut.result.now w c.words-words.result.now c.size.result c.remove.ensures.leaf
-    (c.words-words.ensures ∙ sym c.words_mut.ensures.value) c.remove.ensures.count c.size.ensures in
+    let s = fewer c.args.values c.words_mut.result.now w c.words.result.now c.size.result c.remove.ensures.leaf
+    (c.words.ensures ∙ sym c.words_mut.ensures.value) c.remove.ensures.count c.size.ensures in
     let same = cut c.args.values w (room c.size.result) c.remove.ensures.leaf (subst (λ m. m ≤ room c.size.result) s (covers c.size.result)) in
     let is : words_of c.shrink.new.self.blocks c.args.block ≡ take (room c.size.result) w = c.shrink.ensures.words ∙ ap (take (room c.size.result)) e in
     let here = here-frame c.args.arena.now.blocks c.args.block (linear-live c.args.values f c.requires.0) in
     let frame = write-frame c.args.arena.now.blocks (lent c.args.arena.now c.args.block w).blocks c.shrink.new.self.blocks (c.args.block ∷ []) c.args.block _
     (write-frame c.args.arena.now.blocks c.args.arena.now.blocks (lent c.args.arena.now c.args.block w).blocks (c.args.block ∷ [])
     c.args.block _ here refl) c.shrink.ensures.blocks in (
-      found c.args.values f c.words-words.result.now c.requires.0 c.in-Ok.place c.args.key c.value_at-value.result
-          c.words-words.ensures c.in-Ok.ensures c.value_at-value.ensures,
+      found c.args.values f c.words.result.now c.requires.0 c.in-Ok.place c.args.key c.value_at-value.result
+          c.words.ensures c.in-Ok.ensures c.value_at-value.ensures,
       becomes c.args.values c.args.arena.now c.shrink.new.self (c.args.block ∷ []) _ c.refer.result c.args.block LinearLeaf
           c.refer.ensures.kind c.refer.ensures.block frame c.shrink.ensures.refusals
           (subst (IsLinearLeaf c.args.values) (sym is) (
