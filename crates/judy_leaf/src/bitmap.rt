@@ -1,8 +1,8 @@
 //! The words of a bitmap leaf: the number of keys, the bytes that they share, and a bitmap of last
 //! bytes. In a map the values follow, in the order of the keys.
-ghost use Rattle.std.specs.Prelude.{◌≡◌, ℕ, ◌+◌, ◌-◌, ◌%◌, ◌<◌, ◌≤◌, ◌≢◌, cond, true, Some, IsTrue, IsFalse, IfNone, IfSome, length, drop, map, slice_get, slice_index};
+ghost use Rattle.std.specs.Prelude.{◌≡◌, ℕ, ◌+◌, ◌-◌, ◌%◌, ◌<◌, ◌≤◌, cond, true, Some, IsTrue, IsFalse, IfNone, IfSome, length, drop, map, slice_get, slice_index};
 ghost use Rattle.std.specs.List.{insert, remove};
-ghost use Rattle.judy_bitmap.specs.ByteSets.{members, below, is_member, with_byte, without_byte};
+ghost use Rattle.judy_bitmap.specs.ByteSets.{members, below, with_byte, without_byte};
 ghost use Rattle.judy_model.specs.Contents.{word_order, value_of, has_key, with_entry, without_key};
 ghost use Rattle.judy_leaf.specs.Entries.{rank_of};
 ghost use Rattle.judy_leaf.specs.Linear.{leaf_count};
@@ -238,7 +238,10 @@ pub(crate) fn write(words: &mut [u64], key: u64, value: u64)
         ≡ with_entry word_order (bitmap_entries true words.old) key value }
     ensures count { leaf_count words.new ≡ leaf_count words.old }
 {
-    let leaf = Bits { words, values: true };
+    let leaf = Bits {
+        words,
+        values: true,
+    };
     let Some(rank) = leaf.find(key) else {
         unreachable!();
     };

@@ -1,5 +1,5 @@
 //! Leaves, by their references.
-ghost use Rattle.std.specs.Prelude.{◌≡◌, ◌+◌, ◌<◌, ◌≤◌, true, IsTrue, IsFalse, Some, [], ◌∷◌, is_ok, if◌then◌else◌, length, take, drop, map, slice_get, get_or};
+ghost use Rattle.std.specs.Prelude.{◌≡◌, ◌+◌, ◌<◌, ◌≤◌, true, IsTrue, IsFalse, Some, [], is_ok, if◌then◌else◌, length, take, drop, map, slice_get, get_or};
 ghost use Rattle.judy_arena.specs.declared.refs.Kind.TheVariants.{LinearLeaf, FullLeaf};
 ghost use Rattle.judy_arena.specs.Frame.{Frame};
 ghost use Rattle.judy_arena.specs.References.{kind_of};
@@ -11,9 +11,11 @@ ghost use Rattle.judy_leaf.specs.Leaf.{IsLeaf, leaf_entries, leaf_numbers, leaf_
 ghost use Rattle.judy_leaf.specs.Calls.{LeafBecomes, Makes, LeafPuts, LeafRemoves, Draws, DrawsNew, blocks_for};
 
 use crate::answers::{Put, Removed};
+use crate::bitmap_leaf::BitsBlock;
 use crate::gather::gather;
+use crate::linear_leaf::LinearBlock;
 use crate::opened::{Opened, open};
-use crate::{bitmap, bitmap_leaf, linear, linear_leaf};
+use crate::{bitmap, linear, linear_leaf};
 use judy_arena::{Arena, Kind, NoMemory, Ref};
 use std::alloc::Global;
 
@@ -59,26 +61,10 @@ pub fn insert(
         };
     };
     if is_linear(leaf) {
-        linear_leaf::insert(values, alloc, arena, block, key, value)
+        LinearBlock { block, values }.insert(alloc, arena, key, value)
     } else {
-        bitmap_leaf::insert(values, alloc, arena, block, key, value)
+        BitsBlock { block, values }.insert(alloc, arena, key, value)
     }
-}
-
-/// A new linear leaf of one key with its value, 0 in a set.
-pub fn single(
-    values: bool,
-    alloc: Global,
-    arena: &mut Arena,
-    key: u64,
-    value: u64,
-) -> Result<Ref, NoMemory>
-    requires plain { IsFalse values → value ≡ 0 }
-    ensures making { Makes values arena.old arena.new ((key, value) ∷ []) result }
-    ensures region { DrawsNew arena.old arena.new result }
-    ensures memory { Takes (if is_ok result then 1 else 0) arena.old arena.new }
-{
-    linear_leaf::single(values, alloc, arena, key, value)
 }
 
 /// A new linear leaf with `count` entries of a leaf, from the one at place `from` on. The old leaf
@@ -135,9 +121,9 @@ pub fn remove(values: bool, arena: &mut Arena, leaf: Ref, key: u64) -> Removed
         return Removed::Absent;
     };
     if is_linear(leaf) {
-        linear_leaf::remove(values, arena, block, key)
+        LinearBlock { block, values }.remove(arena, key)
     } else {
-        bitmap_leaf::remove(values, arena, block, key)
+        BitsBlock { block, values }.remove(arena, key)
     }
 }
 

@@ -25,5 +25,6 @@ mod shift;
 pub use answers::{Put, Removed};
 pub use leaf::{
     count, find, first_empty, first_entry, get, insert, key_at, last_empty, last_entry, nth, part,
-    population, release, remove, single, write,
+    population, release, remove, write,
 };
+pub use linear_leaf::single;

@@ -1,6 +1,6 @@
 //! The words of a linear leaf: the number of keys, and the keys in rising order. In a map the
 //! values follow, in the order of the keys.
-ghost use Rattle.std.specs.Prelude.{◌≡◌, ℕ, ◌+◌, ◌-◌, ◌*◌, ◌<◌, ◌≤◌, MatchResult, IsTrue, IsFalse, true, Some, length, slice_get, slice_index, map, [], ◌∷◌};
+ghost use Rattle.std.specs.Prelude.{◌≡◌, ◌+◌, ◌-◌, ◌*◌, ◌<◌, ◌≤◌, MatchResult, IsTrue, IsFalse, true, Some, length, slice_get, map, [], ◌∷◌};
 ghost use Rattle.std.specs.List.Sorted.{IsStrictlyIncreasing};
 ghost use Rattle.judy_model.specs.Contents.{IsRising, word_order, has_key, value_of, with_entry, without_key, count, first, last, pairs};
 ghost use Rattle.judy_model.specs.Gaps.{first_empty, last_empty};
@@ -186,7 +186,10 @@ pub(crate) fn write(words: &mut [u64], key: u64, value: u64)
         ≡ with_entry word_order (linear_entries true words.old) key value }
     ensures count { leaf_count words.new ≡ leaf_count words.old }
 {
-    let leaf = Linear { words, values: true };
+    let leaf = Linear {
+        words,
+        values: true,
+    };
     let Ok(place) = leaf.search(key) else {
         unreachable!();
     };
