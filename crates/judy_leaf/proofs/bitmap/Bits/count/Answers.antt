@@ -31,4 +31,9 @@ overflow_sub-result-2 c = omega (
 )
 
 pub returns : goal.returns
-returns c = omega (arith, c.below-below.ensures, c.below.ensures, count-many c.args.self.values c.args.self.words.now c.args.self.sound c.args.a c.args.b c.if-b-a.false)
+returns c = omega (
+  arith,
+  c.below-below.ensures,
+  c.below.ensures,
+  count-many c.args.self.values c.args.self.words.now c.args.self.sound c.args.a c.args.b c.if-b-a.false,
+)

@@ -14,7 +14,8 @@ pub returns-in-Some : goal.returns-in-Some
 returns-in-Some c = ap (λ m. Some (leaf_shared c.args.self.words.now + m)) c.from.ensures
     ∙ last-gap (bitmap_entries c.args.self.values c.args.self.words.now) (bitmap-words c.args.self.values c.args.self.words.now c.args.self.sound) c.args.x
     c.ranges.x.fits (Some (leaf_shared c.args.self.words.now + c.in-Some.byte))
-    (last-in c.args.self.values c.args.self.words.now c.args.self.sound c.args.x c.ranges.x.fits c.if-x-self.false c.in-Some.byte (rw (← c.bits_of.ensures) c.in-Some.ensures))
+    (last-in c.args.self.values c.args.self.words.now c.args.self.sound c.args.x c.ranges.x.fits c.if-x-self.false c.in-Some.byte
+    (rw (← c.bits_of.ensures) c.in-Some.ensures))
 
 pub returns-in-None : goal.returns-in-None
 returns-in-None c = last-gap (bitmap_entries c.args.self.values c.args.self.words.now)

@@ -23,7 +23,8 @@ returns-then-len-words-clause-insertion c =
     let count : leaf_count c.insert.new.words ≡ leaf_count c.words-words.result.now + 1 = c.insert.ensures.count
     ∙ ap (λ l. leaf_count l + 1) (c.words_mut.ensures.value ∙ sym c.words-words.ensures) in (
       c.requires.absent,
-      takes-shared (Some BitmapLeaf) (bitmap_entries c.args.self.values f) c.args.key (bits-share c.args.self.values f c.requires.leaf.0 c.args.key c.requires.shared),
+      takes-shared (Some BitmapLeaf) (bitmap_entries c.args.self.values f) c.args.key
+          (bits-share c.args.self.values f c.requires.leaf.0 c.args.key c.requires.shared),
       lent-becomes c.args.self.values c.args.arena.now c.args.arena.now (c.args.self.block ∷ []) _ c.refer_bits.result c.args.self.block
           c.insert.new.words k.kind k.is c.refer_bits.ensures.block
           (here-frame c.args.arena.now.blocks c.args.self.block (bits-live c.args.self.values f c.requires.leaf.0)) refl
@@ -81,7 +82,8 @@ returns-clause-insertion c =
     let count : leaf_count c.insert-2.new.words ≡ leaf_count c.words-words.result.now + 1 = c.insert-2.ensures.count
     ∙ ap (λ l. leaf_count l + 1) c.words_mut-2.ensures.value ∙ ap (λ m. m + 1) (s.count ∙ sym is) in (
       c.requires.absent,
-      takes-shared (Some BitmapLeaf) (bitmap_entries c.args.self.values f) c.args.key (bits-share c.args.self.values f c.requires.leaf.0 c.args.key c.requires.shared),
+      takes-shared (Some BitmapLeaf) (bitmap_entries c.args.self.values f) c.args.key
+          (bits-share c.args.self.values f c.requires.leaf.0 c.args.key c.requires.shared),
       lent-becomes c.args.self.values c.args.arena.now c.grow.new.self (c.args.self.block ∷ []) _ c.refer_bits-2.result c.in-Ok.to
           c.insert-2.new.words k.kind k.is c.refer_bits-2.ensures.block
           c.in-Ok.ensures.frame c.in-Ok.ensures.refusals

@@ -28,7 +28,8 @@ pub narrow-requires-clause-leaf : goal.narrow-requires-clause-leaf
 narrow-requires-clause-leaf c =
     let w : List ℕ = c.remove-value.new.words in
     let size : length w ≡ length (words_of c.args.arena.now.blocks c.args.self.block) = c.remove-value.auto.words ∙ ap length c.words_mut.ensures.value in
-    subst (IsBits c.args.self.values) (sym (c.words_mut-then-count-eq8.ensures.value ∙ lent-words c.args.arena.now c.args.self.block w size)) c.remove-value.ensures.leaf
+    subst (IsBits c.args.self.values) (sym (c.words_mut-then-count-eq8.ensures.value ∙ lent-words c.args.arena.now c.args.self.block w size))
+    c.remove-value.ensures.leaf
 
 pub narrow-requires-clause-seven : goal.narrow-requires-clause-seven
 narrow-requires-clause-seven c =

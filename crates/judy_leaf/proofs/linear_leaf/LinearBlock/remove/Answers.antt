@@ -66,7 +66,8 @@ returns-clause-removal c =
     let same = cut c.args.self.values w (room c.size.result) c.remove.ensures.leaf (subst (λ m. m ≤ room c.size.result) s (covers c.size.result)) in
     let is : words_of c.shrink.new.self.blocks c.args.self.block ≡ take (room c.size.result) w = c.shrink.ensures.words ∙ ap (take (room c.size.result)) e in
     let here = here-frame c.args.arena.now.blocks c.args.self.block (linear-live c.args.self.values f c.requires.0) in
-    let frame = write-frame c.args.arena.now.blocks (lent c.args.arena.now c.args.self.block w).blocks c.shrink.new.self.blocks (c.args.self.block ∷ []) c.args.self.block _
+    let frame = write-frame c.args.arena.now.blocks (lent c.args.arena.now c.args.self.block w).blocks c.shrink.new.self.blocks
+    (c.args.self.block ∷ []) c.args.self.block _
     (write-frame c.args.arena.now.blocks c.args.arena.now.blocks (lent c.args.arena.now c.args.self.block w).blocks (c.args.self.block ∷ [])
     c.args.self.block _ here refl) c.shrink.ensures.blocks in (
       found c.args.self.values f c.words.result.now c.requires.0 c.in-Ok.place c.args.key c.value_at-value.result
