@@ -1,5 +1,5 @@
 -- What calls that change leaves take from the machine.
-use Rattle.std.proofs.Common.{◌≡◌, ◌+◌, ◌<◌, ◌≤◌, ℕ, Bool, true, false, List, Option, Some, length, ap, sym, ◌∙◌, subst, refl, arith}
+use Rattle.std.proofs.Common.{◌≡◌, ◌+◌, ◌<◌, ◌≤◌, ℕ, Some, length, ap, arith}
 use Rattle.std.proofs.lemmas.List.{length-replicate}
 use Rattle.judy_arena.specs.Blocks.{Blocks, ArenaState, words_of, zeros}
 use Rattle.judy_arena.specs.Draws.{DrawsBlock}

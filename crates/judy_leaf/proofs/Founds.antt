@@ -75,7 +75,7 @@ module _ (l : Entries ℕ) where
 -- ---- entries by the place of a key
 
 -- the keys before the place are below the word, and the one at it is not
-pub first-at : (l : Entries ℕ) (x r : ℕ) → r ≤ length (keys_of l) → ((i : ℕ) → i < r → get_or (keys_of l) i 0 < x)
+first-at : (l : Entries ℕ) (x r : ℕ) → r ≤ length (keys_of l) → ((i : ℕ) → i < r → get_or (keys_of l) i 0 < x)
     → (r < length (keys_of l) → x ≤ get_or (keys_of l) r 0) → first word_order l x ≡ slice_get l r
 first-at l x r h under over = first-words l x ∙ at l r h under over
   where
@@ -85,6 +85,13 @@ first-at l x r h under over = first-words l x ∙ at l r h under over
     at (e ∷ l) zero h under over = rw (le-test x e.0 (over (omega arith))) refl
     at (e ∷ l) (suc r) h under over = rw (le-not x e.0 (under 0 (omega arith)))
         (at l r (omega arith) (λ i j. under (suc i) (omega arith)) (λ j. over (omega arith)))
+
+-- the same, told of a list that is that of the keys
+pub first-in : (l : Entries ℕ) (ks : List ℕ) → keys_of l ≡ ks → (x r : ℕ) → r ≤ length ks
+    → ((i : ℕ) → i < r → get_or ks i 0 < x) → (r < length ks → x ≤ get_or ks r 0) → first word_order l x ≡ slice_get l r
+first-in l ks is =
+    subst (λ ks. (x r : ℕ) → r ≤ length ks → ((i : ℕ) → i < r → get_or ks i 0 < x) → (r < length ks → x ≤ get_or ks r 0)
+    → first word_order l x ≡ slice_get l r) is (first-at l)
 
 -- past the last place there is nothing
 pub first-end : (l : Entries ℕ) (r : ℕ) → r ≡ length (keys_of l) → None ≡ slice_get l r

@@ -1,5 +1,5 @@
 -- The absent word that a search finds, told word by word, is the one of the definitions.
-use Rattle.std.proofs.Common.{◌≡◌, ◌≢◌, ℕ, zero, suc, ◌+◌, ◌-◌, ◌<◌, ◌≤◌, ◌^◌, true, false, Option, Some, None, inl, inr, ap, sym, ◌∙◌, refl, subst, arith}
+use Rattle.std.proofs.Common.{◌≡◌, ℕ, zero, suc, ◌+◌, ◌-◌, ◌<◌, ◌≤◌, ◌^◌, true, false, Option, Some, None, inl, inr, ap, sym, ◌∙◌, refl, arith}
 use Rattle.std.proofs.lemmas.Bool.{cases_lt}
 use Rattle.judy_model.specs.Contents.{Entries, IsWordArray, word_order, has_key, count, max_word}
 use Rattle.judy_model.specs.Gaps.{IsFirstEmpty, IsLastEmpty, first_empty, last_empty}

@@ -1,9 +1,9 @@
 -- A stretch of the entries of a leaf, as its keys and its values.
 use Rattle.std.proofs.Common.{◌≡◌, ℕ, zero, suc, ◌+◌, ◌<◌, ◌≤◌, Bool, true, false, cond, ◌&&◌, ◌==◌, List, [], ◌∷◌, ◌++◌}
-use Rattle.std.proofs.Common.{length, map, take, drop, get_or, replicate, Option, Some, None, ap, sym, ◌∙◌, refl, subst, arith}
+use Rattle.std.proofs.Common.{length, map, take, drop, get_or, replicate, Some, ap, sym, ◌∙◌, refl, arith}
 use Rattle.std.proofs.Common.{length-drop}
 use Rattle.std.specs.Prelude.{slice_get, slice_index}
-use Rattle.std.specs.List.{list_all, zip}
+use Rattle.std.specs.List.{list_all}
 use lib.Seq.{take_at}
 use Rattle.std.specs.FinMap.{is_sorted}
 use Rattle.std.specs.FinMap.Entries.{below_all}
@@ -11,25 +11,38 @@ use Rattle.std.specs.Ordering.{is_lt}
 use Rattle.std.proofs.lemmas.Bool.Decides.{nat_tests}
 use Rattle.std.proofs.lemmas.List.{length-map, length-take-le, get_or-map, get_or-take, get_or-drop, ext_get_or}
 use Rattle.std.proofs.lemmas.Bool.{and_parts}
+use Rattle.std.proofs.lemmas.Option.{none-some, slice_get-get_or}
 use Rattle.judy_model.specs.Contents.{Entries, word_order, pairs}
 use Rattle.judy_leaf.specs.Linear.{leaf_count}
-use Rattle.judy_leaf.specs.Bytes.{IsBits, bitmap_entries}
-use Rattle.judy_leaf.proofs.BitmapLaws.{entries-values, value-read, bits-length}
+use Rattle.judy_leaf.specs.Views.{of_leaf}
+use Rattle.judy_leaf.specs.declared.opened.Opened.{Opened}
+use Rattle.judy_leaf.specs.declared.opened.Opened.TheVariants as opened
+use Rattle.judy_leaf.specs.Bytes.{IsBits, bitmap_entries, bitmap_values}
+use Rattle.judy_leaf.proofs.BitmapLaws.{entries-values, value-read, values-length, bits-length, bits-few}
+use Rattle.judy_leaf.proofs.LinearLaws.{linear-length}
 
--- the value at a place, told as an entry's
-pub at-value : (l : Entries ℕ) (p x : ℕ) → slice_get (map (λ (e : ℕ × ℕ). e.1) l) p ≡ Some x → x ≡ (get_or l p (0, 0)).1
-at-value [] zero x e = cc
-at-value [] (suc p) x e = cc
-at-value (y ∷ l) zero x e = let f : y.1 ≡ x = cc in sym f
-at-value (y ∷ l) (suc p) x e = at-value l p x e
+-- the entry at a place
+pub at-place : (l : Entries ℕ) (p : ℕ) (e : ℕ × ℕ) → slice_get l p ≡ Some e → e ≡ get_or l p (0, 0)
+at-place [] p e h = absurd (none-some e h)
+at-place (y ∷ l) zero e h = let f : y ≡ e = cc in sym f
+at-place (y ∷ l) (suc p) e h = at-place l p e h
 
 -- the value at a place of a leaf of bits
-pub bits-value : (v : Bool) (ws : List ℕ) (p : ℕ) → IsBits v ws → p < leaf_count ws → (get_or (bitmap_entries v ws) p (0, 0)).1
-    ≡ cond v (slice_index (drop 6 ws) p) 0
+pub bits-value : (v : Bool) (ws : List ℕ) (p : ℕ) → IsBits v ws → p < leaf_count ws
+    → slice_get (map (λ (e : ℕ × ℕ). e.1) (bitmap_entries v ws)) p ≡ Some (cond v (slice_index (drop 6 ws) p) 0)
 bits-value v ws p leaf h =
-    let n = bits-length v ws leaf in
-    sym (get_or-map (λ (e : ℕ × ℕ). e.1) (bitmap_entries v ws) p (0, 0) 0 (omega (arith, n, h)))
-    ∙ ap (λ l. get_or l p 0) (entries-values v ws leaf) ∙ value-read v (leaf_count ws) p ws h leaf.room
+    let n = values-length v (leaf_count ws) ws leaf.room in
+    ap (λ l. slice_get l p) (entries-values v ws leaf)
+    ∙ slice_get-get_or (bitmap_values v (leaf_count ws) ws) p 0 (omega (arith, n, h))
+    ∙ ap Some (value-read v (leaf_count ws) p ws h leaf.room)
+
+-- a leaf has at most 256 entries
+pub few-at-hand : (leaf : Opened) → length (of_leaf leaf) ≤ 256
+few-at-hand opened.Nothing = omega arith
+few-at-hand (opened.Linear leaf) =
+    omega (arith, linear-length leaf.values leaf.words.now leaf.sound, leaf.sound.few)
+few-at-hand (opened.Bits leaf) =
+    omega (arith, bits-length leaf.values leaf.words.now leaf.sound, bits-few leaf.values leaf.words.now leaf.sound)
 
 -- items that are told one by one
 pub stretch : (f : ℕ × ℕ → ℕ) (l : Entries ℕ) (from n : ℕ) (xs : List ℕ) → length xs ≡ n → from + n ≤ length l

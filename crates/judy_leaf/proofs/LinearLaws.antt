@@ -2,22 +2,19 @@
 use Rattle.std.proofs.Common.{◌≡◌, ◌≢◌, ℕ, zero, suc, ◌+◌, ◌-◌, ◌*◌, ◌<◌, ◌≤◌, ◌^◌, Bool, true, false, cond, List, [], ◌∷◌}
 use Rattle.std.proofs.Common.{◌++◌, take, drop, set, length, get_or, replicate, Some, None, is_some, ap, sym, ◌∙◌, refl, subst}
 use Rattle.std.proofs.Common.{arith, length-append, length-drop, length-set, append-nil, add-one}
-use Rattle.std.specs.Prelude.{Result, Ok, Err, MatchResult, map, slice_get, nat_le, ◌==◌, ◌&&◌}
+use Rattle.std.specs.Prelude.{map, slice_get, nat_le, ◌&&◌}
 use Rattle.std.specs.FinMap.{is_sorted}
 use Rattle.std.specs.FinMap.Entries.{below_all}
 use Rattle.std.specs.Ordering.{is_lt}
 use Rattle.std.specs.List.{list_all}
-use Rattle.std.specs.List.{insert, remove, zip}
-use Rattle.std.specs.List.Sorted.{IsBinarySearchResult}
-use Rattle.std.specs.Ordering.{nat_cmp}
-use Rattle.std.proofs.lemmas.List.Sorted.{searched}
+use Rattle.std.specs.List.{insert, remove}
 use Rattle.std.proofs.lemmas.List.{length-take-le, length-replicate, get_or-take, get_or-drop, take-take, drop-take}
 use Rattle.std.proofs.lemmas.List.Edits.{length-insert, length-remove, insert-append_left, insert-append_right, remove-append_left, remove-append_right}
 use lib.Seq.{get_or-set_other, drop-set-add, take-set-le, paste, take-paste, length-paste, take-length, take-add, take-set-lt}
-use lib.Seq.{take_at, take-append_seam, drop-append_seam}
+use lib.Seq.{take-append_seam, drop-append_seam}
 use Rattle.std.proofs.lemmas.Grind.{get_or_after_one}
 use Rattle.std.proofs.lemmas.Bool.Decides.{nat_tests}
-use Rattle.judy_model.specs.Contents.{Entries, word_order, value_of, has_key, with_entry, without_key, IsWordArray, pairs, HasWordValues}
+use Rattle.judy_model.specs.Contents.{word_order, value_of, has_key, with_entry, without_key, IsWordArray, pairs, HasWordValues}
 use Rattle.judy_model.proofs.lemmas.EntryLemmas.{place-new, place-gone, place-old, find-not, find-there, keys-rise}
 use Rattle.judy_leaf.specs.Entries.{rank_of}
 use Rattle.judy_leaf.proofs.Zipped.{zip-keys}

@@ -1,6 +1,6 @@
 -- How large the blocks of leaves are.
 use Rattle.std.proofs.Common.{◌≡◌, ◌⊎◌, inl, inr, ℕ, zero, suc, ◌+◌, ◌*◌, ◌<◌, ◌≤◌, ◌^◌, Bool, true, false, cond, List, length}
-use Rattle.std.proofs.Common.{take, ap, sym, ◌∙◌, refl, subst, arith}
+use Rattle.std.proofs.Common.{take, ap, sym, ◌∙◌, subst, arith}
 use Rattle.std.proofs.lemmas.Bool.{cases_lt}
 use lib.ListN.{length-take}
 use Rattle.std.proofs.lemmas.List.{length-replicate}

@@ -1,9 +1,8 @@
 -- Rising keys before and from a place.
-use Rattle.std.proofs.Common.{◌≡◌, ◌≢◌, ℕ, ◌+◌, ◌-◌, ◌*◌, ◌<◌, ◌≤◌, ◌⊎◌, inl, inr, List, length, get_or, take, drop, arith, ◌^◌}
+use Rattle.std.proofs.Common.{◌≡◌, ◌≢◌, ℕ, ◌+◌, ◌-◌, ◌*◌, ◌<◌, ◌≤◌, List, length, get_or, take, drop, arith}
 use Rattle.std.specs.Prelude.{filter, nat_lt, nat_le}
 use Rattle.std.specs.List.Sorted.{IsStrictlyIncreasing}
-use Rattle.std.proofs.lemmas.Bool.{cases_lt}
-use Rattle.judy_leaf.specs.Linear.{leaf_count, linear_key, linear_keys, IsLinear, StandsAt, GoesTo}
+use Rattle.judy_leaf.specs.Linear.{leaf_count, linear_keys, IsLinear, StandsAt, GoesTo}
 use Rattle.judy_leaf.proofs.Rising.{far}
 use Rattle.judy_leaf.proofs.Cuts.{filter-front, filter-back}
 use Rattle.judy_leaf.proofs.LinearLaws.{keys-count, key-at}

@@ -7,7 +7,7 @@
 --     DrawsNew old new answer                 what making a leaf takes from it
 --     blocks_for answer                       how many blocks an insertion takes
 -- Those that end in In say the same of a leaf with these entries in the blocks of these numbers.
-use Rattle.std.specs.Prelude.{◌≡◌, ◌<◌, ◌≤◌, ℕ, Bool, List, Option, Some, Result, Ok, Err, [], ◌∷◌, IsTrue, IsFalse}
+use Rattle.std.specs.Prelude.{◌≡◌, ◌<◌, ◌≤◌, ℕ, Bool, List, Option, Some, Result, Ok, Err, [], ◌∷◌, IsFalse}
 use Rattle.judy_arena.specs.Blocks.{ArenaState, count_up, words_of}
 use Rattle.judy_arena.specs.Draws.{DrawsBlock}
 use Rattle.judy_arena.specs.Frame.{Frame}

@@ -4,4 +4,5 @@ pub mod Bytes
 pub mod Leaf
 pub mod Calls
 pub mod Keys
+pub mod Views
 pub mod Laws

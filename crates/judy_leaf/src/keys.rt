@@ -1,10 +1,10 @@
 //! Rising lists of keys: how many are below a word, which are next to it, and where they leave a
 //! gap. A search for a key goes by steps of 4, and then compares the three keys between two steps;
 //! a search for a gap goes by halves.
-ghost use Rattle.std.specs.Prelude.{◌≡◌, ◌≢◌, ℕ, ◌+◌, ◌<◌, ◌≤◌, length, take, drop, filter, nat_lt, nat_le, slice_index, slice_get};
+ghost use Rattle.std.specs.Prelude.{◌≡◌, ◌≢◌, ℕ, ◌+◌, ◌<◌, ◌≤◌, length, take, drop, filter, nat_lt, nat_le, slice_index};
 ghost use Rattle.std.specs.List.Sorted.{IsStrictlyIncreasing};
-ghost use Rattle.judy_model.specs.Contents.{Entries, word_order, count, nth, first, next, last, prev};
-ghost use Rattle.judy_model.specs.Gaps.{first_empty, next_empty, last_empty, prev_empty};
+ghost use Rattle.judy_model.specs.Contents.{Entries, count, first, next, last};
+ghost use Rattle.judy_model.specs.Gaps.{first_empty, last_empty};
 ghost use Rattle.judy_leaf.specs.Keys.{keys_of};
 
 /// A place found by steps of 4. All keys before it are below the word, and the key three places

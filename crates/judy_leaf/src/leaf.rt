@@ -1,5 +1,5 @@
 //! Leaves, by their references.
-ghost use Rattle.std.specs.Prelude.{◌≡◌, ◌+◌, ◌<◌, ◌≤◌, true, IsTrue, IsFalse, Some, [], ◌∷◌, is_ok, if◌then◌else◌, length, take, drop, map, slice_get, get_or};
+ghost use Rattle.std.specs.Prelude.{◌≡◌, ◌+◌, ◌<◌, ◌≤◌, true, IsTrue, IsFalse, Some, [], is_ok, if◌then◌else◌, length, take, drop, map, slice_get, get_or};
 ghost use Rattle.judy_arena.specs.declared.refs.Kind.TheVariants.{LinearLeaf, FullLeaf};
 ghost use Rattle.judy_arena.specs.Frame.{Frame};
 ghost use Rattle.judy_arena.specs.References.{kind_of};
@@ -11,8 +11,11 @@ ghost use Rattle.judy_leaf.specs.Leaf.{IsLeaf, leaf_entries, leaf_numbers, leaf_
 ghost use Rattle.judy_leaf.specs.Calls.{LeafBecomes, Makes, LeafPuts, LeafRemoves, Draws, DrawsNew, blocks_for};
 
 use crate::answers::{Put, Removed};
-use crate::gather::{gather, value_at};
-use crate::{bitmap, bitmap_leaf, bits_query, linear, linear_leaf};
+use crate::bitmap_leaf::BitsBlock;
+use crate::gather::gather;
+use crate::linear_leaf::LinearBlock;
+use crate::opened::{Opened, open};
+use crate::{bitmap, linear, linear_leaf};
 use judy_arena::{Arena, Kind, NoMemory, Ref};
 use std::alloc::Global;
 
@@ -58,26 +61,10 @@ pub fn insert(
         };
     };
     if is_linear(leaf) {
-        linear_leaf::insert(values, alloc, arena, block, key, value)
+        LinearBlock { block, values }.insert(alloc, arena, key, value)
     } else {
-        bitmap_leaf::insert(values, alloc, arena, block, key, value)
+        BitsBlock { block, values }.insert(alloc, arena, key, value)
     }
-}
-
-/// A new linear leaf of one key with its value, 0 in a set.
-pub fn single(
-    values: bool,
-    alloc: Global,
-    arena: &mut Arena,
-    key: u64,
-    value: u64,
-) -> Result<Ref, NoMemory>
-    requires plain { IsFalse values → value ≡ 0 }
-    ensures making { Makes values arena.old arena.new ((key, value) ∷ []) result }
-    ensures region { DrawsNew arena.old arena.new result }
-    ensures memory { Takes (if is_ok result then 1 else 0) arena.old arena.new }
-{
-    linear_leaf::single(values, alloc, arena, key, value)
 }
 
 /// A new linear leaf with `count` entries of a leaf, from the one at place `from` on. The old leaf
@@ -99,22 +86,15 @@ pub fn part(
     ensures region { DrawsNew arena.old arena.new result }
     ensures memory { Takes (if is_ok result then 1 else 0) arena.old arena.new }
 {
+    let leaf = open(values, arena, leaf);
     if count == 1 {
-        let key = key_at(values, arena, leaf, from);
-        let value = value_at(values, arena, leaf, from);
+        let (key, value) = leaf.entry_at(from);
         return linear_leaf::single(values, alloc, arena, key, value);
     }
     let mut keys = [0; 31];
     let mut vals = [0; 31];
     let count = count as usize;
-    gather(
-        values,
-        arena,
-        leaf,
-        from,
-        &mut keys[..count],
-        &mut vals[..count],
-    );
+    gather(leaf, from, &mut keys[..count], &mut vals[..count]);
     linear_leaf::make(values, alloc, arena, &keys[..count], &vals[..count])
 }
 
@@ -141,9 +121,9 @@ pub fn remove(values: bool, arena: &mut Arena, leaf: Ref, key: u64) -> Removed
         return Removed::Absent;
     };
     if is_linear(leaf) {
-        linear_leaf::remove(values, arena, block, key)
+        LinearBlock { block, values }.remove(arena, key)
     } else {
-        bitmap_leaf::remove(values, arena, block, key)
+        BitsBlock { block, values }.remove(arena, key)
     }
 }
 
@@ -152,14 +132,10 @@ pub fn get(values: bool, arena: &Arena, leaf: Ref, key: u64) -> Option<u64>
     requires { IsLeaf values arena.now.blocks leaf }
     ensures { result ≡ value_of word_order (leaf_entries values arena.now.blocks leaf) key }
 {
-    let Some(block) = leaf.block() else {
-        return None;
-    };
-    let words = arena.words(block);
-    if is_linear(leaf) {
-        linear::get(values, words, key)
-    } else {
-        bitmap::get(values, words, key)
+    match open(values, arena, leaf) {
+        Opened::Nothing => None,
+        Opened::Linear(leaf) => leaf.get(key),
+        Opened::Bits(leaf) => leaf.get(key),
     }
 }
 
@@ -168,14 +144,10 @@ pub fn find(values: bool, arena: &Arena, leaf: Ref, key: u64) -> Option<u64>
     requires { IsLeaf values arena.now.blocks leaf }
     ensures { result ≡ rank_of (leaf_entries values arena.now.blocks leaf) key }
 {
-    let Some(block) = leaf.block() else {
-        return None;
-    };
-    let words = arena.words(block);
-    if is_linear(leaf) {
-        linear::find(values, words, key)
-    } else {
-        bitmap::find(values, words, key)
+    match open(values, arena, leaf) {
+        Opened::Nothing => None,
+        Opened::Linear(leaf) => leaf.find(key),
+        Opened::Bits(leaf) => leaf.find(key),
     }
 }
 
@@ -184,14 +156,10 @@ pub fn nth(values: bool, arena: &Arena, leaf: Ref, rank: u64) -> Option<u64>
     requires { IsLeaf values arena.now.blocks leaf }
     ensures { result ≡ slice_get (map (λ e. e.0) (leaf_entries values arena.now.blocks leaf)) rank }
 {
-    let Some(block) = leaf.block() else {
-        return None;
-    };
-    let words = arena.words(block);
-    if is_linear(leaf) {
-        linear::nth(values, words, rank)
-    } else {
-        bitmap::nth(values, words, rank)
+    match open(values, arena, leaf) {
+        Opened::Nothing => None,
+        Opened::Linear(leaf) => leaf.nth(rank),
+        Opened::Bits(leaf) => leaf.nth(rank),
     }
 }
 
@@ -227,14 +195,10 @@ pub fn first_entry(values: bool, arena: &Arena, leaf: Ref, x: u64) -> Option<(u6
     requires { IsLeaf values arena.now.blocks leaf }
     ensures { result ≡ first word_order (leaf_entries values arena.now.blocks leaf) x }
 {
-    let Some(block) = leaf.block() else {
-        return None;
-    };
-    let words = arena.words(block);
-    if is_linear(leaf) {
-        linear::first_entry(values, words, x)
-    } else {
-        bits_query::first_entry(values, words, x)
+    match open(values, arena, leaf) {
+        Opened::Nothing => None,
+        Opened::Linear(leaf) => leaf.first_entry(x),
+        Opened::Bits(leaf) => leaf.first_entry(x),
     }
 }
 
@@ -243,14 +207,10 @@ pub fn last_entry(values: bool, arena: &Arena, leaf: Ref, x: u64) -> Option<(u64
     requires { IsLeaf values arena.now.blocks leaf }
     ensures { result ≡ last word_order (leaf_entries values arena.now.blocks leaf) x }
 {
-    let Some(block) = leaf.block() else {
-        return None;
-    };
-    let words = arena.words(block);
-    if is_linear(leaf) {
-        linear::last_entry(values, words, x)
-    } else {
-        bits_query::last_entry(values, words, x)
+    match open(values, arena, leaf) {
+        Opened::Nothing => None,
+        Opened::Linear(leaf) => leaf.last_entry(x),
+        Opened::Bits(leaf) => leaf.last_entry(x),
     }
 }
 
@@ -259,14 +219,10 @@ pub fn count(values: bool, arena: &Arena, leaf: Ref, a: u64, b: u64) -> u64
     requires { IsLeaf values arena.now.blocks leaf }
     ensures { result ≡ count (leaf_entries values arena.now.blocks leaf) a b }
 {
-    let Some(block) = leaf.block() else {
-        return 0;
-    };
-    let words = arena.words(block);
-    if is_linear(leaf) {
-        linear::count(values, words, a, b) as u64
-    } else {
-        bits_query::count(values, words, a, b)
+    match open(values, arena, leaf) {
+        Opened::Nothing => 0,
+        Opened::Linear(leaf) => leaf.count(a, b),
+        Opened::Bits(leaf) => leaf.count(a, b),
     }
 }
 
@@ -295,14 +251,10 @@ pub fn first_empty(values: bool, arena: &Arena, leaf: Ref, x: u64) -> Option<u64
     requires { IsLeaf values arena.now.blocks leaf }
     ensures { result ≡ first_empty (leaf_entries values arena.now.blocks leaf) x }
 {
-    let Some(block) = leaf.block() else {
-        return Some(x);
-    };
-    let words = arena.words(block);
-    if is_linear(leaf) {
-        linear::first_empty(values, words, x)
-    } else {
-        bits_query::first_empty(values, words, x)
+    match open(values, arena, leaf) {
+        Opened::Nothing => Some(x),
+        Opened::Linear(leaf) => leaf.first_empty(x),
+        Opened::Bits(leaf) => leaf.first_empty(x),
     }
 }
 
@@ -311,13 +263,9 @@ pub fn last_empty(values: bool, arena: &Arena, leaf: Ref, x: u64) -> Option<u64>
     requires { IsLeaf values arena.now.blocks leaf }
     ensures { result ≡ last_empty (leaf_entries values arena.now.blocks leaf) x }
 {
-    let Some(block) = leaf.block() else {
-        return Some(x);
-    };
-    let words = arena.words(block);
-    if is_linear(leaf) {
-        linear::last_empty(values, words, x)
-    } else {
-        bits_query::last_empty(values, words, x)
+    match open(values, arena, leaf) {
+        Opened::Nothing => Some(x),
+        Opened::Linear(leaf) => leaf.last_empty(x),
+        Opened::Bits(leaf) => leaf.last_empty(x),
     }
 }

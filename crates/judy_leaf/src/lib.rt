@@ -19,10 +19,12 @@ pub mod laws;
 mod leaf;
 mod linear;
 mod linear_leaf;
+mod opened;
 mod shift;
 
 pub use answers::{Put, Removed};
 pub use leaf::{
     count, find, first_empty, first_entry, get, insert, key_at, last_empty, last_entry, nth, part,
-    population, release, remove, single, write,
+    population, release, remove, write,
 };
+pub use linear_leaf::single;

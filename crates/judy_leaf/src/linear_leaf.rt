@@ -1,22 +1,23 @@
 //! Linear leaves in an arena.
-ghost use Rattle.std.specs.Prelude.{◌≡◌, ℕ, ◌+◌, ◌<◌, ◌≤◌, [], ◌∷◌, IsFalse, is_ok, if◌then◌else◌, length};
+ghost use Rattle.std.specs.Prelude.{◌≡◌, ◌+◌, ◌<◌, ◌≤◌, [], ◌∷◌, IsFalse, is_ok, if◌then◌else◌, length};
 ghost use Rattle.judy_arena.specs.Blocks.{words_of};
 ghost use Rattle.judy_arena.specs.Takes.{Takes, TakesNothing};
-ghost use Rattle.judy_model.specs.Contents.{IsRising, word_order, pairs};
+ghost use Rattle.judy_model.specs.Contents.{IsRising, word_order, has_key, pairs};
 ghost use Rattle.judy_leaf.specs.Entries.{filled};
 ghost use Rattle.judy_leaf.specs.Leaf.{IsLinearLeaf};
-ghost use Rattle.judy_leaf.specs.Linear.{leaf_count, GoesTo};
+ghost use Rattle.judy_leaf.specs.Linear.{leaf_count, linear_entries, GoesTo};
 ghost use Rattle.judy_leaf.specs.Calls.{Makes, PutsInLinear, RemovesInLinear, Draws, DrawsNew, blocks_for};
 
 use crate::answers::{Put, Removed};
-use crate::bitmap_leaf::outgrow;
+use crate::bitmap;
 use crate::block::refer;
-use crate::linear;
+use crate::convert::widen;
+use crate::linear::{self, Linear};
 use judy_arena::{Arena, Block, Kind, NoMemory, Ref};
 use std::alloc::Global;
 
-/// A new leaf of one key with its value, 0 in a set.
-pub(crate) fn single(
+/// A new linear leaf of one key with its value, 0 in a set.
+pub fn single(
     values: bool,
     alloc: Global,
     arena: &mut Arena,
@@ -60,100 +61,118 @@ pub(crate) fn make(
     Ok(refer(Kind::LinearLeaf, block))
 }
 
-/// Inserts an absent key into a leaf of at most 30 keys.
-fn add(
-    values: bool,
-    alloc: Global,
-    arena: &mut Arena,
-    block: Block,
-    place: usize,
-    key: u64,
-    value: u64,
-) -> Put
-    requires leaf { IsLinearLeaf values (words_of arena.old.blocks block) }
-    requires few { leaf_count (words_of arena.old.blocks block) < 31 }
-    requires place { GoesTo (words_of arena.old.blocks block) key place }
-    requires plain { IsFalse values → value ≡ 0 }
-    ensures insertion { PutsInLinear values arena.old arena.new block key value result }
-    ensures region { Draws arena.old arena.new (length (words_of arena.old.blocks block)) result }
-    ensures memory { Takes (blocks_for result) arena.old arena.new }
-{
-    let words = arena.words(block);
-    let count = words[0] as usize;
-    let len = linear::size(values, count + 1);
-    if len <= words.len() {
-        linear::insert(values, arena.words_mut(block), place, key, value);
-        return Put::Done(refer(Kind::LinearLeaf, block));
-    }
-    let Ok(to) = arena.grow(alloc, block, linear::size(values, count), len) else {
-        return Put::NoMemory;
-    };
-    linear::insert(values, arena.words_mut(to), place, key, value);
-    Put::Done(refer(Kind::LinearLeaf, to))
+/// The block of a linear leaf, with a value for each key or without.
+#[derive(Clone, Copy)]
+pub(crate) struct LinearBlock {
+    pub(crate) block: Block,
+    pub(crate) values: bool,
 }
 
-/// Inserts an absent key. A leaf of 31 keys becomes a bitmap leaf, or it cannot take the key.
-fn enter(
-    values: bool,
-    alloc: Global,
-    arena: &mut Arena,
-    block: Block,
-    place: usize,
-    key: u64,
-    value: u64,
-) -> Put
-    requires leaf { IsLinearLeaf values (words_of arena.old.blocks block) }
-    requires place { GoesTo (words_of arena.old.blocks block) key place }
-    requires plain { IsFalse values → value ≡ 0 }
-    ensures insertion { PutsInLinear values arena.old arena.new block key value result }
-    ensures region { Draws arena.old arena.new (length (words_of arena.old.blocks block)) result }
-    ensures memory { Takes (blocks_for result) arena.old arena.new }
-{
-    if arena.get(block, 0) as usize == linear::MOST {
-        return outgrow(values, arena, block, key, value);
+impl LinearBlock {
+    /// Inserts an absent key into a leaf of at most 30 keys.
+    fn add(self, alloc: Global, arena: &mut Arena, place: usize, key: u64, value: u64) -> Put
+        requires leaf { IsLinearLeaf self.values (words_of arena.old.blocks self.block) }
+        requires few { leaf_count (words_of arena.old.blocks self.block) < 31 }
+        requires place { GoesTo (words_of arena.old.blocks self.block) key place }
+        requires plain { IsFalse self.values → value ≡ 0 }
+        ensures insertion { PutsInLinear self.values arena.old arena.new self.block key value result }
+        ensures region { Draws arena.old arena.new (length (words_of arena.old.blocks self.block)) result }
+        ensures memory { Takes (blocks_for result) arena.old arena.new }
+    {
+        let words = arena.words(self.block);
+        let count = words[0] as usize;
+        let len = linear::size(self.values, count + 1);
+        if len <= words.len() {
+            linear::insert(self.values, arena.words_mut(self.block), place, key, value);
+            return Put::Done(refer(Kind::LinearLeaf, self.block));
+        }
+        let Ok(to) = arena.grow(alloc, self.block, linear::size(self.values, count), len) else {
+            return Put::NoMemory;
+        };
+        linear::insert(self.values, arena.words_mut(to), place, key, value);
+        Put::Done(refer(Kind::LinearLeaf, to))
     }
-    add(values, alloc, arena, block, place, key, value)
-}
 
-/// Inserts a key, if it is absent.
-pub(crate) fn insert(
-    values: bool,
-    alloc: Global,
-    arena: &mut Arena,
-    block: Block,
-    key: u64,
-    value: u64,
-) -> Put
-    requires leaf { IsLinearLeaf values (words_of arena.old.blocks block) }
-    requires plain { IsFalse values → value ≡ 0 }
-    ensures insertion { PutsInLinear values arena.old arena.new block key value result }
-    ensures region { Draws arena.old arena.new (length (words_of arena.old.blocks block)) result }
-    ensures memory { Takes (blocks_for result) arena.old arena.new }
-{
-    let words = arena.words(block);
-    match linear::search(values, words, key) {
-        Ok(place) => Put::Present(linear::value_at(values, words, place)),
-        Err(place) => enter(values, alloc, arena, block, place, key, value),
+    /// Inserts an absent key into a linear leaf of 31 keys. If all of them share bytes 0 to 6, the leaf
+    /// becomes a bitmap leaf in its block.
+    pub(crate) fn outgrow(self, arena: &mut Arena, key: u64, value: u64) -> Put
+        requires leaf { IsLinearLeaf self.values (words_of arena.old.blocks self.block) }
+        requires many { leaf_count (words_of arena.old.blocks self.block) ≡ 31 }
+        requires absent { IsFalse
+            (has_key word_order (linear_entries self.values (words_of arena.old.blocks self.block)) key) }
+        requires plain { IsFalse self.values → value ≡ 0 }
+        ensures insertion { PutsInLinear self.values arena.old arena.new self.block key value result }
+        ensures region { Draws arena.old arena.new (length (words_of arena.old.blocks self.block)) result }
+        ensures memory { Takes (blocks_for result) arena.old arena.new }
+    {
+        let leaf = Linear {
+            words: arena.words(self.block),
+            values: self.values,
+        };
+        if !leaf.shares(key) {
+            return Put::Split;
+        }
+        let words = arena.words_mut(self.block);
+        widen(self.values, words, key);
+        bitmap::insert(self.values, words, key, value);
+        arena.shrink(self.block, bitmap::size(self.values, 32));
+        Put::Done(refer(Kind::BitmapLeaf, self.block))
     }
-}
 
-/// Removes a key.
-pub(crate) fn remove(values: bool, arena: &mut Arena, block: Block, key: u64) -> Removed
-    requires { IsLinearLeaf values (words_of arena.old.blocks block) }
-    ensures removal { RemovesInLinear values arena.old arena.new block key result }
-    ensures memory { TakesNothing arena.old arena.new }
-{
-    let words = arena.words(block);
-    let Ok(place) = linear::search(values, words, key) else {
-        return Removed::Absent;
-    };
-    let value = linear::value_at(values, words, place);
-    let count = words[0] as usize;
-    if count == 1 {
-        arena.release(block);
-        return Removed::Emptied(value);
+    /// Inserts an absent key. A leaf of 31 keys becomes a bitmap leaf, or it cannot take the key.
+    fn enter(self, alloc: Global, arena: &mut Arena, place: usize, key: u64, value: u64) -> Put
+        requires leaf { IsLinearLeaf self.values (words_of arena.old.blocks self.block) }
+        requires place { GoesTo (words_of arena.old.blocks self.block) key place }
+        requires plain { IsFalse self.values → value ≡ 0 }
+        ensures insertion { PutsInLinear self.values arena.old arena.new self.block key value result }
+        ensures region { Draws arena.old arena.new (length (words_of arena.old.blocks self.block)) result }
+        ensures memory { Takes (blocks_for result) arena.old arena.new }
+    {
+        if arena.get(self.block, 0) as usize == linear::MOST {
+            return self.outgrow(arena, key, value);
+        }
+        self.add(alloc, arena, place, key, value)
     }
-    linear::remove(values, arena.words_mut(block), place, key);
-    arena.shrink(block, linear::size(values, count - 1));
-    Removed::Left(refer(Kind::LinearLeaf, block), value)
+
+    /// Inserts a key, if it is absent.
+    pub(crate) fn insert(self, alloc: Global, arena: &mut Arena, key: u64, value: u64) -> Put
+        requires leaf { IsLinearLeaf self.values (words_of arena.old.blocks self.block) }
+        requires plain { IsFalse self.values → value ≡ 0 }
+        ensures insertion { PutsInLinear self.values arena.old arena.new self.block key value result }
+        ensures region { Draws arena.old arena.new (length (words_of arena.old.blocks self.block)) result }
+        ensures memory { Takes (blocks_for result) arena.old arena.new }
+    {
+        let leaf = Linear {
+            words: arena.words(self.block),
+            values: self.values,
+        };
+        match leaf.search(key) {
+            Ok(place) => Put::Present(leaf.value_at(place)),
+            Err(place) => self.enter(alloc, arena, place, key, value),
+        }
+    }
+
+    /// Removes a key.
+    pub(crate) fn remove(self, arena: &mut Arena, key: u64) -> Removed
+        requires { IsLinearLeaf self.values (words_of arena.old.blocks self.block) }
+        ensures removal { RemovesInLinear self.values arena.old arena.new self.block key result }
+        ensures memory { TakesNothing arena.old arena.new }
+    {
+        let leaf = Linear {
+            words: arena.words(self.block),
+            values: self.values,
+        };
+        let Ok(place) = leaf.search(key) else {
+            return Removed::Absent;
+        };
+        let value = leaf.value_at(place);
+        let count = leaf.words[0] as usize;
+        if count == 1 {
+            arena.release(self.block);
+            return Removed::Emptied(value);
+        }
+        linear::remove(self.values, arena.words_mut(self.block), place, key);
+        arena.shrink(self.block, linear::size(self.values, count - 1));
+        Removed::Left(refer(Kind::LinearLeaf, self.block), value)
+    }
 }

@@ -1,19 +1,19 @@
 -- The word of a leaf is a reference, and its block has at least 4 words.
-use Rattle.std.proofs.Common.{◌≡◌, ◌≢◌, ℕ, ◌<◌, ◌≤◌, Bool, true, false, ◌||◌, ◌&&◌, ◌==◌, List, [], ◌∷◌, length, Option, Some}
+use Rattle.std.proofs.Common.{◌≡◌, ◌≢◌, ℕ, ◌≤◌, Bool, true, false, ◌||◌, ◌&&◌, ◌==◌, List, length, Option, Some}
 use Rattle.std.proofs.Common.{None, ap, sym, ◌∙◌, refl, subst, arith}
 use Rattle.std.proofs.lemmas.Bool.Decides.{nat_tests}
 use Rattle.std.specs.Prelude.{nat_le, nat_lt}
 use Rattle.judy_arena.specs.Blocks.{Blocks, words_of}
 use Rattle.judy_arena.specs.Frame.{holds}
 use Rattle.judy_arena.specs.Room.{room}
-use Rattle.judy_arena.specs.References.{kind_part, kind_of, kind_of_number, block_of, number_of, is_reference}
+use Rattle.judy_arena.specs.References.{kind_part, kind_of, kind_of_number, block_of, is_reference}
 use Rattle.judy_arena.specs.declared.refs.Kind.{Kind}
 use Rattle.judy_arena.specs.declared.refs.Kind.TheVariants.{LinearLeaf, BitmapLeaf, FullLeaf, LinearBranch, BitmapBranch, FullBranch, Suffix, Bucket}
 use Rattle.judy_arena.proofs.lemmas.RoomLaws.{room-tight}
 use Rattle.judy_leaf.specs.Leaf.{IsLeaf, IsSoundBy, leaf_numbers, leaf_words}
 use Rattle.judy_leaf.specs.Linear.{leaf_count, linear_size}
 use Rattle.judy_leaf.specs.Bytes.{bitmap_size}
-use Rattle.judy_leaf.specs.Laws.{LeafIsKnown, LeavesAreKnown}
+use Rattle.judy_leaf.specs.Laws.{LeavesAreKnown}
 use Rattle.judy_leaf.proofs.lemmas.LeafLaws.{no-block, named, numbers-of}
 use Rattle.judy_leaf.proofs.lemmas.OwnBlock.{no_branches, only_nothing}
 

@@ -1,9 +1,9 @@
 -- How calls on blocks change the leaf that a reference leads to.
-use Rattle.std.proofs.Common.{◌≡◌, ◌≢◌, ℕ, ◌<◌, ◌≤◌, Bool, true, false, cond, ◌||◌, ◌==◌, List, [], ◌∷◌, ◌++◌, length, take}
+use Rattle.std.proofs.Common.{◌≡◌, ◌≢◌, ℕ, ◌<◌, ◌≤◌, Bool, true, false, cond, ◌==◌, List, [], ◌∷◌, length, take}
 use Rattle.std.proofs.Common.{drop, Option, Some, None, unwrap_or, is_some, ap, sym, ◌∙◌, refl, subst, arith}
 use lib.Seq.{take_at}
 use Rattle.std.proofs.lemmas.Bool.Decides.{nat_tests}
-use Rattle.judy_arena.specs.Blocks.{Blocks, ArenaState, count_up, words_of, is_live, put, without, zeros}
+use Rattle.judy_arena.specs.Blocks.{Blocks, ArenaState, count_up, words_of, is_live, put, without}
 use Rattle.judy_arena.specs.LendingBlocks.{written_over}
 use Rattle.judy_arena.specs.Frame.{holds, Frame}
 use Rattle.judy_arena.specs.Room.{room}
@@ -13,9 +13,9 @@ use Rattle.judy_arena.specs.declared.refs.Kind.TheVariants.{LinearLeaf, BitmapLe
 use Rattle.judy_arena.proofs.lemmas.BlockLaws.{live-words, words-put, itself, same_test}
 use Rattle.judy_arena.proofs.lemmas.FrameLaws.{frame-same, frame-alloc, frame-release, frame-write, holds-one}
 use Rattle.judy_model.specs.Contents.{Entries, word_order, has_key}
-use Rattle.judy_leaf.specs.Leaf.{IsLeaf, IsSoundBy, IsSized, IsLinearLeaf, IsBitsLeaf, CannotTake, leaf_entries, entries_by}
+use Rattle.judy_leaf.specs.Leaf.{IsLeaf, IsSoundBy, IsSized, CannotTake, leaf_entries, entries_by}
 use Rattle.judy_leaf.specs.Leaf.{leaf_numbers, one_number, leaf_words}
-use Rattle.judy_leaf.specs.Calls.{BecomesIn, PutsIn, RemovesIn, Makes}
+use Rattle.judy_leaf.specs.Calls.{BecomesIn, PutsIn, RemovesIn}
 use Rattle.judy_leaf.specs.declared.answers.Put.{Put}
 use Rattle.judy_leaf.specs.declared.answers.Put.TheVariants as put
 use Rattle.judy_leaf.specs.declared.answers.Removed.{Removed}

@@ -1,14 +1,13 @@
 -- What the one block of a leaf determines.
-use Rattle.std.proofs.Common.{◌≡◌, ◌≢◌, ℕ, zero, suc, ◌+◌, ◌-◌, ◌*◌, ◌/◌, ◌%◌, ◌<◌, ◌≤◌, ◌^◌, Bool, true, false, cond, ◌&&◌}
-use Rattle.std.proofs.Common.{◌==◌, List, [], ◌∷◌, length, map, get_or, replicate, Option, Some, None, unwrap_or, is_some, ap}
+use Rattle.std.proofs.Common.{◌≡◌, ◌≢◌, ℕ, zero, suc, ◌+◌, ◌-◌, ◌*◌, ◌%◌, ◌<◌, ◌≤◌, Bool, true, false, cond}
+use Rattle.std.proofs.Common.{◌==◌, List, [], ◌∷◌, length, map, get_or, replicate, Option, Some, None, unwrap_or, ap}
 use Rattle.std.proofs.Common.{sym, ◌∙◌, refl, subst, arith, ◌⊎◌, inl, inr}
-use Rattle.std.specs.Prelude.{nat_lt, nat_le, IsTrue}
+use Rattle.std.specs.Prelude.{nat_lt}
 use Rattle.std.specs.List.{list_all, zip}
 use Rattle.std.proofs.lemmas.Bool.Decides.{nat_tests}
 use Rattle.judy_arena.specs.Blocks.{Blocks, block, words_of, is_live}
-use Rattle.judy_arena.specs.Frame.{holds, Frame, AreApart}
-use Rattle.judy_arena.specs.References.{kind_of, kind_of_number, kind_part, block_of, number_of}
-use Rattle.judy_arena.specs.Room.{room}
+use Rattle.judy_arena.specs.Frame.{holds}
+use Rattle.judy_arena.specs.References.{kind_of, kind_of_number, kind_part, block_of}
 use Rattle.judy_arena.specs.Totals.{are_distinct, words_over}
 use Rattle.judy_arena.specs.declared.refs.Kind.{Kind}
 use Rattle.judy_arena.specs.declared.refs.Kind.TheVariants.{LinearLeaf, BitmapLeaf, FullLeaf, LinearBranch, BitmapBranch, FullBranch, Suffix, Bucket}
@@ -16,9 +15,9 @@ use Rattle.judy_arena.proofs.lemmas.BlockLaws.{live-words, itself, same_test}
 use Rattle.judy_arena.proofs.lemmas.FrameLaws.{frame-stays, holds-one}
 use Rattle.judy_bitmap.proofs.lemmas.Each.{Each}
 use Rattle.judy_bitmap.proofs.lemmas.MemberLaws.{members-each}
-use Rattle.judy_model.specs.Contents.{Entries, IsWordArray, max_word, pairs, HasWordValues}
+use Rattle.judy_model.specs.Contents.{Entries, pairs}
 use Rattle.judy_leaf.specs.Entries.{share_bytes}
-use Rattle.judy_leaf.specs.Linear.{leaf_count, linear_entries, linear_keys, linear_values, linear_size}
+use Rattle.judy_leaf.specs.Linear.{leaf_count, linear_entries, linear_keys, linear_values}
 use Rattle.judy_leaf.specs.Bytes.{IsBits, leaf_shared, bitmap_bytes, bitmap_values, bitmap_entries, byte_entries, bitmap_size}
 use Rattle.judy_leaf.specs.Leaf.{IsLeaf, IsSoundBy, IsSized, CannotTake, leaf_entries, entries_by, leaf_numbers, leaf_words}
 use Rattle.judy_leaf.specs.Laws.{IsSameLeaf, OwnBlocksTell, OthersStay, BlockIsLive, BlocksAreLive, ContentIsSoundIn}
@@ -28,7 +27,7 @@ use Rattle.judy_leaf.proofs.LinearLaws.{linear-length}
 use Rattle.judy_leaf.proofs.BitmapLaws.{bits-length, bits-few, bits-share}
 use Rattle.judy_leaf.proofs.ConvertLaws.{bitmap-words}
 use Rattle.judy_leaf.proofs.RoomFacts.{linear-spare, bitmap-spare}
-use Rattle.judy_leaf.proofs.lemmas.LeafLaws.{no-block, named, nothing, numbers-of, leaf-live, leaf-length}
+use Rattle.judy_leaf.proofs.lemmas.LeafLaws.{no-block, named, nothing, numbers-of, leaf-live}
 
 -- ---- blocks that are the same
 

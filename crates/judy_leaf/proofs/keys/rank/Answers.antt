@@ -1,4 +1,4 @@
-use Rattle.std.proofs.Common.{◌≡◌, ℕ, ◌<◌, ◌≤◌, length, get_or, arith}
+use Rattle.std.proofs.Common.{length, arith}
 use Rattle.judy_leaf.proofs.Strides.{parted-below}
 use Rattle.judy_leaf.proofs.keys.rank.Goals as goal
 

@@ -1,4 +1,4 @@
-use Rattle.std.proofs.Common.{◌≡◌, ℕ, ◌+◌, ◌*◌, ◌/◌, ◌<◌, ◌≤◌, length, arith}
+use Rattle.std.proofs.Common.{arith}
 use Rattle.judy_leaf.proofs.Strides.{stepped}
 use Rattle.judy_leaf.proofs.keys.stride.Goals as goal
 

@@ -1,37 +1,13 @@
-use Rattle.std.proofs.Common.{◌≡◌, ◌<◌, ℕ, Some, None, ap, sym, ◌∙◌, refl, subst, length, map, [], ◌∷◌}
-use Rattle.std.specs.Prelude.{slice_get}
-use Rattle.judy_arena.specs.Blocks.{words_of}
-use Rattle.judy_arena.specs.declared.refs.Kind.TheVariants.{LinearLeaf}
+use Rattle.std.proofs.Common.{ap, sym, ◌∙◌}
 use Rattle.judy_leaf.specs.Entries.{rank_of}
-use Rattle.judy_leaf.specs.Linear.{linear_entries, IsLinear, leaf_count}
-use Rattle.judy_leaf.specs.Bytes.{bitmap_entries, IsBits}
-use Rattle.judy_leaf.proofs.lemmas.LeafLaws.{no-block, nothing, leaf-linear, entries-made, leaf-bits, leaf-live, leaf-length}
+use Rattle.judy_leaf.specs.Views.{of_leaf}
 use Rattle.judy_leaf.proofs.leaf.find.Goals as goal
 
-pub returns-in_default : goal.returns-in_default
-returns-in_default c =
-    sym (ap (λ l. rank_of l c.args.key) (nothing c.args.values c.args.arena.now.blocks c.args.leaf
-    (no-block c.args.leaf (sym c.block.ensures ∙ c.in_default.is))).1)
+pub returns-in-Nothing : goal.returns-in-Nothing
+returns-in-Nothing c = ap (λ l. rank_of l c.args.key) (ap of_leaf (sym c.in-Nothing.is) ∙ c.open.ensures)
 
-pub words-words-requires : goal.words-words-requires
-words-words-requires c = leaf-live c.args.values c.args.arena.now.blocks c.args.leaf c.in-Some.block c.requires (sym c.block.ensures ∙ c.in-Some.is)
+pub returns-in-Linear : goal.returns-in-Linear
+returns-in-Linear c = c.find.ensures ∙ ap (λ l. rank_of l c.args.key) (ap of_leaf (sym c.in-Linear.is) ∙ c.open.ensures)
 
-pub find-requires : goal.find-requires
-find-requires c = subst (IsLinear c.args.values) (sym c.words-words.ensures) (leaf-linear c.args.values c.args.arena.now.blocks
-    c.args.leaf c.in-Some.block (c.if-is_linear.ensures.yes refl) (sym c.block.ensures ∙ c.in-Some.is) c.requires)
-
-pub find-requires-else-is_linear : goal.find-requires-else-is_linear
-find-requires-else-is_linear c = subst (IsBits c.args.values) (sym c.words-words.ensures)
-    (leaf-bits c.args.values c.args.arena.now.blocks c.args.leaf c.in-Some.block c.requires (sym c.block.ensures ∙ c.in-Some.is)
-    (c.if-is_linear.ensures.no refl)).0
-
-pub returns-then-is_linear : goal.returns-then-is_linear
-returns-then-is_linear c = c.find.ensures ∙ ap (λ l. rank_of (linear_entries c.args.values l) c.args.key) c.words-words.ensures
-    ∙ sym (ap (λ l. rank_of l c.args.key) (entries-made c.args.values c.args.arena.now.blocks c.args.leaf c.in-Some.block
-    LinearLeaf (c.if-is_linear.ensures.yes refl) (sym c.block.ensures ∙ c.in-Some.is)))
-
-pub returns-else-is_linear : goal.returns-else-is_linear
-returns-else-is_linear c = c.find-else-is_linear.ensures.rank ∙ ap (λ l. rank_of (bitmap_entries c.args.values l) c.args.key)
-    c.words-words.ensures
-    ∙ sym (ap (λ l. rank_of l c.args.key) (leaf-bits c.args.values c.args.arena.now.blocks c.args.leaf c.in-Some.block c.requires
-    (sym c.block.ensures ∙ c.in-Some.is) (c.if-is_linear.ensures.no refl)).2)
+pub returns-in-Bits : goal.returns-in-Bits
+returns-in-Bits c = c.find-in-Bits.ensures.rank ∙ ap (λ l. rank_of l c.args.key) (ap of_leaf (sym c.in-Bits.is) ∙ c.open.ensures)

@@ -1,12 +1,11 @@
-use Rattle.std.proofs.Common.{◌≡◌, ◌<◌, Some, None, is_some, ap, sym, ◌∙◌, refl, subst, length, [], ◌∷◌}
+use Rattle.std.proofs.Common.{Some, ap, sym, ◌∙◌, refl, subst, [], ◌∷◌}
 use Rattle.judy_arena.specs.Blocks.{words_of}
 use Rattle.judy_arena.specs.References.{kind_of}
-use Rattle.judy_arena.specs.declared.refs.Kind.TheVariants.{LinearLeaf, BitmapLeaf}
-use Rattle.judy_model.specs.Contents.{word_order, value_of, has_key}
+use Rattle.judy_arena.specs.declared.refs.Kind.TheVariants.{LinearLeaf}
 use Rattle.judy_leaf.specs.Calls.{Makes}
-use Rattle.judy_leaf.specs.Linear.{linear_entries, IsLinear}
-use Rattle.judy_leaf.specs.Bytes.{bitmap_entries, IsBits}
-use Rattle.judy_leaf.proofs.lemmas.LeafLaws.{no-block, nothing, leaf-sound, entries-made, leaf-bits, numbers-of, puts-at, puts-other, first-puts, first-refused}
+use Rattle.judy_leaf.specs.Linear.{linear_entries}
+use Rattle.judy_leaf.specs.Bytes.{bitmap_entries}
+use Rattle.judy_leaf.proofs.lemmas.LeafLaws.{no-block, leaf-sound, entries-made, leaf-bits, numbers-of, puts-at, puts-other, first-puts, first-refused}
 use Rattle.judy_leaf.specs.declared.answers.Put.TheVariants as put
 use Rattle.judy_leaf.specs.Leaf.{leaf_size, size_by}
 use Rattle.judy_leaf.specs.Calls.{Draws, DrawsNew}

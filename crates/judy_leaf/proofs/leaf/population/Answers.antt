@@ -1,11 +1,5 @@
-use Rattle.std.proofs.Common.{◌≡◌, ◌<◌, ℕ, Some, None, ap, sym, ◌∙◌, refl, subst, length, map, [], ◌∷◌}
-use Rattle.std.specs.Prelude.{slice_get}
-use Rattle.judy_arena.specs.Blocks.{words_of}
-use Rattle.judy_arena.specs.declared.refs.Kind.TheVariants.{LinearLeaf}
-use Rattle.judy_leaf.specs.Entries.{rank_of}
-use Rattle.judy_leaf.specs.Linear.{linear_entries, IsLinear, leaf_count}
-use Rattle.judy_leaf.specs.Bytes.{bitmap_entries, IsBits}
-use Rattle.judy_leaf.proofs.lemmas.LeafLaws.{no-block, nothing, leaf-linear, entries-made, leaf-bits, leaf-live, leaf-length, full-length}
+use Rattle.std.proofs.Common.{ap, sym, ◌∙◌, refl, length}
+use Rattle.judy_leaf.proofs.lemmas.LeafLaws.{no-block, nothing, leaf-live, leaf-length, full-length}
 use Rattle.judy_leaf.proofs.leaf.population.Goals as goal
 
 pub returns-in_default : goal.returns-in_default

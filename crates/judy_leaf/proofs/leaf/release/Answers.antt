@@ -1,8 +1,7 @@
-use Rattle.std.proofs.Common.{[], ◌∷◌, ap, sym, ◌∙◌, subst, arith}
+use Rattle.std.proofs.Common.{[], ◌∷◌, sym, ◌∙◌, subst}
 use Rattle.judy_arena.specs.Frame.{Frame}
 use Rattle.judy_arena.proofs.lemmas.FrameLaws.{frame-none, frame-release}
 use Rattle.judy_leaf.proofs.lemmas.LeafLaws.{no-block, nothing, numbers-of, leaf-live}
-use Rattle.judy_leaf.proofs.lemmas.OwnBlock.{few-words}
 use Rattle.judy_leaf.proofs.leaf.release.Goals as goal
 
 pub release-requires : goal.release-requires

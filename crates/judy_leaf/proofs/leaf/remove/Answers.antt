@@ -1,11 +1,10 @@
-use Rattle.std.proofs.Common.{◌≡◌, ◌<◌, Some, None, is_some, ap, sym, ◌∙◌, refl, subst, length, [], ◌∷◌}
+use Rattle.std.proofs.Common.{ap, sym, ◌∙◌, refl, [], ◌∷◌}
 use Rattle.judy_arena.specs.Blocks.{words_of}
-use Rattle.judy_arena.specs.References.{kind_of}
-use Rattle.judy_arena.specs.declared.refs.Kind.TheVariants.{LinearLeaf, BitmapLeaf}
-use Rattle.judy_model.specs.Contents.{word_order, value_of, has_key}
-use Rattle.judy_leaf.specs.Linear.{linear_entries, IsLinear}
-use Rattle.judy_leaf.specs.Bytes.{bitmap_entries, IsBits}
-use Rattle.judy_leaf.proofs.lemmas.LeafLaws.{no-block, nothing, leaf-sound, entries-made, leaf-bits, leaf-live, numbers-of, puts-at, puts-other, removes-at}
+use Rattle.judy_arena.specs.declared.refs.Kind.TheVariants.{LinearLeaf}
+use Rattle.judy_model.specs.Contents.{word_order, has_key}
+use Rattle.judy_leaf.specs.Linear.{linear_entries}
+use Rattle.judy_leaf.specs.Bytes.{bitmap_entries}
+use Rattle.judy_leaf.proofs.lemmas.LeafLaws.{no-block, nothing, leaf-sound, entries-made, leaf-bits, numbers-of, removes-at}
 use Rattle.judy_leaf.proofs.leaf.remove.Goals as goal
 
 pub returns-in_default-clause-removal : goal.returns-in_default-clause-removal

@@ -1,4 +1,4 @@
-use Rattle.std.proofs.Common.{arith, length, [], ap, ◌∙◌, sym}
+use Rattle.std.proofs.Common.{length, [], ap, ◌∙◌, sym}
 use Rattle.judy_leaf.specs.Linear.{linear_size}
 use Rattle.judy_leaf.proofs.RoomFacts.{taken-sized}
 use Rattle.judy_arena.specs.declared.refs.Kind.TheVariants.{LinearLeaf}

@@ -1,4 +1,4 @@
-use Rattle.std.proofs.Common.{arith, length, [], ◌∷◌, ap, ◌∙◌, sym}
+use Rattle.std.proofs.Common.{length, [], ◌∷◌, ap, ◌∙◌, sym}
 use Rattle.judy_arena.specs.Room.{room}
 use Rattle.judy_arena.specs.declared.refs.Kind.TheVariants.{LinearLeaf}
 use Rattle.judy_leaf.specs.Linear.{linear_size}
