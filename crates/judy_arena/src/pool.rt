@@ -10,6 +10,7 @@ ghost use Rattle.judy_arena.specs.Layout.{span, size_of, linked, blocks_of, AreB
 ghost use Rattle.judy_region.specs.Flat.{zeros as no_marks, IsInOne};
 ghost use Rattle.judy_arena.specs.LendingPool.{LendsPoolRun};
 
+use crate::refs::NUMBERS;
 use judy_region::Region;
 use std::alloc::Global;
 use std::marker::Model;
@@ -19,9 +20,6 @@ const RUN: usize = 128;
 
 /// How many marks a chunk has.
 const MARKS: usize = 16_384;
-
-/// The greatest number of marks: a block's number is the place of its mark, which is below 2^32.
-const NUMBERS: usize = 4_294_967_296;
 
 /// The class of the greatest blocks.
 pub(crate) const LAST: usize = 7;
@@ -325,7 +323,7 @@ impl Pool {
         ensures cause { IsFalse result → self.old.region % 65536 ≡ 0 }
     {
         let n = self.marks.len();
-        if n == NUMBERS {
+        if n as u64 == NUMBERS {
             return false;
         }
         if !make_room(&mut self.marks) {

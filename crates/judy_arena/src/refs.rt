@@ -1,6 +1,6 @@
 //! Blocks by their numbers, and references to them.
 ghost use Rattle.std.specs.Prelude.{◌≡◌, ◌<◌, IsTrue, ◌+◌, ◌*◌, IfNone, IfSome, IsNone, IsSome, false, true, ◌↔◌};
-ghost use Rattle.judy_arena.specs.References.{word_of, is_reference, kind_of, block_of, kind_number};
+ghost use Rattle.judy_arena.specs.References.{word_of, is_reference, kind_of, leads_to, leads_to_leaf, block_of, kind_number};
 
 use std::marker::Model;
 
@@ -86,7 +86,7 @@ impl Model for Ref {
 }
 
 /// How many block numbers there are. The kind stands above this part of a word.
-const NUMBERS: u64 = 4_294_967_296;
+pub(crate) const NUMBERS: u64 = 4_294_967_296;
 
 impl Ref {
     /// The reference to nothing.
@@ -116,6 +116,24 @@ impl Ref {
             8 => Some(Kind::Bucket),
             _ => None,
         }
+    }
+
+    /// Whether it leads to a block of this kind.
+    #[inline(always)]
+    pub fn leads_to(self, kind: Kind) -> bool
+        ensures { result ≡ leads_to self kind }
+    {
+        let number = self.word / NUMBERS;
+        number == kind as u64
+    }
+
+    /// Whether it leads to a leaf. The empty reference counts as a leaf with no keys.
+    #[inline(always)]
+    pub fn leads_to_leaf(self) -> bool
+        ensures { result ≡ leads_to_leaf self }
+    {
+        let number = self.word / NUMBERS;
+        number <= Kind::FullLeaf as u64
     }
 
     /// Its block, or None for the empty reference.

@@ -15,7 +15,7 @@ use Rattle.std.specs.Ordering.{eq_by_cmp}
 use Rattle.judy_arena.specs.Blocks.{Blocks, ArenaState}
 use Rattle.judy_arena.specs.Frame.{Frame, holds}
 use Rattle.judy_arena.specs.Totals.{words_over}
-use Rattle.judy_long.specs.LongArrays.{IsLongArray, long_in, long_numbers, value_shown}
+use Rattle.judy_long.specs.LongArrays.{IsLongArray, long_in, long_numbers}
 use Rattle.judy_model.specs.Contents.{Entries, string_order, word_order, value_of, has_key, with_entry, without_key}
 use Rattle.judy_model.specs.Pieces.{pieces_of, string_pieces}
 use Rattle.judy_model.specs.Tenant.{bytes_step, value_replied}
@@ -24,7 +24,6 @@ use Rattle.judy_model.specs.declared.calls.BytesCall.{BytesCall}
 use Rattle.judy_model.specs.declared.calls.BytesCall.TheVariants as bytes
 use Rattle.judy_model.specs.declared.replies.Reply.{Reply}
 use Rattle.judy_model.specs.declared.replies.Reply.TheVariants as reply
-use Rattle.judy_tree.specs.declared.answers.Inserted.{Inserted}
 use Rattle.judy_bytes.specs.Chains.{ByteEntries, chain, bucket_entries, chain_entries, first_key, IsBucketChain}
 
 -- the numbers of the buckets of these chains
@@ -119,8 +118,8 @@ abbrev pub BytesAnswers : ArenaState → ℕ → BytesCall → Reply → ArenaSt
 BytesAnswers a w call given b x = bytes_step true (bytes_in a.blocks w) call ≡ (given, bytes_in b.blocks x)
 
 -- the reply to an insertion, by what was there before
-abbrev pub BytesInserts : ArenaState → ℕ → List ℕ → Given → Inserted → ArenaState → ℕ → Type 0
-BytesInserts a w key given was b x = BytesAnswers a w (bytes.Insert key given) (reply.Value (value_replied given (value_shown was))) b x
+abbrev pub BytesInserts : ArenaState → ℕ → List ℕ → Given → Option ℕ → ArenaState → ℕ → Type 0
+BytesInserts a w key given before b x = BytesAnswers a w (bytes.Insert key given) (reply.Value (value_replied given (unwrap_or before 0))) b x
 
 -- the reply to a removal says whether the key was present
 abbrev pub AnswersDelete : ArenaState → ℕ → List ℕ → Bool → ArenaState → ℕ → Type 0

@@ -8,7 +8,6 @@ ghost use Rattle.judy_bytes.specs.BytesArrays.{BytesAnswers, BytesInserts, Answe
 ghost use Rattle.judy_model.specs.Tenant.{value_or_null};
 ghost use Rattle.judy_model.specs.declared.calls.BytesCall.TheVariants as bytes;
 ghost use Rattle.judy_model.specs.declared.replies.Reply.TheVariants as reply;
-ghost use Rattle.judy_tree.specs.Answers.{shown};
 ghost use Rattle.judy_tree.specs.Changes.{IsRefused};
 
 use crate::hash::KeyHash;
@@ -124,10 +123,12 @@ impl<H: KeyHash> JudyHS<H> {
         requires array { IsBytesArray H.hashed arena.old.blocks self.old.words }
         ensures array { BytesBecomes H.hashed arena.old self.old.words arena.new self.new.words }
         ensures space { HasBytesSpace arena.new self.new.words }
-        ensures present { IfOk result (λ it. shown it
+        ensures present { IfOk result (λ it. it.before
             ≡ bytes_value_in arena.old self.old.words key.now) }
+        ensures root { IfOk result (λ it. it.root ≡ self.new.words) }
         ensures step { IfOk result
-            (λ it. BytesInserts arena.old self.old.words key.now given it arena.new self.new.words) }
+            (λ it. BytesInserts arena.old self.old.words key.now given it.before
+            arena.new self.new.words) }
         ensures absent { OnErr result (IsFalse (has_bytes_key arena.old self.old.words key.now)) }
         ensures refused { OnErr result
             (IsRefused arena.old self.old.words arena.new self.new.words) }
@@ -141,14 +142,19 @@ impl<H: KeyHash> JudyHS<H> {
         let Some(bucket) = chain::find(arena, first, key) else {
             let value = given.value_after(0);
             self.add(alloc, arena, hash, first, key, value)?;
-            return Ok(Inserted::New);
+            let root = self.words;
+            return Ok(Inserted { root, before: None });
         };
         let value = bucket::value(arena, bucket);
+        let answer = Inserted {
+            root: self.words,
+            before: Some(value),
+        };
         if let Given::Nothing = given {
-            return Ok(Inserted::Present(value));
+            return Ok(answer);
         }
         bucket::set_value(arena, bucket, given.value_after(value));
-        Ok(Inserted::Present(value))
+        Ok(answer)
     }
 
     /// Writes the value of a present key. No other value changes.

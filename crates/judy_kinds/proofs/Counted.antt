@@ -1,6 +1,6 @@
 -- The counts of a place, as entries are added and removed.
 use Rattle.std.proofs.Common.{◌≡◌, ℕ, suc, ◌+◌, ◌-◌, ◌<◌, ◌≤◌, ◌^◌, Bool, true, false, cond, List, [], ◌∷◌, length, get_or}
-use Rattle.std.proofs.Common.{Option, Some, None, is_some, Fits, w8, ap, sym, ◌∙◌, subst, arith}
+use Rattle.std.proofs.Common.{Option, Some, None, is_some, Fits, w8, ap, sym, ◌∙◌, refl, subst, arith}
 use Rattle.std.proofs.lemmas.Bool.Decides.{nat_tests}
 use Rattle.std.specs.Prelude.{nat_lt, nat_le}
 use Rattle.std.specs.List.{list_all}
@@ -17,9 +17,6 @@ use Rattle.judy_model.proofs.lemmas.TestLemmas.{and_left, and_right, to_T}
 use Rattle.judy_model.specs.declared.replies.Reply.{Reply}
 use Rattle.judy_model.proofs.lemmas.FormLemmas.{names_apart}
 use Rattle.judy_directory.specs.Places.{Stand}
-use Rattle.judy_tree.specs.Answers.{shown}
-use Rattle.judy_tree.specs.declared.answers.Inserted.{Inserted}
-use Rattle.judy_tree.specs.declared.answers.Inserted.TheVariants.{New, Present}
 use Rattle.judy_long.specs.Packing.{IsString}
 use Rattle.judy_string.specs.StringArrays.{IsKeyString}
 use Rattle.judy_kinds.specs.Counts.{HasCounts}
@@ -121,31 +118,34 @@ module _ (old new : ℕ → Entries (List ℕ)) (p : Stand) (w x : ℕ) (k s : L
       → HasCounts string_pieces (new q.root) q
   moved q y e f to is counts = subst (λ z. HasCounts string_pieces (new z) q) (sym (ap (λ z. z.root) is ∙ to)) counts
 
-  -- the reply to an insertion, and the map afterwards
-  module _ (given : Given) (r : Reply) (step : insert string_order true (old w) s given ≡ (r, new x)) (a : Inserted)
-      (told : shown a ≡ value_of string_order (old w) s) where
+  -- the map after an insertion, which found the value `before`
+  module _ (given : Given) (r : Reply) (step : insert string_order true (old w) s given ≡ (r, new x)) (before : Option ℕ)
+      (told : before ≡ value_of string_order (old w) s) where
     left : (insert string_order true (old p.root) k given).1 ≡ new x
     left =
         ap (λ z. (insert string_order true (old z) k given).1) (sym from) ∙ ap (λ z. (insert string_order true (old w) z given).1) (sym key)
         ∙ ap (λ z. z.1) step
 
-    before : shown a ≡ value_of string_order (old p.root) k
-    before = told ∙ ap (λ z. value_of string_order (old z) s) from ∙ ap (value_of string_order (old p.root)) key
+    was : before ≡ value_of string_order (old p.root) k
+    was = told ∙ ap (λ z. value_of string_order (old z) s) from ∙ ap (value_of string_order (old p.root)) key
 
-    pub counts-new : a ≡ New → (q : Stand) (y : ℕ) → y ≡ x → q ≡ record {
-      root = y;
-      entries = p.entries + 1;
-      pieces = p.pieces
-          + string_pieces k;
-    } → HasCounts string_pieces (new q.root) q
-    counts-new new_key q y to is = moved q y _ _ to is (new-counted (old p.root) p sorted h (new x) k given left (ap shown (sym new_key) ∙ before) q y is)
+    pub counts-inserted : (q : Stand) (y : ℕ) → y ≡ x
+        → (is_some before ≡ false → q ≡ record { root = y; entries = p.entries + 1; pieces = p.pieces + string_pieces k })
+        → (is_some before ≡ true → q ≡ record p { root = y }) → HasCounts string_pieces (new q.root) q
+    counts-inserted q y to grown kept = by before was grown kept
+      where
+        by : (o : Option ℕ) → o ≡ value_of string_order (old p.root) k
+            → (is_some o ≡ false → q ≡ record { root = y; entries = p.entries + 1; pieces = p.pieces + string_pieces k })
+            → (is_some o ≡ true → q ≡ record p { root = y }) → HasCounts string_pieces (new q.root) q
+        by None is grown kept = moved q y _ _ to (grown refl) (new-counted (old p.root) p sorted h (new x) k given left is q y (grown refl))
+        by (Some v) is grown kept = moved q y _ _ to (kept refl) (old-counted (old p.root) p sorted h (new x) k given left v is q y (kept refl))
 
-    pub counts-present : (v : ℕ) → a ≡ Present v → (q : Stand) (y : ℕ) → y ≡ x → q ≡ record p { root = y } → HasCounts string_pieces (new q.root) q
-    counts-present v present q y to is = moved q y _ _ to is (old-counted (old p.root) p sorted h (new x) k given left v
-        (ap shown (sym present) ∙ before) q y is)
-
-    pub room-new : a ≡ New → length (new x) < 2 ^ 64 → p.entries + 1 < 2 ^ 64
-    room-new new_key small = countable (old p.root) p sorted h (new x) k given left (ap shown (sym new_key) ∙ before) small
+    pub room-new : is_some before ≡ false → length (new x) < 2 ^ 64 → p.entries + 1 < 2 ^ 64
+    room-new none small = countable (old p.root) p sorted h (new x) k given left (sym (no_value before none) ∙ was) small
+      where
+        no_value : (o : Option ℕ) → is_some o ≡ false → o ≡ None
+        no_value None h = refl
+        no_value (Some v) h = cc
 
   -- the reply to a removal, and the map afterwards
   module _ (b : Bool) (told : b ≡ has_key string_order (old w) s) (content : new x ≡ without_key string_order (old w) s) where

@@ -14,7 +14,7 @@ ghost use Rattle.judy_tree.specs.Changes.{IsShort};
 use crate::counts;
 use crate::string::value_reply;
 use judy_arena::{Arena, NoMemory, Ref};
-use judy_bytes::{Inserted, JudyHS, KeyHash};
+use judy_bytes::{JudyHS, KeyHash};
 use judy_directory::Place;
 use judy_model::{BytesCall, Given, Key, Reply};
 use std::alloc::Global;
@@ -95,16 +95,10 @@ fn insert<H: KeyHash>(
 {
     judy_bytes::laws::content_is_sound();
     let mut map = JudyHS::from_reference(hash, place.root);
-    match map.insert(alloc, arena, key.as_bytes(), given)? {
-        Inserted::New => {
-            let reply = Reply::Value(given.value_replied(0));
-            Ok((reply, counts::grown(place, map.reference(), key)))
-        }
-        Inserted::Present(value) => {
-            let reply = Reply::Value(given.value_replied(value));
-            Ok((reply, counts::kept(place, map.reference())))
-        }
-    }
+    let answer = map.insert(alloc, arena, key.as_bytes(), given)?;
+    let before = answer.before.unwrap_or(0);
+    let reply = Reply::Value(given.value_replied(before));
+    Ok((reply, counts::inserted(place, key, answer)))
 }
 
 /// Removes a key.

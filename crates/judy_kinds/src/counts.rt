@@ -1,13 +1,31 @@
 //! The counts of a place, as entries are added and removed.
-ghost use Rattle.std.specs.Prelude.{◌≡◌, ◌+◌, ◌-◌, ◌<◌, ◌≤◌, ◌^◌};
+ghost use Rattle.std.specs.Prelude.{◌≡◌, ◌+◌, ◌-◌, ◌<◌, ◌≤◌, ◌^◌, IsNone, IsSome};
 ghost use Rattle.judy_model.specs.Pieces.{string_pieces};
 
 use judy_arena::Ref;
 use judy_directory::Place;
 use judy_model::Key;
+use judy_tree::Inserted;
+
+/// The place after an insertion of this key.
+pub(crate) fn inserted(place: Place, key: &Key<'_>, answer: Inserted) -> Place
+    requires entries { IsNone answer.before → place.entries + 1 < 2 ^ 64 }
+    requires pieces { place.pieces + string_pieces key.now < 2 ^ 64 }
+    ensures new { IsNone answer.before → result ≡ record {
+      root = answer.root;
+      entries = place.entries + 1;
+      pieces = place.pieces + string_pieces key.now;
+    } }
+    ensures present { IsSome answer.before → result ≡ record place { root = answer.root } }
+{
+    match answer.before {
+        None => grown(place, answer.root, key),
+        Some(_) => kept(place, answer.root),
+    }
+}
 
 /// The place at another reference, after adding one entry with this key.
-pub(crate) fn grown(place: Place, root: Ref, key: &Key<'_>) -> Place
+fn grown(place: Place, root: Ref, key: &Key<'_>) -> Place
     requires entries { place.entries + 1 < 2 ^ 64 }
     requires pieces { place.pieces + string_pieces key.now < 2 ^ 64 }
     ensures { result ≡ record {

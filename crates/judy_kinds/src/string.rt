@@ -17,7 +17,7 @@ use arrayvec::ArrayVec;
 use judy_arena::{Arena, NoMemory, Ref};
 use judy_directory::Place;
 use judy_model::{Given, KEY_LIMIT, Key, Reply, StrCall};
-use judy_string::{Inserted, JudySL};
+use judy_string::JudySL;
 use std::alloc::Global;
 
 /// The bytes of a key, as a string.
@@ -114,16 +114,10 @@ fn insert(
 {
     judy_string::laws::content_is_sound();
     let mut map = JudySL::from_reference(place.root);
-    match map.insert(alloc, arena, string_of(key), given)? {
-        Inserted::New => {
-            let reply = Reply::Value(given.value_replied(0));
-            Ok((reply, counts::grown(place, map.reference(), key)))
-        }
-        Inserted::Present(value) => {
-            let reply = Reply::Value(given.value_replied(value));
-            Ok((reply, counts::kept(place, map.reference())))
-        }
-    }
+    let answer = map.insert(alloc, arena, string_of(key), given)?;
+    let before = answer.before.unwrap_or(0);
+    let reply = Reply::Value(given.value_replied(before));
+    Ok((reply, counts::inserted(place, key, answer)))
 }
 
 /// Removes a string.

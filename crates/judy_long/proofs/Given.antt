@@ -12,10 +12,6 @@ use Rattle.judy_model.specs.Tenant.{insert, value_after, value_replied}
 use Rattle.judy_model.specs.declared.calls.Given.{Given}
 use Rattle.judy_model.proofs.lemmas.EntryLemmas.{word_itself}
 use Rattle.judy_model.specs.declared.replies.Reply.TheVariants as reply
-use Rattle.judy_tree.specs.Answers.{shown}
-use Rattle.judy_tree.specs.declared.answers.Inserted.{Inserted}
-use Rattle.judy_tree.specs.declared.answers.Inserted.TheVariants.{New, Present}
-use Rattle.judy_long.specs.LongArrays.{value_shown}
 
 -- a key compares equal to itself
 itself : (k : ℕ) → nat_cmp k k ≡ Equal

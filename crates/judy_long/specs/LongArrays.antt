@@ -3,7 +3,6 @@
 --     IsLongFinger b w x f   f is the finger of the index x
 --     long_in b w        its content: each index with its value
 --     long_numbers b w   the numbers of its blocks
---     value_shown a the value that an insertion shows
 --     long_inserts c           the call may insert an index
 --     IsFound l o              the entry o is one of l
 --     LongAnswers, LongLooks   the reply to a call, and what the call leaves
@@ -20,8 +19,6 @@ use Rattle.judy_model.specs.Tenant.{long_step}
 use Rattle.judy_tree.specs.Root.{IsRoot, entries, numbers as numbers_of_root, HasRootSpace}
 use Rattle.judy_query.specs.Fingers.{IsFinger}
 use Rattle.judy_query.specs.declared.near.Finger.{Finger}
-use Rattle.judy_tree.specs.declared.answers.Inserted.{Inserted}
-use Rattle.judy_tree.specs.declared.answers.Inserted.TheVariants.{New, Present}
 
 -- the reference leads to a sound map
 abbrev pub IsLongArray : Blocks → ℕ → Type 0
@@ -38,11 +35,6 @@ long_in b w = entries true b w
 -- the numbers of its blocks
 abbrev pub long_numbers : Blocks → ℕ → List ℕ
 long_numbers b w = numbers_of_root b w
-
--- the value that an insertion shows: 0 for a new index, else the value before
-abbrev pub value_shown : Inserted → ℕ
-value_shown New = 0
-value_shown (Present v) = v
 
 -- the call may insert an index
 abbrev pub long_inserts : LongCall → Bool

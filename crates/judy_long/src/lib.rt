@@ -1,17 +1,16 @@
 //! JudyL: a map from words to words in an arena, with the calls of JudyL(3).
 #![tactic(auto)]
 
-ghost use Rattle.std.specs.Prelude.{◌≡◌, ◌≤◌, ℕ, Option, None, IfOk, OnOk, OnErr, IsTrue, IsFalse, if◌then◌else◌, length, []};
+ghost use Rattle.std.specs.Prelude.{◌≡◌, ◌≤◌, ℕ, Option, None, IfOk, OnOk, OnErr, IsTrue, IsFalse, if◌then◌else◌, unwrap_or, length, []};
 ghost use Rattle.judy_arena.specs.Blocks.{Blocks};
 ghost use Rattle.judy_arena.specs.Takes.{Takes, TakesNothing};
-ghost use Rattle.judy_long.specs.LongArrays.{IsLongArray, IsLongFinger, long_in, value_shown, kept_or_zero, LongAnswers, LongLooks, LongBecomes, HasLongSpace};
+ghost use Rattle.judy_long.specs.LongArrays.{IsLongArray, IsLongFinger, long_in, kept_or_zero, LongAnswers, LongLooks, LongBecomes, HasLongSpace};
 ghost use Rattle.judy_model.specs.Contents.{word_order, value_of, has_key, with_entry, without_key, count, nth, first, next, last, prev, IsFound};
 ghost use Rattle.judy_model.specs.Gaps.{first_empty, next_empty, last_empty, prev_empty};
 ghost use Rattle.judy_model.specs.Tenant.{value_or_null, value_at_or_null, absent_or_no, long_asks_for_new, long_changes};
 ghost use Rattle.judy_model.specs.declared.calls.Given.TheVariants.{Nothing};
 ghost use Rattle.judy_model.specs.declared.calls.LongCall.TheVariants as long;
 ghost use Rattle.judy_model.specs.declared.replies.Reply.TheVariants as reply;
-ghost use Rattle.judy_tree.specs.Answers.{shown};
 ghost use Rattle.judy_tree.specs.Changes.{IsRefused};
 ghost use Rattle.judy_query.specs.Keys.{key_found};
 
@@ -81,12 +80,13 @@ impl JudyL {
         ensures there { OnOk result
             (IsTrue (has_key word_order (long_in arena.new.blocks self.new) x)) }
         ensures present { IfOk result
-            (λ answer. shown answer ≡ value_of word_order (long_in arena.old.blocks self.old) x) }
+            (λ it. it.before ≡ value_of word_order (long_in arena.old.blocks self.old) x) }
+        ensures root { IfOk result (λ it. it.root ≡ self.new) }
         ensures content { OnOk result (long_in arena.new.blocks self.new
             ≡ kept_or_zero (long_in arena.old.blocks self.old) x) }
         ensures step { IfOk result
-            (λ answer. LongAnswers arena.old self.old (long.Insert x Nothing)
-            (reply.Value (value_shown answer)) arena.new self.new) }
+            (λ it. LongAnswers arena.old self.old (long.Insert x Nothing)
+            (reply.Value (unwrap_or it.before 0)) arena.new self.new) }
         ensures absent { OnErr result
             (IsFalse (has_key word_order (long_in arena.old.blocks self.old) x)) }
         ensures refused { OnErr result (IsRefused arena.old self.old arena.new self.new) }
@@ -350,19 +350,17 @@ impl JudyL {
             → Takes 2 arena.old arena.new }
     {
         judy_tree::laws::roots_have_space();
-        match self
+        let answer = self
             .root
-            .insert_given(alloc, arena, x, given.value_after(0))?
-        {
-            Inserted::New => Ok(given.value_replied(0)),
-            Inserted::Present(value) => {
-                if let Given::Nothing = given {
-                    return Ok(value);
-                }
-                self.write(arena, x, given.value_after(value));
-                Ok(given.value_replied(value))
-            }
+            .insert_given(alloc, arena, x, given.value_after(0))?;
+        let Some(value) = answer.before else {
+            return Ok(given.value_replied(0));
+        };
+        if let Given::Nothing = given {
+            return Ok(value);
         }
+        self.write(arena, x, given.value_after(value));
+        Ok(given.value_replied(value))
     }
 
     /// Replies to a call as its method does.

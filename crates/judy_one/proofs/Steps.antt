@@ -1,5 +1,5 @@
 -- How the calls of a root answer as the calls of a set do.
-use Rattle.std.proofs.Common.{◌≡◌, ℕ, List, Bool, true, false, Some, None, is_some, unwrap_or, ap, sym, ◌∙◌, refl, subst}
+use Rattle.std.proofs.Common.{◌≡◌, ℕ, List, Bool, true, false, Some, None, is_some, not, unwrap_or, ap, sym, ◌∙◌, refl, subst}
 use Rattle.std.specs.Prelude.{is_none}
 use Rattle.judy_arena.specs.Blocks.{Blocks}
 use Rattle.judy_model.specs.Contents.{Entries, IsWordArray, word_order, value_of, has_key, with_entry}
@@ -29,6 +29,11 @@ set_answer l after x new words e is =
 
     answered : (a b : Bool) (l m : Entries ℕ) → a ≡ b → l ≡ m → ◌≡◌ {A = Reply × Entries ℕ} (reply.Int a, l) (reply.Int b, m)
     answered a b l m e f = cc
+
+-- what a test for None answers
+pub none-is : (t b : Bool) → t ≡ not b → b ≡ not t
+none-is t true e = sym (ap not e)
+none-is t false e = sym (ap not e)
 
 pub set-answer : ContentIsSound → (b : Blocks) (i w x : ℕ) (after : Entries ℕ) (new : Bool) → i ≡ w → IsRoot false b w
     → new ≡ is_none (value_of word_order (entries false b i) x)

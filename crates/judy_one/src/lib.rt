@@ -91,8 +91,8 @@ impl Judy1 {
             arena.old arena.new }
     {
         judy_tree::laws::content_is_sound();
-        let inserted = self.root.insert(alloc, arena, x)?;
-        Ok(inserted.is_new())
+        let answer = self.root.insert(alloc, arena, x)?;
+        Ok(answer.before.is_none())
     }
 
     /// Unsets an index: true if it was set. As `Judy1Unset` of Judy1(3).

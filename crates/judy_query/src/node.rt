@@ -8,7 +8,7 @@ ghost use Rattle.judy_branch.specs.Branch.{IsBranch, branch_view};
 ghost use Rattle.judy_tree.specs.Nodes.{head_at, is_branch};
 ghost use Rattle.judy_tree.specs.Root.{IsRoot, entries};
 
-use judy_arena::{Arena, Ref};
+use judy_arena::{Arena, Kind, Ref};
 use judy_branch::{Head, head};
 use judy_tree::population;
 
@@ -133,7 +133,7 @@ pub(crate) fn has_all(values: bool, arena: &Arena, node: Ref, count: u64) -> boo
     requires { IsRoot values arena.now.blocks node }
     ensures { result ≡ (length (entries values arena.now.blocks node) == count) }
 {
-    if node.word() / 4_294_967_296 == 3 {
+    if node.leads_to(Kind::FullLeaf) {
         return count == 256;
     }
     population(values, arena, node) == count

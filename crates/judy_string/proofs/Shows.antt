@@ -1,6 +1,6 @@
 -- What each search finds in a nest: what it finds under the string's own word, and else the end of
 -- what stands under the word beside it.
-use Rattle.std.proofs.Common.{◌≡◌, ◌≢◌, ℕ, zero, suc, ◌<◌, ◌≤◌, Bool, true, false, cond, List, [], ◌∷◌, ◌++◌, take, drop}
+use Rattle.std.proofs.Common.{◌≡◌, ◌≢◌, ℕ, zero, suc, ◌-◌, ◌<◌, ◌≤◌, Bool, true, false, cond, List, [], ◌∷◌, ◌++◌, take, drop}
 use Rattle.std.proofs.Common.{length, filter, Option, Some, None, is_some, ap, sym, ◌∙◌, refl, subst, arith, append-nil}
 use Rattle.std.proofs.Common.{append_assoc, ◌⊎◌, inl, inr}
 use Rattle.std.proofs.lemmas.Bool.Decides.{nat_tests}
@@ -224,6 +224,11 @@ beside-in Next es k e sorted i = head_in (λ x. is_gt (word_order x.0 k)) es e s
 beside-in Last es k e sorted i = last_in (λ x. is_lt (word_order x.0 k)) es e sorted i
 beside-in Prev es k e sorted i = last_in (λ x. is_lt (word_order x.0 k)) es e sorted i
 
+-- the entry beside a word in a nest is one of its entries
+pub beside-there : (r : ℕ) (b : Blocks) (w : ℕ) → Nest r b w → (how : Search) (k : ℕ) (o : Option (ℕ × ℕ)) (e : ℕ × ℕ)
+    → o ≡ beside how (entries true b w) k → o ≡ Some e → value_of word_order (entries true b w) e.0 ≡ Some e.1
+beside-there r b w nest how k o e is found = beside-in how (entries true b w) k e (nest-sorted r b w nest) (sym is ∙ found)
+
 all_in : (es : Entries ℕ) → filter (λ e. true) es ≡ es
 all_in [] = refl
 all_in (e ∷ es) = ap (λ l. e ∷ l) (all_in es)
@@ -382,3 +387,15 @@ itself-no h x s v off i =
     none Next = refl
     none Last = refl
     none Prev = refl
+
+-- what a search below a child shows, by the words of the nest above it
+pub below-shown : (how : Search) (r : ℕ) (b : Blocks) (s t base items : List ℕ) (u v k word : ℕ) (o told : Option ℕ) (now : List ℕ)
+    → r ≡ suc (r - 1) → u ≡ v → t ≡ s → k ≡ word → items ≡ base ++ word_bytes k → o ≡ told
+    → IsShown items (found_by how t (nested_content_at (suc (r - 1)) b u)) o now
+    → IsShown (base ++ word_bytes word) (found_by how s (nested_content_at r b v)) told now
+below-shown how r b s t base items u v k word o told now bound child tail same pushed tells shown =
+    subst (λ p. IsShown p (found_by how s (nested_content_at r b v)) told now) (pushed ∙ ap (λ n. base ++ word_bytes n) same)
+    (subst (λ a. IsShown items (found_by how s (nested_content_at r b v)) a now) tells
+    (subst (λ l. IsShown items l o now)
+    (ap (λ m. found_by how t (nested_content_at m b u)) (sym bound) ∙ ap (λ z. found_by how t (nested_content_at r b z)) child
+    ∙ ap (λ x. found_by how x (nested_content_at r b v)) tail) shown))

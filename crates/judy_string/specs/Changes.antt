@@ -6,12 +6,11 @@ use Rattle.judy_arena.specs.declared.blocks.NoMemory.{NoMemory}
 use Rattle.judy_model.specs.Contents.{Order, Entries, string_order, word_order, value_of, has_key, with_entry, without_key}
 use Rattle.judy_model.specs.declared.calls.Given.{Given}
 use Rattle.judy_model.specs.Tenant.{value_after}
-use Rattle.judy_tree.specs.Answers.{shown}
 use Rattle.judy_tree.specs.Root.{IsRoot, entries, numbers}
 use Rattle.judy_long.specs.Packing.{pack, IsString}
 use Rattle.judy_string.specs.Suffixes.{is_suffix}
 use Rattle.judy_string.specs.Strings.{nested_content_at, IsChanged}
-use Rattle.judy_string.specs.declared.words.Entered.{Entered}
+use Rattle.judy_tree.specs.declared.answers.Inserted.{Inserted}
 
 -- the rest of a string, of at most 8 * room bytes
 pub record IsRest (room : ℕ) (s : List ℕ) : Type 0 where
@@ -87,15 +86,10 @@ pub record HasEntered (m : ℕ) (a c : ArenaState) (w : ℕ) (s : List ℕ) (giv
   pub kind : is_suffix w ≡ false → is_suffix x ≡ false
   pub quiet : c.refusals ≡ a.refusals
 
--- the string s was inserted under the node w; the result gives the node that w became and what was
+-- the string s was inserted under the node w; the answer gives the node that w became and what was
 -- present before
-abbrev pub Enters : ℕ → ArenaState → ArenaState → ℕ → List ℕ → Given → Entered → Type 0
-Enters m a c w s given e = HasEntered m a c w s given e.node (shown e.inserted)
-
--- how many blocks an insertion takes, if one of an absent string takes at most n
-abbrev pub blocks_entered : ℕ → Result Entered NoMemory → ℕ
-blocks_entered n (Ok e) = if is_some (shown e.inserted) then 0 else n
-blocks_entered n (Err refused) = n
+abbrev pub Enters : ℕ → ArenaState → ArenaState → ℕ → List ℕ → Given → Inserted → Type 0
+Enters m a c w s given it = HasEntered m a c w s given it.root it.before
 
 -- a block was refused: the string was absent, the count of refusals rose by one, and no block
 -- changed

@@ -12,7 +12,7 @@
 --     StringAnswers, StringLooks             the reply to a call, and what the call leaves
 --     StringBecomes                          what every call leaves of the map and of others
 --     HasStringSpace a w                     its blocks have few words
-use Rattle.std.specs.Prelude.{◌≡◌, ℕ, ◌*◌, ◌<◌, ◌≤◌, Bool, true, List, [], length, Option, Some, None}
+use Rattle.std.specs.Prelude.{◌≡◌, ℕ, ◌*◌, ◌<◌, ◌≤◌, Bool, true, List, [], length, Option, Some, None, unwrap_or}
 use Rattle.judy_arena.specs.Blocks.{Blocks, ArenaState}
 use Rattle.judy_arena.specs.Frame.{Frame}
 use Rattle.judy_arena.specs.Totals.{words_over}
@@ -25,9 +25,7 @@ use Rattle.judy_model.specs.declared.replies.Reply.{Reply}
 use Rattle.judy_model.specs.declared.replies.Reply.TheVariants as reply
 use Rattle.judy_model.specs.declared.calls.Given.{Given}
 use Rattle.judy_model.specs.Tenant.{string_step, value_replied}
-use Rattle.judy_long.specs.LongArrays.{value_shown}
 use Rattle.judy_long.specs.Packing.{IsString}
-use Rattle.judy_tree.specs.declared.answers.Inserted.{Inserted}
 use Rattle.judy_string.specs.Changes.{with_given}
 use Rattle.judy_string.specs.Strings.{IsArray, content, nested_numbers}
 
@@ -100,8 +98,8 @@ abbrev pub StringAnswers : ArenaState → ℕ → StrCall → Reply → ArenaSta
 StringAnswers a w call given b x = string_step true (string_in a.blocks w) call ≡ (given, string_in b.blocks x)
 
 -- the reply to an insertion, by what was there before
-abbrev pub StringInserts : ArenaState → ℕ → List ℕ → Given → Inserted → ArenaState → ℕ → Type 0
-StringInserts a w s given was b x = StringAnswers a w (str.Insert s given) (reply.Value (value_replied given (value_shown was))) b x
+abbrev pub StringInserts : ArenaState → ℕ → List ℕ → Given → Option ℕ → ArenaState → ℕ → Type 0
+StringInserts a w s given before b x = StringAnswers a w (str.Insert s given) (reply.Value (value_replied given (unwrap_or before 0))) b x
 
 -- the call changes nothing
 abbrev pub StringLooks : ArenaState → ℕ → StrCall → Reply → Type 0

@@ -6,12 +6,13 @@ use Rattle.std.specs.Prelude.{◌≡◌, ℕ, ◌+◌, ◌*◌, ◌/◌, ◌^◌
 use Rattle.judy_arena.specs.Blocks.{Blocks, is_live, words_of, put}
 use Rattle.judy_arena.specs.Frame.{Frame}
 use Rattle.judy_arena.specs.Room.{room}
-use Rattle.judy_arena.specs.References.{kind_part, number_of}
+use Rattle.judy_arena.specs.References.{leads_to, number_of}
+use Rattle.judy_arena.specs.declared.refs.Kind.TheVariants.{Suffix}
 use Rattle.judy_long.specs.Packing.{word_bytes, IsString, packed}
 
 -- whether a reference leads to a suffix block
 abbrev pub is_suffix : ℕ → Bool
-is_suffix w = kind_part w == 7
+is_suffix w = leads_to w Suffix
 
 -- how many words s bytes take
 abbrev pub packed_suffix : ℕ → ℕ

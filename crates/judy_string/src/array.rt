@@ -8,7 +8,6 @@ ghost use Rattle.judy_model.specs.declared.replies.Reply.TheVariants as reply;
 ghost use Rattle.judy_string.specs.StringArrays.{IsKeyString, IsStringArray, string_in, string_value_in, has_string_key, StringGains, StringSets, StringLoses};
 ghost use Rattle.judy_string.specs.StringArrays.{first_in, next_in, last_in, prev_in, IsStringFound, string_shown};
 ghost use Rattle.judy_string.specs.StringArrays.{StringAnswers, StringInserts, StringLooks, StringBecomes, HasStringSpace};
-ghost use Rattle.judy_tree.specs.Answers.{shown};
 ghost use Rattle.judy_tree.specs.Changes.{IsRefused};
 
 use crate::search::Search;
@@ -89,12 +88,13 @@ impl JudySL {
         requires key { IsKeyString key.now }
         ensures array { StringBecomes arena.old self.old arena.new self.new }
         ensures space { HasStringSpace arena.new self.new }
-        ensures present { IfOk result (λ it. shown it
+        ensures present { IfOk result (λ it. it.before
             ≡ string_value_in arena.old self.old key.now) }
+        ensures root { IfOk result (λ it. it.root ≡ self.new) }
         ensures content { OnOk result (StringGains arena.old self.old key.now given arena.new
             self.new) }
         ensures step { IfOk result
-            (λ it. StringInserts arena.old self.old key.now given it arena.new self.new) }
+            (λ it. StringInserts arena.old self.old key.now given it.before arena.new self.new) }
         ensures absent { OnErr result (IsFalse (has_string_key arena.old self.old key.now)) }
         ensures refused { OnErr result (IsRefused arena.old self.old arena.new self.new) }
         ensures quiet { OnOk result (arena.new.refusals ≡ arena.old.refusals) }
@@ -102,9 +102,9 @@ impl JudySL {
             (if has_string_key arena.old self.old key.now then 0 else 380)
             arena.old arena.new }
     {
-        let entered = insertion::insert(alloc, arena, self.root, key, given, ROOM)?;
-        self.root = entered.node;
-        Ok(entered.inserted)
+        let answer = insertion::insert(alloc, arena, self.root, key, given, ROOM)?;
+        self.root = answer.root;
+        Ok(answer)
     }
 
     /// Writes the value of a present string. No other value changes.

@@ -5,12 +5,12 @@ ghost use Rattle.judy_arena.specs.Takes.{Takes};
 ghost use Rattle.judy_long.specs.LongArrays.{long_in, CountsRefusals};
 ghost use Rattle.judy_long.specs.Packing.{pack};
 ghost use Rattle.judy_model.specs.Contents.{word_order, has_key};
-ghost use Rattle.judy_string.specs.Changes.{IsRest, IsHung, IsForkedArray, Enters, IsTurnedAway, blocks_entered};
+ghost use Rattle.judy_string.specs.Changes.{IsRest, IsHung, IsForkedArray, Enters, IsTurnedAway};
 ghost use Rattle.judy_string.specs.Strings.{IsNestedAt};
 ghost use Rattle.judy_string.specs.Suffixes.{is_suffix};
+ghost use Rattle.judy_tree.specs.Calls.{most_blocks};
 
 use crate::nodes::{clear, tail};
-use crate::words::Entered;
 use crate::{suffix, words};
 use arrayvec::ArrayVec;
 use judy_arena::{Arena, NoMemory, Ref};
@@ -104,31 +104,28 @@ fn split(
     string: &[u8],
     given: Given,
     room: usize,
-) -> Result<Entered, NoMemory>
+) -> Result<Inserted, NoMemory>
     requires rest { IsRest room string.now }
     requires node { IsNestedAt (suc room) arena.old.blocks node }
     requires suffix { IsTrue (is_suffix node) }
     ensures done { IfOk result
-        (λ e. Enters (suc room) arena.old arena.new node string.now given e) }
+        (λ it. Enters (suc room) arena.old arena.new node string.now given it) }
     ensures refused { OnErr result (IsTurnedAway (suc room) arena.old arena.new node string.now) }
-    ensures memory { Takes (blocks_entered (130 + 2 * room) result) arena.old arena.new }
+    ensures memory { Takes (most_blocks (130 + 2 * room) result) arena.old arena.new }
 {
     if let Some(value) = suffix::get(arena, node, string) {
         suffix::write(arena, node, given.value_after(value));
-        return Ok(Entered {
-            node,
-            inserted: Inserted::Present(value),
+        return Ok(Inserted {
+            root: node,
+            before: Some(value),
         });
     }
     let mut old: ArrayVec<u8, KEY_LIMIT> = ArrayVec::new();
     let value = suffix::read(arena, node, &mut old);
     let added = given.value_after(0);
-    let array = fork(alloc, arena, old.as_slice(), value, string, added, room)?;
+    let root = fork(alloc, arena, old.as_slice(), value, string, added, room)?;
     suffix::release(arena, node);
-    Ok(Entered {
-        node: array,
-        inserted: Inserted::New,
-    })
+    Ok(Inserted { root, before: None })
 }
 
 /// Inserts a string under a node, gives it a value or adds to its value.
@@ -139,34 +136,31 @@ pub(crate) fn insert(
     string: &[u8],
     given: Given,
     room: usize,
-) -> Result<Entered, NoMemory>
+) -> Result<Inserted, NoMemory>
     requires rest { IsRest room string.now }
     requires node { IsNestedAt (suc room) arena.old.blocks node }
     ensures done { IfOk result
-        (λ e. Enters (suc room) arena.old arena.new node string.now given e) }
+        (λ it. Enters (suc room) arena.old arena.new node string.now given it) }
     ensures refused { OnErr result (IsTurnedAway (suc room) arena.old arena.new node string.now) }
-    ensures memory { Takes (blocks_entered (130 + 2 * room) result) arena.old arena.new }
+    ensures memory { Takes (most_blocks (130 + 2 * room) result) arena.old arena.new }
 {
     if suffix::is_suffix(node) {
         return split(alloc, arena, node, string, given, room);
     }
     let word = word_at(string, 0);
     if string.len() < 8 {
-        let entered = words::enter(alloc, arena, node, word, given)?;
-        return Ok(entered);
+        let answer = words::enter(alloc, arena, node, word, given)?;
+        return Ok(answer);
     }
     let Some(value) = words::look(arena, node, word) else {
-        let array = hang(alloc, arena, node, string, given.value_after(0), room)?;
-        return Ok(Entered {
-            node: array,
-            inserted: Inserted::New,
-        });
+        let root = hang(alloc, arena, node, string, given.value_after(0), room)?;
+        return Ok(Inserted { root, before: None });
     };
     let child = Ref::known(value);
     let below = insert(alloc, arena, child, tail(string), given, room - 1)?;
-    words::lead(arena, node, word, child, below.node);
-    Ok(Entered {
-        node,
-        inserted: below.inserted,
+    words::lead(arena, node, word, child, below.root);
+    Ok(Inserted {
+        root: node,
+        ..below
     })
 }

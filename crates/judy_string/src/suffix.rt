@@ -21,7 +21,7 @@ use std::alloc::Global;
 pub(crate) fn is_suffix(reference: Ref) -> bool
     ensures { result ≡ is_suffix reference }
 {
-    reference.word() / 4_294_967_296 == 7
+    reference.leads_to(Kind::Suffix)
 }
 
 /// How many words this many bytes take.

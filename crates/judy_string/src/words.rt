@@ -4,21 +4,12 @@ ghost use Rattle.judy_arena.specs.Takes.{Takes, TakesNothing};
 ghost use Rattle.judy_long.specs.LongArrays.{IsLongArray, long_in, CountsRefusals};
 ghost use Rattle.judy_model.specs.Contents.{word_order, value_of, has_key};
 ghost use Rattle.judy_string.specs.Changes.{IsGiven, IsPut, IsTakenWord};
-ghost use Rattle.judy_tree.specs.Answers.{shown};
 
 use judy_arena::{Arena, NoMemory, Ref};
 use judy_long::{Inserted, JudyL};
 use judy_model::Given;
 use judy_tree::Root;
 use std::alloc::Global;
-
-/// The result of an insertion into a node: the node that replaces it, and what was present at the
-/// key.
-#[derive(Clone, Copy)]
-pub(crate) struct Entered {
-    pub(crate) node: Ref,
-    pub(crate) inserted: Inserted,
-}
 
 /// The value of a word in a word array.
 pub(crate) fn look(arena: &Arena, array: Ref, word: u64) -> Option<u64>
@@ -35,12 +26,12 @@ pub(crate) fn enter(
     array: Ref,
     word: u64,
     given: Given,
-) -> Result<Entered, NoMemory>
+) -> Result<Inserted, NoMemory>
     requires { IsLongArray arena.old.blocks array }
     ensures done { IfOk result
-        (λ e. IsGiven arena.old.blocks arena.new.blocks array word given e.node) }
+        (λ it. IsGiven arena.old.blocks arena.new.blocks array word given it.root) }
     ensures before { IfOk result
-        (λ e. shown e.inserted ≡ value_of word_order (long_in arena.old.blocks array) word) }
+        (λ it. it.before ≡ value_of word_order (long_in arena.old.blocks array) word) }
     ensures absent { OnErr result
         (IsFalse (has_key word_order (long_in arena.old.blocks array) word)) }
     ensures unchanged { OnErr result (arena.new.blocks ≡ arena.old.blocks) }
@@ -50,19 +41,15 @@ pub(crate) fn enter(
     ensures few { length (long_in arena.old.blocks array) ≤ 30 → Takes 2 arena.old arena.new }
 {
     let mut words: Root<true> = Root::from_reference(array);
-    let inserted = words.insert_given(alloc, arena, word, given.value_after(0))?;
-    let entered = Entered {
-        node: words.reference(),
-        inserted,
-    };
-    let Inserted::Present(before) = inserted else {
-        return Ok(entered);
+    let answer = words.insert_given(alloc, arena, word, given.value_after(0))?;
+    let Some(before) = answer.before else {
+        return Ok(answer);
     };
     if let Given::Nothing = given {
-        return Ok(entered);
+        return Ok(answer);
     }
     words.write(arena, word, given.value_after(before));
-    Ok(entered)
+    Ok(answer)
 }
 
 /// Inserts a new word with its value.
@@ -82,8 +69,8 @@ pub(crate) fn put(
     ensures memory { Takes 64 arena.old arena.new }
     ensures few { length (long_in arena.old.blocks array) ≤ 30 → Takes 2 arena.old arena.new }
 {
-    let entered = enter(alloc, arena, array, word, Given::Value(value))?;
-    Ok(entered.node)
+    let answer = enter(alloc, arena, array, word, Given::Value(value))?;
+    Ok(answer.root)
 }
 
 /// Changes the node that a word leads to. The array keeps its reference.

@@ -1,39 +1,40 @@
 -- A branch made over a node and a leaf of one key.
-use Rattle.std.proofs.Common.{◌≡◌, ◌≢◌, ℕ, zero, suc, ◌+◌, ◌-◌, ◌*◌, ◌/◌, ◌%◌, ◌^◌, ◌<◌, ◌≤◌, Bool, true, false, cond, not, ◌||◌, ◌==◌, List, [], ◌∷◌}
-use Rattle.std.proofs.Common.{◌++◌, length, Option, Some, None, is_some, unwrap_or, ap, sym, ◌∙◌, refl, subst, arith, append-nil}
-use Rattle.std.specs.declared.cmp.Ordering.{Ordering}
-use Rattle.std.specs.declared.cmp.Ordering.TheVariants.{Less, Equal, Greater}
+use Rattle.std.proofs.Common.{◌≡◌, ◌≢◌, ℕ, ◌+◌, ◌-◌, ◌/◌, ◌%◌, ◌<◌, ◌≤◌, Bool, true, false, cond, not, [], ◌∷◌}
+use Rattle.std.proofs.Common.{length, Some, None, is_some, ap, sym, ◌∙◌, refl, subst, arith, append-nil}
+use Rattle.std.specs.declared.cmp.Ordering.TheVariants.{Less, Greater}
 use Rattle.std.specs.Ordering.{eq_by_cmp, nat_cmp}
 use Rattle.std.specs.Cmp.{nat_cmp_total}
 use Rattle.std.specs.FinMap.{is_sorted}
 use Rattle.std.specs.FinMap.Entries.{find-put, by_order}
-use Rattle.judy_arena.specs.Blocks.{Blocks, block, is_live}
+use Rattle.judy_arena.specs.Blocks.{Blocks, is_live}
 use Rattle.judy_arena.specs.Frame.{holds, Frame}
 use Rattle.judy_arena.specs.Totals.{are_distinct}
 use Rattle.judy_model.specs.Contents.{Entries, word_order, value_of, has_key, with_entry, without_key}
 use Rattle.judy_tree.specs.Each.{Each}
 use Rattle.judy_leaf.specs.Leaf.{IsLeaf, leaf_entries, leaf_numbers}
 use Rattle.judy_branch.specs.Branch.{IsBranch, View, branch_view, branch_number}
-use Rattle.judy_tree.proofs.lemmas.BranchLaws.{IsPlace, IsView}
+use Rattle.judy_tree.proofs.lemmas.BranchLaws.{IsPlace}
 use Rattle.std.proofs.lemmas.Bool.Decides.{nat_tests}
 use Rattle.std.specs.Prelude.{nat_lt}
-use Rattle.judy_tree.specs.Calls.{StaysDeep, NodeGrows}
-use Rattle.judy_tree.specs.Fork.{IsFork, IsForked, Forks, Differ, CanFork}
+use Rattle.judy_tree.specs.Calls.{StaysDeep, NodeGrows, Adds}
+use Rattle.judy_tree.specs.Changes.{IsShort}
+use Rattle.judy_tree.specs.declared.answers.Inserted.{Inserted}
+use Rattle.judy_tree.specs.Fork.{IsFork, Forks, Differ}
 use Rattle.judy_branch.specs.Branch.{IsBranchOf}
-use Rattle.std.specs.Prelude.{Result, Ok, Err, IfOk, OnErr, is_ok, if◌then◌else◌}
+use Rattle.std.specs.Prelude.{Result, Ok, Err, IfOk, OnErr, IsErr, is_ok, if◌then◌else◌}
 use Rattle.std.proofs.lemmas.Bool.{false≢true as not_true}
 use Rattle.judy_arena.specs.Blocks.{ArenaState, count_up}
 use Rattle.judy_arena.specs.declared.refs.Ref.{Ref}
 use Rattle.judy_arena.specs.declared.blocks.NoMemory.{NoMemory}
-use Rattle.judy_tree.specs.Nodes.{head_at, is_branch, joined, IsKid, IsOver, depth}
+use Rattle.judy_tree.specs.Nodes.{head_at, is_branch, joined, IsKid, depth}
 use Rattle.judy_tree.specs.Root.{entries, numbers, IsRoot}
 use Rattle.judy_tree.proofs.LeafLaws.{leaf-kind, leaf-once}
 use Rattle.judy_tree.proofs.lemmas.BranchLaws.{branch-kind}
 use Rattle.judy_tree.proofs.lemmas.Heads.{head-less, head-earlier, same-above, prefix-head, prefix-earlier}
-use Rattle.judy_tree.proofs.lemmas.Joins.{kid, times, times-append, Heads, each-put, each-weaker, each-both, each-joined}
-use Rattle.judy_tree.proofs.lemmas.Joins.{find-without, same-found, joined-rises, rises-put, word_other}
+use Rattle.judy_tree.proofs.lemmas.Joins.{kid, times, Heads, each-put, each-weaker, each-both, each-joined}
+use Rattle.judy_tree.proofs.lemmas.Joins.{same-found, joined-rises, rises-put, word_other}
 use Rattle.judy_tree.proofs.Nodes.{depth-leaf, depth-branch}
-use Rattle.judy_tree.proofs.lemmas.Trees.{Top, root-top, top-root, Kept, root-kept, root-rises, numbers-live, numbers-once}
+use Rattle.judy_tree.proofs.lemmas.Trees.{root-top, top-root, Kept, root-kept, root-rises, numbers-live, numbers-once}
 use Rattle.judy_tree.proofs.lemmas.Trees.{leaf-root, leaf-content, leaf-blocks}
 use Rattle.judy_tree.proofs.Changes.{Became, rest-kept, new-stays, two-frames, two-once, times-split, joined-changed, moved}
 use Rattle.judy_tree.proofs.Steps.{found-put, others-put, length-put}
@@ -244,11 +245,6 @@ outside-fork v a w prefix key is node p small_p small_k out l seven differ agree
     not_less : (l m : ℕ) → nat_lt l m ≡ false → m ≤ l
     not_less l m e = grind (arith, nat_tests)
 
-pub not-prefix : (v : Bool) (a : Blocks) (w prefix key : ℕ) → prefix ≡ (branch_view a w).prefix
-    → ((x : ℕ) → x < 256 → head_at (branch_view a w).level key ≢ head_at (branch_view a w).level (branch_view a w).prefix + x) → prefix ≢ key
-not-prefix v a w prefix key p out e = out 0 (omega arith) (let i : head_at (branch_view a w).level key ≡ head_at
-    (branch_view a w).level (branch_view a w).prefix = ap (head_at (branch_view a w).level) (sym e ∙ p) in omega arith)
-
 pub depth-eight : (v : Bool) (a : Blocks) (w : ℕ) → IsRoot v a w → depth a w ≤ 8
 depth-eight v a w node =
     elim (is_branch w) as (λ t. is_branch w ≡ t → depth a w ≤ 8) [
@@ -337,6 +333,12 @@ grows v old new w x key value b r = record {
       λ l h e. let d = b.deep in omega arith;
   refusals = r;
 }
+
+-- an insertion that was refused
+pub refused-add : (v : Bool) (old new : ArenaState) (w key value : ℕ) (r : Result Inserted NoMemory) → IsErr r
+    → has_key word_order (entries v old.blocks w) key ≡ false → IsShort old new → Adds v old w new key value r
+refused-add v old new w key value (Ok it) is absent short = cc
+refused-add v old new w key value (Err e) is absent short = (absent, short)
 
 -- a key that parts from all keys of a node is none of them
 pub other-head : (v : Bool) (b : Blocks) (w sample key level : ℕ) → (level < depth b w) × (level ≤ 6)

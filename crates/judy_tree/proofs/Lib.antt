@@ -8,3 +8,4 @@ mod Splits
 mod Spreads
 mod Space
 mod Taking
+mod Insertions

@@ -1,34 +1,32 @@
 -- A leaf that cannot take a key: where its keys and the new one differ, and what becomes of it.
-use Rattle.std.proofs.Common.{◌≡◌, ◌≢◌, ℕ, zero, suc, ◌+◌, ◌-◌, ◌*◌, ◌/◌, ◌<◌, ◌≤◌, Bool, true, false, cond, List, [], ◌∷◌}
-use Rattle.std.proofs.Common.{◌++◌, length, get_or, Option, Some, None, is_some, ap, sym, ◌∙◌, refl, subst, arith, ◌⊎◌, inl, inr}
+use Rattle.std.proofs.Common.{◌≡◌, ◌≢◌, ℕ, zero, suc, ◌+◌, ◌-◌, ◌/◌, ◌<◌, ◌≤◌, Bool, true, false, [], ◌∷◌}
+use Rattle.std.proofs.Common.{length, Option, Some, None, is_some, ap, sym, ◌∙◌, refl, subst, arith, ◌⊎◌, inl, inr, Result, Ok, Err}
 use Rattle.std.proofs.lemmas.Bool.Decides.{nat_tests}
 use Rattle.std.specs.Prelude.{nat_lt}
-use Rattle.std.specs.Ordering.{eq_by_cmp}
 use Rattle.std.specs.FinMap.{is_sorted}
 use Rattle.std.proofs.lemmas.Bool.{false≢true as not_true}
 use Rattle.judy_arena.specs.Blocks.{Blocks, block, is_live}
 use Rattle.judy_arena.specs.Frame.{holds, Frame}
 use Rattle.judy_arena.specs.References.{kind_of}
 use Rattle.judy_model.specs.Contents.{Entries, word_order, value_of, has_key, with_entry}
-use Rattle.judy_model.proofs.lemmas.EntryLemmas.{word_itself}
 use Rattle.judy_tree.specs.Each.{Each}
 use Rattle.judy_leaf.specs.Leaf.{IsLeaf, CannotTake, leaf_entries, leaf_numbers}
 use Rattle.judy_tree.specs.Calls.{entry_at}
 use Rattle.judy_tree.proofs.LeafLaws.{ShareFront, CannotShare, cannot-share}
-use Rattle.judy_tree.specs.Nodes.{head_at, is_branch, depth}
+use Rattle.judy_tree.specs.Nodes.{head_at, is_branch}
 use Rattle.judy_tree.specs.Root.{entries, numbers, IsRoot}
-use Rattle.judy_tree.specs.Calls.{StaysDeep, NodeGrows, Adds}
-use Rattle.judy_tree.specs.declared.answers.Added.{Added}
-use Rattle.judy_tree.specs.declared.answers.Added.TheVariants as added
+use Rattle.judy_tree.specs.Calls.{StaysDeep, NodeGrows, HasAdded, Adds}
+use Rattle.judy_tree.specs.declared.answers.Inserted.{Inserted}
+use Rattle.judy_arena.specs.declared.blocks.NoMemory.{NoMemory}
 use Rattle.judy_tree.specs.Fork.{Differ, CanFork}
-use Rattle.judy_tree.specs.Split.{CanSpread, IsSpread}
+use Rattle.judy_tree.specs.Split.{MustSplit, IsSpread, low_key, high_key}
 use Rattle.judy_arena.specs.Blocks.{ArenaState, count_up}
 use Rattle.judy_arena.proofs.lemmas.FrameLaws.{frame-stays}
-use Rattle.judy_tree.proofs.LeafLaws.{leaf-kept, leaf-live, leaf-words, leaf-wide, leaf-full, Kept as LeafKept}
+use Rattle.judy_tree.proofs.LeafLaws.{leaf-kind, leaf-kept, leaf-live, leaf-words, leaf-wide, leaf-full, Kept as LeafKept}
 use Rattle.judy_tree.proofs.lemmas.Heads.{head-less, head-earlier}
 use Rattle.judy_tree.proofs.lemmas.Joins.{each-weaker, each-both, each-below, rises-parts}
 use Rattle.judy_tree.proofs.Nodes.{depth-leaf}
-use Rattle.judy_tree.proofs.lemmas.Trees.{Kept, root-kept, root-leaf, leaf-blocks, leaf-content}
+use Rattle.judy_tree.proofs.lemmas.Trees.{Kept, root-kept, leaf-blocks, leaf-content}
 use Rattle.judy_tree.proofs.Changes.{two-frames, new-stays, given-back}
 use Rattle.judy_tree.proofs.lemmas.Joins.{times}
 use Rattle.judy_tree.proofs.Steps.{frames-chain}
@@ -38,12 +36,6 @@ pub each-at : (P : ℕ × ℕ → Type 0) (l : Entries ℕ) (i : ℕ) → Each P
 each-at P [] i h n = absurd (omega arith)
 each-at P (e ∷ l) zero h n = h.0
 each-at P (e ∷ l) (suc i) h n = each-at P l i h.1 (omega arith)
-
-abbrev pub low_key : Entries ℕ → ℕ
-low_key l = (entry_at l 0).0
-
-abbrev pub high_key : Entries ℕ → ℕ
-high_key l = (entry_at l (length l - 1)).0
 
 last_of_more : (e d : ℕ × ℕ) (l : Entries ℕ) → high_key (e ∷ d ∷ l) ≡ high_key (d ∷ l)
 last_of_more e d l = ap (λ i. (entry_at (e ∷ d ∷ l) i).0) (one (length l))
@@ -179,12 +171,6 @@ module _ (l : Entries ℕ) (key level : ℕ) (s : is_sorted word_order l ≡ tru
             ∙ sym (each-at (λ e. head_at m e.0 ≡ head_at m key) l (length l - 1) all (omega arith)))))
       ] refl
 
--- a key that is absent is no key of the leaf
-pub not-there : (l : Entries ℕ) (key : ℕ) → 0 < length l → has_key word_order l key ≡ false → low_key l ≢ key
-not-there [] key n h = absurd (omega arith)
-not-there (e ∷ l) key n h = λ i. not_true (sym h ∙ ap (λ t. is_some (cond t (Some e.1) (value_of word_order l key)))
-    (ap (eq_by_cmp word_order key) i ∙ word_itself key))
-
 -- ---- the leaf is spread, the key put in, and the old block released
 module _ (v : Bool) (a b c : Blocks) (w split grown : ℕ) (is : is_branch w ≡ false) (leaf : IsLeaf v a w)
     (first : Frame a b [] (numbers b split)) (second : Frame b c (numbers b split) (numbers c grown)) where
@@ -215,80 +201,57 @@ module _ (v : Bool) (a b c : Blocks) (w split grown : ℕ) (is : is_branch w ≡
         left : (n : ℕ) → n ≡ 0 + (n + 0)
         left n = omega arith
 
--- ---- all that the code needs to know of a leaf that cannot take a key, by its lowest and its highest key
+-- ---- how a leaf that cannot take a key is parted, by its lowest and its highest key
+module _ (v : Bool) (b : Blocks) (w key lo : ℕ) (leaf : IsLeaf v b w) (absent : has_key word_order (leaf_entries v b w) key ≡ false)
+    (full : CannotTake (kind_of w) (leaf_entries v b w) key) (low : lo ≡ low_key (leaf_entries v b w)) where
+  abbrev l : Entries ℕ
+  l = leaf_entries v b w
 
-pub record Cut (l : Entries ℕ) (key lo hi : ℕ) : Type 0 where
-  pub some : 0 < length l
-  pub other : lo ≢ key
-  pub over : (level : ℕ) → Differ lo key level → head_at level lo ≡ head_at level hi → (m : ℕ) → m ≤ 7 → head_at m lo ≢ head_at m
-      key → ((n : ℕ) → n < m → head_at n lo ≡ head_at n key) → (m < 8) × (m ≤ 6) × Each (λ e. head_at m e.0 ≡ head_at m lo) l
-  pub small : (level : ℕ) → Differ lo key level → (head_at level lo ≡ head_at level hi → ⊥) → length l ≤ 31
-  pub low : (level next : ℕ) → Differ lo key level → (head_at level lo ≡ head_at level hi → ⊥) → Differ lo hi next → next ≤ 6
-  pub alike : (level next : ℕ) → Differ lo key level → (head_at level lo ≡ head_at level hi → ⊥) → Differ lo hi next → (i : ℕ)
-      → i < length l → (m : ℕ) → m < next → head_at m (entry_at l i).0 ≡ head_at m (entry_at l 0).0
-  pub deep : (level next : ℕ) → Differ lo key level → (head_at level lo ≡ head_at level hi → ⊥) → Differ lo hi next → (m : ℕ)
-      → m < 8 → Each (λ e. head_at m e.0 ≡ head_at m key) l → m < next
+  cannot : CannotShare l key
+  cannot = cannot-share l key full.0
 
-cut_here : (l : Entries ℕ) (key : ℕ) → is_sorted word_order l ≡ true → CannotShare l key
-    → (31 < length l → ShareFront l (low_key l / 256)) → has_key word_order l key ≡ false → Cut l key (low_key l) (high_key l)
-cut_here l key s cannot wide absent = record {
-  some = cannot-some l key cannot;
-  other = not-there l key (cannot-some l key cannot) absent;
-  over = λ level d e. above-leaf l key level s cannot d.low d.differ d.agree e;
-  small = λ level d e. few-keys l key level s cannot d.low d.differ d.agree e wide;
-  low = λ level next d e f. low-next l key level s cannot d.low d.differ d.agree e next f.low f.differ f.agree;
-  alike = λ level next d e f. agree-next l key level s cannot d.low d.differ d.agree e next f.low f.differ f.agree;
-  deep = λ level next d e f. deep-next l key level s cannot d.low d.differ d.agree e next f.low f.differ f.agree;
-}
+  rising : is_sorted word_order l ≡ true
+  rising = (leaf-words v b w leaf).0
 
-pub cut : (v : Bool) (a b : Blocks) (w key lo hi count : ℕ) → b ≡ a → is_branch w ≡ false → IsRoot v a w → CannotShare
-    (leaf_entries v a w) key → has_key word_order (leaf_entries v a w) key ≡ false
-    → lo ≡ (entry_at (leaf_entries v b w) 0).0 → count ≡ length (leaf_entries v b w)
-    → hi ≡ (entry_at (leaf_entries v b w) (count - 1)).0 → Cut (leaf_entries v b w) key lo hi
-cut v a b w key lo hi count same is root cannot absent lo_is count_is hi_is =
-    let leaf : IsLeaf v b w = subst (λ z. IsLeaf v z w) (sym same) (root-leaf v a w is root) in
-    let l : Entries ℕ = leaf_entries v b w in
-    let c : CannotShare l key = subst (λ z. CannotShare (leaf_entries v z w) key) (sym same) cannot in
-    let n : has_key word_order l key ≡ false = ap (λ z. has_key word_order (leaf_entries v z w) key) same ∙ absent in
-    let k = cut_here l key (leaf-words v b w leaf).0 c (leaf-wide v b w leaf) n in
-    subst (λ x. Cut l key x hi) (sym lo_is) (subst (Cut l key (low_key l)) (sym (hi_is ∙ ap (λ m. (entry_at l (m - 1)).0) count_is)) k)
+  some : 0 < length l
+  some = cannot-some l key cannot
 
--- a leaf that is split has 31 keys
-pub cut-full : (v : Bool) (b : Blocks) (w key lo hi count level : ℕ) → IsLeaf v b w → CannotTake (kind_of w) (leaf_entries v b w) key
-    → lo ≡ (entry_at (leaf_entries v b w) 0).0 → count ≡ length (leaf_entries v b w)
-    → hi ≡ (entry_at (leaf_entries v b w) (count - 1)).0 → Differ lo key level → (head_at level lo ≡ head_at level hi → ⊥)
-    → length (leaf_entries v b w) ≡ 31
-cut-full v b w key lo hi count level leaf cannot lo_is count_is hi_is d apart =
-    let l : Entries ℕ = leaf_entries v b w in
-    let c : CannotShare l key = cannot-share l key cannot.0 in
-    let high = hi_is ∙ ap (λ m. (entry_at l (m - 1)).0) count_is in
-    let e : Differ (low_key l) key level = subst (λ x. Differ x key level) lo_is d in
-    all-keys l key level (leaf-words v b w leaf).0 c e.low e.differ e.agree
-    (λ h. apart (ap (head_at level) lo_is ∙ h ∙ sym (ap (head_at level) high))) (leaf-full v b w key leaf (cannot-some l key c) cannot)
+  module _ (hi level : ℕ) (high : hi ≡ high_key l) (d : Differ lo key level) where
+    parts : Differ (low_key l) key level
+    parts = subst (λ x. Differ x key level) low d
 
--- the leaf's keys agree to where the new one parts from them, and a branch may stand above it
-pub can-fork-leaf : (v : Bool) (b : Blocks) (w key lo hi level : ℕ) → is_branch w ≡ false → Cut (leaf_entries v b w) key lo hi
-    → Differ lo key level → head_at level lo ≡ head_at level hi → CanFork v b w lo key
-can-fork-leaf v b w key lo hi level is k d e m n =
-    let h = k.over level d e m n.low n.differ n.agree in
-    let eight = depth-leaf b w is in
-    (omega (arith, h.0), h.1, subst (Each (λ x. head_at m x.0 ≡ head_at m lo)) (sym (leaf-content v b w is)) h.2)
+    -- the leaf's keys agree to where the new one parts from them, and a branch may stand above it
+    pub fork-above : head_at level lo ≡ head_at level hi → CanFork v b w lo key
+    fork-above e m n =
+        let p : Differ (low_key l) key m = subst (λ x. Differ x key m) low n in
+        let h = above-leaf l key level rising cannot parts.low parts.differ parts.agree
+        (ap (head_at level) (sym low) ∙ e ∙ ap (head_at level) high) m p.low p.differ p.agree in
+        let is = leaf-kind v b w leaf in
+        let eight = depth-leaf b w is in (
+          omega (arith, h.0),
+          h.1,
+          subst (Each (λ x. head_at m x.0 ≡ head_at m lo)) (sym (leaf-content v b w is))
+              (subst (λ k. Each (λ x. head_at m x.0 ≡ head_at m k) l) (sym low) h.2),
+        )
 
--- they do not agree, and the leaf may be split
-pub can-spread : (v : Bool) (b : Blocks) (w key lo hi count level next : ℕ) → IsLeaf v b w → Cut (leaf_entries v b w) key lo hi
-    → lo ≡ (entry_at (leaf_entries v b w) 0).0 → count ≡ length (leaf_entries v b w)
-    → hi ≡ (entry_at (leaf_entries v b w) (count - 1)).0 → Differ lo key level → (head_at level lo ≡ head_at level hi → ⊥)
-    → Differ lo hi next → CanSpread v b w next
-can-spread v b w key lo hi count level next leaf k lo_is count_is hi_is d apart n =
-    let high = hi_is ∙ ap (λ m. (entry_at (leaf_entries v b w) (m - 1)).0) count_is in
-    record {
-      leaf = leaf;
-      few = k.small level d apart;
-      some = k.some;
-      low = k.low level next d apart n;
-      agree = k.alike level next d apart n;
-      differ = λ e. n.differ (ap (head_at next) lo_is ∙ sym e ∙ sym (ap (head_at next) high));
-    }
+    -- they do not agree, and the leaf is split
+    pub must-split : (next : ℕ) → (head_at level lo ≡ head_at level hi → ⊥) → Differ lo hi next → MustSplit v b w key next
+    must-split next apart n =
+        let a : head_at level (low_key l) ≢ head_at level (high_key l) =
+        λ e. apart (ap (head_at level) low ∙ e ∙ sym (ap (head_at level) high)) in
+        let m : Differ (low_key l) (high_key l) next = subst (λ x. Differ x (high_key l) next) low (subst (λ x. Differ lo x next) high n) in
+        record {
+          spread = record {
+            leaf = leaf;
+            few = few-keys l key level rising cannot parts.low parts.differ parts.agree a (leaf-wide v b w leaf);
+            some = some;
+            low = low-next l key level rising cannot parts.low parts.differ parts.agree a next m.low m.differ m.agree;
+            agree = agree-next l key level rising cannot parts.low parts.differ parts.agree a next m.low m.differ m.agree;
+            differ = λ e. m.differ (sym e);
+          };
+          full = all-keys l key level rising cannot parts.low parts.differ parts.agree a (leaf-full v b w key leaf some full);
+          deep = deep-next l key level rising cannot parts.low parts.differ parts.agree a next m.low m.differ m.agree;
+        }
 
 -- the leaf was split, the key put in, and the leaf's block given up
 pub split-grows : (v : Bool) (a b c d : ArenaState) (w split grown key value next : ℕ) → is_branch w ≡ false → IsLeaf v a.blocks w
@@ -314,26 +277,55 @@ split-grows v a b c d w split grown key value next is leaf s g third n deep =
       refusals = n ∙ g.refusals ∙ s.refusals;
     }
 
+-- the key was put into the branch that a leaf without the key was split into
+module _ (v : Bool) (a b c : ArenaState) (w split next key value x : ℕ) (told : Option ℕ) (leaf : IsLeaf v a.blocks w) (s : IsSpread v a b [] w next split)
+    (absent : has_key word_order (leaf_entries v a.blocks w) key ≡ false) (added : HasAdded v b split c key value x told) where
+  pub split-new : told ≡ None
+  split-new = new told added
+    where
+      new : (o : Option ℕ) → HasAdded v b split c key value x o → o ≡ None
+      new None h = refl
+      new (Some y) h = absurd (not_true (sym absent ∙ ap (λ l. has_key word_order l key) (sym s.content) ∙ ap is_some h.0))
+
+  grown : NodeGrows v b split c x key value
+  grown = (subst (HasAdded v b split c key value x) split-new added).1
+
+  pub split-leaf : IsLeaf v c.blocks w
+  split-leaf = (leaf-still v a.blocks b.blocks c.blocks w split x (leaf-kind v a.blocks w leaf) leaf s.frame grown.array.frame).leaf
+
+  pub split-adds : (d : ArenaState) → Frame c.blocks d.blocks (leaf_numbers c.blocks w) [] → d.refusals ≡ c.refusals
+      → ((m : ℕ) → m < 8 → Each (λ e. head_at m e.0 ≡ head_at m key) (leaf_entries v a.blocks w) → m < next) → HasAdded v a w d key value x told
+  split-adds d third n deep =
+      let is = leaf-kind v a.blocks w leaf in
+      subst (HasAdded v a w d key value x) (sym split-new) (
+        ap (λ l. has_key word_order l key) (leaf-content v a.blocks w is) ∙ absent,
+        split-grows v a b c d w split x key value next is leaf s grown third n deep,
+      )
+
 -- an insertion after a call that changed nothing
 pub adds-after : (v : Bool) (old mid new : ArenaState) (w key value : ℕ) → mid.blocks ≡ old.blocks → mid.refusals ≡ old.refusals
-    → (r : Added) → Adds v mid w new key value r → Adds v old w new key value r
-adds-after v old mid new w key value b n (added.Done x) h = (
-  ap (λ z. has_key word_order (entries v z w) key) (sym b) ∙ h.0,
-  record {
-    array = record {
-      root = h.1.array.root;
-      content = h.1.array.content ∙ ap (λ z. with_entry word_order (entries v z w) key value) b;
-      frame = subst (λ z. Frame z new.blocks (numbers z w) (numbers new.blocks x)) b h.1.array.frame;
-    };
-    deep = subst (λ z. StaysDeep z new.blocks w x (entries v z w) key) b h.1.deep;
-    refusals = h.1.refusals ∙ n;
-  },
-)
-adds-after v old mid new w key value b n (added.Present y) h = (
-  ap (λ z. value_of word_order (entries v z w) key) (sym b) ∙ h.0,
-  record { blocks = h.1.blocks ∙ b; refusals = h.1.refusals ∙ n },
-)
-adds-after v old mid new w key value b n added.NoMemory h = (
+    → (r : Result Inserted NoMemory) → Adds v mid w new key value r → Adds v old w new key value r
+adds-after v old mid new w key value b n (Ok it) h = added it.root it.before h
+  where
+    added : (x : ℕ) (told : Option ℕ) → HasAdded v mid w new key value x told → HasAdded v old w new key value x told
+    added x None h = (
+      ap (λ z. has_key word_order (entries v z w) key) (sym b) ∙ h.0,
+      record {
+        array = record {
+          root = h.1.array.root;
+          content = h.1.array.content ∙ ap (λ z. with_entry word_order (entries v z w) key value) b;
+          frame = subst (λ z. Frame z new.blocks (numbers z w) (numbers new.blocks x)) b h.1.array.frame;
+        };
+        deep = subst (λ z. StaysDeep z new.blocks w x (entries v z w) key) b h.1.deep;
+        refusals = h.1.refusals ∙ n;
+      },
+    )
+    added x (Some y) h = (
+      ap (λ z. value_of word_order (entries v z w) key) (sym b) ∙ h.0,
+      h.1,
+      record { blocks = h.2.blocks ∙ b; refusals = h.2.refusals ∙ n },
+    )
+adds-after v old mid new w key value b n (Err refused) h = (
   ap (λ z. has_key word_order (entries v z w) key) (sym b) ∙ h.0,
   record { blocks = h.1.blocks ∙ b; refusals = h.1.refusals ∙ ap count_up n },
 )

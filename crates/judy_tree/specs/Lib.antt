@@ -5,5 +5,4 @@ pub mod Changes
 pub mod Calls
 pub mod Fork
 pub mod Split
-pub mod Answers
 pub mod Laws

@@ -7,7 +7,8 @@
 use Rattle.std.specs.Prelude.{◌≡◌, ℕ, zero, suc, ◌+◌, ◌-◌, ◌*◌, ◌/◌, ◌^◌, ◌<◌, Bool, true, false, cond, List, [], ◌∷◌, ◌++◌, length, IsTrue, nat_lt}
 use Rattle.std.specs.Bool.{MatchBool}
 use Rattle.judy_arena.specs.Blocks.{Blocks}
-use Rattle.judy_arena.specs.References.{kind_part}
+use Rattle.judy_arena.specs.References.{kind_part, kind_number}
+use Rattle.judy_arena.specs.declared.refs.Kind.TheVariants.{FullLeaf}
 use Rattle.judy_arena.specs.Totals.{are_distinct}
 use Rattle.judy_model.specs.Contents.{Entries}
 use Rattle.judy_tree.specs.Each.{Each}
@@ -20,7 +21,7 @@ head_at level k = k / 2 ^ (56 - 8 * level)
 
 -- whether a reference leads to a branch
 abbrev pub is_branch : ℕ → Bool
-is_branch w = nat_lt 3 (kind_part w)
+is_branch w = nat_lt (kind_number FullLeaf) (kind_part w)
 
 -- the lists of the children, joined in rising order of their bytes
 abbrev pub joined : {A : Type 0} → (ℕ → List A) → Entries ℕ → List A

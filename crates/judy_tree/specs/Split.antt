@@ -1,17 +1,24 @@
 -- Splitting a leaf: its keys go to leaves of their own under a branch, one for each byte.
-use Rattle.std.specs.Prelude.{◌≡◌, ◌≢◌, ℕ, ◌+◌, ◌-◌, ◌/◌, ◌<◌, ◌≤◌, Bool, true, false, List, [], ◌∷◌, length, take, Result, Ok, Err}
+use Rattle.std.specs.Prelude.{◌≡◌, ◌≢◌, ℕ, ◌+◌, ◌-◌, ◌/◌, ◌<◌, ◌≤◌, Bool, true, false, List, [], length, take, Result, Ok, Err}
 use Rattle.judy_arena.specs.Blocks.{Blocks, ArenaState, count_up}
 use Rattle.judy_arena.specs.Frame.{Frame, holds}
 use Rattle.judy_arena.specs.declared.refs.Ref.{Ref}
 use Rattle.judy_arena.specs.declared.blocks.NoMemory.{NoMemory}
 use Rattle.judy_model.specs.Contents.{Entries}
 use Rattle.judy_leaf.specs.Leaf.{IsLeaf, leaf_entries, leaf_numbers}
-use Rattle.judy_branch.specs.Branch.{View, branch_view}
+use Rattle.judy_branch.specs.Branch.{branch_view}
 use Rattle.judy_tree.specs.Each.{Each}
 use Rattle.judy_tree.specs.Nodes.{head_at, depth, is_branch}
 use Rattle.judy_tree.specs.Root.{IsRoot, entries, numbers}
 use Rattle.judy_tree.specs.Changes.{IsShort}
 use Rattle.judy_tree.specs.Calls.{entry_at}
+
+-- the least key of a leaf, and the greatest
+abbrev pub low_key : Entries ℕ → ℕ
+low_key l = (entry_at l 0).0
+
+abbrev pub high_key : Entries ℕ → ℕ
+high_key l = (entry_at l (length l - 1)).0
 
 -- this many keys from the place on agree with the key at the place up to the level, and the next
 -- one, if any, does not
@@ -30,6 +37,13 @@ pub record CanSpread (v : Bool) (b : Blocks) (w level : ℕ) : Type 0 where
   pub agree : (i : ℕ) → i < length (leaf_entries v b w) → (m : ℕ) → m < level
       → head_at m (entry_at (leaf_entries v b w) i).0 ≡ head_at m (entry_at (leaf_entries v b w) 0).0
   pub differ : head_at level (entry_at (leaf_entries v b w) (length (leaf_entries v b w) - 1)).0 ≢ head_at level (entry_at (leaf_entries v b w) 0).0
+
+-- a leaf of 31 keys that may be split at the level; where all keys and the new one agree, the level
+-- is a later one
+pub record MustSplit (v : Bool) (b : Blocks) (w key level : ℕ) : Type 0 where
+  pub spread : CanSpread v b w level
+  pub full : length (leaf_entries v b w) ≡ 31
+  pub deep : (m : ℕ) → m < 8 → Each (λ e. head_at m e.0 ≡ head_at m key) (leaf_entries v b w) → m < level
 
 -- the branch has the keys of the leaf before the place; the later keys go behind them
 pub record IsPartly (v : Bool) (b : Blocks) (w u from : ℕ) : Type 0 where

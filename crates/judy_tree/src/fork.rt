@@ -9,7 +9,7 @@ ghost use Rattle.judy_tree.specs.Root.{IsRoot, entries};
 ghost use Rattle.judy_tree.specs.Calls.{HasByte, IsOutside, Adds, most_blocks};
 ghost use Rattle.judy_tree.specs.Fork.{Differ, CanFork, Forks};
 
-use crate::answers::Added;
+use crate::answers::Inserted;
 use crate::node::population;
 use judy_arena::{Arena, NoMemory, Ref};
 use judy_branch::Head;
@@ -19,7 +19,7 @@ use std::alloc::Global;
 pub fn leads_to_branch(node: Ref) -> bool
     ensures { result ≡ is_branch node }
 {
-    node.word() / 4_294_967_296 > 3
+    !node.leads_to_leaf()
 }
 
 /// The bytes of a key up to the one at the level, as a number.
@@ -84,7 +84,7 @@ pub fn beside(
     byte: u8,
     key: u64,
     value: u64,
-) -> Added
+) -> Result<Inserted, NoMemory>
     requires root { IsRoot values arena.old.blocks node }
     requires branch { is_branch node ≡ true }
     requires byte { HasByte (branch_view arena.old.blocks node).level
@@ -95,14 +95,12 @@ pub fn beside(
     ensures memory { Takes (most_blocks 2 result) arena.old arena.new }
 {
     let population = judy_branch::population(arena, node);
-    let Ok(made) = judy_leaf::single(values, alloc, arena, key, value) else {
-        return Added::NoMemory;
-    };
-    let Ok(new) = judy_branch::put_child(alloc, arena, node, byte, made, population + 1) else {
+    let made = judy_leaf::single(values, alloc, arena, key, value)?;
+    let Ok(root) = judy_branch::put_child(alloc, arena, node, byte, made, population + 1) else {
         judy_leaf::release(values, arena, made);
-        return Added::NoMemory;
+        return Err(NoMemory);
     };
-    Added::Done(new)
+    Ok(Inserted { root, before: None })
 }
 
 /// Makes a branch of a node and a leaf of one key, at the first byte in which the key differs from
@@ -115,7 +113,7 @@ pub fn above(
     sample: u64,
     key: u64,
     value: u64,
-) -> Added
+) -> Result<Inserted, NoMemory>
     requires root { IsRoot values arena.old.blocks node }
     requires some { 0 < length (entries values arena.old.blocks node) }
     requires other { sample ≢ key }
@@ -126,14 +124,12 @@ pub fn above(
 {
     let level = difference(sample, key);
     let keys = population(values, arena, node) + 1;
-    let Ok(made) = judy_leaf::single(values, alloc, arena, key, value) else {
-        return Added::NoMemory;
-    };
-    let Ok(new) = fork(alloc, arena, level, keys, sample, node, key, made) else {
+    let made = judy_leaf::single(values, alloc, arena, key, value)?;
+    let Ok(root) = fork(alloc, arena, level, keys, sample, node, key, made) else {
         judy_leaf::release(values, arena, made);
-        return Added::NoMemory;
+        return Err(NoMemory);
     };
-    Added::Done(new)
+    Ok(Inserted { root, before: None })
 }
 
 // The bytes of a key before the level; the others are 0.

@@ -8,10 +8,10 @@ ghost use Rattle.judy_tree.specs.Root.{IsRoot, entries, numbers};
 ghost use Rattle.judy_tree.specs.Changes.{Writes};
 ghost use Rattle.judy_tree.specs.Calls.{Adds, TakesBelow, most_blocks};
 
-use crate::answers::Added;
-use crate::fork::{above, beside, byte_at, byte_of, difference, head, leads_to_branch};
-use crate::split::spread;
-use judy_arena::{Arena, Ref};
+use crate::answers::Inserted;
+use crate::fork::{above, beside, byte_at, byte_of, leads_to_branch};
+use crate::split::{split_level, spread};
+use judy_arena::{Arena, NoMemory, Ref};
 use judy_branch::Taken;
 use judy_leaf::{Put, Removed};
 use std::alloc::Global;
@@ -55,7 +55,7 @@ pub fn insert(
     node: Ref,
     key: u64,
     value: u64,
-) -> Added
+) -> Result<Inserted, NoMemory>
     requires root { IsRoot values arena.old.blocks node }
     requires zero { IsFalse values → value ≡ 0 }
     ensures insertion { Adds values arena.old node arena.new key value result }
@@ -71,45 +71,33 @@ pub fn insert(
         let Some(child) = judy_branch::child(arena, node, byte) else {
             return beside(values, alloc, arena, node, byte, key, value);
         };
-        return match insert(values, alloc, arena, child, key, value) {
-            Added::Done(grown) => {
-                judy_branch::change_child(arena, node, byte, child, grown, branch.population + 1);
-                Added::Done(node)
-            }
-            Added::Present(found) => Added::Present(found),
-            Added::NoMemory => Added::NoMemory,
-        };
+        let below = insert(values, alloc, arena, child, key, value)?;
+        let before = below.before;
+        if before.is_none() {
+            let keys = branch.population + 1;
+            judy_branch::change_child(arena, node, byte, child, below.root, keys);
+        }
+        return Ok(Inserted { root: node, before });
     }
     match judy_leaf::insert(values, alloc, arena, node, key, value) {
-        Put::Done(grown) => Added::Done(grown),
-        Put::Present(found) => Added::Present(found),
-        Put::NoMemory => Added::NoMemory,
+        Put::Done(root) => Ok(Inserted { root, before: None }),
+        Put::Present(found) => Ok(Inserted {
+            root: node,
+            before: Some(found),
+        }),
+        Put::NoMemory => Err(NoMemory),
         Put::Split => {
             let low = judy_leaf::key_at(values, arena, node, 0);
-            let high = judy_leaf::key_at(
-                values,
-                arena,
-                node,
-                judy_leaf::population(values, arena, node) - 1,
-            );
-            let level = difference(low, key);
-            if head(level, low) == head(level, high) {
+            let Some(level) = split_level(values, arena, node, low, key) else {
                 return above(values, alloc, arena, node, low, key, value);
-            }
-            let Ok(split) = spread(values, alloc, arena, node, difference(low, high)) else {
-                return Added::NoMemory;
             };
-            match insert(values, alloc, arena, split, key, value) {
-                Added::Done(grown) => {
-                    judy_leaf::release(values, arena, node);
-                    Added::Done(grown)
-                }
-                Added::Present(_) => unreachable!(),
-                Added::NoMemory => {
-                    clear(values, arena, split);
-                    Added::NoMemory
-                }
-            }
+            let split = spread(values, alloc, arena, node, level)?;
+            let Ok(answer) = insert(values, alloc, arena, split, key, value) else {
+                clear(values, arena, split);
+                return Err(NoMemory);
+            };
+            judy_leaf::release(values, arena, node);
+            Ok(answer)
         }
     }
 }

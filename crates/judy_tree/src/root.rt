@@ -1,11 +1,10 @@
 //! The root of an array of words.
 ghost use Rattle.std.specs.Prelude.{◌≡◌, ◌≤◌, [], length, IfOk, OnErr, OnOk, IsTrue, IsFalse, is_ok, if◌then◌else◌};
 ghost use Rattle.judy_arena.specs.Takes.{Takes, TakesNothing};
-ghost use Rattle.judy_tree.specs.Answers.{shown};
 ghost use Rattle.judy_tree.specs.Changes.{RootBecomes, Puts, Writes, RootRemoves, IsRefused, found, has_found};
 ghost use Rattle.judy_tree.specs.Root.{IsRoot, entries, HasRootSpace};
 
-use crate::answers::{Added, Inserted};
+use crate::answers::Inserted;
 use crate::node;
 use judy_arena::{Arena, NoMemory, Ref};
 use judy_leaf::Removed;
@@ -64,7 +63,8 @@ impl<const VALUES: bool> Root<VALUES> {
         ensures array { Puts VALUES arena.old self.old.reference key 0 (is_ok result)
             arena.new self.new.reference }
         ensures present { IfOk result
-            (λ answer. shown answer ≡ found VALUES arena.old self.old.reference key) }
+            (λ it. it.before ≡ found VALUES arena.old self.old.reference key) }
+        ensures root { IfOk result (λ it. it.root ≡ self.new.reference) }
         ensures absent { OnErr result
             (IsFalse (has_found VALUES arena.old self.old.reference key)) }
         ensures refused { OnErr result
@@ -96,7 +96,8 @@ impl<const VALUES: bool> Root<VALUES> {
         ensures array { Puts VALUES arena.old self.old.reference key value (is_ok result)
             arena.new self.new.reference }
         ensures present { IfOk result
-            (λ answer. shown answer ≡ found VALUES arena.old self.old.reference key) }
+            (λ it. it.before ≡ found VALUES arena.old self.old.reference key) }
+        ensures root { IfOk result (λ it. it.root ≡ self.new.reference) }
         ensures absent { OnErr result
             (IsFalse (has_found VALUES arena.old self.old.reference key)) }
         ensures refused { OnErr result
@@ -109,14 +110,9 @@ impl<const VALUES: bool> Root<VALUES> {
             → Takes 2 arena.old arena.new }
         ensures space { HasRootSpace VALUES arena.new.blocks self.new.reference }
     {
-        match node::insert(VALUES, alloc, arena, self.reference, key, value) {
-            Added::Done(grown) => {
-                self.reference = grown;
-                Ok(Inserted::New)
-            }
-            Added::Present(found) => Ok(Inserted::Present(found)),
-            Added::NoMemory => Err(NoMemory),
-        }
+        let answer = node::insert(VALUES, alloc, arena, self.reference, key, value)?;
+        self.reference = answer.root;
+        Ok(answer)
     }
 
     /// Writes the value of a present key.

@@ -1,10 +1,13 @@
 //! Splits a leaf: its keys go to leaves of their own under a branch, one for each byte at a level.
-ghost use Rattle.std.specs.Prelude.{◌≡◌, ◌*◌, ◌-◌, ◌<◌, ◌≤◌, length};
+ghost use Rattle.std.specs.Prelude.{◌≡◌, ◌*◌, ◌-◌, ◌<◌, ◌≤◌, IfSome, IfNone, IsFalse, length};
+ghost use Rattle.judy_arena.specs.References.{kind_of};
 ghost use Rattle.judy_arena.specs.Takes.{Takes};
-ghost use Rattle.judy_leaf.specs.Leaf.{IsLeaf, leaf_entries};
-ghost use Rattle.judy_tree.specs.Split.{IsRun, CanSpread, IsPartly, Spreads, SpreadsRest};
+ghost use Rattle.judy_model.specs.Contents.{word_order, has_key};
+ghost use Rattle.judy_leaf.specs.Leaf.{IsLeaf, leaf_entries, CannotTake};
+ghost use Rattle.judy_tree.specs.Fork.{CanFork};
+ghost use Rattle.judy_tree.specs.Split.{IsRun, CanSpread, MustSplit, IsPartly, Spreads, SpreadsRest, low_key};
 
-use crate::fork::{byte_of, fork, head};
+use crate::fork::{byte_of, difference, fork, head};
 use crate::node::clear;
 use judy_arena::{Arena, NoMemory, Ref};
 use std::alloc::Global;
@@ -24,6 +27,25 @@ fn run(values: bool, arena: &Arena, leaf: Ref, level: u64, place: u64) -> u64
         }
     }
     count - place
+}
+
+/// The level at which a leaf that cannot take a key is split: there its keys first differ from each
+/// other. None if the key parts from all of them before, so that a branch may stand above the leaf.
+pub fn split_level(values: bool, arena: &Arena, leaf: Ref, low: u64, key: u64) -> Option<u64>
+    requires leaf { IsLeaf values arena.now.blocks leaf }
+    requires low { low ≡ low_key (leaf_entries values arena.now.blocks leaf) }
+    requires absent { IsFalse (has_key word_order (leaf_entries values arena.now.blocks leaf) key) }
+    requires full { CannotTake (kind_of leaf) (leaf_entries values arena.now.blocks leaf) key }
+    ensures some { IfSome result (λ level. MustSplit values arena.now.blocks leaf key level) }
+    ensures none { IfNone result (CanFork values arena.now.blocks leaf low key) }
+{
+    let count = judy_leaf::population(values, arena, leaf);
+    let high = judy_leaf::key_at(values, arena, leaf, count - 1);
+    let level = difference(low, key);
+    if head(level, low) == head(level, high) {
+        return None;
+    }
+    Some(difference(low, high))
 }
 
 /// Makes a branch with the entries of a leaf: the keys of each byte at the level get a leaf of

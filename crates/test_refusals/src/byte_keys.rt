@@ -4,7 +4,7 @@ ghost use Rattle.std.specs.Prelude.{◌-◌, ◌≤◌, IfSome, length, slice_in
 use crate::full;
 use crate::grown::{Entries, Grown, Trial, insert_given_each};
 use judy_arena::{Arena, NoMemory};
-use judy_bytes::{Inserted, JudyHS, KeyHash};
+use judy_bytes::{JudyHS, KeyHash};
 use judy_model::Given;
 use std::alloc::Global;
 use std::marker::Model;
@@ -71,8 +71,8 @@ impl Grown for Map {
             return Ok(false);
         };
         let value = Given::Plus(value_of(number));
-        let inserted = self.map.insert(alloc, &mut self.arena, key, value)?;
-        Ok(inserted == Inserted::New)
+        let answer = self.map.insert(alloc, &mut self.arena, key, value)?;
+        Ok(answer.before.is_none())
     }
 
     fn has(&self, number: u64) -> bool {

@@ -5,7 +5,7 @@ use crate::full;
 use crate::grown::{Entries, Grown, insert_given_each};
 use crate::words::{Case, given, trial};
 use judy_arena::{Arena, NoMemory};
-use judy_long::{Inserted, JudyL};
+use judy_long::JudyL;
 use std::alloc::Global;
 use std::marker::Model;
 
@@ -40,9 +40,9 @@ impl Grown for Map {
 
     fn put(&mut self, alloc: Global, number: u64) -> Result<bool, NoMemory> {
         let key = self.entries.word(number);
-        let inserted = self.map.insert(alloc, &mut self.arena, key)?;
+        let answer = self.map.insert(alloc, &mut self.arena, key)?;
         self.map.write(&mut self.arena, key, given(true, key));
-        Ok(inserted == Inserted::New)
+        Ok(answer.before.is_none())
     }
 
     fn has(&self, number: u64) -> bool {

@@ -5,7 +5,6 @@ ghost use Rattle.judy_string.specs.StringArrays.{IsKeyString};
 use crate::full;
 use crate::grown::{Entries, Grown, Trial, insert_given_each};
 use judy_arena::{Arena, NoMemory};
-use judy_long::Inserted;
 use judy_model::Given;
 use judy_string::{JudySL, is_string};
 use std::alloc::Global;
@@ -62,8 +61,8 @@ impl Grown for Map {
             return Ok(false);
         };
         let value = Given::Value(value_of(number));
-        let inserted = self.map.insert(alloc, &mut self.arena, string, value)?;
-        Ok(inserted == Inserted::New)
+        let answer = self.map.insert(alloc, &mut self.arena, string, value)?;
+        Ok(answer.before.is_none())
     }
 
     fn has(&self, number: u64) -> bool {

@@ -5,7 +5,7 @@ use crate::full;
 use crate::grown::{Entries, Grown, insert_given_each};
 use crate::words::{Case, given, trial};
 use judy_arena::{Arena, NoMemory};
-use judy_tree::{Inserted, Root};
+use judy_tree::Root;
 use std::alloc::Global;
 use std::marker::Model;
 
@@ -41,8 +41,8 @@ impl Grown for TreeSet {
 
     fn put(&mut self, alloc: Global, number: u64) -> Result<bool, NoMemory> {
         let key = self.entries.word(number);
-        let inserted = self.root.insert(alloc, &mut self.arena, key)?;
-        Ok(inserted == Inserted::New)
+        let answer = self.root.insert(alloc, &mut self.arena, key)?;
+        Ok(answer.before.is_none())
     }
 
     fn has(&self, number: u64) -> bool {
@@ -97,8 +97,8 @@ impl Grown for TreeMap {
     fn put(&mut self, alloc: Global, number: u64) -> Result<bool, NoMemory> {
         let key = self.entries.word(number);
         let value = given(true, key);
-        let inserted = self.root.insert_given(alloc, &mut self.arena, key, value)?;
-        Ok(inserted == Inserted::New)
+        let answer = self.root.insert_given(alloc, &mut self.arena, key, value)?;
+        Ok(answer.before.is_none())
     }
 
     fn has(&self, number: u64) -> bool {

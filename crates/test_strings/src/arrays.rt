@@ -3,7 +3,7 @@ ghost use Rattle.judy_string.specs.StringArrays.{IsStringArray, StringBecomes};
 
 use arrayvec::ArrayVec;
 use judy_arena::{Arena, NoMemory};
-use judy_long::{Inserted, JudyL};
+use judy_long::JudyL;
 use judy_model::{KEY_LIMIT, Key, LongCall, Reply, StrCall};
 use judy_string::{JudySL, is_string};
 use std::alloc::Global;
@@ -100,8 +100,9 @@ fn answer<'a>(
     match call {
         StrCall::Insert(key, given) => {
             assert!(rt; is_string(key.as_bytes()));
-            let inserted = map.insert(alloc, arena, key.as_bytes(), *given)?;
-            Ok(Reply::Value(given.value_replied(before(inserted))))
+            let answer = map.insert(alloc, arena, key.as_bytes(), *given)?;
+            let before = answer.before.unwrap_or(0);
+            Ok(Reply::Value(given.value_replied(before)))
         }
         StrCall::Delete(key) => {
             assert!(rt; is_string(key.as_bytes()));
@@ -112,14 +113,6 @@ fn answer<'a>(
             judy_string::laws::nothing_changes();
             Ok(look(rt, map, arena, call, found))
         }
-    }
-}
-
-/// The value before an insertion, 0 for a new string.
-fn before(inserted: Inserted) -> u64 {
-    match inserted {
-        Inserted::New => 0,
-        Inserted::Present(value) => value,
     }
 }
 

@@ -3,7 +3,7 @@ ghost use Rattle.std.specs.Prelude.{◌≡◌, ◌≤◌, ◌-◌, length, slice
 ghost use Rattle.judy_bytes.specs.BytesArrays.{IsBytesArray};
 
 use judy_arena::{Arena, NoMemory};
-use judy_bytes::{Inserted, JudyHS, KeyHash, Sha256Hash};
+use judy_bytes::{JudyHS, KeyHash, Sha256Hash};
 use judy_model::Given;
 use std::alloc::Global;
 use std::process::Abort;
@@ -36,7 +36,8 @@ impl KeyHash for LastByte {
     }
 }
 
-// Inserts a key. If memory is refused, nothing has changed, and a second try succeeds.
+// Inserts a key, and returns its value before. If memory is refused, nothing has changed, and a
+// second try succeeds.
 fn put<H: KeyHash>(
     rt: &impl Abort,
     alloc: Global,
@@ -44,7 +45,7 @@ fn put<H: KeyHash>(
     map: &mut JudyHS<H>,
     key: &[u8],
     given: Given,
-) -> Result<Inserted, NoMemory>
+) -> Result<Option<u64>, NoMemory>
     requires short { length key.now ≤ 1000 }
     requires array { IsBytesArray H.hashed arena.old.blocks map.old.words }
     ensures { IsBytesArray H.hashed arena.new.blocks map.new.words }
@@ -52,8 +53,8 @@ fn put<H: KeyHash>(
     let words = arena.live_words();
     let refusals = arena.refusals();
     let reference = map.reference();
-    if let Ok(found) = map.insert(alloc, arena, key, given) {
-        return Ok(found);
+    if let Ok(answer) = map.insert(alloc, arena, key, given) {
+        return Ok(answer.before);
     }
     assert_eq!(rt; arena.live_words(), words, "words after a refusal");
     assert_eq!(rt; arena.refusals(), refusals.saturating_add(1));
@@ -62,7 +63,8 @@ fn put<H: KeyHash>(
         "the reference after a refusal"
     );
     assert_eq!(rt; map.get(arena, key), None, "a refused key is there");
-    map.insert(alloc, arena, key, given)
+    let answer = map.insert(alloc, arena, key, given)?;
+    Ok(answer.before)
 }
 
 // Inserts 1,000 keys of 4 bytes, writes other values, and removes the keys in another order.
@@ -78,7 +80,7 @@ fn thousand<H: KeyHash>(rt: &impl Abort, alloc: Global, hash: H) -> Result<(), N
             &i.to_be_bytes(),
             Given::Nothing,
         )?;
-        assert_eq!(rt; found, Inserted::New, "insert {i}");
+        assert_eq!(rt; found, None, "insert {i}");
     }
     for i in 0..1000u32 {
         let found = put(
@@ -89,10 +91,10 @@ fn thousand<H: KeyHash>(rt: &impl Abort, alloc: Global, hash: H) -> Result<(), N
             &i.to_be_bytes(),
             Given::Value(u64::from(i)),
         )?;
-        assert_eq!(rt; found, Inserted::Present(0), "insert {i} again");
+        assert_eq!(rt; found, Some(0), "insert {i} again");
         let key = i.to_be_bytes();
         let found = put(rt, alloc, &mut arena, &mut map, &key, Given::Plus(7))?;
-        assert_eq!(rt; found, Inserted::Present(u64::from(i)), "add to {i}");
+        assert_eq!(rt; found, Some(u64::from(i)), "add to {i}");
     }
     for i in 0..1000u32 {
         let key = (i * 7 % 1000).to_be_bytes();
@@ -135,11 +137,11 @@ fn row<H: KeyHash>(rt: &impl Abort, alloc: Global, hash: H) -> Result<(), NoMemo
     let empty: [u8; 0] = [];
     assert_eq!(rt;
         put(rt, alloc, &mut arena, &mut map, &empty, Given::Value(1))?,
-        Inserted::New
+        None
     );
     assert_eq!(rt;
         put(rt, alloc, &mut arena, &mut map, &[0], Given::Plus(2))?,
-        Inserted::New
+        None
     );
     assert_eq!(rt; map.get(&arena, &empty), Some(1));
     assert_eq!(rt; map.get(&arena, &[0, 0]), None);
@@ -186,7 +188,7 @@ fn a_chain_of_two(rt: HostRuntime) -> Result<(), Fail> {
             &one,
             Given::Value(10)
         )?,
-        Inserted::New
+        None
     );
     assert_eq!(rt;
         put(
@@ -197,11 +199,11 @@ fn a_chain_of_two(rt: HostRuntime) -> Result<(), Fail> {
             &two,
             Given::Value(20)
         )?,
-        Inserted::New
+        None
     );
     assert_eq!(rt;
         put(&rt, rt.alloc(), &mut arena, &mut map, &one, Given::Nothing)?,
-        Inserted::Present(10)
+        Some(10)
     );
     assert_eq!(rt; map.get(&arena, &two), Some(20));
     assert_eq!(rt; map.get(&arena, &one[..992]), None);

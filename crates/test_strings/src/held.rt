@@ -1,7 +1,6 @@
 //! For tests: a map with its arena.
 use arrayvec::ArrayVec;
 use judy_arena::Arena;
-use judy_long::Inserted;
 use judy_model::{Given, KEY_LIMIT};
 use judy_string::{JudySL, is_string};
 use std::alloc::Global;
@@ -36,25 +35,25 @@ impl Held {
         }
     }
 
-    /// Inserts a string. If memory is refused, nothing has changed. If at most one request is
-    /// refused, a second try succeeds.
+    /// Inserts a string, and returns its value before. If memory is refused, nothing has changed.
+    /// If at most one request is refused, a second try succeeds.
     pub(crate) fn insert(
         &mut self,
         rt: &impl Abort,
         alloc: Global,
         key: &[u8],
         given: Given,
-    ) -> Inserted {
+    ) -> Option<u64> {
         assert!(rt; is_string(key));
         let words = self.arena.live_words();
         let refusals = self.arena.refusals();
-        if let Ok(found) = self.map.insert(alloc, &mut self.arena, key, given) {
-            return found;
+        if let Ok(answer) = self.map.insert(alloc, &mut self.arena, key, given) {
+            return answer.before;
         }
         assert_eq!(rt; self.arena.live_words(), words, "words after a refusal");
         assert_eq!(rt; self.arena.refusals(), refusals.saturating_add(1));
         let again = self.map.insert(alloc, &mut self.arena, key, given);
-        again.expect(rt, "one request at most is refused")
+        again.expect(rt, "one request at most is refused").before
     }
 
     /// Writes the value of a present string.

@@ -2,7 +2,6 @@
 //! for memory may be refused once.
 use crate::held::Held;
 use arrayvec::ArrayVec;
-use judy_long::Inserted;
 use judy_model::Given;
 use judy_string::is_string;
 use std::alloc::Global;
@@ -40,7 +39,7 @@ fn shows(
 fn puts(rt: &impl Abort, alloc: Global, map: &mut Held, key: &[u8], value: u64) {
     assert_eq!(rt;
         map.insert(rt, alloc, key, Given::Value(value)),
-        Inserted::New,
+        None,
         "{value}"
     );
 }
@@ -111,19 +110,16 @@ fn searches_between_strings(rt: HostRuntime) -> Result<(), Fail> {
     shows(&rt, found, &buffer, Some(4), b"abcdefg");
     let found = map.prev(&rt, b"abcdefg", &mut buffer);
     shows(&rt, found, &buffer, None, b"");
-    assert_eq!(rt;
-        map.insert(&rt, rt.alloc(), b"b", Given::Nothing),
-        Inserted::Present(1)
-    );
+    assert_eq!(rt; map.insert(&rt, rt.alloc(), b"b", Given::Nothing), Some(1));
     Ok(())
 }
 
 #[test]
 fn suffixes(rt: HostRuntime) -> Result<(), Fail> {
     let mut map = Held::new(rt.alloc());
-    assert!(rt; map.insert(&rt, rt.alloc(), A, Given::Value(1)).is_new());
+    assert!(rt; map.insert(&rt, rt.alloc(), A, Given::Value(1)).is_none());
     assert!(rt; map.live_words() == 8);
-    assert!(rt; map.insert(&rt, rt.alloc(), B, Given::Plus(2)).is_new());
+    assert!(rt; map.insert(&rt, rt.alloc(), B, Given::Plus(2)).is_none());
     assert!(rt; map.live_words() == 20);
     map.write(&rt, A, 3);
     assert_eq!(rt; map.get(&rt, A), Some(3));
@@ -155,7 +151,7 @@ fn lengths(rt: HostRuntime) -> Result<(), Fail> {
         let key = of_length(&letters, n);
         assert!(rt;
             map.insert(&rt, rt.alloc(), key, Given::Value(n as u64))
-                .is_new(),
+                .is_none(),
             "{n}"
         );
     }
@@ -183,8 +179,8 @@ fn a_split_three_words_deep(rt: HostRuntime) -> Result<(), Fail> {
     let mut map = Held::new(rt.alloc());
     let one = b"aaaaaaaabbbbbbbbccccccccddddddddeeeeeeee";
     let two = b"aaaaaaaabbbbbbbbccccccccffffffffgggggggg";
-    assert!(rt; map.insert(&rt, rt.alloc(), one, Given::Value(1)).is_new());
-    assert!(rt; map.insert(&rt, rt.alloc(), two, Given::Value(2)).is_new());
+    assert!(rt; map.insert(&rt, rt.alloc(), one, Given::Value(1)).is_none());
+    assert!(rt; map.insert(&rt, rt.alloc(), two, Given::Value(2)).is_none());
     assert_eq!(rt; map.get(&rt, one), Some(1));
     assert_eq!(rt; map.get(&rt, two), Some(2));
     assert_eq!(rt; map.clear(), 2);

@@ -7,7 +7,7 @@ use crate::arrays::{Arrays, Which};
 use crate::asked::{ask_map, ask_set, long, one};
 use arrayvec::ArrayVec;
 use judy_arena::{Arena, NoMemory};
-use judy_long::{Inserted, JudyL};
+use judy_long::JudyL;
 use judy_model::{Call, Given, LongCall, Name, OneCall, OwnedReply, Quota, Reply, Right};
 use judy_reference::Store;
 use std::alloc::{AllocError, Global};
@@ -343,32 +343,34 @@ fn two_thousand_calls(rt: HostRuntime) -> Result<(), Fail> {
     Ok(())
 }
 
-/// Inserts 7. If memory is refused, the map is still empty, and a second try succeeds.
+/// Inserts 7, and returns its value before. If memory is refused, the map is still empty, and a
+/// second try succeeds.
 fn insert_seven(
     rt: &impl Abort,
     alloc: Global,
     arena: &mut Arena,
     map: &mut JudyL,
-) -> Result<Inserted, NoMemory>
+) -> Result<Option<u64>, NoMemory>
     requires { IsLongArray arena.old.blocks map.old }
     ensures sound { IsLongArray arena.new.blocks map.new }
     ensures there { OnOk result (IsTrue (has_key word_order (long_in arena.new.blocks map.new) 7)) }
 {
-    if let Ok(inserted) = map.insert(alloc, arena, 7) {
-        return Ok(inserted);
+    if let Ok(answer) = map.insert(alloc, arena, 7) {
+        return Ok(answer.before);
     }
     assert_eq!(rt; arena.live_words(), 0);
     assert_eq!(rt; arena.refusals(), 1);
-    map.insert(alloc, arena, 7)
+    let answer = map.insert(alloc, arena, 7)?;
+    Ok(answer.before)
 }
 
 #[test]
 fn a_map_by_hand(rt: HostRuntime) -> Result<(), Fail> {
     let mut arena = Arena::new(rt.alloc());
     let mut map = JudyL::new();
-    assert!(rt; insert_seven(&rt, rt.alloc(), &mut arena, &mut map)? == Inserted::New);
+    assert!(rt; insert_seven(&rt, rt.alloc(), &mut arena, &mut map)? == None);
     map.write(&mut arena, 7, 9);
-    assert!(rt; map.insert(rt.alloc(), &mut arena, 7)? == Inserted::Present(9));
+    assert!(rt; map.insert(rt.alloc(), &mut arena, 7)?.before == Some(9));
     let again = JudyL::from_reference(map.reference());
     assert_eq!(rt; again.get(&arena, 7), Some(9));
     assert_eq!(rt; again.population(&arena), 1);

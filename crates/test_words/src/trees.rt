@@ -4,7 +4,6 @@ mod held;
 mod row;
 
 use held::{HeldMap, HeldSet};
-use judy_tree::Inserted;
 use std::alloc::Global;
 use std::process::Abort;
 use std::test::Fail;
@@ -22,7 +21,7 @@ fn put(rt: &impl Abort, alloc: Global, set: &mut HeldSet, key: u64) -> bool {
         assert_eq!(rt; set.get(key), None);
         answer = set.insert(alloc, key);
     }
-    answer == Ok(Inserted::New)
+    answer == Ok(None)
 }
 
 /// Inserts a key with a value into a map, in the same way.
@@ -38,7 +37,7 @@ fn put_value(rt: &impl Abort, alloc: Global, map: &mut HeldMap, key: u64, value:
         assert_eq!(rt; map.get(key), None);
         answer = map.insert(alloc, key, value);
     }
-    answer == Ok(Inserted::New)
+    answer == Ok(None)
 }
 
 #[test]
@@ -47,7 +46,7 @@ fn a_map_by_hand(rt: HostRuntime) -> Result<(), Fail> {
     for (key, value) in [(7, 70), (3, 30), (u64::MAX, 5), (0, u64::MAX)] {
         assert!(rt; put_value(&rt, rt.alloc(), &mut map, key, value));
     }
-    assert_eq!(rt; map.insert(rt.alloc(), 7, 71), Ok(Inserted::Present(70)));
+    assert_eq!(rt; map.insert(rt.alloc(), 7, 71), Ok(Some(70)));
     map.write(7, 71);
     assert_eq!(rt; map.population(), 4);
     for (key, value) in [

@@ -1,6 +1,6 @@
 //! A set and a map, each in an arena of its own.
 use judy_arena::{Arena, NoMemory};
-use judy_tree::{Inserted, Root, laws};
+use judy_tree::{Root, laws};
 use std::alloc::Global;
 use std::marker::Model;
 
@@ -33,8 +33,9 @@ impl HeldSet {
         }
     }
 
-    pub(crate) fn insert(&mut self, alloc: Global, key: u64) -> Result<Inserted, NoMemory> {
-        self.root.insert(alloc, &mut self.arena, key)
+    pub(crate) fn insert(&mut self, alloc: Global, key: u64) -> Result<Option<u64>, NoMemory> {
+        let answer = self.root.insert(alloc, &mut self.arena, key)?;
+        Ok(answer.before)
     }
 
     pub(crate) fn remove(&mut self, key: u64) -> Option<u64> {
@@ -96,8 +97,9 @@ impl HeldMap {
         alloc: Global,
         key: u64,
         value: u64,
-    ) -> Result<Inserted, NoMemory> {
-        self.root.insert_given(alloc, &mut self.arena, key, value)
+    ) -> Result<Option<u64>, NoMemory> {
+        let answer = self.root.insert_given(alloc, &mut self.arena, key, value)?;
+        Ok(answer.before)
     }
 
     /// Writes the value of a key, if it is present.

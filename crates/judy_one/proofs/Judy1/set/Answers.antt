@@ -1,10 +1,10 @@
 use Rattle.std.proofs.Common.{ap, ◌∙◌}
 use Rattle.std.specs.Prelude.{is_none}
 use Rattle.judy_one.specs.OneArrays.{one_in}
-use Rattle.judy_one.proofs.Steps.{set-answer}
+use Rattle.judy_one.proofs.Steps.{none-is, set-answer}
 use Rattle.judy_one.proofs.Judy1.set.Goals as goal
 
 pub returns-clause-step : goal.returns-clause-step
 returns-clause-step c = set-answer c.content_is_sound.ensures c.args.arena.now.blocks _ c.args.self.now c.args.x
-    (one_in c.insert.new.arena.blocks c.insert.new.self.reference) c.is_new.result c.self.view_is c.requires
-    (c.is_new.ensures ∙ ap is_none c.in_ok-inserted.ensures.present) c.in_ok-inserted.ensures.array.content
+    (one_in c.insert.new.arena.blocks c.insert.new.self.reference) c.is_none.result c.self.view_is c.requires
+    (none-is _ _ c.is_none.ensures ∙ ap is_none c.in_ok-answer.ensures.present) c.in_ok-answer.ensures.array.content

@@ -1,7 +1,8 @@
-use Rattle.std.proofs.Common.{◌≡◌, ℕ, ◌/◌, length, inl, inr, ap, sym, ◌∙◌, Some, false, eqb, ne_eqb}
+use Rattle.std.proofs.Common.{◌≡◌, ℕ, true, arith, length, inl, inr, ap, sym, ◌∙◌, Some, false, eqb, ne_eqb}
 use Rattle.std.specs.Prelude.{nat_lt}
 use Rattle.std.proofs.lemmas.Bool.{cases_eq}
-use Rattle.judy_arena.specs.References.{kind_of, kind_of_number}
+use Rattle.std.proofs.lemmas.Bool.Decides.{nat_tests}
+use Rattle.judy_arena.specs.References.{kind_of, kind_of_number, kind_part}
 use Rattle.judy_arena.specs.declared.refs.Kind.TheVariants.{FullLeaf}
 use Rattle.judy_leaf.proofs.lemmas.LeafLaws.{full-length}
 use Rattle.judy_tree.specs.Nodes.{is_branch}
@@ -16,10 +17,13 @@ turned n m =
       | inr other ↦ ne_eqb n m other ∙ sym (ne_eqb m n (λ e. other (sym e)))
     ]
 
-pub returns-then-word-eq3 : goal.returns-then-word-eq3
-returns-then-word-eq3 c =
+same : (n m : ℕ) → eqb n m ≡ true → n ≡ m
+same n m h = grind (arith, nat_tests)
+
+pub returns-then-leads_to : goal.returns-then-leads_to
+returns-then-leads_to c =
     let b = c.args.arena.now.blocks in
-    let three : c.args.node / 4294967296 ≡ 3 = ap (λ w. w / 4294967296) (sym c.word.ensures) ∙ c.if-word-eq3.true in
+    let three = same (kind_part c.args.node) 3 (sym c.leads_to.ensures ∙ c.if-leads_to.true) in
     let leaf : is_branch c.args.node ≡ false = ap (nat_lt 3) three in
     let kind : kind_of c.args.node ≡ Some FullLeaf = ap kind_of_number three in
     let all : length (entries c.args.values b c.args.node) ≡ 256 =

@@ -59,18 +59,18 @@ fork-requires-clause-other c =
     c.new-old.ensures in
     λ e. other-string c.args.arena.now.blocks c.args.node c.args.string.now (sym c.get.ensures ∙ c.in_default.is) (sym same ∙ e)
 
-pub returns-in_err-array-clause-refused : goal.returns-in_err-array-clause-refused
-returns-in_err-array-clause-refused c = on-err c.from_residual.result (record {
+pub returns-in_err-root-clause-refused : goal.returns-in_err-root-clause-refused
+returns-in_err-root-clause-refused c = on-err c.from_residual.result (record {
   absent = sym (suffix-value c.args.room c.args.arena.now.blocks c.args.node c.args.string.now c.requires.rest c.requires.node
       c.requires.suffix) ∙ sym c.get.ensures ∙ c.in_default.is;
-  blocks = c.in_err-array.ensures.unchanged;
-  counted = c.in_err-array.ensures.refusals;
+  blocks = c.in_err-root.ensures.unchanged;
+  counted = c.in_err-root.ensures.refusals;
 })
 
 pub release-requires-clause-live : goal.release-requires-clause-live
 release-requires-clause-live c = suffix-stays c.args.room c.args.arena.now.blocks c.fork.new.arena.blocks c.args.node
-    c.in_ok-array.array _ (suffix-sound c.args.room c.args.arena.now.blocks c.args.node c.args.string.now c.requires.rest
-    c.requires.node c.requires.suffix) c.in_ok-array.ensures.changed
+    c.in_ok-root.root _ (suffix-sound c.args.room c.args.arena.now.blocks c.args.node c.args.string.now c.requires.rest
+    c.requires.node c.requires.suffix) c.in_ok-root.ensures.changed
 
 pub returns-clause-done : goal.returns-clause-done
 returns-clause-done c =
@@ -79,13 +79,13 @@ returns-clause-done c =
     ∙ c.read-value.ensures.string ∙ ap (λ l. l ++ suffix_string (suffix_words c.args.arena.now.blocks c.args.node))
     c.new-old.ensures in
     entered-split c.args.room c.args.arena.now c.release.new.arena c.args.node c.args.string.now c.requires.rest c.requires.node
-    c.args.given c.requires.suffix c.fork.new.arena c.in_ok-array.array (sym c.get.ensures ∙ c.in_default.is)
-    (subst (λ x. IsChanged (suc c.args.room) a c.fork.new.arena.blocks 0 c.in_ok-array.array
+    c.args.given c.requires.suffix c.fork.new.arena c.in_ok-root.root (sym c.get.ensures ∙ c.in_default.is)
+    (subst (λ x. IsChanged (suc c.args.room) a c.fork.new.arena.blocks 0 c.in_ok-root.root
     (with_entry string_order ((x, (suffix_entry a c.args.node).1) ∷ []) c.args.string.now (value_after c.args.given 0))) same
-    (subst (λ x. IsChanged (suc c.args.room) a c.fork.new.arena.blocks 0 c.in_ok-array.array
+    (subst (λ x. IsChanged (suc c.args.room) a c.fork.new.arena.blocks 0 c.in_ok-root.root
     (with_entry string_order ((c.as_slice.result.now, x) ∷ []) c.args.string.now (value_after c.args.given 0)))
     c.read-value.ensures.value
-    (subst (λ x. IsChanged (suc c.args.room) a c.fork.new.arena.blocks 0 c.in_ok-array.array
+    (subst (λ x. IsChanged (suc c.args.room) a c.fork.new.arena.blocks 0 c.in_ok-root.root
     (with_entry string_order ((c.as_slice.result.now, c.read-value.result) ∷ []) c.args.string.now x)) c.value_after-added.ensures
-    c.in_ok-array.ensures.changed)))
-    c.release.ensures.blocks (c.release.ensures.memory.refusals ∙ c.in_ok-array.ensures.refusals)
+    c.in_ok-root.ensures.changed)))
+    c.release.ensures.blocks (c.release.ensures.memory.refusals ∙ c.in_ok-root.ensures.refusals)

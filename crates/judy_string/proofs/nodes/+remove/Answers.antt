@@ -5,7 +5,7 @@ use Rattle.judy_long.specs.Packing.{pack}
 use Rattle.judy_string.specs.Changes.{IsRest, IsRewritten, RemovesString, HasLost}
 use Rattle.judy_string.specs.Strings.{IsNestedAt}
 use Rattle.judy_string.proofs.Maps.{map-kind}
-use Rattle.judy_string.proofs.Options.{no-value, a-value}
+use Rattle.judy_string.proofs.Options.{a-value, looked, no-value}
 use Rattle.judy_string.proofs.Steps.{node-reference, rest-below, suffix-sound, suffix-value, suffix-live, suffix-lost}
 use Rattle.judy_string.proofs.Steps.{step-root, step-none, step-last, last-taken, step-child, step-inner, step-stays}
 use Rattle.judy_string.proofs.Steps.{step-without, step-gone, lost-below}
@@ -42,9 +42,7 @@ look-requires t c = step-root c.args.room c.args.arena.now.blocks c.args.node c.
 
 pub returns-in_default-clause-removal : goal.returns-in_default-clause-removal
 returns-in_default-clause-removal t c =
-    let at : value_of word_order (entries true c.args.arena.now.blocks c.args.node) (pack c.args.string.now) ≡ None =
-    ap (value_of word_order (entries true c.args.arena.now.blocks c.args.node)) (sym c.word_at-word.ensures)
-    ∙ sym c.look.ensures ∙ c.in_default.is in (
+    let at = looked (entries true c.args.arena.now.blocks c.args.node) _ (pack c.args.string.now) _ _ c.word_at-word.ensures c.look.ensures c.in_default.is in (
       step-none c.args.room c.args.arena.now.blocks c.args.node c.args.string.now c.requires.rest c.requires.node
           (sym c.is_suffix.ensures ∙ c.if-is_suffix.false) at,
       refl,
@@ -57,9 +55,7 @@ take-requires t c = step-root c.args.room c.args.arena.now.blocks c.args.node c.
 pub returns-then-string-lt8-clause-removal : goal.returns-then-string-lt8-clause-removal
 returns-then-string-lt8-clause-removal t c =
     let no = sym c.is_suffix.ensures ∙ c.if-is_suffix.false in
-    let at : value_of word_order (entries true c.args.arena.now.blocks c.args.node) (pack c.args.string.now) ≡ Some
-    c.in-Some.value = ap (value_of word_order (entries true c.args.arena.now.blocks c.args.node)) (sym c.word_at-word.ensures)
-    ∙ sym c.look.ensures ∙ c.in-Some.is in
+    let at = looked (entries true c.args.arena.now.blocks c.args.node) _ (pack c.args.string.now) _ _ c.word_at-word.ensures c.look.ensures c.in-Some.is in
     record {
       there = ap is_some (step-last c.args.room c.args.arena.now.blocks c.args.node c.args.string.now c.requires.rest
           c.requires.node no c.if-string-lt8.true ∙ at);
@@ -73,18 +69,14 @@ returns-then-string-lt8-clause-removal t c =
 
 pub known-child-requires : goal.known-child-requires
 known-child-requires t c =
-    let at : value_of word_order (entries true c.args.arena.now.blocks c.args.node) (pack c.args.string.now) ≡ Some
-    c.in-Some.value = ap (value_of word_order (entries true c.args.arena.now.blocks c.args.node)) (sym c.word_at-word.ensures)
-    ∙ sym c.look.ensures ∙ c.in-Some.is in
+    let at = looked (entries true c.args.arena.now.blocks c.args.node) _ (pack c.args.string.now) _ _ c.word_at-word.ensures c.look.ensures c.in-Some.is in
     node-reference (suc (c.args.room - 1)) c.args.arena.now.blocks c.in-Some.value
     (step-child c.args.room c.args.arena.now.blocks c.args.node c.args.string.now c.requires.rest c.requires.node
     (sym c.is_suffix.ensures ∙ c.if-is_suffix.false) c.if-string-lt8.false c.in-Some.value at)
 
 pub remove-requires : goal.remove-requires
 remove-requires t c =
-    let at : value_of word_order (entries true c.args.arena.now.blocks c.args.node) (pack c.args.string.now) ≡ Some
-    c.in-Some.value = ap (value_of word_order (entries true c.args.arena.now.blocks c.args.node)) (sym c.word_at-word.ensures)
-    ∙ sym c.look.ensures ∙ c.in-Some.is in (
+    let at = looked (entries true c.args.arena.now.blocks c.args.node) _ (pack c.args.string.now) _ _ c.word_at-word.ensures c.look.ensures c.in-Some.is in (
       omega (arith, c.decreases, c.requires.rest.short, c.if-string-lt8.false),
       (
         subst (IsRest (c.args.room - 1)) (sym c.tail.ensures) (rest-below c.args.room c.args.string.now c.requires.rest c.if-string-lt8.false),
@@ -96,9 +88,7 @@ remove-requires t c =
 
 pub returns-in_default-remove-clause-removal : goal.returns-in_default-remove-clause-removal
 returns-in_default-remove-clause-removal t c =
-    let at : value_of word_order (entries true c.args.arena.now.blocks c.args.node) (pack c.args.string.now) ≡ Some
-    c.in-Some.value = ap (value_of word_order (entries true c.args.arena.now.blocks c.args.node)) (sym c.word_at-word.ensures)
-    ∙ sym c.look.ensures ∙ c.in-Some.is in
+    let at = looked (entries true c.args.arena.now.blocks c.args.node) _ (pack c.args.string.now) _ _ c.word_at-word.ensures c.look.ensures c.in-Some.is in
     let below = lost-below (suc (c.args.room - 1)) c.args.arena.now c.remove.new.arena c.known-child.result c.in-Some.value
     c.tail.result.now _ None c.known-child.ensures c.tail.ensures
     (subst (RemovesString (suc (c.args.room - 1)) c.args.arena.now c.remove.new.arena c.known-child.result c.tail.result.now)
@@ -110,9 +100,7 @@ returns-in_default-remove-clause-removal t c =
 
 pub take-requires-then-word-eq0 : goal.take-requires-then-word-eq0
 take-requires-then-word-eq0 t c =
-    let at : value_of word_order (entries true c.args.arena.now.blocks c.args.node) (pack c.args.string.now) ≡ Some
-    c.in-Some.value = ap (value_of word_order (entries true c.args.arena.now.blocks c.args.node)) (sym c.word_at-word.ensures)
-    ∙ sym c.look.ensures ∙ c.in-Some.is in
+    let at = looked (entries true c.args.arena.now.blocks c.args.node) _ (pack c.args.string.now) _ _ c.word_at-word.ensures c.look.ensures c.in-Some.is in
     let below : HasLost (suc (c.args.room - 1)) c.args.arena.now c.remove.new.arena c.in-Some.value _ c.in-Some-remove.left = lost-below
     (suc (c.args.room - 1)) c.args.arena.now c.remove.new.arena c.known-child.result c.in-Some.value c.tail.result.now _
     (Some c.in-Some-remove.left) c.known-child.ensures c.tail.ensures
@@ -125,9 +113,7 @@ take-requires-then-word-eq0 t c =
 pub returns-then-word-eq0-clause-removal : goal.returns-then-word-eq0-clause-removal
 returns-then-word-eq0-clause-removal t c =
     let no = sym c.is_suffix.ensures ∙ c.if-is_suffix.false in
-    let at : value_of word_order (entries true c.args.arena.now.blocks c.args.node) (pack c.args.string.now) ≡ Some
-    c.in-Some.value = ap (value_of word_order (entries true c.args.arena.now.blocks c.args.node)) (sym c.word_at-word.ensures)
-    ∙ sym c.look.ensures ∙ c.in-Some.is in
+    let at = looked (entries true c.args.arena.now.blocks c.args.node) _ (pack c.args.string.now) _ _ c.word_at-word.ensures c.look.ensures c.in-Some.is in
     let below : HasLost (suc (c.args.room - 1)) c.args.arena.now c.remove.new.arena c.in-Some.value _ c.in-Some-remove.left = lost-below
     (suc (c.args.room - 1)) c.args.arena.now c.remove.new.arena c.known-child.result c.in-Some.value c.tail.result.now _
     (Some c.in-Some-remove.left) c.known-child.ensures c.tail.ensures
@@ -147,9 +133,7 @@ returns-then-word-eq0-clause-removal t c =
 
 pub lead-requires-clause-root : goal.lead-requires-clause-root
 lead-requires-clause-root t c =
-    let at : value_of word_order (entries true c.args.arena.now.blocks c.args.node) (pack c.args.string.now) ≡ Some
-    c.in-Some.value = ap (value_of word_order (entries true c.args.arena.now.blocks c.args.node)) (sym c.word_at-word.ensures)
-    ∙ sym c.look.ensures ∙ c.in-Some.is in
+    let at = looked (entries true c.args.arena.now.blocks c.args.node) _ (pack c.args.string.now) _ _ c.word_at-word.ensures c.look.ensures c.in-Some.is in
     let below : HasLost (suc (c.args.room - 1)) c.args.arena.now c.remove.new.arena c.in-Some.value _ c.in-Some-remove.left = lost-below
     (suc (c.args.room - 1)) c.args.arena.now c.remove.new.arena c.known-child.result c.in-Some.value c.tail.result.now _
     (Some c.in-Some-remove.left) c.known-child.ensures c.tail.ensures
@@ -161,9 +145,7 @@ lead-requires-clause-root t c =
 
 pub lead-requires-clause-there : goal.lead-requires-clause-there
 lead-requires-clause-there t c =
-    let at : value_of word_order (entries true c.args.arena.now.blocks c.args.node) (pack c.args.string.now) ≡ Some
-    c.in-Some.value = ap (value_of word_order (entries true c.args.arena.now.blocks c.args.node)) (sym c.word_at-word.ensures)
-    ∙ sym c.look.ensures ∙ c.in-Some.is in
+    let at = looked (entries true c.args.arena.now.blocks c.args.node) _ (pack c.args.string.now) _ _ c.word_at-word.ensures c.look.ensures c.in-Some.is in
     let below : HasLost (suc (c.args.room - 1)) c.args.arena.now c.remove.new.arena c.in-Some.value _ c.in-Some-remove.left = lost-below
     (suc (c.args.room - 1)) c.args.arena.now c.remove.new.arena c.known-child.result c.in-Some.value c.tail.result.now _
     (Some c.in-Some-remove.left) c.known-child.ensures c.tail.ensures
@@ -178,9 +160,7 @@ lead-requires-clause-there t c =
 pub returns-clause-removal : goal.returns-clause-removal
 returns-clause-removal t c =
     let no = sym c.is_suffix.ensures ∙ c.if-is_suffix.false in
-    let at : value_of word_order (entries true c.args.arena.now.blocks c.args.node) (pack c.args.string.now) ≡ Some
-    c.in-Some.value = ap (value_of word_order (entries true c.args.arena.now.blocks c.args.node)) (sym c.word_at-word.ensures)
-    ∙ sym c.look.ensures ∙ c.in-Some.is in
+    let at = looked (entries true c.args.arena.now.blocks c.args.node) _ (pack c.args.string.now) _ _ c.word_at-word.ensures c.look.ensures c.in-Some.is in
     let below : HasLost (suc (c.args.room - 1)) c.args.arena.now c.remove.new.arena c.in-Some.value _ c.in-Some-remove.left = lost-below
     (suc (c.args.room - 1)) c.args.arena.now c.remove.new.arena c.known-child.result c.in-Some.value c.tail.result.now _
     (Some c.in-Some-remove.left) c.known-child.ensures c.tail.ensures

@@ -6,6 +6,7 @@ use Rattle.judy_string.specs.Changes.{IsRest, IsRewritten}
 use Rattle.judy_string.specs.Strings.{IsNestedAt, IsChanged, nested_content_at}
 use Rattle.judy_string.proofs.Steps.{node-reference, rest-below, suffix-live, step-root, step-child, last-put}
 use Rattle.judy_string.proofs.Inserts.{written-suffix, last-there, never-absent, below-there, written-below}
+use Rattle.judy_string.proofs.Options.{looked}
 use Rattle.judy_string.proofs.nodes.+write.Goals as goal
 
 pub write-requires-clause-live : goal.write-requires-clause-live
@@ -43,18 +44,14 @@ look-requires t c = step-root c.args.room c.args.arena.now.blocks c.args.node c.
 
 pub known-requires : goal.known-requires
 known-requires t c =
-    let at : value_of word_order (entries true c.args.arena.now.blocks c.args.node) (pack c.args.string.now) ≡ Some
-    c.in-Some.child = ap (value_of word_order (entries true c.args.arena.now.blocks c.args.node)) (sym c.word_at-word.ensures)
-    ∙ sym c.look.ensures ∙ c.in-Some.is in
+    let at = looked (entries true c.args.arena.now.blocks c.args.node) _ (pack c.args.string.now) _ _ c.word_at-word.ensures c.look.ensures c.in-Some.is in
     node-reference (suc (c.args.room - 1)) c.args.arena.now.blocks c.in-Some.child
     (step-child c.args.room c.args.arena.now.blocks c.args.node c.args.string.now c.requires.rest c.requires.node
     (sym c.is_suffix.ensures ∙ c.if-is_suffix.false) c.if-string-lt8.false c.in-Some.child at)
 
 pub write-requires-in-Some : goal.write-requires-in-Some
 write-requires-in-Some t c =
-    let at : value_of word_order (entries true c.args.arena.now.blocks c.args.node) (pack c.args.string.now) ≡ Some
-    c.in-Some.child = ap (value_of word_order (entries true c.args.arena.now.blocks c.args.node)) (sym c.word_at-word.ensures)
-    ∙ sym c.look.ensures ∙ c.in-Some.is in (
+    let at = looked (entries true c.args.arena.now.blocks c.args.node) _ (pack c.args.string.now) _ _ c.word_at-word.ensures c.look.ensures c.in-Some.is in (
       omega (arith, c.decreases, c.requires.rest.short, c.if-string-lt8.false),
       (
         subst (IsRest (c.args.room - 1)) (sym c.tail.ensures) (rest-below c.args.room c.args.string.now c.requires.rest c.if-string-lt8.false),
@@ -73,9 +70,7 @@ write-requires-in-Some t c =
 
 pub returns-in-Some-clause-changed : goal.returns-in-Some-clause-changed
 returns-in-Some-clause-changed t c =
-    let at : value_of word_order (entries true c.args.arena.now.blocks c.args.node) (pack c.args.string.now) ≡ Some
-    c.in-Some.child = ap (value_of word_order (entries true c.args.arena.now.blocks c.args.node)) (sym c.word_at-word.ensures)
-    ∙ sym c.look.ensures ∙ c.in-Some.is in
+    let at = looked (entries true c.args.arena.now.blocks c.args.node) _ (pack c.args.string.now) _ _ c.word_at-word.ensures c.look.ensures c.in-Some.is in
     written-below c.args.room c.args.arena.now c.write-in-Some.new.arena c.args.node c.args.string.now c.args.value
     c.requires.rest c.requires.node c.requires.there (sym c.is_suffix.ensures ∙ c.if-is_suffix.false) c.if-string-lt8.false
     c.in-Some.child at
@@ -88,8 +83,6 @@ returns-in-Some-clause-changed t c =
 
 pub returns-in_default-clause-changed : goal.returns-in_default-clause-changed
 returns-in_default-clause-changed t c =
-    let at : value_of word_order (entries true c.args.arena.now.blocks c.args.node) (pack c.args.string.now) ≡ None =
-    ap (value_of word_order (entries true c.args.arena.now.blocks c.args.node)) (sym c.word_at-word.ensures)
-    ∙ sym c.look.ensures ∙ c.in_default.is in
+    let at = looked (entries true c.args.arena.now.blocks c.args.node) _ (pack c.args.string.now) _ _ c.word_at-word.ensures c.look.ensures c.in_default.is in
     absurd (never-absent c.args.room c.args.arena.now c.args.arena.now c.args.node c.args.string.now c.args.value c.requires.rest
     c.requires.node c.requires.there (sym c.is_suffix.ensures ∙ c.if-is_suffix.false) at)

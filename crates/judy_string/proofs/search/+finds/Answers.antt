@@ -11,7 +11,7 @@ use Rattle.judy_string.proofs.Joins.{more_long}
 use Rattle.judy_string.proofs.Levels.{few_bytes}
 use Rattle.judy_string.proofs.Nests.{nest-of, nest-sorted, suffix-of, suffix-content, string-spelt}
 use Rattle.judy_string.proofs.Steps.{node-reference, rest-below, rest-bound, step-child}
-use Rattle.judy_string.proofs.Shows.{otherwise, then_end, nest-found, beside-in, no-end, then-end, shown-first, shown-none}
+use Rattle.judy_string.proofs.Shows.{otherwise, then_end, nest-found, beside-there, below-shown, no-end, then-end, shown-first, shown-none}
 use Rattle.judy_string.proofs.Shows.{shown-some, shown-none_under, here-yes, here-no, here-below}
 use Rattle.judy_string.proofs.search.+finds.Goals as goal
 
@@ -75,41 +75,29 @@ find-returns-in_default-next_word t c =
 pub find-end_under-requires-clause-spelt : goal.find-end_under-requires-clause-spelt
 find-end_under-requires-clause-spelt t c =
     let nest = nest-of c.args.room c.args.arena.now.blocks c.args.node (sym c.is_suffix.ensures ∙ c.if-is_suffix.false) c.requires.node in
-    let at : beside c.args.how (entries true c.args.arena.now.blocks c.args.node) (pack c.args.string.now) ≡ Some
-    c.in-Some-next_word.entry = ap (beside c.args.how (entries true c.args.arena.now.blocks c.args.node))
-    (sym c.word_at-word.ensures) ∙ sym c.next_word.ensures ∙ c.in-Some-next_word.is in
-    let found = beside-in c.args.how (entries true c.args.arena.now.blocks c.args.node) (pack c.args.string.now)
-    c.in-Some-next_word.entry (nest-sorted c.args.room c.args.arena.now.blocks c.args.node nest) at in
+    let found = beside-there c.args.room c.args.arena.now.blocks c.args.node nest c.args.how c.word_at-word.result c.next_word.result
+    c.in-Some-next_word.entry c.next_word.ensures c.in-Some-next_word.is in
     nest.spelt c.in-Some-next_word.entry.0 c.in-Some-next_word.entry.1 found
 
 pub find-end_under-requires-clause-short : goal.find-end_under-requires-clause-short
 find-end_under-requires-clause-short t c =
     let nest = nest-of c.args.room c.args.arena.now.blocks c.args.node (sym c.is_suffix.ensures ∙ c.if-is_suffix.false) c.requires.node in
-    let at : beside c.args.how (entries true c.args.arena.now.blocks c.args.node) (pack c.args.string.now) ≡ Some
-    c.in-Some-next_word.entry = ap (beside c.args.how (entries true c.args.arena.now.blocks c.args.node))
-    (sym c.word_at-word.ensures) ∙ sym c.next_word.ensures ∙ c.in-Some-next_word.is in
-    let found = beside-in c.args.how (entries true c.args.arena.now.blocks c.args.node) (pack c.args.string.now)
-    c.in-Some-next_word.entry (nest-sorted c.args.room c.args.arena.now.blocks c.args.node nest) at in
+    let found = beside-there c.args.room c.args.arena.now.blocks c.args.node nest c.args.how c.word_at-word.result c.next_word.result
+    c.in-Some-next_word.entry c.next_word.ensures c.in-Some-next_word.is in
     nest.short c.in-Some-next_word.entry.0 c.in-Some-next_word.entry.1 found
 
 pub find-end_under-requires-clause-node : goal.find-end_under-requires-clause-node
 find-end_under-requires-clause-node t c =
     let nest = nest-of c.args.room c.args.arena.now.blocks c.args.node (sym c.is_suffix.ensures ∙ c.if-is_suffix.false) c.requires.node in
-    let at : beside c.args.how (entries true c.args.arena.now.blocks c.args.node) (pack c.args.string.now) ≡ Some
-    c.in-Some-next_word.entry = ap (beside c.args.how (entries true c.args.arena.now.blocks c.args.node))
-    (sym c.word_at-word.ensures) ∙ sym c.next_word.ensures ∙ c.in-Some-next_word.is in
-    let found = beside-in c.args.how (entries true c.args.arena.now.blocks c.args.node) (pack c.args.string.now)
-    c.in-Some-next_word.entry (nest-sorted c.args.room c.args.arena.now.blocks c.args.node nest) at in
+    let found = beside-there c.args.room c.args.arena.now.blocks c.args.node nest c.args.how c.word_at-word.result c.next_word.result
+    c.in-Some-next_word.entry c.next_word.ensures c.in-Some-next_word.is in
     λ more. nest.sound c.in-Some-next_word.entry.0 c.in-Some-next_word.entry.1 (record { found = found; more = more })
 
 pub find-end_under-requires-clause-filled : goal.find-end_under-requires-clause-filled
 find-end_under-requires-clause-filled t c =
     let nest = nest-of c.args.room c.args.arena.now.blocks c.args.node (sym c.is_suffix.ensures ∙ c.if-is_suffix.false) c.requires.node in
-    let at : beside c.args.how (entries true c.args.arena.now.blocks c.args.node) (pack c.args.string.now) ≡ Some
-    c.in-Some-next_word.entry = ap (beside c.args.how (entries true c.args.arena.now.blocks c.args.node))
-    (sym c.word_at-word.ensures) ∙ sym c.next_word.ensures ∙ c.in-Some-next_word.is in
-    let found = beside-in c.args.how (entries true c.args.arena.now.blocks c.args.node) (pack c.args.string.now)
-    c.in-Some-next_word.entry (nest-sorted c.args.room c.args.arena.now.blocks c.args.node nest) at in
+    let found = beside-there c.args.room c.args.arena.now.blocks c.args.node nest c.args.how c.word_at-word.result c.next_word.result
+    c.in-Some-next_word.entry c.next_word.ensures c.in-Some-next_word.is in
     λ more. nest.filled c.in-Some-next_word.entry.0 c.in-Some-next_word.entry.1 (record { found = found; more = more })
 
 pub find-returns : goal.find-returns
@@ -202,20 +190,9 @@ find_here-returns-in-Some-find t c =
     let at : value_of word_order (entries true c.args.arena.now.blocks c.args.node) (pack c.args.string.now) ≡ Some
     c.in-Some.value = sym c.requires.own ∙ c.in-Some.is in
     let bound : c.args.room ≡ suc (c.args.room - 1) = rest-bound c.args.room c.args.string.now c.requires.rest c.if-string-lt8.false in
-    let below = subst (λ k. IsShown (c.args.buffer.now.items ++ word_bytes k)
-    (found_by c.args.how (drop 8 c.args.string.now) (nested_content_at c.args.room c.args.arena.now.blocks c.in-Some.value))
-    c.find.result c.find.new.buffer.items) c.word_at-word.ensures
-    (subst (λ m. IsShown (c.args.buffer.now.items ++ word_bytes c.word_at-word.result)
-    (found_by c.args.how (drop 8 c.args.string.now) (nested_content_at m c.args.arena.now.blocks c.in-Some.value)) c.find.result
-    c.find.new.buffer.items) (sym bound)
-    (subst (λ u. IsShown (c.args.buffer.now.items ++ word_bytes c.word_at-word.result)
-    (found_by c.args.how (drop 8 c.args.string.now) (nested_content_at (suc (c.args.room - 1)) c.args.arena.now.blocks u))
-    c.find.result c.find.new.buffer.items) c.known.ensures
-    (subst (λ s. IsShown (c.args.buffer.now.items ++ word_bytes c.word_at-word.result)
-    (found_by c.args.how s (nested_content_at (suc (c.args.room - 1)) c.args.arena.now.blocks c.known.result)) c.find.result
-    c.find.new.buffer.items) c.tail.ensures
-    (subst (λ p. IsShown p (found_by c.args.how c.tail.result.now (nested_content_at (suc (c.args.room - 1)) c.args.arena.now.blocks
-    c.known.result)) c.find.result c.find.new.buffer.items) c.push_word-2.ensures c.find.ensures)))) in
+    let below = below-shown c.args.how c.args.room c.args.arena.now.blocks (drop 8 c.args.string.now) c.tail.result.now c.args.buffer.now.items
+    _ c.known.result c.in-Some.value c.word_at-word.result (pack c.args.string.now) c.find.result _
+    c.find.new.buffer.items bound c.known.ensures c.tail.ensures c.word_at-word.ensures c.push_word-2.ensures c.in-Some-find.is c.find.ensures in
     subst (λ o. IsShown c.args.buffer.now.items o (Some c.in-Some-find.found) c.find.new.buffer.items)
     (sym (ap (λ o. end_of c.args.how (here (keeps c.args.how) (nested_content_at c.args.room c.args.arena.now.blocks) c.args.string.now o)) at
     ∙ here-below c.args.how
@@ -223,29 +200,16 @@ find_here-returns-in-Some-find t c =
     (shown-some c.args.buffer.now.items (word_bytes (pack c.args.string.now))
     (found_by c.args.how (drop 8 c.args.string.now) (nested_content_at c.args.room c.args.arena.now.blocks c.in-Some.value))
     c.in-Some-find.found c.find.new.buffer.items
-    (subst (λ a. IsShown (c.args.buffer.now.items ++ word_bytes (pack c.args.string.now))
-    (found_by c.args.how (drop 8 c.args.string.now) (nested_content_at c.args.room c.args.arena.now.blocks c.in-Some.value)) a
-    c.find.new.buffer.items) c.in-Some-find.is below))
+    below)
 
 pub find_here-returns : goal.find_here-returns
 find_here-returns t c =
     let at : value_of word_order (entries true c.args.arena.now.blocks c.args.node) (pack c.args.string.now) ≡ Some
     c.in-Some.value = sym c.requires.own ∙ c.in-Some.is in
     let bound : c.args.room ≡ suc (c.args.room - 1) = rest-bound c.args.room c.args.string.now c.requires.rest c.if-string-lt8.false in
-    let below = subst (λ k. IsShown (c.args.buffer.now.items ++ word_bytes k)
-    (found_by c.args.how (drop 8 c.args.string.now) (nested_content_at c.args.room c.args.arena.now.blocks c.in-Some.value))
-    c.find.result c.find.new.buffer.items) c.word_at-word.ensures
-    (subst (λ m. IsShown (c.args.buffer.now.items ++ word_bytes c.word_at-word.result)
-    (found_by c.args.how (drop 8 c.args.string.now) (nested_content_at m c.args.arena.now.blocks c.in-Some.value)) c.find.result
-    c.find.new.buffer.items) (sym bound)
-    (subst (λ u. IsShown (c.args.buffer.now.items ++ word_bytes c.word_at-word.result)
-    (found_by c.args.how (drop 8 c.args.string.now) (nested_content_at (suc (c.args.room - 1)) c.args.arena.now.blocks u))
-    c.find.result c.find.new.buffer.items) c.known.ensures
-    (subst (λ s. IsShown (c.args.buffer.now.items ++ word_bytes c.word_at-word.result)
-    (found_by c.args.how s (nested_content_at (suc (c.args.room - 1)) c.args.arena.now.blocks c.known.result)) c.find.result
-    c.find.new.buffer.items) c.tail.ensures
-    (subst (λ p. IsShown p (found_by c.args.how c.tail.result.now (nested_content_at (suc (c.args.room - 1)) c.args.arena.now.blocks
-    c.known.result)) c.find.result c.find.new.buffer.items) c.push_word-2.ensures c.find.ensures)))) in
+    let below = below-shown c.args.how c.args.room c.args.arena.now.blocks (drop 8 c.args.string.now) c.tail.result.now c.args.buffer.now.items
+    _ c.known.result c.in-Some.value c.word_at-word.result (pack c.args.string.now) c.find.result _
+    c.find.new.buffer.items bound c.known.ensures c.tail.ensures c.word_at-word.ensures c.push_word-2.ensures c.in_default-find.is c.find.ensures in
     subst (λ o. IsShown c.args.buffer.now.items o None c.truncate.new.self.items)
     (sym (ap (λ o. end_of c.args.how (here (keeps c.args.how) (nested_content_at c.args.room c.args.arena.now.blocks) c.args.string.now o)) at
     ∙ here-below c.args.how
@@ -253,7 +217,5 @@ find_here-returns t c =
     (shown-none_under c.args.buffer.now.items (word_bytes (pack c.args.string.now))
     (found_by c.args.how (drop 8 c.args.string.now) (nested_content_at c.args.room c.args.arena.now.blocks c.in-Some.value))
     c.find.new.buffer.items c.truncate.new.self.items
-    (subst (λ a. IsShown (c.args.buffer.now.items ++ word_bytes (pack c.args.string.now))
-    (found_by c.args.how (drop 8 c.args.string.now) (nested_content_at c.args.room c.args.arena.now.blocks c.in-Some.value)) a
-    c.find.new.buffer.items) c.in_default-find.is below)
+    below
     (c.truncate.ensures.items ∙ ap (λ n. take n c.find.new.buffer.items) c.len-start.ensures.value))
