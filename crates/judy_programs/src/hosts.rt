@@ -23,12 +23,12 @@ pub trait Hosts: Network {
     fn open(&mut self, path: &str) -> Option<Self::File>
         ensures { MatchOption result
             (Logs (Self.log self.old) (Unopened path.now ∷ []) (Self.log self.new))
-            (λ file. Logs (Self.log self.old) (Opened path.now (Self.File.left file) ∷ [])
+            (λ file. Logs (Self.log self.old) (Opened path.now (Self.File.source.left file) ∷ [])
             (Self.log self.new)) };
 
     /// Closes a file.
     fn shut(&mut self, file: Self::File)
-        ensures { Logs (Self.log self.old) (Shut (Self.File.left file) ∷ []) (Self.log self.new) };
+        ensures { Logs (Self.log self.old) (Shut (Self.File.source.left file) ∷ []) (Self.log self.new) };
 
     /// Makes a socket at a path. Connections come to it from then on. False if it cannot be made.
     fn bind(&mut self, alloc: Global, path: &str) -> bool
