@@ -13,11 +13,11 @@ use Rattle.judy_model.proofs.lemmas.WordLemmas.{le-test, le-not, lt-test, lt-not
 use Rattle.judy_model.proofs.lemmas.TestLemmas.{and_right, and_left}
 use Rattle.judy_model.proofs.lemmas.EntryLemmas.{from_less}
 use Rattle.judy_branch.specs.declared.shape.Shape.{Shape}
-use Rattle.judy_branch.specs.declared.shape.Shape.TheVariants.{Full}
+use Rattle.judy_branch.specs.declared.shape.Shape.TheVariants.{Linear, Full}
 use Rattle.judy_branch.specs.Found.{IsPlace, IsThere, IsMissing}
-use Rattle.judy_branch.specs.Children.{numbered, child_bytes, refs_in, children_in, count_in, start, is_child, is_child_entry, IsLaid}
+use Rattle.judy_branch.specs.Children.{numbered, child_bytes, refs_in, children_in, count_in, most, start, is_child, is_child_entry, IsLaid}
 use Rattle.judy_branch.specs.Slots.{some_words, child_words}
-use Rattle.judy_branch.proofs.Shapes.{IsPaired}
+use Rattle.judy_branch.proofs.Shapes.{IsPaired, linear-paired}
 use Rattle.judy_branch.proofs.Stretches.{all-some}
 use Rattle.judy_branch.proofs.Windows.{drop_more, take_take, drop_take}
 
@@ -148,6 +148,26 @@ paired-span shape ws laid paired z h a b le p q =
     (subst (λ es. is_sorted word_order es ≡ true) paired.are laid.rising) le p q
     ∙ inner ws (start shape) (count_in ws) a b (omega arith) in
     ap (λ l. some_words l) (sym words) ∙ all-some (part z h (children_in shape ws)) (filter-sound _ (children_in shape ws) laid.sound)
+
+-- in a branch that has one of these shapes
+pub shape-span : (shape s : Shape) (ws : List ℕ) (paired : IsLaid s ws → IsPaired s ws) (low z h a b : ℕ) → shape ≡ s → IsLaid shape ws → low ≡ z
+    → z ≤ h → IsPlace (child_bytes s ws) low a → IsPlace (child_bytes s ws) h b
+    → some_words (take ((start s + b) - (start s + a)) (drop (start s + a) ws)) ≡ child_words (part z h (children_in shape ws))
+shape-span shape s ws paired low z h a b is laid e le p q =
+    let same : IsLaid s ws = subst (λ s. IsLaid s ws) is laid in
+    paired-span s ws same (paired same) z h a b le (subst (λ k. IsPlace (child_bytes s ws) k a) e p) q
+    ∙ ap (λ s. child_words (part z h (children_in s ws))) (sym is)
+
+-- the places of a linear branch lie in its words
+pub linear-fits : (shape : Shape) (ws : List ℕ) (k r : ℕ) → shape ≡ Linear → IsLaid shape ws → IsPlace (child_bytes Linear ws) k r
+    → (r ≤ most Linear) × (start Linear + r ≤ length ws)
+linear-fits shape ws k r is laid p =
+    let same : IsLaid Linear ws = subst (λ s. IsLaid s ws) is laid in
+    let many = (linear-paired ws same).many in
+    let few = same.most in
+    let room = same.room in
+    let within = p.within in
+    (omega arith, omega arith)
 
 -- the numbers from one on are none below it
 numbered-none : (k z h : ℕ) (ws : List ℕ) → h ≤ k → part z h (numbered k ws) ≡ []

@@ -34,10 +34,9 @@ fn empty_table(alloc: Global, secret: &[u8]) -> Result<HashMap<Spot, Place, Keye
     ensures limit { IfOk result (λ t. spare t ≤ 1024) }
     ensures secret { IfOk result (λ t. (hasher_of t).start.state ≡ start_of secret.now) }
 {
-    let Ok(table) = HashMap::with_capacity_and_hasher(alloc, TABLE_PLACES, Keyed::new(secret))
-    else {
-        return Err(NoMemory);
-    };
+    let table = HashMap::with_capacity_and_hasher(alloc, TABLE_PLACES, Keyed::new(secret)).map_err(
+        |_| NoMemory,
+    )?;
     if table.capacity() > MOST_PLACES {
         return Err(NoMemory);
     }
@@ -98,9 +97,7 @@ impl Names {
         ensures room { IfOk result (λ d. d.1.room ≡ 256) }
     {
         let table = empty_table(alloc, secret)?;
-        let Ok(kept) = Vec::with_capacity(alloc, FREE_PLACES) else {
-            return Err(NoMemory);
-        };
+        let kept = Vec::with_capacity(alloc, FREE_PLACES).map_err(|_| NoMemory)?;
         Ok(Names { table, kept })
     }
 
@@ -144,9 +141,7 @@ impl Names {
         ensures refused { OnErr result (self.new.1.room ≡ self.old.1.room) }
     {
         let more = names.saturating_sub(self.table.len());
-        if self.table.reserve(more).is_err() {
-            return Err(NoMemory);
-        }
+        self.table.reserve(more).map_err(|_| NoMemory)?;
         reserve_kept(&mut self.kept, names)
     }
 

@@ -18,13 +18,8 @@ pub fn find_recent(recent: &Option<Recent>, spot: &Spot) -> Option<Place>
     ensures { result ≡ recent_at recent.now spot.now }
 {
     match recent {
-        Some(recent) => {
-            if recent.spot == *spot {
-                return Some(recent.place);
-            }
-            None
-        }
-        None => None,
+        Some(recent) if recent.spot == *spot => Some(recent.place),
+        _ => None,
     }
 }
 

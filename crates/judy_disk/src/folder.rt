@@ -149,11 +149,11 @@ impl<'a, F: Locks> Folder<'a, F> {
     /// Locks a file, until what is returned is dropped. None if another program has locked it.
     fn try_lock(&self, place: Place) -> Result<Option<F::File>, DiskFault> {
         let file = self.open_lock(place)?;
-        match self.files.try_lock(&file) {
-            Ok(true) => Ok(Some(file)),
-            Ok(false) => Ok(None),
-            Err(e) => Err(DiskFault::at(place, e)),
-        }
+        let locked = self
+            .files
+            .try_lock(&file)
+            .map_err(|e| DiskFault::at(place, e))?;
+        Ok(locked.then_some(file))
     }
 
     /// Takes the directory as a server does, until what is returned is dropped. None if a server has
@@ -164,18 +164,13 @@ impl<'a, F: Locks> Folder<'a, F> {
 
     /// Takes the directory for a server, until what is returned is dropped.
     pub fn take(&self) -> Result<F::File, DiskFault> {
-        match self.try_lock(Place::Lock)? {
-            Some(lock) => Ok(lock),
-            None => Err(DiskFault::InUse),
-        }
+        self.try_lock(Place::Lock)?.ok_or(DiskFault::InUse)
     }
 
     /// Takes the closed files for a compaction, until what is returned is dropped.
     pub fn take_closed(&self) -> Result<F::File, DiskFault> {
-        match self.try_lock(Place::CompactLock)? {
-            Some(lock) => Ok(lock),
-            None => Err(DiskFault::Compacted),
-        }
+        self.try_lock(Place::CompactLock)?
+            .ok_or(DiskFault::Compacted)
     }
 
     /// Keeps the closed files as they are for a reader, until what is returned is dropped, without
@@ -194,9 +189,7 @@ impl<'a, F: Locks> Folder<'a, F> {
     pub fn hold_closed(&self) -> Result<F::File, DiskFault> {
         let place = Place::CompactLock;
         let file = self.open_lock(place)?;
-        match self.files.lock(&file) {
-            Ok(()) => Ok(file),
-            Err(e) => Err(DiskFault::at(place, e)),
-        }
+        self.files.lock(&file).map_err(|e| DiskFault::at(place, e))?;
+        Ok(file)
     }
 }

@@ -56,10 +56,7 @@ fn read_number(digits: &str) -> Option<u64>
     if digits.len() != DIGITS || !digits.bytes().all(|b| b.is_ascii_digit()) {
         return None;
     }
-    match digits.parse::<u64>() {
-        Ok(number) => { if number >= 1 { Some(number) } else { None } }
-        Err(_) => None,
-    }
+    digits.parse::<u64>().ok().filter(|number| *number >= 1)
 }
 
 /// What a file is, by its name.

@@ -17,10 +17,8 @@ fn field_len(from: &[u8]) -> usize
     ensures before { (k : ℕ) → k < result → slice_index from.now k ≢ 32 }
     ensures end { (length from.now ≡ result) ⊎ (slice_index from.now result ≡ 32) }
 {
-    match from.iter().position(|b| *b == b' ') {
-        Some(len) => len,
-        None => from.len(),
-    }
+    let len = from.iter().position(|b| *b == b' ');
+    len.unwrap_or(from.len())
 }
 
 /// The first field of a line, and what comes after it.

@@ -5,15 +5,12 @@ ghost use Rattle.judy_protocol.specs.Talks.{HasNoLf, Gathers};
 
 use crate::cutting::cut_line;
 use crate::held::Held;
-use crate::replies::REPLY_LIMIT;
+use crate::limits::{ANSWERS_LIMIT, REPLY_LIMIT};
 use crate::service::Served;
 use crate::turns::{asks_to_quit, hear, run};
 use arrayvec::ArrayVec;
 use judy_model::KEY_LIMIT;
 use std::alloc::Global;
-
-/// The most bytes of the answers that are written at once.
-pub const ANSWERS_LIMIT: usize = 16384;
 
 /// Buffers for a line's key, for a key that a call finds, for the answer to a line, and for the
 /// answers that are written at once.

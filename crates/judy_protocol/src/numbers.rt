@@ -140,14 +140,5 @@ pub fn key<'a>(field: &[u8], room: &'a mut [u8; KEY_LIMIT]) -> Option<Key<'a>>
 pub fn string<'a>(field: &[u8], room: &'a mut [u8; KEY_LIMIT]) -> Option<Key<'a>>
     ensures { result ≡ string_of field.now }
 {
-    match key(field, room) {
-        Some(key) => {
-            if is_string(key.as_bytes()) {
-                Some(key)
-            } else {
-                None
-            }
-        }
-        None => None,
-    }
+    key(field, room).filter(|key| is_string(key.as_bytes()))
 }

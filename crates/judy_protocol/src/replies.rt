@@ -3,12 +3,10 @@ ghost use Rattle.std.specs.Prelude.{◌≡◌, ◌≤◌, ◌+◌, ◌*◌, ◌+
 ghost use Rattle.hex.specs.Hex.{encode_lower};
 ghost use Rattle.judy_model.specs.Replies.{text as text_of, with_number, reply_words};
 
+use crate::limits::REPLY_LIMIT;
 use arrayvec::ArrayVec;
 use itoa::write_digits;
 use judy_model::{KEY_LIMIT, Key, Reply};
-
-/// The most bytes of the line of a reply, with its LF.
-pub const REPLY_LIMIT: usize = 4096;
 
 /// Adds bytes to the line.
 fn put(line: &mut ArrayVec<u8, REPLY_LIMIT>, bytes: &[u8])

@@ -33,80 +33,56 @@ fn kind_letter(command: &[u8]) -> u8
 fn of_one(name: Name, call: Option<OneCall>) -> Option<Line<'static>>
     ensures { result ≡ option_map (λ c. request.Call (calls.One name c)) call }
 {
-    match call {
-        Some(call) => Some(Line::Call(Call::One(name, call))),
-        None => None,
-    }
+    Some(Line::Call(Call::One(name, call?)))
 }
 
 /// A call of a map from words.
 fn of_long(name: Name, call: Option<LongCall>) -> Option<Line<'static>>
     ensures { result ≡ option_map (λ c. request.Call (calls.Long name c)) call }
 {
-    match call {
-        Some(call) => Some(Line::Call(Call::Long(name, call))),
-        None => None,
-    }
+    Some(Line::Call(Call::Long(name, call?)))
 }
 
 /// A call of a map from strings.
 fn of_strings<'a>(name: Name, call: Option<StrCall<'a>>) -> Option<Line<'a>>
     ensures { result ≡ option_map (λ c. request.Call (calls.Str name c)) call.entry }
 {
-    match call {
-        Some(call) => Some(Line::Call(Call::Str(name, call))),
-        None => None,
-    }
+    Some(Line::Call(Call::Str(name, call?)))
 }
 
 /// A call of a map from byte keys.
 fn of_bytes<'a>(name: Name, call: Option<BytesCall<'a>>) -> Option<Line<'a>>
     ensures { result ≡ option_map (λ c. request.Call (calls.Bytes name c)) call.entry }
 {
-    match call {
-        Some(call) => Some(Line::Call(Call::Bytes(name, call))),
-        None => None,
-    }
+    Some(Line::Call(Call::Bytes(name, call?)))
 }
 
 /// The call of a set with one more field.
 fn one_with(command: &[u8], index: &[u8]) -> Option<OneCall>
     ensures { result ≡ one_call_lem command.now (index.now ∷ []) }
 {
-    match number(index) {
-        Some(i) => one_call(command, i),
-        None => None,
-    }
+    one_call(command, number(index)?)
 }
 
 /// The call of a set with two more fields.
 fn one_with_two(command: &[u8], from: &[u8], to: &[u8]) -> Option<OneCall>
     ensures { result ≡ one_call_lem command.now (from.now ∷ to.now ∷ []) }
 {
-    match (number(from), number(to)) {
-        (Some(i), Some(j)) => one_pair_call(command, i, j),
-        _ => None,
-    }
+    one_pair_call(command, number(from)?, number(to)?)
 }
 
 /// The call of a map from words with one more field.
 fn long_with(command: &[u8], index: &[u8]) -> Option<LongCall>
     ensures { result ≡ long_call_lem command.now (index.now ∷ []) }
 {
-    match number(index) {
-        Some(i) => long_call(command, i),
-        None => None,
-    }
+    long_call(command, number(index)?)
 }
 
 /// The call of a map from words with two more fields.
 fn long_with_two(command: &[u8], index: &[u8], other: &[u8]) -> Option<LongCall>
     ensures { result ≡ long_call_lem command.now (index.now ∷ other.now ∷ []) }
 {
-    match (number(index), number(other)) {
-        (Some(i), Some(j)) => long_pair_call(command, i, j),
-        _ => None,
-    }
+    long_pair_call(command, number(index)?, number(other)?)
 }
 
 /// The call of a map from strings with one more field.
@@ -117,10 +93,7 @@ fn strings_with<'a>(
 ) -> Option<StrCall<'a>>
     ensures { result ≡ string_call_lem command.now (field.now ∷ []) }
 {
-    match string(field, room) {
-        Some(key) => string_call(command, key),
-        None => None,
-    }
+    string_call(command, string(field, room)?)
 }
 
 /// The call of a map from strings with two more fields.
@@ -132,10 +105,7 @@ fn strings_with_two<'a>(
 ) -> Option<StrCall<'a>>
     ensures { result ≡ string_call_lem command.now (field.now ∷ value.now ∷ []) }
 {
-    match (string(field, room), number(value)) {
-        (Some(key), Some(v)) => string_put(command, key, v),
-        _ => None,
-    }
+    string_put(command, string(field, room)?, number(value)?)
 }
 
 /// The call of a map from byte keys with one more field.
@@ -146,10 +116,7 @@ fn bytes_with<'a>(
 ) -> Option<BytesCall<'a>>
     ensures { result ≡ bytes_call_lem command.now (field.now ∷ []) }
 {
-    match key(field, room) {
-        Some(key) => bytes_call(command, key),
-        None => None,
-    }
+    bytes_call(command, key(field, room)?)
 }
 
 /// The call of a map from byte keys with two more fields.
@@ -161,10 +128,7 @@ fn bytes_with_two<'a>(
 ) -> Option<BytesCall<'a>>
     ensures { result ≡ bytes_call_lem command.now (field.now ∷ value.now ∷ []) }
 {
-    match (key(field, room), number(value)) {
-        (Some(key), Some(v)) => bytes_put(command, key, v),
-        _ => None,
-    }
+    bytes_put(command, key(field, room)?, number(value)?)
 }
 
 /// The token that a field writes. Its bytes are put into the room.
@@ -189,10 +153,7 @@ fn login<'a>(
     ensures { result ≡ auth_of command.now name (field.now ∷ []) }
 {
     if command == b"AUTH".as_slice() {
-        return match token_in(field, room) {
-            Some(token) => Some(Line::Auth(name, token)),
-            None => None,
-        };
+        return Some(Line::Auth(name, token_in(field, room)?));
     }
     None
 }

@@ -12,8 +12,9 @@ ghost use Rattle.judy_protocol.specs.Talks.{HasNoLf, HasRun, Holds, IsJoined, as
 
 use crate::cutting::bare;
 use crate::held::Held;
-use crate::replies::{REPLY_LIMIT, write_reply};
-use crate::requests::{Syntax, read_line};
+use crate::limits::REPLY_LIMIT;
+use crate::replies::write_reply;
+use crate::requests::read_line;
 use crate::service::Served;
 use arrayvec::ArrayVec;
 use judy_model::{Call, KEY_LIMIT, LINE_LIMIT, Line, Name, Reply, Token};
@@ -85,13 +86,8 @@ pub fn hear_line<'a>(
     ensures heard { as_heard result ≡ heard_bare (option_map (λ b. b.now) line.entry) }
     ensures asked { (call : CallLem) → as_heard result ≡ Asked (request.Call call) → IsAsked call }
 {
-    let Some(line) = line else {
-        return Err(Refusal::Long);
-    };
-    match read_line(line, room) {
-        Ok(request) => Ok(request),
-        Err(Syntax) => Err(Refusal::Syntax),
-    }
+    let line = line.ok_or(Refusal::Long)?;
+    read_line(line, room).map_err(|_| Refusal::Syntax)
 }
 
 /// What the line that is held and ends with the chunk asks for. Nothing is held afterwards.

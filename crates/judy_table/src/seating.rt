@@ -56,10 +56,7 @@ fn seat(row: &Tenant, table: &[Tenant], fresh: &mut IntoIter<Tenant>) -> Tenant
     if !row.is_vacant() {
         return row_of(table, row.name.as_bytes());
     }
-    match fresh.next() {
-        Some(tenant) => tenant,
-        None => Tenant::vacant(),
-    }
+    fresh.next().unwrap_or(Tenant::vacant())
 }
 
 /// The rows after the table is read, of which these tenants are fresh.

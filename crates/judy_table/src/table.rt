@@ -62,10 +62,7 @@ fn tenants_in(alloc: Global, tree: &toml::Table) -> Result<Vec<Tenant>, TableFau
         let Some(written) = read_written(value) else {
             return Err(TableFault::Shape);
         };
-        let tenant = match Tenant::new(name.as_str(), written) {
-            Ok(tenant) => tenant,
-            Err(fault) => return Err(fault),
-        };
+        let tenant = Tenant::new(name.as_str(), written)?;
         if tenants.push(tenant).is_err() {
             return Err(TableFault::Memory);
         }
@@ -86,10 +83,8 @@ fn read_tree(alloc: Global, tree: &toml::Table) -> Result<Table, TableFault>
     if !has_count(tree) {
         return Err(TableFault::Count);
     }
-    match tenants_in(alloc, tree) {
-        Ok(tenants) => Ok(Table { tenants }),
-        Err(fault) => Err(fault),
-    }
+    let tenants = tenants_in(alloc, tree)?;
+    Ok(Table { tenants })
 }
 
 // Whether there are 1 to 64 tenants.
@@ -167,10 +162,7 @@ impl Table {
     pub fn find(&self, name: &[u8]) -> Option<TenantId>
         ensures { result ≡ place_of name.now self.now }
     {
-        match place_of(&self.tenants, name) {
-            Some(place) => Some(TenantId::at(place as u8)),
-            None => None,
-        }
+        place_of(&self.tenants, name).map(|place| TenantId::at(place as u8))
     }
 
     /// The tenant of this name and its right: to read and write with its own token, or only to read
@@ -179,16 +171,10 @@ impl Table {
     pub fn login(&self, name: &[u8], token: &[u8]) -> Option<Speaker>
         ensures { option_map seen result ≡ login_of name.now token.now self.now }
     {
-        let Some(place) = place_of(&self.tenants, name) else {
-            return None;
-        };
-        match self.tenants[place].right(token) {
-            Some(right) => Some(Speaker {
-                tenant: TenantId::at(place as u8),
-                right,
-            }),
-            None => None,
-        }
+        let place = place_of(&self.tenants, name)?;
+        let right = self.tenants[place].right(token)?;
+        let tenant = TenantId::at(place as u8);
+        Some(Speaker { tenant, right })
     }
 
     /// The quota of a tenant of this table.
@@ -212,10 +198,8 @@ impl Table {
     pub fn knows(&self, speaker: Speaker) -> bool
         ensures { result ≡ knows self.now (seen speaker) }
     {
-        match self.tenants.get(speaker.tenant.place() as usize) {
-            Some(row) => !row.is_vacant() && row.has_token(speaker.right),
-            None => false,
-        }
+        let row = self.tenants.get(speaker.tenant.place() as usize);
+        row.is_some_and(|row| !row.is_vacant() && row.has_token(speaker.right))
     }
 
     /// The rows in force, `self`, after another table is read. A tenant that stays keeps its place.

@@ -92,10 +92,8 @@ fn look_digest(text: Option<&str>) -> Result<Option<[u8; 32]>, FromHexError>
         return Ok(None);
     };
     let mut bytes = [0u8; 32];
-    match hex::decode_to_slice(text, &mut bytes) {
-        Ok(()) => Ok(Some(bytes)),
-        Err(e) => Err(e),
-    }
+    hex::decode_to_slice(text, &mut bytes)?;
+    Ok(Some(bytes))
 }
 
 impl Tenant {
@@ -105,18 +103,10 @@ impl Tenant {
     {
         let name = Name::read(name.as_bytes()).ok_or(TableFault::Name)?;
         let mut digest = [0u8; 32];
-        if hex::decode_to_slice(written.digest, &mut digest).is_err() {
-            return Err(TableFault::Digest);
-        }
-        let Ok(look) = look_digest(written.look) else {
-            return Err(TableFault::Digest);
-        };
-        let Some(entries) = up_to(ENTRIES_LIMIT, written.entries) else {
-            return Err(TableFault::Quota);
-        };
-        let Some(pieces) = pieces_for(entries, written.pieces) else {
-            return Err(TableFault::Pieces);
-        };
+        hex::decode_to_slice(written.digest, &mut digest).map_err(|_| TableFault::Digest)?;
+        let look = look_digest(written.look).map_err(|_| TableFault::Digest)?;
+        let entries = up_to(ENTRIES_LIMIT, written.entries).ok_or(TableFault::Quota)?;
+        let pieces = pieces_for(entries, written.pieces).ok_or(TableFault::Pieces)?;
         Ok(Tenant {
             name,
             digest,

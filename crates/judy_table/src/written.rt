@@ -43,20 +43,14 @@ fn present_string(value: &Value) -> Option<Option<&str>>
     ensures { option_map (λ o. option_map (λ s. s.now) o) result
         ≡ option_map Some (as_str (view value.now)) }
 {
-    match value.as_str() {
-        Some(text) => Some(Some(text)),
-        None => None,
-    }
+    Some(Some(value.as_str()?))
 }
 
 // The integer of a value. None if the value has another type.
 fn present_integer(value: &Value) -> Option<Option<i64>>
     ensures { result ≡ option_map Some (as_integer (view value.now)) }
 {
-    match value.as_integer() {
-        Some(number) => Some(Some(number)),
-        None => None,
-    }
+    Some(Some(value.as_integer()?))
 }
 
 // The string of an optional key. None if the key has another type.
@@ -92,20 +86,14 @@ pub fn size(table: &toml::Table) -> usize
 fn counted_number(number: Option<i64>) -> usize
     ensures { result ≡ one_if_some number }
 {
-    match number {
-        Some(_) => 1,
-        None => 0,
-    }
+    usize::from(number.is_some())
 }
 
 // 1 for a text, 0 for none.
 fn counted_text(text: Option<&str>) -> usize
     ensures { result ≡ one_if_some (option_map (λ s. s.now) text.entry) }
 {
-    match text {
-        Some(_) => 1,
-        None => 0,
-    }
+    usize::from(text.is_some())
 }
 
 // The values of a table with this many keys. None if it has other keys.
@@ -154,10 +142,7 @@ fn read_written_in(table: &toml::Table) -> Option<Written<'_>>
 pub fn read_written(value: &Value) -> Option<Written<'_>>
     ensures { option_map told_of result ≡ written (view value.now) }
 {
-    match value.as_table() {
-        Some(table) => read_written_in(table),
-        None => None,
-    }
+    read_written_in(value.as_table()?)
 }
 
 /// Whether the value is a tenant's table of the right shape.

@@ -67,10 +67,7 @@ pub fn prepare(alloc: Global, stock: &mut Stock, words: u64, names: usize) -> Re
 fn stands_at(directory: &Directory, spot: &Spot) -> Place
     ensures { result ≡ at directory.now.0 spot.now }
 {
-    match directory.find(spot) {
-        Some(place) => place,
-        None => Place::nothing(),
-    }
+    directory.find(spot).unwrap_or(Place::nothing())
 }
 
 /// Whether the call asks for a new entry beyond the quota. The array is read only if the quota has

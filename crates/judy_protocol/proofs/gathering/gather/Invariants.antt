@@ -2,7 +2,7 @@ use Rattle.std.proofs.Common.{◌≡◌, ◌≤◌, ◌++◌, ◌∷◌, ℕ, Li
 use Rattle.std.specs.Prelude.{option_map}
 use Rattle.judy_protocol.specs.Services.{HasLoggedIn}
 use Rattle.judy_protocol.specs.Talks.{Gathers}
-use Rattle.judy_protocol.specs.declared.gathering.TheConstants.{ANSWERS_LIMIT}
+use Rattle.judy_protocol.specs.declared.limits.TheConstants.{ANSWERS_LIMIT}
 use Rattle.judy_protocol.proofs.gathering.gather.Given as goal
 
 abbrev pub invariant-loop-quit : goal.invariant-loop-quit
