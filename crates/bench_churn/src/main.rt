@@ -8,8 +8,8 @@
 
 use anyhow::{Result, anyhow};
 use judy_arena::Arena;
-use judy_long::JudyL;
 use judy_model::Given;
+use judy_words::JudyL;
 use std::alloc::Global;
 use std::env::{self, Env};
 use std::marker::Model;
@@ -25,7 +25,7 @@ struct Map {
 
 /// Callers see nothing of it.
 impl Model for Map {
-    ghost use Rattle.judy_long.specs.LongArrays.{IsLongArray};
+    ghost use Rattle.judy_words.specs.LongArrays.{IsLongArray};
     ghost use Rattle.std.specs.Prelude.{ℕ};
 
     ghost Value = { ℕ };

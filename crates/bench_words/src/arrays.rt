@@ -1,8 +1,7 @@
 //! A set and a map, each in an arena of its own, behind the calls that are timed.
 use judy_arena::Arena;
-use judy_long::JudyL;
 use judy_model::Given;
-use judy_one::Judy1;
+use judy_words::{Judy1, JudyL};
 use std::alloc::Global;
 use std::marker::Model;
 
@@ -48,7 +47,7 @@ pub(crate) struct Set {
 
 /// Callers see nothing of it.
 impl Model for Set {
-    ghost use Rattle.judy_one.specs.OneArrays.{IsOneArray};
+    ghost use Rattle.judy_words.specs.OneArrays.{IsOneArray};
     ghost use Rattle.std.specs.Prelude.{ℕ};
 
     ghost Value = { ℕ };
@@ -120,7 +119,7 @@ pub(crate) struct Map {
 
 /// Callers see nothing of it.
 impl Model for Map {
-    ghost use Rattle.judy_long.specs.LongArrays.{IsLongArray};
+    ghost use Rattle.judy_words.specs.LongArrays.{IsLongArray};
     ghost use Rattle.std.specs.Prelude.{ℕ};
 
     ghost Value = { ℕ };

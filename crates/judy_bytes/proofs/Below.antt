@@ -3,7 +3,7 @@ use Rattle.std.proofs.Common.{◌≡◌, ℕ, ◌+◌, ◌*◌, ◌<◌, ◌≤�
 use Rattle.judy_arena.specs.Blocks.{Blocks, block, is_live}
 use Rattle.judy_arena.specs.Frame.{holds}
 use Rattle.judy_arena.specs.Totals.{are_distinct, words_over}
-use Rattle.judy_long.specs.LongArrays.{IsLongArray, long_in, long_numbers}
+use Rattle.judy_words.specs.LongArrays.{IsLongArray, long_in, long_numbers}
 use Rattle.judy_model.specs.Contents.{word_order, IsRising}
 use Rattle.judy_arena.specs.Room.{room}
 use Rattle.judy_arena.proofs.lemmas.RoomLaws.{room-least}

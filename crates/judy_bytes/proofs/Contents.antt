@@ -9,7 +9,7 @@ use Rattle.judy_arena.specs.Blocks.{Blocks}
 use Rattle.judy_model.specs.Contents.{string_order, value_of, with_entry, without_key}
 use Rattle.judy_model.proofs.lemmas.EntryLemmas.{same_string, string_is}
 use Rattle.judy_bytes.specs.Chains.{ByteEntries, bucket_entries}
-use Rattle.judy_long.specs.LongArrays.{long_in}
+use Rattle.judy_words.specs.LongArrays.{long_in}
 use Rattle.judy_bytes.specs.BytesArrays.{in_order, bucket_numbers, bytes_in, KeyBecomes}
 use Rattle.judy_tree.proofs.lemmas.Joins.{string_other}
 

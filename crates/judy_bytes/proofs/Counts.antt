@@ -12,7 +12,7 @@ use Rattle.judy_arena.specs.Frame.{holds}
 use Rattle.judy_arena.specs.Totals.{are_distinct}
 use Rattle.judy_arena.proofs.lemmas.FrameLaws.{holds-append}
 use Rattle.judy_arena.proofs.lemmas.BlockLaws.{itself}
-use Rattle.judy_long.specs.LongArrays.{long_in, long_numbers}
+use Rattle.judy_words.specs.LongArrays.{long_in, long_numbers}
 use Rattle.judy_model.specs.Contents.{Entries, word_order, string_order, value_of, has_key, with_entry, without_key}
 use Rattle.judy_model.proofs.lemmas.TestLemmas.{and_right, and_left, from_T, is_Less}
 use Rattle.judy_model.proofs.lemmas.EntryLemmas.{word_itself, same_string}

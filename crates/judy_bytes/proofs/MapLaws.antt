@@ -11,7 +11,7 @@ use Rattle.judy_arena.specs.Blocks.{Blocks, block, words_of}
 use Rattle.judy_arena.specs.Frame.{holds}
 use Rattle.judy_arena.specs.Totals.{are_distinct}
 use Rattle.judy_arena.proofs.lemmas.FrameLaws.{frame-stays}
-use Rattle.judy_long.specs.LongArrays.{IsLongArray, long_in, long_numbers}
+use Rattle.judy_words.specs.LongArrays.{IsLongArray, long_in, long_numbers}
 use Rattle.judy_model.specs.Contents.{Entries, word_order, string_order, value_of, has_key}
 use Rattle.judy_model.proofs.lemmas.TestLemmas.{from_T}
 use Rattle.judy_model.proofs.lemmas.StateLemmas.{same_name}

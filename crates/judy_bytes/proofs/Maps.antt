@@ -6,7 +6,7 @@ use Rattle.std.proofs.lemmas.Bool.{false≢true as not-true, false_from_ne_true}
 use Rattle.judy_arena.specs.Blocks.{Blocks, block, is_live}
 use Rattle.judy_arena.specs.Frame.{holds}
 use Rattle.judy_arena.proofs.lemmas.FrameLaws.{frame-stays}
-use Rattle.judy_long.specs.LongArrays.{IsLongArray, long_in, long_numbers}
+use Rattle.judy_words.specs.LongArrays.{IsLongArray, long_in, long_numbers}
 use Rattle.judy_model.specs.Contents.{word_order, string_order, value_of}
 use Rattle.judy_model.proofs.lemmas.EntryLemmas.{word_itself, same_string, same_word}
 use Rattle.judy_bytes.specs.Chains.{chain, bucket_entries, IsBucketChain, ChainBecomes}

@@ -9,7 +9,7 @@ use Rattle.std.proofs.lemmas.Option.{none-some}
 use Rattle.judy_arena.specs.Blocks.{Blocks, is_live}
 use Rattle.judy_arena.specs.Frame.{holds}
 use Rattle.judy_arena.proofs.lemmas.FrameLaws.{in-left, in-right, in-either}
-use Rattle.judy_long.specs.LongArrays.{IsLongArray, long_in, long_numbers}
+use Rattle.judy_words.specs.LongArrays.{IsLongArray, long_in, long_numbers}
 use Rattle.judy_model.specs.Contents.{Entries, word_order, string_order, value_of}
 use Rattle.judy_model.proofs.lemmas.TestLemmas.{and_right}
 use Rattle.judy_model.proofs.lemmas.EntryLemmas.{word_itself, same_Some}

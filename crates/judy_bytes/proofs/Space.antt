@@ -16,7 +16,7 @@ use Rattle.judy_arena.specs.Room.{room}
 use Rattle.judy_arena.specs.Totals.{words_over}
 use Rattle.judy_arena.proofs.lemmas.BlockLaws.{itself, words_over-append, words_over-cons}
 use Rattle.judy_arena.proofs.lemmas.RoomLaws.{room-least, room-tight}
-use Rattle.judy_long.specs.LongArrays.{long_in, long_numbers}
+use Rattle.judy_words.specs.LongArrays.{long_in, long_numbers}
 use Rattle.judy_model.specs.Contents.{Entries, word_order, string_order, value_of, with_entry}
 use Rattle.judy_model.specs.Pieces.{pieces_of, string_pieces}
 use Rattle.judy_model.proofs.lemmas.EntryLemmas.{word_itself, same_string}

@@ -15,7 +15,7 @@ use Rattle.std.specs.Ordering.{eq_by_cmp}
 use Rattle.judy_arena.specs.Blocks.{Blocks, ArenaState}
 use Rattle.judy_arena.specs.Frame.{Frame, holds}
 use Rattle.judy_arena.specs.Totals.{words_over}
-use Rattle.judy_long.specs.LongArrays.{IsLongArray, long_in, long_numbers}
+use Rattle.judy_words.specs.LongArrays.{IsLongArray, long_in, long_numbers}
 use Rattle.judy_model.specs.Contents.{Entries, string_order, word_order, value_of, has_key, with_entry, without_key}
 use Rattle.judy_model.specs.Pieces.{pieces_of, string_pieces}
 use Rattle.judy_model.specs.Tenant.{bytes_step, value_replied}

@@ -13,8 +13,8 @@ ghost use Rattle.judy_tree.specs.Changes.{IsRefused};
 use crate::hash::KeyHash;
 use crate::{bucket, chain, words};
 use judy_arena::{Arena, NoMemory, Ref};
-use judy_long::{Inserted, JudyL};
 use judy_model::{Given, KEY_LIMIT};
+use judy_words::{Inserted, JudyL};
 use std::alloc::Global;
 
 /// A map from byte keys of at most 1,000 bytes to words in an arena, by a hash of the keys. Callers

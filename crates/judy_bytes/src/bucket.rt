@@ -6,12 +6,12 @@ ghost use Rattle.judy_arena.specs.References.{is_reference, word_of};
 ghost use Rattle.judy_arena.specs.Takes.{Takes, TakesNothing};
 ghost use Rattle.judy_arena.specs.declared.refs.Kind.TheVariants.{Bucket};
 ghost use Rattle.judy_bytes.specs.Buckets.{IsBucket, bucket_key, packed_bucket, next_of, with_word, IsMadeBucket};
-ghost use Rattle.judy_long.specs.LongArrays.{CountsRefusals};
+ghost use Rattle.judy_words.specs.LongArrays.{CountsRefusals};
 
 use crate::words::reference_of;
 use judy_arena::{Arena, Block, Kind, NoMemory, Ref};
-use judy_long::packing::word_at;
 use judy_model::KEY_LIMIT;
+use judy_words::packing::word_at;
 use std::alloc::Global;
 
 // The place in a bucket of the next bucket's reference.

@@ -6,7 +6,7 @@ ghost use Rattle.judy_arena.specs.Takes.{Takes, TakesNothing};
 ghost use Rattle.judy_bytes.specs.Buckets.{IsBucket};
 ghost use Rattle.judy_bytes.specs.Chains.{IsBucketChain, IsFoundBucket, IsNewBucket, ChainBecomes, LosesHead, chain};
 ghost use Rattle.judy_bytes.specs.Chains.{value_in_chain, chain_has, first_key};
-ghost use Rattle.judy_long.specs.LongArrays.{CountsRefusals};
+ghost use Rattle.judy_words.specs.LongArrays.{CountsRefusals};
 
 use crate::bucket;
 use judy_arena::{Arena, Block, Kind, NoMemory, Ref};

@@ -11,5 +11,5 @@ mod words;
 
 pub use array::JudyHS;
 pub use hash::{KeyHash, Sha256Hash};
-pub use judy_long::Inserted;
 pub use judy_model::KEY_LIMIT;
+pub use judy_words::Inserted;

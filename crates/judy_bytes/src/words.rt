@@ -3,13 +3,13 @@ ghost use Rattle.std.specs.Prelude.{◌≡◌, ◌≢◌, ◌≤◌, ℕ, IfOk, 
 ghost use Rattle.std.specs.Option.{unwrap_or};
 ghost use Rattle.judy_arena.specs.References.{is_reference};
 ghost use Rattle.judy_arena.specs.Takes.{Takes, TakesNothing};
-ghost use Rattle.judy_long.specs.LongArrays.{IsLongArray, long_in, CountsRefusals};
+ghost use Rattle.judy_words.specs.LongArrays.{IsLongArray, long_in, CountsRefusals};
 ghost use Rattle.judy_model.specs.Contents.{word_order, value_of, has_key};
 ghost use Rattle.judy_bytes.specs.BytesArrays.{WordsBecome, first_at, if_some};
 
 use judy_arena::{Arena, NoMemory, Ref};
-use judy_long::JudyL;
 use judy_model::Given;
+use judy_words::JudyL;
 use std::alloc::Global;
 
 /// The reference of the first bucket at a hash word, or the empty reference.

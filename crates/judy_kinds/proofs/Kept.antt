@@ -12,8 +12,8 @@ use Rattle.judy_tree.specs.Laws.{OthersStay as TreesStay, OnlyNothingIsEmpty as 
 use Rattle.judy_tree.specs.Root.{IsRoot, entries, numbers as tree_numbers}
 use Rattle.judy_string.specs.Laws.{OthersStay as StringsStay, OnlyNothingIsEmpty as NoStringsAreEmpty}
 use Rattle.judy_bytes.specs.Laws.{OthersStay as BytesStay, OnlyNothingIsEmpty as NoBytesAreEmpty}
-use Rattle.judy_one.specs.OneArrays.{one_in, one_numbers as numbers_of_set}
-use Rattle.judy_long.specs.LongArrays.{long_in, long_numbers as numbers_of_map}
+use Rattle.judy_words.specs.OneArrays.{one_in, one_numbers as numbers_of_set}
+use Rattle.judy_words.specs.LongArrays.{long_in, long_numbers as numbers_of_map}
 use Rattle.judy_string.specs.StringArrays.{IsStringArray, string_in, string_numbers as numbers_of_strings}
 use Rattle.judy_bytes.specs.BytesArrays.{IsBytesArray, bytes_in, bytes_numbers as numbers_of_bytes}
 use Rattle.judy_kinds.specs.Kinds.{kind_at, kind_of_key, IsArrayOf, numbers_of_array, IsSameOf, entries_of, IsPlaceOf}

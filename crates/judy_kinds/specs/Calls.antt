@@ -24,8 +24,8 @@ use Rattle.judy_model.specs.Tenant.{one_step, long_step, string_step, bytes_step
 use Rattle.judy_directory.specs.declared.spot.ArrayKind.{ArrayKind}
 use Rattle.judy_directory.specs.declared.spot.ArrayKind.TheVariants.{One, Long, Str, Bytes}
 use Rattle.judy_directory.specs.Places.{Stand}
-use Rattle.judy_one.specs.OneArrays.{one_in, one_inserts as one_inserts}
-use Rattle.judy_long.specs.LongArrays.{long_in, long_inserts as long_inserts}
+use Rattle.judy_words.specs.OneArrays.{one_in, one_inserts as one_inserts}
+use Rattle.judy_words.specs.LongArrays.{long_in, long_inserts as long_inserts}
 use Rattle.judy_string.specs.StringArrays.{string_in}
 use Rattle.judy_bytes.specs.BytesArrays.{bytes_in}
 use Rattle.judy_kinds.specs.Kinds.{IsPlaceOf, numbers_of_array}

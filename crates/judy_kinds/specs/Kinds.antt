@@ -14,8 +14,8 @@ use Rattle.judy_model.specs.Pieces.{word_pieces, string_pieces, pieces_of}
 use Rattle.judy_directory.specs.declared.spot.ArrayKind.{ArrayKind}
 use Rattle.judy_directory.specs.declared.spot.ArrayKind.TheVariants.{One, Long, Str, Bytes}
 use Rattle.judy_directory.specs.Places.{Stand}
-use Rattle.judy_one.specs.OneArrays.{IsOneArray, one_in, one_numbers as numbers_of_set}
-use Rattle.judy_long.specs.LongArrays.{IsLongArray, long_in, long_numbers as numbers_of_map}
+use Rattle.judy_words.specs.OneArrays.{IsOneArray, one_in, one_numbers as numbers_of_set}
+use Rattle.judy_words.specs.LongArrays.{IsLongArray, long_in, long_numbers as numbers_of_map}
 use Rattle.judy_string.specs.StringArrays.{IsStringArray, string_in, string_numbers as numbers_of_strings}
 use Rattle.judy_bytes.specs.BytesArrays.{IsBytesArray, bytes_in, bytes_numbers as numbers_of_bytes}
 

@@ -12,8 +12,8 @@ use Rattle.judy_directory.specs.declared.spot.ArrayKind.TheVariants.{One, Long, 
 use Rattle.judy_directory.specs.Kinds.{spot_of}
 use Rattle.judy_directory.specs.Places.{Stand}
 use Rattle.judy_directory.specs.Shelf.{AreKept}
-use Rattle.judy_one.specs.OneArrays.{IsOneArray, one_in}
-use Rattle.judy_long.specs.LongArrays.{IsLongArray, long_in}
+use Rattle.judy_words.specs.OneArrays.{IsOneArray, one_in}
+use Rattle.judy_words.specs.LongArrays.{IsLongArray, long_in}
 use Rattle.judy_string.specs.StringArrays.{IsStringArray, string_in}
 use Rattle.judy_bytes.specs.BytesArrays.{IsBytesArray, bytes_in}
 use Rattle.judy_kinds.specs.Kinds.{kind_of_key, IsArrayOf, numbers_of_array, entries_of, IsPlaceOf, IsPlaceAt, place_numbers, IsSameAt}

@@ -6,14 +6,14 @@ ghost use Rattle.judy_kinds.specs.Calls.{blocks_of_kind};
 ghost use Rattle.judy_kinds.specs.Counts.{HasCounts};
 ghost use Rattle.judy_model.specs.Pieces.{word_pieces};
 ghost use Rattle.judy_model.specs.Tenant.{long_asks_for_new};
-ghost use Rattle.judy_long.specs.LongArrays.{IsLongArray, long_in, LongAnswers, LongBecomes};
+ghost use Rattle.judy_words.specs.LongArrays.{IsLongArray, long_in, LongAnswers, LongBecomes};
 ghost use Rattle.judy_tree.specs.Changes.{IsShort};
 
 use crate::counts;
 use judy_arena::{Arena, NoMemory, Ref};
 use judy_directory::Place;
-use judy_long::JudyL;
 use judy_model::{LongCall, Reply};
+use judy_words::JudyL;
 use std::alloc::Global;
 
 /// Whether the call asks for an index that the map does not have.

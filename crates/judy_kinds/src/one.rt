@@ -6,14 +6,14 @@ ghost use Rattle.judy_kinds.specs.Calls.{blocks_of_kind};
 ghost use Rattle.judy_kinds.specs.Counts.{HasCounts};
 ghost use Rattle.judy_model.specs.Pieces.{word_pieces};
 ghost use Rattle.judy_model.specs.Tenant.{one_asks_for_new};
-ghost use Rattle.judy_one.specs.OneArrays.{IsOneArray, one_in, OneAnswers, OneBecomes};
+ghost use Rattle.judy_words.specs.OneArrays.{IsOneArray, one_in, OneAnswers, OneBecomes};
 ghost use Rattle.judy_tree.specs.Changes.{IsShort};
 
 use crate::counts;
 use judy_arena::{Arena, NoMemory, Ref};
 use judy_directory::Place;
 use judy_model::{OneCall, Reply};
-use judy_one::Judy1;
+use judy_words::Judy1;
 use std::alloc::Global;
 
 /// Whether the call asks for an index that the set does not have.

@@ -14,8 +14,8 @@ use crate::search::Search;
 use crate::{insertion, nodes, search};
 use arrayvec::ArrayVec;
 use judy_arena::{Arena, NoMemory, Ref};
-use judy_long::Inserted;
 use judy_model::{Given, KEY_LIMIT};
+use judy_words::Inserted;
 use std::alloc::Global;
 use std::marker::Model;
 

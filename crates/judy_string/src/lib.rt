@@ -14,4 +14,4 @@ mod suffix;
 mod words;
 
 pub use array::{JudySL, is_string};
-pub use judy_long::Inserted;
+pub use judy_words::Inserted;

@@ -1,8 +1,8 @@
 //! Ordered searches: one path down along the string, and one step to the side.
 ghost use Rattle.std.specs.Prelude.{◌≡◌, ℕ, suc, ◌+◌, ◌*◌, ◌≤◌, ◌≢◌, ◌++◌, true, false, IsTrue, IsFalse, length, drop};
 ghost use Rattle.arrayvec.specs.ArrayVec.{array_vec_len};
-ghost use Rattle.judy_long.specs.LongArrays.{IsLongArray, IsLongFinger, long_in};
-ghost use Rattle.judy_long.specs.Packing.{pack, is_last, word_bytes, IsString};
+ghost use Rattle.judy_words.specs.LongArrays.{IsLongArray, IsLongFinger, long_in};
+ghost use Rattle.judy_words.specs.Packing.{pack, is_last, word_bytes, IsString};
 ghost use Rattle.judy_model.specs.Contents.{string_order, word_order, value_of};
 ghost use Rattle.judy_string.specs.Changes.{IsRest};
 ghost use Rattle.judy_string.specs.Searches.{keeps, end_of, beside, end_at, end_under, found_in_suffix, found_at, found_here, IsShown};
@@ -13,9 +13,9 @@ use crate::nodes::{is_last, tail};
 use crate::suffix;
 use arrayvec::ArrayVec;
 use judy_arena::{Arena, Ref};
-use judy_long::packing::{byte, word_at};
-use judy_long::{Finger, JudyL};
 use judy_model::KEY_LIMIT;
+use judy_words::packing::{byte, word_at};
+use judy_words::{Finger, JudyL};
 use std::cmp::Ordering;
 
 /// The searches of JudySL(3). Each keeps some of the strings and takes the first or the last of

@@ -6,15 +6,15 @@ ghost use Rattle.judy_arena.specs.Frame.{Frame};
 ghost use Rattle.judy_arena.specs.References.{number_of};
 ghost use Rattle.judy_arena.specs.Takes.{Takes, TakesNothing};
 ghost use Rattle.judy_model.specs.Contents.{string_order, value_of};
-ghost use Rattle.judy_long.specs.LongArrays.{CountsRefusals};
-ghost use Rattle.judy_long.specs.Packing.{IsString};
+ghost use Rattle.judy_words.specs.LongArrays.{CountsRefusals};
+ghost use Rattle.judy_words.specs.Packing.{IsString};
 ghost use Rattle.judy_string.specs.Suffixes.{is_suffix, suffix_words, suffix_entry, with_suffix_value, IsSuffix, IsMadeSuffix, packed_suffix};
 
 use crate::search::push_word;
 use arrayvec::ArrayVec;
 use judy_arena::{Arena, Kind, NoMemory, Ref};
-use judy_long::packing::word_at;
 use judy_model::KEY_LIMIT;
+use judy_words::packing::word_at;
 use std::alloc::Global;
 
 /// Whether a reference leads to a suffix block.

@@ -1,14 +1,14 @@
 //! Word arrays, by their references.
 ghost use Rattle.std.specs.Prelude.{◌≡◌, ◌≤◌, IfOk, OnErr, IsTrue, IsFalse, Some, is_ok, if◌then◌else◌, length};
 ghost use Rattle.judy_arena.specs.Takes.{Takes, TakesNothing};
-ghost use Rattle.judy_long.specs.LongArrays.{IsLongArray, long_in, CountsRefusals};
+ghost use Rattle.judy_words.specs.LongArrays.{IsLongArray, long_in, CountsRefusals};
 ghost use Rattle.judy_model.specs.Contents.{word_order, value_of, has_key};
 ghost use Rattle.judy_string.specs.Changes.{IsGiven, IsPut, IsTakenWord};
 
 use judy_arena::{Arena, NoMemory, Ref};
-use judy_long::{Inserted, JudyL};
 use judy_model::Given;
 use judy_tree::Root;
+use judy_words::{Inserted, JudyL};
 use std::alloc::Global;
 
 /// The value of a word in a word array.

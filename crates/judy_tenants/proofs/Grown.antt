@@ -14,8 +14,8 @@ use Rattle.judy_model.proofs.lemmas.GrowthLemmas.{lengths, sizes, one_grows, lon
 use Rattle.judy_tree.specs.Laws as tree
 use Rattle.judy_string.specs.Laws as strings
 use Rattle.judy_bytes.specs.Laws as bytes
-use Rattle.judy_one.specs.OneArrays.{one_in, one_numbers as numbers_of_set}
-use Rattle.judy_long.specs.LongArrays.{long_in, long_numbers as numbers_of_map}
+use Rattle.judy_words.specs.OneArrays.{one_in, one_numbers as numbers_of_set}
+use Rattle.judy_words.specs.LongArrays.{long_in, long_numbers as numbers_of_map}
 use Rattle.judy_string.specs.StringArrays.{string_in, string_numbers as numbers_of_strings}
 use Rattle.judy_bytes.specs.BytesArrays.{bytes_in, bytes_numbers as numbers_of_bytes}
 use Rattle.judy_tenants.specs.Growth.{CallsAddOne}

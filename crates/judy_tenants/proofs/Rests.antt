@@ -17,8 +17,8 @@ use Rattle.judy_model.specs.declared.calls.BytesCall.TheVariants as bytes
 use Rattle.judy_model.specs.declared.replies.Reply.{Reply}
 use Rattle.judy_model.specs.Contents.{Entries}
 use Rattle.judy_model.specs.Tenant.{one_step, long_step, string_step, bytes_step}
-use Rattle.judy_one.specs.OneArrays.{one_in}
-use Rattle.judy_long.specs.LongArrays.{long_in}
+use Rattle.judy_words.specs.OneArrays.{one_in}
+use Rattle.judy_words.specs.LongArrays.{long_in}
 use Rattle.judy_string.specs.StringArrays.{string_in}
 use Rattle.judy_bytes.specs.BytesArrays.{bytes_in}
 use Rattle.judy_kinds.specs.Kinds.{IsArrayOf}

@@ -18,8 +18,8 @@ use Rattle.judy_directory.specs.Kinds.{owner_byte, spot_of}
 use Rattle.judy_directory.specs.declared.spot.ArrayKind.{ArrayKind}
 use Rattle.judy_directory.specs.declared.spot.ArrayKind.TheVariants.{One, Long, Str, Bytes}
 use Rattle.judy_directory.specs.Shelf.{Places, pick, picked}
-use Rattle.judy_one.specs.OneArrays.{one_in}
-use Rattle.judy_long.specs.LongArrays.{long_in}
+use Rattle.judy_words.specs.OneArrays.{one_in}
+use Rattle.judy_words.specs.LongArrays.{long_in}
 use Rattle.judy_string.specs.StringArrays.{string_in}
 use Rattle.judy_bytes.specs.BytesArrays.{bytes_in}
 use Rattle.judy_kinds.specs.Kinds.{kind_at, kind_of_key, IsPlaceOf, pieces_at}

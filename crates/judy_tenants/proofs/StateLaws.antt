@@ -42,8 +42,8 @@ use Rattle.judy_directory.specs.declared.spot.ArrayKind.TheVariants.{One, Long, 
 use Rattle.judy_directory.specs.Shelf.{Places, arrays_of}
 use Rattle.judy_directory.proofs.lemmas.Changes.{other, shelf-changed, total, get-with_place, at_other}
 use Rattle.judy_directory.proofs.lemmas.Named.{own-changed, others-same, content-of, sorted-arrays_of, find-arrays_of, tied-cons}
-use Rattle.judy_one.specs.OneArrays.{one_in}
-use Rattle.judy_long.specs.LongArrays.{long_in}
+use Rattle.judy_words.specs.OneArrays.{one_in}
+use Rattle.judy_words.specs.LongArrays.{long_in}
 use Rattle.judy_string.specs.StringArrays.{string_in}
 use Rattle.judy_bytes.specs.BytesArrays.{bytes_in}
 use Rattle.judy_kinds.specs.Kinds.{IsArrayOf, numbers_of_array, IsSameOf, entries_of, pieces_at, IsPlaceOf, IsPlaceAt, place_numbers, IsSameAt}

@@ -5,7 +5,7 @@ use crate::full;
 use crate::grown::{Entries, Grown, insert_given_each};
 use crate::words::{Case, given, trial};
 use judy_arena::{Arena, NoMemory};
-use judy_long::JudyL;
+use judy_words::JudyL;
 use std::alloc::Global;
 use std::marker::Model;
 
@@ -20,7 +20,7 @@ struct Map {
 /// Callers see how many requests for a block the arena refused.
 impl Model for Map {
     ghost use Rattle.std.specs.Prelude.{ℕ};
-    ghost use Rattle.judy_long.specs.LongArrays.{IsLongArray};
+    ghost use Rattle.judy_words.specs.LongArrays.{IsLongArray};
 
     ghost Value = { ℕ };
 

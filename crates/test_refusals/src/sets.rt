@@ -5,7 +5,7 @@ use crate::full;
 use crate::grown::{Entries, Grown, insert_given_each};
 use crate::words::{Case, trial};
 use judy_arena::{Arena, NoMemory};
-use judy_one::Judy1;
+use judy_words::Judy1;
 use std::alloc::Global;
 use std::marker::Model;
 
@@ -20,7 +20,7 @@ struct Set {
 /// Callers see how many requests for a block the arena refused.
 impl Model for Set {
     ghost use Rattle.std.specs.Prelude.{ℕ};
-    ghost use Rattle.judy_one.specs.OneArrays.{IsOneArray};
+    ghost use Rattle.judy_words.specs.OneArrays.{IsOneArray};
 
     ghost Value = { ℕ };
 

@@ -3,7 +3,7 @@ use Rattle.std.proofs.Common.{◌≡◌, ℕ, true, List, refl, sym, subst}
 use Rattle.judy_arena.specs.Blocks.{Blocks}
 use Rattle.judy_arena.specs.Frame.{Frame, AreApart}
 use Rattle.judy_arena.proofs.lemmas.FrameLaws.{apart-sym}
-use Rattle.judy_long.specs.LongArrays.{IsLongArray, long_in, long_numbers as numbers_of_words}
+use Rattle.judy_words.specs.LongArrays.{IsLongArray, long_in, long_numbers as numbers_of_words}
 use Rattle.judy_string.specs.Laws as strings
 use Rattle.judy_string.specs.StringArrays.{IsStringArray, string_in, string_numbers as numbers_of_strings}
 use Rattle.judy_tree.specs.Laws as words

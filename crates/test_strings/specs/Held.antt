@@ -2,7 +2,7 @@
 use Rattle.std.specs.Prelude.{ℕ}
 use Rattle.judy_arena.specs.Blocks.{Blocks}
 use Rattle.judy_arena.specs.Frame.{AreApart}
-use Rattle.judy_long.specs.LongArrays.{IsLongArray, long_numbers as numbers_of_words}
+use Rattle.judy_words.specs.LongArrays.{IsLongArray, long_numbers as numbers_of_words}
 use Rattle.judy_string.specs.StringArrays.{IsStringArray, string_numbers as numbers_of_strings}
 
 -- two JudySL arrays and a JudyL, each sound, and no two have a block in common

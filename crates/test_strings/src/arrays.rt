@@ -3,9 +3,9 @@ ghost use Rattle.judy_string.specs.StringArrays.{IsStringArray, StringBecomes};
 
 use arrayvec::ArrayVec;
 use judy_arena::{Arena, NoMemory};
-use judy_long::JudyL;
 use judy_model::{KEY_LIMIT, Key, LongCall, Reply, StrCall};
 use judy_string::{JudySL, is_string};
+use judy_words::JudyL;
 use std::alloc::Global;
 use std::marker::Model;
 use std::process::Abort;

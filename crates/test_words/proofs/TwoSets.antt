@@ -5,7 +5,7 @@ use Rattle.judy_arena.specs.Frame.{holds, Frame}
 use Rattle.judy_arena.proofs.lemmas.FrameLaws.{apart-sym}
 use Rattle.judy_tree.specs.Root.{entries}
 use Rattle.judy_tree.specs.Laws.{OthersStay, OnlyNothingIsEmpty}
-use Rattle.judy_one.specs.OneArrays.{IsOneArray, one_numbers}
+use Rattle.judy_words.specs.OneArrays.{IsOneArray, one_numbers}
 use Rattle.test_words.specs.TwoSets.{AreTwoSets}
 
 -- a change of one of two sets

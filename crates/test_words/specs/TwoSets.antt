@@ -2,7 +2,7 @@
 use Rattle.std.specs.Prelude.{ℕ}
 use Rattle.judy_arena.specs.Blocks.{Blocks}
 use Rattle.judy_arena.specs.Frame.{AreApart}
-use Rattle.judy_one.specs.OneArrays.{IsOneArray, one_numbers}
+use Rattle.judy_words.specs.OneArrays.{IsOneArray, one_numbers}
 
 -- two sets that have no block in common
 abbrev pub AreTwoSets : Blocks → ℕ → ℕ → Type 0

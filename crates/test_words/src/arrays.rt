@@ -1,8 +1,7 @@
 //! Two sets and two maps in one arena.
 use judy_arena::{Arena, NoMemory};
-use judy_long::JudyL;
 use judy_model::{LongCall, OneCall, Reply};
-use judy_one::Judy1;
+use judy_words::{Judy1, JudyL};
 use std::alloc::Global;
 use std::marker::Model;
 

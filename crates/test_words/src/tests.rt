@@ -1,15 +1,15 @@
 //! Worked rows, and a walk of mixed calls compared with the plain store.
 ghost use Rattle.std.specs.Prelude.{OnOk, IsTrue};
-ghost use Rattle.judy_long.specs.LongArrays.{IsLongArray, long_in};
+ghost use Rattle.judy_words.specs.LongArrays.{IsLongArray, long_in};
 ghost use Rattle.judy_model.specs.Contents.{word_order, has_key};
 
 use crate::arrays::{Arrays, Which};
 use crate::asked::{ask_map, ask_set, long, one};
 use arrayvec::ArrayVec;
 use judy_arena::{Arena, NoMemory};
-use judy_long::JudyL;
 use judy_model::{Call, Given, LongCall, Name, OneCall, OwnedReply, Quota, Reply, Right};
 use judy_reference::Store;
+use judy_words::JudyL;
 use std::alloc::{AllocError, Global};
 use std::process::Abort;
 use std::test::Fail;

@@ -4,7 +4,7 @@ ghost use Rattle.std.specs.Prelude.{◌<◌, length};
 ghost use Rattle.test_words.specs.TwoSets.{AreTwoSets};
 
 use judy_arena::{Arena, NoMemory};
-use judy_one::Judy1;
+use judy_words::Judy1;
 use std::alloc::Global;
 use std::process::Abort;
 use std::test::Fail;

@@ -1,5 +1,5 @@
 use Rattle.std.proofs.Common.{◌∙◌, ap}
-use Rattle.judy_long.specs.LongArrays.{long_in}
+use Rattle.judy_words.specs.LongArrays.{long_in}
 use Rattle.judy_model.specs.Contents.{word_order, with_entry}
 use Rattle.judy_bytes.proofs.Changes.{words-put, entered}
 use Rattle.judy_bytes.proofs.words.enter.Goals as goal

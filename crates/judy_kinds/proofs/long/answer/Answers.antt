@@ -1,5 +1,5 @@
 use Rattle.std.proofs.Common.{ap, sym, ◌∙◌, length}
-use Rattle.judy_long.specs.LongArrays.{long_in}
+use Rattle.judy_words.specs.LongArrays.{long_in}
 use Rattle.judy_kinds.proofs.Counted.{words-counted}
 use Rattle.judy_kinds.proofs.long.answer.Goals as goal
 

@@ -1,5 +1,5 @@
 use Rattle.std.proofs.Common.{ap, sym, ◌∙◌, length}
-use Rattle.judy_one.specs.OneArrays.{one_in}
+use Rattle.judy_words.specs.OneArrays.{one_in}
 use Rattle.judy_kinds.proofs.Counted.{words-counted}
 use Rattle.judy_kinds.proofs.one.answer.Goals as goal
 

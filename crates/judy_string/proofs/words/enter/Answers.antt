@@ -1,5 +1,5 @@
 use Rattle.std.proofs.Common.{rules, ◌≡◌, ◌∙◌, ap, sym, subst, refl, Some, unwrap_or, arith}
-use Rattle.judy_long.specs.LongArrays.{long_in}
+use Rattle.judy_words.specs.LongArrays.{long_in}
 use Rattle.judy_model.specs.Contents.{word_order, value_of, has_key, with_entry}
 use Rattle.judy_string.specs.Changes.{IsRewritten, entered}
 use Rattle.judy_string.proofs.Rewrites.{rewritten-twice, put-there}

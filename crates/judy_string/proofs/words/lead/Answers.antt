@@ -1,5 +1,5 @@
 use Rattle.std.proofs.Common.{sym, ◌∙◌, subst}
-use Rattle.judy_long.specs.LongArrays.{long_in}
+use Rattle.judy_words.specs.LongArrays.{long_in}
 use Rattle.judy_model.specs.Contents.{word_order, with_entry}
 use Rattle.judy_string.specs.Changes.{IsRewritten}
 use Rattle.judy_string.proofs.Rewrites.{rewritten-same}

@@ -1,5 +1,5 @@
 use Rattle.std.proofs.Common.{true, refl}
-use Rattle.judy_long.specs.LongArrays.{long_in, long_numbers}
+use Rattle.judy_words.specs.LongArrays.{long_in, long_numbers}
 use Rattle.test_refusals.proofs.maps.MapGrown.take.Goals as goal
 
 pub invariant_of-self : goal.invariant_of-self

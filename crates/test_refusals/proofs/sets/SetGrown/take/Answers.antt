@@ -1,5 +1,5 @@
 use Rattle.std.proofs.Common.{false, refl}
-use Rattle.judy_one.specs.OneArrays.{one_in, one_numbers}
+use Rattle.judy_words.specs.OneArrays.{one_in, one_numbers}
 use Rattle.test_refusals.proofs.sets.SetGrown.take.Goals as goal
 
 pub invariant_of-self : goal.invariant_of-self

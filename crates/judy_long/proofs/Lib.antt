@@ -1,3 +1,0 @@
-pub mod lemmas
-mod Found
-mod Given

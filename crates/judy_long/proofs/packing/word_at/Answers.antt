@@ -1,6 +1,0 @@
-use Rattle.std.proofs.Common.{◌*◌, ◌+◌, ◌-◌, drop, ◌∙◌, arith}
-use Rattle.judy_long.proofs.lemmas.Packs.{pack-long}
-use Rattle.judy_long.proofs.packing.word_at.Goals as goal
-
-pub returns : goal.returns
-returns c = c.pack-2.ensures ∙ pack-long ((8 * c.args.i + 8) - 8 * c.args.i) 8 (drop (8 * c.args.i) c.args.bytes.now) (omega arith)

@@ -1,2 +1,0 @@
-pub mod LongArrays
-pub mod Packing

@@ -1,0 +1,4 @@
+pub mod lemmas
+mod Found
+mod Given
+mod Steps

@@ -1,0 +1,11 @@
+use Rattle.std.proofs.Common.{sym, ◌∙◌, ap}
+use Rattle.judy_model.specs.Contents.{word_order, next}
+use Rattle.judy_model.specs.Tenant.{value_at_or_null}
+use Rattle.judy_words.specs.LongArrays.{long_in}
+use Rattle.judy_words.proofs.long.JudyL.next.Goals as goal
+
+pub returns-clause-found : goal.returns-clause-found
+returns-clause-found c = c.next_entry.ensures ∙ ap (λ w. next word_order (long_in c.args.arena.now.blocks w) c.args.x) c.self.view_is
+
+pub returns-clause-step : goal.returns-clause-step
+returns-clause-step c = ap (λ o. (value_at_or_null o, long_in c.args.arena.now.blocks c.args.self.now)) (sym (returns-clause-found c))

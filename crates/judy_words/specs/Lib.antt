@@ -1,0 +1,3 @@
+pub mod OneArrays
+pub mod LongArrays
+pub mod Packing
