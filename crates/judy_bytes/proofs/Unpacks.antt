@@ -2,8 +2,8 @@
 use Rattle.std.proofs.Common.{◌≡◌, ℕ, zero, suc, ◌+◌, ◌*◌, ◌-◌, ◌/◌, ◌<◌, ◌≤◌, true, false, nat_le, List, [], ◌∷◌, ◌++◌, take}
 use Rattle.std.proofs.Common.{drop, length, get_or, ap, sym, ◌∙◌, refl, arith, length-drop}
 use Rattle.std.proofs.lemmas.Bool.Decides.{nat_tests}
-use Rattle.judy_words.specs.Packing.{pack, byte_of, AreBytes, packed}
-use Rattle.judy_words.proofs.lemmas.Packs.{bytes-back, take-drop, drop_more}
+use Rattle.judy_packing.specs.Packing.{pack, byte_of, AreBytes, packed}
+use Rattle.judy_packing.proofs.lemmas.Packs.{bytes-back, take-drop, drop_more}
 use Rattle.judy_bytes.specs.Buckets.{bytes_from, bucket_bytes_of, packed_bucket}
 
 -- bytes that are those of a string, as far as it goes

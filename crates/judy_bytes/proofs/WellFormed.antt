@@ -8,7 +8,7 @@ use Rattle.std.specs.FinMap.Entries.{below_all}
 use Rattle.std.proofs.lemmas.Bool.{and_from}
 use Rattle.std.proofs.lemmas.Option.{none-some}
 use Rattle.judy_arena.specs.Blocks.{Blocks, words_of}
-use Rattle.judy_words.specs.Packing.{AreBytes}
+use Rattle.judy_packing.specs.Packing.{AreBytes}
 use Rattle.judy_model.specs.Contents.{string_order, value_of, max_word}
 use Rattle.judy_model.specs.Grammar.{are_bytes, is_byte_key}
 use Rattle.judy_model.specs.WellFormed.{is_bytes_entry}

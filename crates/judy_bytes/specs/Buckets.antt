@@ -13,7 +13,7 @@ use Rattle.judy_model.specs.declared.names.TheConstants.{KEY_LIMIT}
 use Rattle.judy_arena.specs.Blocks.{Blocks, is_live, words_of, put}
 use Rattle.judy_arena.specs.Frame.{Frame}
 use Rattle.judy_arena.specs.Room.{room}
-use Rattle.judy_words.specs.Packing.{byte_of, AreBytes, packed}
+use Rattle.judy_packing.specs.Packing.{byte_of, AreBytes, packed}
 
 -- the bytes of a word from place i on, n of them
 abbrev pub bytes_from : ℕ → ℕ → ℕ → List ℕ

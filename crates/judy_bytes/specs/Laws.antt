@@ -10,7 +10,7 @@ use Rattle.judy_model.specs.declared.names.TheConstants.{KEY_LIMIT}
 use Rattle.judy_model.specs.Pieces.{pieces_of, string_pieces}
 use Rattle.judy_model.specs.WellFormed.{is_bytes_entry}
 use Rattle.judy_model.specs.Contents.{string_order, IsRising, has_key}
-use Rattle.judy_words.specs.Packing.{AreBytes}
+use Rattle.judy_packing.specs.Packing.{AreBytes}
 use Rattle.judy_bytes.specs.Chains.{ByteEntries}
 use Rattle.judy_bytes.specs.BytesArrays.{IsBytesArray, bytes_in, bytes_numbers, BytesBecomes}
 

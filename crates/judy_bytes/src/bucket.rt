@@ -11,7 +11,7 @@ ghost use Rattle.judy_words.specs.LongArrays.{CountsRefusals};
 use crate::words::reference_of;
 use judy_arena::{Arena, Block, Kind, NoMemory, Ref};
 use judy_model::KEY_LIMIT;
-use judy_words::packing::word_at;
+use judy_packing::word_at;
 use std::alloc::Global;
 
 // The place in a bucket of the next bucket's reference.

@@ -1,9 +1,9 @@
 //! Hashes of byte keys.
 ghost use Rattle.std.specs.Prelude.{◌≡◌, ℕ, List, take};
-ghost use Rattle.judy_words.specs.Packing.{pack};
+ghost use Rattle.judy_packing.specs.Packing.{pack};
 ghost use Rattle.sha2.specs.Sha256.{sha256};
 
-use judy_words::packing::pack;
+use judy_packing::pack;
 use sha2::{Digest, Sha256};
 
 /// A hash of byte keys: a function from keys to words.

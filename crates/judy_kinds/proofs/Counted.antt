@@ -17,7 +17,7 @@ use Rattle.judy_model.proofs.lemmas.TestLemmas.{and_left, and_right, to_T}
 use Rattle.judy_model.specs.declared.replies.Reply.{Reply}
 use Rattle.judy_model.proofs.lemmas.FormLemmas.{names_apart}
 use Rattle.judy_directory.specs.Places.{Stand}
-use Rattle.judy_words.specs.Packing.{IsString}
+use Rattle.judy_packing.specs.Packing.{IsString}
 use Rattle.judy_string.specs.StringArrays.{IsKeyString}
 use Rattle.judy_kinds.specs.Counts.{HasCounts}
 

@@ -11,7 +11,7 @@ use Rattle.judy_model.proofs.lemmas.TestLemmas.{not_both}
 use Rattle.judy_tree.specs.Root.{IsRoot, entries, numbers as own_numbers}
 use Rattle.judy_tree.proofs.lemmas.Joins.{word_is, word_other}
 use Rattle.judy_string.proofs.Maps.{root-kept, numbers-live}
-use Rattle.judy_words.specs.Packing.{word_bytes}
+use Rattle.judy_packing.specs.Packing.{word_bytes}
 use Rattle.judy_string.specs.Strings.{nested_numbers_at, IsNestedAt, Leads, IsSpelt}
 use Rattle.judy_string.proofs.Nests.{Nest, array-of}
 use Rattle.judy_string.proofs.Numbers.{own-in, kid-in, in-nest, all-live, IsKept, array-kept}

@@ -18,7 +18,7 @@ use Rattle.judy_model.specs.Contents.{Entries, word_order, value_of, first, next
 use Rattle.judy_model.proofs.lemmas.TestLemmas.{and_right, and_left, not_both}
 use Rattle.judy_tree.specs.Root.{IsRoot, entries, numbers as own_numbers}
 use Rattle.judy_tree.proofs.lemmas.Joins.{found-first}
-use Rattle.judy_words.specs.Packing.{word_bytes, is_last}
+use Rattle.judy_packing.specs.Packing.{word_bytes, is_last}
 use Rattle.judy_string.specs.Suffixes.{is_suffix}
 use Rattle.judy_string.specs.Strings.{Strings, after, part, joined_strings, part_numbers, nested_content_at, nested_numbers_at, Leads}
 use Rattle.judy_string.proofs.Maps.{root-kept, none-numbers, no-entries}

@@ -13,7 +13,7 @@ use Rattle.judy_model.proofs.lemmas.TestLemmas.{and_right}
 use Rattle.judy_tree.specs.Root.{entries, numbers as own_numbers}
 use Rattle.judy_tree.proofs.lemmas.Counts.{pigeons}
 use Rattle.judy_tree.proofs.lemmas.Joins.{found-first}
-use Rattle.judy_words.specs.Packing.{word_bytes, is_last}
+use Rattle.judy_packing.specs.Packing.{word_bytes, is_last}
 use Rattle.judy_string.specs.Strings.{Strings, after, part, joined_strings, part_numbers, nested_content_at, nested_numbers_at, IsNestedAt}
 use Rattle.judy_string.proofs.Maps.{numbers-low, entries-few}
 use Rattle.judy_string.proofs.Joins.{found_later}

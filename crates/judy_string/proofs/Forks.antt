@@ -6,9 +6,9 @@ use Rattle.judy_arena.specs.Blocks.{Blocks}
 use Rattle.judy_arena.specs.Frame.{Frame}
 use Rattle.judy_model.specs.Contents.{string_order, word_order, has_key, with_entry}
 use Rattle.judy_tree.specs.Root.{entries}
-use Rattle.judy_words.specs.Packing.{pack, word_bytes, IsString}
+use Rattle.judy_packing.specs.Packing.{pack, word_bytes, IsString}
 use Rattle.judy_string.specs.Strings.{Strings, IsChanged, nested_content_at, nested_numbers_at, IsNestedAt}
-use Rattle.judy_words.proofs.lemmas.Packs.{bytes-pack, take-drop, short-take}
+use Rattle.judy_packing.proofs.lemmas.Packs.{bytes-pack, take-drop, short-take}
 use Rattle.judy_string.proofs.Maps.{none-entries}
 use Rattle.judy_string.proofs.Levels.{zero-array}
 use Rattle.judy_string.proofs.Frames.{undone}

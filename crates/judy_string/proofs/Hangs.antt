@@ -9,7 +9,7 @@ use Rattle.judy_arena.proofs.lemmas.FrameLaws.{undone}
 use Rattle.judy_model.specs.Contents.{Entries, string_order, word_order, value_of, has_key, with_entry}
 use Rattle.judy_tree.specs.Root.{IsRoot, entries, numbers}
 use Rattle.judy_tree.proofs.lemmas.Joins.{word_other}
-use Rattle.judy_words.specs.Packing.{pack, IsString}
+use Rattle.judy_packing.specs.Packing.{pack, IsString}
 use Rattle.judy_string.specs.Suffixes.{is_suffix, IsMadeSuffix}
 use Rattle.judy_string.specs.Changes.{IsRewritten, IsHung}
 use Rattle.judy_string.specs.Strings.{IsChanged, nested_content_at, IsNestedAt}

@@ -21,7 +21,7 @@ use Rattle.judy_model.specs.declared.calls.Given.TheVariants.{Value}
 use Rattle.judy_model.specs.Tenant.{value_after}
 use Rattle.judy_model.proofs.lemmas.EntryLemmas.{same_string, string_is}
 use Rattle.judy_tree.specs.Root.{entries}
-use Rattle.judy_words.specs.Packing.{pack, IsString, packed}
+use Rattle.judy_packing.specs.Packing.{pack, IsString, packed}
 use Rattle.judy_string.specs.Changes.{IsRest, IsRewritten, IsHung, HasEntered, IsTurnedAway, with_given, entered}
 use Rattle.judy_string.specs.Suffixes.{is_suffix, suffix_entry, suffix_words, suffix_string, suffix_size, packed_suffix, IsSuffix}
 use Rattle.judy_string.specs.Strings.{Strings, IsChanged, nested_content_at, nested_numbers_at, IsNestedAt}

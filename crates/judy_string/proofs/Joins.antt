@@ -12,10 +12,10 @@ use Rattle.std.proofs.lemmas.Option.{none-some}
 use Rattle.judy_model.specs.Contents.{Entries, string_order, word_order, value_of}
 use Rattle.judy_model.proofs.lemmas.TestLemmas.{and_right, and_left, is_Less}
 use Rattle.judy_model.proofs.lemmas.EntryLemmas.{same_word, same_string, string_is}
-use Rattle.judy_words.specs.Packing.{pack_at, bytes_at, pack, word_bytes, is_last, IsString}
+use Rattle.judy_packing.specs.Packing.{pack_at, bytes_at, pack, word_bytes, is_last, IsString}
 use Rattle.judy_string.specs.Strings.{Strings, after, part, joined_strings, IsSpelt}
 use Rattle.judy_string.specs.Lookup.{then_in, fits, look_under}
-use Rattle.judy_words.proofs.lemmas.Packs.{by_cmp, digits, rest_below, pack_below, pack-take, take-drop, short-take}
+use Rattle.judy_packing.proofs.lemmas.Packs.{by_cmp, digits, rest_below, pack_below, pack-take, take-drop, short-take}
 use Rattle.judy_tree.proofs.lemmas.Joins.{word_below, word_is, or_else, found-first, or_none, string_other}
 
 -- ---- lookups

@@ -17,10 +17,10 @@ use Rattle.judy_tree.specs.Root.{IsRoot, entries, numbers as own_numbers}
 use Rattle.judy_tree.proofs.lemmas.Joins.{find-without as find_without_word, word_other, found-first}
 use Rattle.judy_tree.proofs.lemmas.RootLaws.{none-root}
 use Rattle.judy_string.proofs.Maps.{none-entries, none-numbers, no-entries}
-use Rattle.judy_words.specs.Packing.{pack, word_bytes, is_last, IsString}
+use Rattle.judy_packing.specs.Packing.{pack, word_bytes, is_last, IsString}
 use Rattle.judy_string.specs.Strings.{IsChanged, Strings, joined_strings, part, after, part_numbers, nested_content_at, nested_numbers_at, IsNestedAt, Leads}
 use Rattle.judy_string.specs.Lookup.{then_in}
-use Rattle.judy_words.proofs.lemmas.Packs.{last-word, more-word, bytes-pack}
+use Rattle.judy_packing.proofs.lemmas.Packs.{last-word, more-word, bytes-pack}
 use Rattle.judy_string.specs.Suffixes.{suffix_entry}
 use Rattle.judy_string.proofs.Nests.{Nest, node-cases, suffix-content, array-of, none-array, find-without, nest-content}
 use Rattle.judy_string.proofs.Nests.{nest-numbers, string-found, string-spelt, Changes, content-with, content-without}

@@ -21,10 +21,10 @@ use Rattle.std.proofs.lemmas.Bool.{false≢true as not_true}
 use Rattle.judy_arena.specs.References.{number_of}
 use Rattle.judy_arena.specs.Totals.{are_distinct}
 use Rattle.judy_string.specs.Suffixes.{is_suffix, suffix_entry, IsSuffix}
-use Rattle.judy_words.specs.Packing.{pack, word_bytes, is_last, IsString}
+use Rattle.judy_packing.specs.Packing.{pack, word_bytes, is_last, IsString}
 use Rattle.judy_string.specs.Strings.{Strings, part, joined_strings, part_numbers, nested_content_at, nested_numbers_at, IsNestedAt, IsNest, Leads, IsSpelt}
 use Rattle.judy_string.specs.Lookup.{then_in, fits, look_under}
-use Rattle.judy_words.proofs.lemmas.Packs.{bytes-pack, pack-take, short-take, take-drop}
+use Rattle.judy_packing.proofs.lemmas.Packs.{bytes-pack, pack-take, short-take, take-drop}
 use Rattle.judy_string.proofs.Joins.{find-joined, sorted-joined, last_short}
 
 -- ---- one level

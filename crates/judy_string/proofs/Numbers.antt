@@ -16,7 +16,7 @@ use Rattle.judy_model.proofs.lemmas.TestLemmas.{and_right}
 use Rattle.judy_tree.specs.Root.{IsRoot, entries, numbers as own_numbers}
 use Rattle.judy_tree.proofs.lemmas.Joins.{found-first}
 use Rattle.judy_string.proofs.Maps.{root-kept, numbers-live}
-use Rattle.judy_words.specs.Packing.{is_last, word_bytes, IsString, packed}
+use Rattle.judy_packing.specs.Packing.{is_last, word_bytes, IsString, packed}
 use Rattle.judy_string.specs.Strings.{after, part, joined_strings, part_numbers, nested_content_at, nested_numbers_at, IsNestedAt, Leads}
 use Rattle.judy_string.proofs.Joins.{found_later}
 use Rattle.judy_string.proofs.Nests.{Nest, nest-kind, node-cases, suffix-numbers, suffix-content, of-suffix, array-of}

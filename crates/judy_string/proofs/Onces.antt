@@ -12,7 +12,7 @@ use Rattle.judy_arena.proofs.lemmas.BlockLaws.{itself, same_test}
 use Rattle.judy_model.specs.Contents.{Entries, word_order, value_of}
 use Rattle.judy_model.proofs.lemmas.TestLemmas.{and_right, and_left, not_both}
 use Rattle.judy_model.proofs.lemmas.EntryLemmas.{same_word, same_Some as same_Some'}
-use Rattle.judy_words.specs.Packing.{is_last}
+use Rattle.judy_packing.specs.Packing.{is_last}
 use Rattle.judy_string.specs.Strings.{joined_strings, part_numbers}
 use Rattle.judy_string.proofs.Joins.{found_later}
 use Rattle.judy_tree.proofs.lemmas.Joins.{word_below, found-first}

@@ -11,10 +11,10 @@ use Rattle.std.specs.FinMap.{is_sorted}
 use Rattle.std.specs.FinMap.Entries.{below_all}
 use Rattle.judy_model.specs.Contents.{Entries, string_order, word_order, value_of}
 use Rattle.judy_model.proofs.lemmas.TestLemmas.{and_right, and_left, is_Less}
-use Rattle.judy_words.specs.Packing.{pack, word_bytes, is_last, IsString}
+use Rattle.judy_packing.specs.Packing.{pack, word_bytes, is_last, IsString}
 use Rattle.judy_string.specs.Searches.{kept_strings, here}
 use Rattle.judy_string.specs.Strings.{Strings, after, part, joined_strings, IsSpelt}
-use Rattle.judy_words.proofs.lemmas.Packs.{bytes-pack, take-drop}
+use Rattle.judy_packing.proofs.lemmas.Packs.{bytes-pack, take-drop}
 use Rattle.judy_string.proofs.Joins.{word_lt, same_front, found_later, more_long}
 use Rattle.judy_tree.proofs.lemmas.Joins.{word_below, word_is, word_other, found-first}
 

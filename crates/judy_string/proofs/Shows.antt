@@ -19,8 +19,8 @@ use Rattle.judy_model.specs.Contents.{Entries, string_order, word_order, value_o
 use Rattle.judy_model.proofs.lemmas.TestLemmas.{and_right, and_left}
 use Rattle.judy_tree.specs.Root.{entries}
 use Rattle.judy_tree.proofs.lemmas.Joins.{found-first}
-use Rattle.judy_words.specs.Packing.{pack, word_bytes, is_last, IsString}
-use Rattle.judy_words.proofs.lemmas.Packs.{bytes-pack, last-word, more-word}
+use Rattle.judy_packing.specs.Packing.{pack, word_bytes, is_last, IsString}
+use Rattle.judy_packing.proofs.lemmas.Packs.{bytes-pack, last-word, more-word}
 use Rattle.judy_string.specs.Searches.{kept_strings, here, keeps, end_of, found_by, beside, IsShown}
 use Rattle.judy_string.specs.Strings.{Strings, after, part, joined_strings, nested_content_at, IsNestedAt, Leads}
 use Rattle.judy_string.specs.declared.search.Search.{Search}

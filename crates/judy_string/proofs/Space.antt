@@ -13,7 +13,7 @@ use Rattle.judy_model.specs.Contents.{Entries, word_order, value_of}
 use Rattle.judy_model.proofs.lemmas.EntryLemmas.{lt_of}
 use Rattle.judy_tree.specs.Root.{IsRoot, entries, numbers as own_numbers}
 use Rattle.judy_tree.proofs.lemmas.Joins.{found-first}
-use Rattle.judy_words.specs.Packing.{word_bytes, is_last}
+use Rattle.judy_packing.specs.Packing.{word_bytes, is_last}
 use Rattle.judy_string.specs.Suffixes.{suffix_words, suffix_string, suffix_size, packed_suffix, IsSuffix}
 use Rattle.judy_string.specs.Laws.{SpaceIsBounded}
 use Rattle.std.specs.Prelude.{nat_lt}

@@ -5,8 +5,8 @@ use Rattle.std.specs.Prelude.{nat_lt}
 use Rattle.std.specs.Int.{w64, to_be_bytes}
 use Rattle.std.proofs.lemmas.Bool.Decides.{nat_tests}
 use Rattle.std.proofs.lemmas.List.{get_or_past}
-use Rattle.judy_words.specs.Packing.{word_bytes, byte_of, is_last, IsString}
-use Rattle.judy_words.proofs.lemmas.Packs.{bytes-back}
+use Rattle.judy_packing.specs.Packing.{word_bytes, byte_of, is_last, IsString}
+use Rattle.judy_packing.proofs.lemmas.Packs.{bytes-back}
 use Rattle.judy_string.specs.Strings.{IsSpelt}
 use Rattle.judy_string.proofs.Joins.{more_long}
 use Rattle.judy_string.proofs.Suffixes.{string-bytes, take-next}

@@ -11,10 +11,10 @@ use Rattle.judy_arena.proofs.lemmas.BlockLaws.{block-without}
 use Rattle.judy_arena.proofs.lemmas.FrameLaws.{frame-stays}
 use Rattle.judy_model.specs.Contents.{string_order, word_order, value_of, with_entry}
 use Rattle.judy_tree.specs.Root.{IsRoot, entries, numbers as own_numbers}
-use Rattle.judy_words.specs.Packing.{pack, word_bytes, IsString}
+use Rattle.judy_packing.specs.Packing.{pack, word_bytes, IsString}
 use Rattle.judy_string.specs.Suffixes.{is_suffix, IsSuffix, IsMadeSuffix}
 use Rattle.judy_string.specs.Strings.{IsChanged, Strings, after, part, joined_strings, nested_content_at, nested_numbers_at, IsNestedAt}
-use Rattle.judy_words.proofs.lemmas.Packs.{bytes-pack, take-drop, more-word}
+use Rattle.judy_packing.proofs.lemmas.Packs.{bytes-pack, take-drop, more-word}
 use Rattle.judy_string.proofs.Frames.{frames-meet}
 use Rattle.judy_string.proofs.Joins.{same_front}
 use Rattle.judy_string.proofs.Nests.{Nest, nest-of, nest-kind, suffix-of, of-suffix, suffix-content, suffix-numbers, nest-content, array-of}

@@ -9,8 +9,8 @@ use Rattle.judy_arena.specs.References.{number_of, is_reference}
 use Rattle.judy_arena.proofs.lemmas.FrameLaws.{frame-release}
 use Rattle.judy_model.specs.Contents.{string_order, word_order, value_of, with_entry, without_key}
 use Rattle.judy_tree.specs.Root.{IsRoot, entries, numbers as own_numbers}
-use Rattle.judy_words.specs.Packing.{pack}
-use Rattle.judy_words.proofs.lemmas.Packs.{more-word}
+use Rattle.judy_packing.specs.Packing.{pack}
+use Rattle.judy_packing.proofs.lemmas.Packs.{more-word}
 use Rattle.judy_string.specs.Changes.{IsRest, IsRewritten, HasLost, RemovesString}
 use Rattle.judy_string.specs.Suffixes.{is_suffix, suffix_entry, IsSuffix}
 use Rattle.judy_string.specs.Strings.{Strings, IsChanged, nested_content_at, nested_numbers_at, IsNestedAt}

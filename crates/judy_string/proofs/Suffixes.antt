@@ -10,13 +10,13 @@ use Rattle.judy_arena.specs.declared.refs.Kind.TheVariants.{Suffix}
 use Rattle.std.proofs.lemmas.Nat.{div-mul-add, mod-mul-add}
 use Rattle.judy_model.specs.Contents.{string_order, value_of}
 use Rattle.judy_model.proofs.lemmas.EntryLemmas.{string_is}
-use Rattle.judy_words.specs.Packing.{pack, word_bytes, byte_of, AreBytes, IsString, packed}
+use Rattle.judy_packing.specs.Packing.{pack, word_bytes, byte_of, AreBytes, IsString, packed}
 use Rattle.judy_string.specs.Suffixes.{is_suffix, suffix_bytes_of, suffix_size, suffix_string, suffix_words, suffix_entry}
 use Rattle.judy_string.specs.Suffixes.{packed_suffix, IsSuffix, IsMadeSuffix}
 use Rattle.judy_arena.specs.Frame.{Frame}
 use Rattle.std.specs.Prelude.{slice_set}
 use Rattle.std.proofs.lemmas.List.{take_all}
-use Rattle.judy_words.proofs.lemmas.Packs.{bytes-pack, bytes-back, take-drop, drop_more, get_taken, get_dropped}
+use Rattle.judy_packing.proofs.lemmas.Packs.{bytes-pack, bytes-back, take-drop, drop_more, get_taken, get_dropped}
 use Rattle.judy_string.proofs.Nests.{drop-string}
 use Rattle.judy_tree.proofs.lemmas.Joins.{string_other}
 

@@ -16,7 +16,7 @@ use Rattle.judy_model.proofs.lemmas.EntryLemmas.{lt_of}
 use Rattle.judy_model.proofs.lemmas.GapLemmas.{le_of}
 use Rattle.judy_tree.specs.Root.{entries}
 use Rattle.judy_tree.proofs.lemmas.Joins.{found-first}
-use Rattle.judy_words.specs.Packing.{word_bytes, is_last, IsString}
+use Rattle.judy_packing.specs.Packing.{word_bytes, is_last, IsString}
 use Rattle.judy_string.specs.Laws.{StringsAreKeys}
 use Rattle.judy_string.specs.Suffixes.{is_suffix, IsSuffix}
 use Rattle.judy_string.specs.Strings.{Strings, after, part, joined_strings, nested_content_at, IsNestedAt, IsSpelt}

@@ -7,7 +7,7 @@ use Rattle.judy_model.specs.Contents.{Order, Entries, string_order, word_order, 
 use Rattle.judy_model.specs.declared.calls.Given.{Given}
 use Rattle.judy_model.specs.Tenant.{value_after}
 use Rattle.judy_tree.specs.Root.{IsRoot, entries, numbers}
-use Rattle.judy_words.specs.Packing.{pack, IsString}
+use Rattle.judy_packing.specs.Packing.{pack, IsString}
 use Rattle.judy_string.specs.Suffixes.{is_suffix}
 use Rattle.judy_string.specs.Strings.{nested_content_at, IsChanged}
 use Rattle.judy_tree.specs.declared.answers.Inserted.{Inserted}

@@ -3,7 +3,7 @@
 use Rattle.std.specs.Prelude.{ℕ, Bool, cond, List, drop, take, Option, Some, None}
 use Rattle.std.specs.Ordering.{eq_by_cmp}
 use Rattle.judy_model.specs.Contents.{Entries, string_order, word_order, value_of}
-use Rattle.judy_words.specs.Packing.{pack, word_bytes, is_last}
+use Rattle.judy_packing.specs.Packing.{pack, word_bytes, is_last}
 use Rattle.judy_string.specs.Strings.{Strings}
 
 abbrev pub then_in : (ℕ → Strings) → List ℕ → Option ℕ → Option ℕ

@@ -8,7 +8,7 @@ use Rattle.std.specs.Ordering.{is_lt, is_le, is_gt, is_ge}
 use Rattle.judy_arena.specs.Blocks.{Blocks}
 use Rattle.judy_model.specs.Contents.{Entries, string_order, word_order, value_of, head_of, last_of, next, prev}
 use Rattle.judy_tree.specs.Root.{entries}
-use Rattle.judy_words.specs.Packing.{pack}
+use Rattle.judy_packing.specs.Packing.{pack}
 use Rattle.judy_string.specs.Strings.{Strings, part, nested_content_at, content_under}
 use Rattle.judy_string.specs.Suffixes.{suffix_entry}
 use Rattle.judy_string.specs.declared.search.Search.{Search}

@@ -25,7 +25,7 @@ use Rattle.judy_model.specs.declared.replies.Reply.{Reply}
 use Rattle.judy_model.specs.declared.replies.Reply.TheVariants as reply
 use Rattle.judy_model.specs.declared.calls.Given.{Given}
 use Rattle.judy_model.specs.Tenant.{string_step, value_replied}
-use Rattle.judy_words.specs.Packing.{IsString}
+use Rattle.judy_packing.specs.Packing.{IsString}
 use Rattle.judy_string.specs.Changes.{with_given}
 use Rattle.judy_string.specs.Strings.{IsArray, content, nested_numbers}
 

@@ -13,7 +13,7 @@ use Rattle.judy_arena.specs.References.{number_of}
 use Rattle.judy_arena.specs.Totals.{are_distinct}
 use Rattle.judy_model.specs.Contents.{Entries, word_order, value_of}
 use Rattle.judy_tree.specs.Root.{IsRoot, entries, numbers as own_numbers}
-use Rattle.judy_words.specs.Packing.{pack, word_bytes, is_last, IsString}
+use Rattle.judy_packing.specs.Packing.{pack, word_bytes, is_last, IsString}
 use Rattle.judy_string.specs.Suffixes.{is_suffix, suffix_entry, IsSuffix}
 
 abbrev pub Strings : Type 0

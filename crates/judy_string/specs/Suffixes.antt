@@ -8,7 +8,7 @@ use Rattle.judy_arena.specs.Frame.{Frame}
 use Rattle.judy_arena.specs.Room.{room}
 use Rattle.judy_arena.specs.References.{leads_to, number_of}
 use Rattle.judy_arena.specs.declared.refs.Kind.TheVariants.{Suffix}
-use Rattle.judy_words.specs.Packing.{word_bytes, IsString, packed}
+use Rattle.judy_packing.specs.Packing.{word_bytes, IsString, packed}
 
 -- whether a reference leads to a suffix block
 abbrev pub is_suffix : ℕ → Bool

@@ -3,7 +3,7 @@
 ghost use Rattle.std.specs.Prelude.{◌≡◌, ◌≢◌, ◌+◌, ◌*◌, ◌≤◌, suc, IfOk, OnOk, OnErr, IsTrue, IsFalse, is_ok};
 ghost use Rattle.judy_arena.specs.Takes.{Takes};
 ghost use Rattle.judy_words.specs.LongArrays.{long_in, CountsRefusals};
-ghost use Rattle.judy_words.specs.Packing.{pack};
+ghost use Rattle.judy_packing.specs.Packing.{pack};
 ghost use Rattle.judy_model.specs.Contents.{word_order, has_key};
 ghost use Rattle.judy_string.specs.Changes.{IsRest, IsHung, IsForkedArray, Enters, IsTurnedAway};
 ghost use Rattle.judy_string.specs.Strings.{IsNestedAt};
@@ -15,8 +15,8 @@ use crate::{suffix, words};
 use arrayvec::ArrayVec;
 use judy_arena::{Arena, NoMemory, Ref};
 use judy_model::{Given, KEY_LIMIT};
+use judy_packing::word_at;
 use judy_words::Inserted;
-use judy_words::packing::word_at;
 use std::alloc::Global;
 
 // Inserts one string whose first word is new in a word array: by its last word, or with a suffix

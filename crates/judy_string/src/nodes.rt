@@ -2,15 +2,15 @@
 ghost use Rattle.std.specs.Prelude.{◌≡◌, suc, ◌*◌, ◌≤◌, false, IsTrue, length, drop, []};
 ghost use Rattle.judy_arena.specs.Frame.{Frame};
 ghost use Rattle.judy_arena.specs.Takes.{TakesNothing};
-ghost use Rattle.judy_words.specs.Packing.{is_last, word_bytes};
+ghost use Rattle.judy_packing.specs.Packing.{is_last, word_bytes};
 ghost use Rattle.judy_model.specs.Contents.{string_order, value_of, has_key};
 ghost use Rattle.judy_string.specs.Changes.{IsRest, IsWritten, RemovesString};
 ghost use Rattle.judy_string.specs.Strings.{IsNestedAt, IsSpelt, nested_content_at, nested_numbers_at, content_under, numbers_under};
 
 use crate::{suffix, words};
 use judy_arena::{Arena, Ref};
+use judy_packing::word_at;
 use judy_words::JudyL;
-use judy_words::packing::word_at;
 
 /// The bytes of a string after its first word.
 pub(crate) fn tail(string: &[u8]) -> &[u8]

@@ -2,7 +2,7 @@
 ghost use Rattle.std.specs.Prelude.{◌≡◌, ℕ, suc, ◌+◌, ◌*◌, ◌≤◌, ◌≢◌, ◌++◌, true, false, IsTrue, IsFalse, length, drop};
 ghost use Rattle.arrayvec.specs.ArrayVec.{array_vec_len};
 ghost use Rattle.judy_words.specs.LongArrays.{IsLongArray, IsLongFinger, long_in};
-ghost use Rattle.judy_words.specs.Packing.{pack, is_last, word_bytes, IsString};
+ghost use Rattle.judy_packing.specs.Packing.{pack, is_last, word_bytes, IsString};
 ghost use Rattle.judy_model.specs.Contents.{string_order, word_order, value_of};
 ghost use Rattle.judy_string.specs.Changes.{IsRest};
 ghost use Rattle.judy_string.specs.Searches.{keeps, end_of, beside, end_at, end_under, found_in_suffix, found_at, found_here, IsShown};
@@ -14,7 +14,7 @@ use crate::suffix;
 use arrayvec::ArrayVec;
 use judy_arena::{Arena, Ref};
 use judy_model::KEY_LIMIT;
-use judy_words::packing::{byte, word_at};
+use judy_packing::{byte, word_at};
 use judy_words::{Finger, JudyL};
 use std::cmp::Ordering;
 

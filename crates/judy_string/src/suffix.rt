@@ -7,14 +7,14 @@ ghost use Rattle.judy_arena.specs.References.{number_of};
 ghost use Rattle.judy_arena.specs.Takes.{Takes, TakesNothing};
 ghost use Rattle.judy_model.specs.Contents.{string_order, value_of};
 ghost use Rattle.judy_words.specs.LongArrays.{CountsRefusals};
-ghost use Rattle.judy_words.specs.Packing.{IsString};
+ghost use Rattle.judy_packing.specs.Packing.{IsString};
 ghost use Rattle.judy_string.specs.Suffixes.{is_suffix, suffix_words, suffix_entry, with_suffix_value, IsSuffix, IsMadeSuffix, packed_suffix};
 
 use crate::search::push_word;
 use arrayvec::ArrayVec;
 use judy_arena::{Arena, Kind, NoMemory, Ref};
 use judy_model::KEY_LIMIT;
-use judy_words::packing::word_at;
+use judy_packing::word_at;
 use std::alloc::Global;
 
 /// Whether a reference leads to a suffix block.

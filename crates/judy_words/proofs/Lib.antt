@@ -1,4 +1,3 @@
-pub mod lemmas
 mod Found
 mod Given
 mod Steps

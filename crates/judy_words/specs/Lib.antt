@@ -1,3 +1,2 @@
 pub mod OneArrays
 pub mod LongArrays
-pub mod Packing

@@ -4,7 +4,6 @@
 
 mod long;
 mod one;
-pub mod packing;
 
 pub use judy_query::Finger;
 pub use judy_tree::Inserted;

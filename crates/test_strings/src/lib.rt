@@ -9,6 +9,8 @@ mod bytes;
 #[cfg(test)]
 mod held;
 #[cfg(test)]
+mod packing;
+#[cfg(test)]
 mod strings;
 #[cfg(test)]
 mod walk;

@@ -11,8 +11,6 @@ mod held;
 #[cfg(test)]
 mod hostile;
 #[cfg(test)]
-mod packing;
-#[cfg(test)]
 mod queries;
 #[cfg(test)]
 mod region;

@@ -3,7 +3,7 @@ use Rattle.judy_arena.specs.Frame.{Frame}
 use Rattle.judy_model.specs.Contents.{word_order, string_order, with_entry}
 use Rattle.judy_tree.specs.Root.{entries, numbers as own_numbers}
 use Rattle.judy_tree.proofs.lemmas.RootLaws.{none-root}
-use Rattle.judy_words.specs.Packing.{pack}
+use Rattle.judy_packing.specs.Packing.{pack}
 use Rattle.judy_string.specs.Changes.{IsRest}
 use Rattle.judy_string.specs.Strings.{IsChanged}
 use Rattle.judy_string.proofs.Maps.{none-entries, none-numbers}

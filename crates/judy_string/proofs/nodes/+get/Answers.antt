@@ -1,7 +1,7 @@
 use Rattle.std.proofs.Common.{◌≡◌, ◌-◌, suc, true, Some, None, ◌∙◌, ap, sym, subst, arith}
 use Rattle.judy_model.specs.Contents.{word_order, string_order, value_of}
 use Rattle.judy_tree.specs.Root.{entries}
-use Rattle.judy_words.specs.Packing.{pack}
+use Rattle.judy_packing.specs.Packing.{pack}
 use Rattle.judy_string.specs.Changes.{IsRest}
 use Rattle.judy_string.specs.Strings.{nested_content_at, IsNestedAt}
 use Rattle.judy_string.proofs.Steps.{node-reference, rest-below, suffix-sound, suffix-value, step-root, step-none, step-last, step-child, step-inner}

@@ -1,7 +1,7 @@
 use Rattle.std.proofs.Common.{◌≡◌, ◌-◌, suc, true, Some, None, is_some, ◌∙◌, ap, sym, refl, subst, arith}
 use Rattle.judy_model.specs.Contents.{word_order, value_of, with_entry, without_key}
 use Rattle.judy_tree.specs.Root.{entries}
-use Rattle.judy_words.specs.Packing.{pack}
+use Rattle.judy_packing.specs.Packing.{pack}
 use Rattle.judy_string.specs.Changes.{IsRest, IsRewritten, RemovesString, HasLost}
 use Rattle.judy_string.specs.Strings.{IsNestedAt}
 use Rattle.judy_string.proofs.Maps.{map-kind}

@@ -1,7 +1,7 @@
 use Rattle.std.proofs.Common.{◌≡◌, ◌-◌, suc, true, Some, None, drop, ◌∙◌, ap, sym, subst, arith}
 use Rattle.judy_model.specs.Contents.{word_order, string_order, value_of, has_key, with_entry}
 use Rattle.judy_tree.specs.Root.{entries}
-use Rattle.judy_words.specs.Packing.{pack}
+use Rattle.judy_packing.specs.Packing.{pack}
 use Rattle.judy_string.specs.Changes.{IsRest, IsRewritten}
 use Rattle.judy_string.specs.Strings.{IsNestedAt, IsChanged, nested_content_at}
 use Rattle.judy_string.proofs.Steps.{node-reference, rest-below, suffix-live, step-root, step-child, last-put}

@@ -1,6 +1,6 @@
 use Rattle.std.proofs.Common.{◌≡◌, ◌-◌, ◌++◌, suc, true, length, length-append, Some, None, ◌∙◌, ap, sym, refl, subst, arith}
 use Rattle.judy_tree.specs.Root.{entries}
-use Rattle.judy_words.specs.Packing.{word_bytes}
+use Rattle.judy_packing.specs.Packing.{word_bytes}
 use Rattle.judy_string.specs.Searches.{end_of, IsShown}
 use Rattle.judy_string.specs.Strings.{IsNestedAt, nested_content_at, part}
 use Rattle.judy_string.proofs.Joins.{more_long}

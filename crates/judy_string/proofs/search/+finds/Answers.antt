@@ -2,8 +2,8 @@ use Rattle.std.proofs.Common.{rules, ◌≡◌, ◌-◌, ◌++◌, suc, true, fa
 use Rattle.std.specs.declared.cmp.Ordering.TheVariants.{Equal}
 use Rattle.judy_model.specs.Contents.{word_order, value_of}
 use Rattle.judy_tree.specs.Root.{IsRoot, entries}
-use Rattle.judy_words.specs.Packing.{pack, word_bytes}
-use Rattle.judy_words.proofs.lemmas.Packs.{more-word}
+use Rattle.judy_packing.specs.Packing.{pack, word_bytes}
+use Rattle.judy_packing.proofs.lemmas.Packs.{more-word}
 use Rattle.judy_string.specs.Changes.{IsRest}
 use Rattle.judy_string.specs.Searches.{keeps, here, end_of, found_by, found_here, beside, IsShown}
 use Rattle.judy_string.specs.Strings.{IsNestedAt, IsSpelt, nested_content_at, part}

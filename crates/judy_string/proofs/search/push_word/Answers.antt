@@ -3,7 +3,7 @@ use Rattle.std.proofs.Common.{◌<◌, ◌++◌, ◌∷◌, [], take, length, le
 use Rattle.std.proofs.lemmas.Bool.{false≢true as not_true}
 use Rattle.std.proofs.lemmas.List.{take_all}
 use Rattle.arrayvec.specs.ArrayVec.{array_vec_len}
-use Rattle.judy_words.specs.Packing.{word_bytes, is_last}
+use Rattle.judy_packing.specs.Packing.{word_bytes, is_last}
 use Rattle.judy_string.proofs.Joins.{bytes_few}
 use Rattle.judy_string.proofs.Spells.{spelt-whole, spelt-more, spelt-end, spelt-in, take-least, zero-test, some-test}
 use Rattle.judy_string.proofs.search.push_word.Goals as goal

@@ -1,5 +1,5 @@
 use Rattle.std.proofs.Common.{◌≡◌, ◌++◌, take}
-use Rattle.judy_words.specs.Packing.{word_bytes}
+use Rattle.judy_packing.specs.Packing.{word_bytes}
 use Rattle.judy_string.proofs.search.push_word.Given as goal
 
 abbrev pub invariant-loop-i : goal.invariant-loop-i

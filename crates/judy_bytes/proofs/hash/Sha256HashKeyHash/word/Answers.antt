@@ -1,5 +1,5 @@
 use Rattle.std.proofs.Common.{◌∙◌, ap, take}
-use Rattle.judy_words.specs.Packing.{pack}
+use Rattle.judy_packing.specs.Packing.{pack}
 use Rattle.judy_bytes.proofs.hash.Sha256HashKeyHash.word.Goals as goal
 
 pub returns : goal.returns

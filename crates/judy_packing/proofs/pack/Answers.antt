@@ -1,7 +1,7 @@
 use Rattle.std.proofs.Common.{arith, refl}
-use Rattle.judy_words.specs.Packing.{pack_at}
-use Rattle.judy_words.proofs.lemmas.Packs.{pack-more, room, room-more}
-use Rattle.judy_words.proofs.packing.pack.Goals as goal
+use Rattle.judy_packing.specs.Packing.{pack_at}
+use Rattle.judy_packing.proofs.lemmas.Packs.{pack-more, room, room-more}
+use Rattle.judy_packing.proofs.pack.Goals as goal
 
 pub loop-i-init : goal.loop-i-init
 unfolding pack_at

@@ -1,7 +1,9 @@
 //! Eight bytes as one word, the first byte highest. Maps of strings and of byte keys use these
 //! words as indexes of a JudyL.
+#![tactic(auto)]
+
 ghost use Rattle.std.specs.Prelude.{◌≡◌, ◌*◌, ◌<◌, ◌≤◌, length, drop, slice_index_or};
-ghost use Rattle.judy_words.specs.Packing.{pack, byte_of, WordsCompareAsStrings, BytesComeBack, StringsComeBack};
+ghost use Rattle.judy_packing.specs.Packing.{pack, byte_of, WordsCompareAsStrings, BytesComeBack, StringsComeBack};
 
 /// The word of at most 8 bytes. The first byte is the highest; missing bytes are 0.
 pub fn pack(bytes: &[u8]) -> u64

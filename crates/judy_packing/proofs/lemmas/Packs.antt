@@ -10,7 +10,7 @@ use Rattle.std.specs.declared.cmp.Ordering.{Ordering}
 use Rattle.std.specs.declared.cmp.Ordering.TheVariants.{Less, Equal}
 use Rattle.std.specs.Ordering.{nat_cmp, ordering_then}
 use Rattle.std.specs.Cmp.Lexicographic.{slice_cmp}
-use Rattle.judy_words.specs.Packing.{pack_at, bytes_at, pack, word_bytes, byte_of, is_last, AreBytes, IsString}
+use Rattle.judy_packing.specs.Packing.{pack_at, bytes_at, pack, word_bytes, byte_of, is_last, AreBytes, IsString}
 
 suc_times : (a p : ℕ) → suc a * p ≡ a * p + p
 suc_times a p = mul_comm (suc a) p ∙ mul-suc p a ∙ ap (λ x. x + p) (mul_comm p a)

@@ -1,5 +1,5 @@
 //! Words of bytes, compared with words written out by hand.
-use judy_words::packing::{byte, pack, word_at};
+use judy_packing::{byte, pack, word_at};
 
 #[test]
 fn bytes_stand_highest_first(rt: HostRuntime) {

@@ -1,5 +1,0 @@
-use Rattle.judy_words.proofs.lemmas.Packs.{pack-order}
-use Rattle.judy_words.proofs.packing.words_compare_as_strings.Goals as goal
-
-pub returns : goal.returns
-returns c = pack-order 8
