@@ -50,7 +50,7 @@ LAYERS = (
     ("right, place, quota, account", ("judy_protocol::turns::", "judy_tenants::", "judy_server::", "judy_table::")),
     ("directory", ("judy_directory::",)),
     ("kind, call", ("judy_kinds::", "judy_words::")),
-    ("arena (blocks, clearing)", ("judy_arena::", "judy_region::")),
+    ("arena (blocks, clearing)", ("judy_refs::", "judy_arena::", "judy_region::")),
     ("strings, chains", ("judy_string::", "judy_bytes::", "judy_packing::")),
     ("tree, leaf, branch", ("judy_tree::", "judy_leaf::", "judy_branch::", "judy_bitmap::", "judy_query::")),
 )

@@ -6,6 +6,5 @@ pub mod Layout
 pub mod Frame
 pub mod Totals
 pub mod Room
-pub mod References
 pub mod LendingPool
 pub mod LendingBlocks

@@ -8,8 +8,8 @@ ghost use Rattle.judy_arena.specs.LendingBlocks.{LendsBlock};
 ghost use Rattle.judy_arena.specs.Room.{room};
 ghost use Rattle.judy_arena.specs.Takes.{Takes, TakesNothing};
 
+use crate::block::Block;
 use crate::pool::{LAST, Pool, class_for, size_of_class};
-use crate::refs::Block;
 use std::alloc::Global;
 use std::marker::Model;
 

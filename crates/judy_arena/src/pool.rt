@@ -10,7 +10,7 @@ ghost use Rattle.judy_arena.specs.Layout.{span, size_of, linked, blocks_of, AreB
 ghost use Rattle.judy_region.specs.Flat.{zeros as no_marks, IsInOne};
 ghost use Rattle.judy_arena.specs.LendingPool.{LendsPoolRun};
 
-use crate::refs::NUMBERS;
+use crate::block::NUMBERS;
 use judy_region::Region;
 use std::alloc::Global;
 use std::marker::Model;

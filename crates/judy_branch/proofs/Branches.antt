@@ -1,7 +1,7 @@
 -- What a reference to a branch leads to.
 use Rattle.std.proofs.Common.{◌≡◌, ◌≢◌, ℕ, ◌<◌, ◌≤◌, List, length, Option, Some, None, ap, sym, ◌∙◌, refl, subst, arith}
 use Rattle.std.specs.Prelude.{IsSome, IfSome, IsTrue, not, ◌==◌}
-use Rattle.judy_arena.specs.References.{is_reference}
+use Rattle.judy_refs.specs.References.{is_reference}
 use Rattle.judy_arena.specs.Blocks.{Blocks}
 use Rattle.judy_model.specs.Contents.{word_order, value_of}
 use Rattle.judy_model.proofs.lemmas.TestLemmas.{and_right}

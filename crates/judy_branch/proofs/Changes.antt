@@ -10,7 +10,7 @@ use Rattle.std.specs.Cmp.{nat_cmp_total}
 use Rattle.std.specs.FinMap.{is_sorted}
 use Rattle.std.specs.FinMap.Entries.{length-put, length_without}
 use Rattle.judy_arena.specs.Blocks.{Blocks, block, words_of, put, without}
-use Rattle.judy_arena.specs.References.{number_of, is_reference}
+use Rattle.judy_refs.specs.References.{number_of, is_reference}
 use Rattle.judy_arena.specs.Frame.{Frame}
 use Rattle.judy_arena.specs.LendingBlocks.{written_over}
 use Rattle.judy_arena.specs.Room.{room}

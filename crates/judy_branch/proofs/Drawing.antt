@@ -1,7 +1,7 @@
 -- What calls that put children ask of the arena.
 use Rattle.std.proofs.Common.{◌≡◌, ℕ, ◌+◌, ◌<◌, ◌≤◌, List, length, Some, sym, subst, arith}
 use Rattle.judy_arena.specs.Blocks.{Blocks, words_of}
-use Rattle.judy_arena.specs.References.{number_of}
+use Rattle.judy_refs.specs.References.{number_of}
 use Rattle.judy_arena.specs.Room.{room}
 use Rattle.judy_arena.proofs.lemmas.RoomLaws.{room-least}
 use Rattle.judy_branch.specs.declared.shape.Shape.{Shape}

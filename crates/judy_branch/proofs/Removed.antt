@@ -1,7 +1,7 @@
 -- What is known of a branch's block after a child was removed from it, and after the rest were laid out for their number.
 use Rattle.std.proofs.Common.{◌≡◌, ℕ, ◌+◌, ◌<◌, ◌≤◌, true, List, take, length, Some, ap, sym, ◌∙◌, subst, arith}
 use Rattle.judy_arena.specs.Blocks.{Blocks, words_of, put}
-use Rattle.judy_arena.specs.References.{number_of}
+use Rattle.judy_refs.specs.References.{number_of}
 use Rattle.judy_arena.specs.LendingBlocks.{written_over}
 use Rattle.judy_arena.specs.Room.{room}
 use Rattle.judy_model.specs.Contents.{word_order, has_key, without_key}

@@ -4,7 +4,7 @@ use Rattle.std.proofs.Common.{length, get_or, Some, None, ap, sym, ◌∙◌, re
 use Rattle.std.specs.List.{list_all}
 use Rattle.std.proofs.lemmas.Bool.{cases_lt}
 use Rattle.std.proofs.lemmas.List.{get_or-take, get_or-drop, length-take-le}
-use Rattle.judy_arena.specs.References.{is_reference}
+use Rattle.judy_refs.specs.References.{is_reference}
 use Rattle.judy_bitmap.specs.ByteSets.{members, is_member, below}
 use Rattle.judy_model.specs.Contents.{word_order, value_of}
 use Rattle.judy_model.proofs.lemmas.TestLemmas.{and_left}

@@ -3,7 +3,7 @@ use Rattle.std.proofs.Common.{◌≡◌, ◌<◌, ℕ, true, Option, Some, None,
 use Rattle.std.specs.Prelude.{IsSome}
 use Rattle.std.specs.FinMap.{is_sorted}
 use Rattle.judy_arena.specs.Blocks.{Blocks, words_of, put}
-use Rattle.judy_arena.specs.References.{number_of}
+use Rattle.judy_refs.specs.References.{number_of}
 use Rattle.judy_arena.proofs.lemmas.BlockLaws.{words-at}
 use Rattle.judy_model.specs.Contents.{word_order}
 use Rattle.judy_branch.specs.declared.shape.Shape.{Shape}

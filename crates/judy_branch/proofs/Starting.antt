@@ -8,7 +8,7 @@ use Rattle.std.specs.FinMap.{is_sorted}
 use Rattle.std.specs.List.{list_all}
 use Rattle.judy_arena.specs.Blocks.{Blocks, zeros}
 use Rattle.judy_arena.specs.Room.{room}
-use Rattle.judy_arena.specs.References.{word_of, kind_of_number, number_of}
+use Rattle.judy_refs.specs.References.{word_of, kind_of_number, number_of}
 use Rattle.judy_arena.proofs.lemmas.RoomLaws.{length-zeros}
 use Rattle.judy_bitmap.specs.ByteSets.{members, has_bit}
 use Rattle.judy_bitmap.proofs.lemmas.Places.{places-none}

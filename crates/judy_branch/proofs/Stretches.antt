@@ -1,7 +1,7 @@
 -- The words of a branch's children stand in one stretch of its block.
 use Rattle.std.proofs.Common.{◌≡◌, ℕ, suc, ◌+◌, true, false, cond, not, ◌==◌, nat_lt, List, [], ◌∷◌, take, drop, length, ◌-◌, IsTrue, ap, sym, ◌∙◌, refl, arith}
 use Rattle.std.specs.List.{list_all}
-use Rattle.judy_arena.specs.References.{is_reference}
+use Rattle.judy_refs.specs.References.{is_reference}
 use Rattle.judy_model.specs.Contents.{Entries, pairs}
 use Rattle.judy_model.proofs.lemmas.TestLemmas.{and_right, and_left}
 use Rattle.judy_branch.specs.declared.shape.Shape.{Shape}

@@ -6,7 +6,7 @@
 --     branch_number w           the number of its block
 use Rattle.std.specs.Prelude.{◌≡◌, ℕ, List, [], Option, Some, None}
 use Rattle.judy_arena.specs.Blocks.{Blocks, words_of}
-use Rattle.judy_arena.specs.References.{number_of}
+use Rattle.judy_refs.specs.References.{number_of}
 use Rattle.judy_model.specs.Contents.{Entries, word_order, with_entry, without_key}
 use Rattle.judy_branch.specs.declared.shape.Shape.{Shape}
 use Rattle.judy_branch.specs.Children.{shape_of, children_in, level_in, prefix_in, population_in, IsShaped}

@@ -5,9 +5,9 @@ use Rattle.std.specs.List.{list_all}
 use Rattle.judy_model.specs.Contents.{Entries, IsRising, word_order, pairs}
 use Rattle.judy_bitmap.specs.ByteSets.{members}
 use Rattle.judy_arena.specs.Room.{room}
-use Rattle.judy_arena.specs.References.{is_reference, kind_of}
-use Rattle.judy_arena.specs.declared.refs.Kind.{Kind}
-use Rattle.judy_arena.specs.declared.refs.Kind.TheVariants.{LinearBranch, BitmapBranch, FullBranch}
+use Rattle.judy_refs.specs.References.{is_reference, kind_of}
+use Rattle.judy_refs.specs.declared.Kind.{Kind}
+use Rattle.judy_refs.specs.declared.Kind.TheVariants.{LinearBranch, BitmapBranch, FullBranch}
 use Rattle.judy_branch.specs.declared.shape.Shape.{Shape}
 use Rattle.judy_branch.specs.declared.shape.Shape.TheVariants.{Linear, Bitmap, Full}
 use Rattle.judy_branch.specs.Packed.{unpacked}

@@ -2,7 +2,7 @@
 use Rattle.std.specs.Prelude.{◌≡◌, ℕ, ◌*◌, ◌-◌, ◌%◌, ◌^◌, ◌<◌, ◌≤◌, true, IsTrue, length, nat_lt}
 use Rattle.std.specs.List.{list_all}
 use Rattle.judy_arena.specs.Blocks.{Blocks, is_live, block}
-use Rattle.judy_arena.specs.References.{kind_part}
+use Rattle.judy_refs.specs.References.{kind_part}
 use Rattle.judy_model.specs.Contents.{word_order, IsRising}
 use Rattle.judy_branch.specs.Children.{is_child_entry}
 use Rattle.judy_branch.specs.Branch.{IsBranch, IsBranchOf, branch_view, branch_words, branch_number}

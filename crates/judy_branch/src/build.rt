@@ -9,13 +9,14 @@ ghost use Rattle.judy_arena.specs.Takes.{Takes};
 ghost use Rattle.judy_model.specs.Contents.{word_order, IsRising};
 ghost use Rattle.judy_branch.specs.Branch.{IsBranchOf, branch_number};
 ghost use Rattle.judy_branch.specs.Children.{IsLaid, children_in, count_in, level_in, prefix_in, population_in, is_child_entry, least, most, used_words, shape_of, IsBuilt};
-ghost use Rattle.judy_arena.specs.References.{number_of};
+ghost use Rattle.judy_refs.specs.References.{number_of};
 ghost use Rattle.judy_branch.specs.Draws.{branch_size};
 ghost use Rattle.judy_branch.specs.Written.{BranchBecomes};
 
 use crate::edit::insert_child;
 use crate::shape::{Shape, kind};
-use judy_arena::{Arena, Block, NoMemory, Ref};
+use judy_arena::{Arena, Block, NoMemory};
+use judy_refs::Ref;
 use std::alloc::Global;
 
 /// The shape of a branch with this many children.

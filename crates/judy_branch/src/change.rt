@@ -15,7 +15,8 @@ use crate::edit::{insert_child, write_child};
 use crate::read::{block, child_in};
 use crate::shape::{Shape, read_shape};
 use crate::{bitmap, linear};
-use judy_arena::{Arena, Block, NoMemory, Ref};
+use judy_arena::{Arena, Block, NoMemory};
+use judy_refs::Ref;
 use std::alloc::Global;
 
 // Whether a block has room for one more child.

@@ -6,7 +6,7 @@ ghost use Rattle.judy_branch.specs.Written.{BranchBecomes};
 
 use crate::shape::Shape;
 use crate::{bitmap, full, linear};
-use judy_arena::Ref;
+use judy_refs::Ref;
 
 /// Inserts a child at a byte that has none.
 pub(crate) fn insert_child(shape: Shape, words: &mut [u64], byte: u8, child: Ref)

@@ -1,7 +1,7 @@
 //! Reads a branch.
 ghost use Rattle.std.specs.Prelude.{◌≡◌, ◌≢◌, ◌<◌, ◌≤◌, ◌&&◌, nat_le, nat_lt, filter, length, Some, IsSome, IsTrue, slice_get};
 ghost use Rattle.judy_arena.specs.Blocks.{words_of};
-ghost use Rattle.judy_arena.specs.References.{is_reference, number_of};
+ghost use Rattle.judy_refs.specs.References.{is_reference, number_of};
 ghost use Rattle.judy_model.specs.Contents.{word_order, value_of, first, last};
 ghost use Rattle.judy_branch.specs.Branch.{IsBranch, branch_view, branch_words};
 ghost use Rattle.judy_branch.specs.Nearest.{IsNextByte, IsPrevByte};
@@ -12,7 +12,8 @@ ghost use Rattle.judy_branch.specs.Children.{level_in, shape_of, children_in, Is
 use crate::heads::Head;
 use crate::shape::{Shape, read_shape};
 use crate::{bitmap, full, linear};
-use judy_arena::{Arena, Block, Ref};
+use judy_arena::{Arena, Block};
+use judy_refs::Ref;
 
 // The block of a branch.
 pub(crate) fn block(branch: Ref) -> Block

@@ -6,7 +6,8 @@ ghost use Rattle.judy_branch.specs.Branch.{IsBranch, branch_view};
 use crate::heads::Head;
 use crate::read::{child_in, look};
 use crate::shape::{Shape, read_shape};
-use judy_arena::{Arena, Ref};
+use judy_arena::Arena;
+use judy_refs::Ref;
 use std::marker::Model;
 
 /// An opened branch. Callers see the branch's view.

@@ -18,7 +18,8 @@ use crate::edit::remove_child;
 use crate::gap::copy_in;
 use crate::read::block;
 use crate::shape::{Shape, read_shape};
-use judy_arena::{Arena, Block, Ref};
+use judy_arena::{Arena, Block};
+use judy_refs::Ref;
 
 /// What a branch becomes without one of its children.
 #[derive(Clone, Copy, Debug, PartialEq, Eq)]

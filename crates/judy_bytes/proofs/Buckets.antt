@@ -7,9 +7,9 @@ use Rattle.std.specs.Prelude.{slice_set}
 use Rattle.std.proofs.lemmas.Bool.Decides.{nat_tests}
 use Rattle.std.proofs.lemmas.Nat.{mod-mul-add}
 use Rattle.judy_arena.specs.Blocks.{Blocks, block, words_of, is_live}
-use Rattle.judy_arena.specs.References.{number_of, block_of, word_of}
+use Rattle.judy_refs.specs.References.{number_of, block_of, word_of}
 use Rattle.judy_arena.specs.Room.{room}
-use Rattle.judy_arena.specs.declared.refs.Kind.TheVariants.{Bucket}
+use Rattle.judy_refs.specs.declared.Kind.TheVariants.{Bucket}
 use Rattle.judy_packing.specs.Packing.{pack, AreBytes, packed}
 use Rattle.judy_packing.proofs.lemmas.Packs.{get_taken, get_dropped}
 use Rattle.judy_bytes.specs.Buckets.{bucket_bytes_of, packed_bucket, bucket_size, bucket_key, SpellsKey, IsBucket, IsMadeBucket}

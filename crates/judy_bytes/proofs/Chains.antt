@@ -8,9 +8,9 @@ use Rattle.std.proofs.Math.Bool.{or-false}
 use Rattle.std.proofs.lemmas.Option.{none-some}
 use Rattle.judy_arena.specs.Blocks.{Blocks, block, words_of, is_live, put, without}
 use Rattle.judy_arena.specs.Frame.{Frame, holds}
-use Rattle.judy_arena.specs.References.{number_of, word_of}
+use Rattle.judy_refs.specs.References.{number_of, word_of}
 use Rattle.judy_arena.specs.Totals.{are_distinct}
-use Rattle.judy_arena.specs.declared.refs.Kind.TheVariants.{Bucket}
+use Rattle.judy_refs.specs.declared.Kind.TheVariants.{Bucket}
 use Rattle.judy_arena.proofs.lemmas.BlockLaws.{block-without, block-put, words-at, itself, same_test}
 use Rattle.judy_arena.proofs.lemmas.FrameLaws.{frame-release, frame-rest, frame-stays, frame-write, frame-same}
 use Rattle.judy_arena.proofs.lemmas.RoomLaws.{room-covers}

@@ -11,7 +11,7 @@ use Rattle.judy_arena.specs.Blocks.{Blocks, ArenaState, without}
 use Rattle.judy_tree.specs.Changes.{IsRefused}
 use Rattle.judy_tree.proofs.lemmas.Joins.{find-without}
 use Rattle.judy_arena.specs.Frame.{Frame, holds}
-use Rattle.judy_arena.specs.References.{is_reference, number_of}
+use Rattle.judy_refs.specs.References.{is_reference, number_of}
 use Rattle.judy_arena.proofs.lemmas.FrameLaws.{frame-same, frame-then, undone}
 use Rattle.judy_words.specs.LongArrays.{IsLongArray, long_in, long_numbers}
 use Rattle.judy_model.specs.Contents.{Entries, word_order, string_order, value_of, has_key, with_entry, without_key}

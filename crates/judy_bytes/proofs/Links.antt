@@ -10,9 +10,9 @@ use Rattle.std.proofs.lemmas.Bool.{false≢true as not-true, not-true as is-not}
 use Rattle.std.proofs.lemmas.Option.{none-some}
 use Rattle.judy_arena.specs.Blocks.{Blocks, block, words_of, is_live}
 use Rattle.judy_arena.specs.Frame.{holds}
-use Rattle.judy_arena.specs.References.{number_of, block_of, word_of, is_reference, kind_part}
+use Rattle.judy_refs.specs.References.{number_of, block_of, word_of, is_reference, kind_part}
 use Rattle.judy_arena.specs.Totals.{are_distinct}
-use Rattle.judy_arena.specs.declared.refs.Kind.TheVariants.{Bucket}
+use Rattle.judy_refs.specs.declared.Kind.TheVariants.{Bucket}
 use Rattle.judy_arena.proofs.lemmas.BlockLaws.{itself, same_test}
 use Rattle.judy_model.specs.Contents.{string_order, value_of}
 use Rattle.judy_model.proofs.lemmas.TestLemmas.{and_right, and_left}

@@ -7,9 +7,9 @@ use Rattle.std.specs.Prelude.{◌≡◌, ℕ, Bool, zero, suc, ◌==◌, cond, t
 use Rattle.std.specs.Ordering.{eq_by_cmp}
 use Rattle.judy_arena.specs.Blocks.{Blocks, words_of}
 use Rattle.judy_arena.specs.Frame.{Frame, holds}
-use Rattle.judy_arena.specs.References.{number_of, block_of, word_of}
+use Rattle.judy_refs.specs.References.{number_of, block_of, word_of}
 use Rattle.judy_arena.specs.Totals.{are_distinct}
-use Rattle.judy_arena.specs.declared.refs.Kind.TheVariants.{Bucket}
+use Rattle.judy_refs.specs.declared.Kind.TheVariants.{Bucket}
 use Rattle.judy_model.specs.Contents.{Entries, string_order, value_of, has_key}
 use Rattle.judy_bytes.specs.Buckets.{IsBucket, bucket_entry, bucket_key, next_of}
 

@@ -12,8 +12,9 @@ ghost use Rattle.judy_tree.specs.Changes.{IsRefused};
 
 use crate::hash::KeyHash;
 use crate::{bucket, chain, words};
-use judy_arena::{Arena, NoMemory, Ref};
+use judy_arena::{Arena, NoMemory};
 use judy_model::{Given, KEY_LIMIT};
+use judy_refs::Ref;
 use judy_words::{Inserted, JudyL};
 use std::alloc::Global;
 

@@ -2,16 +2,17 @@
 ghost use Rattle.std.specs.Prelude.{◌≡◌, ◌≢◌, ◌+◌, ◌*◌, ◌≤◌, ◌<◌, ◌/◌, ℕ, true, IfOk, OnOk, OnErr, IsTrue, IsFalse, length, drop, get_or, is_ok, ◌↔◌, [], ◌∷◌};
 ghost use Rattle.judy_arena.specs.Blocks.{words_of, without};
 ghost use Rattle.judy_arena.specs.Frame.{Frame};
-ghost use Rattle.judy_arena.specs.References.{is_reference, word_of};
+ghost use Rattle.judy_refs.specs.References.{is_reference, word_of};
 ghost use Rattle.judy_arena.specs.Takes.{Takes, TakesNothing};
-ghost use Rattle.judy_arena.specs.declared.refs.Kind.TheVariants.{Bucket};
+ghost use Rattle.judy_refs.specs.declared.Kind.TheVariants.{Bucket};
 ghost use Rattle.judy_bytes.specs.Buckets.{IsBucket, bucket_key, packed_bucket, next_of, with_word, IsMadeBucket};
 ghost use Rattle.judy_words.specs.LongArrays.{CountsRefusals};
 
 use crate::words::reference_of;
-use judy_arena::{Arena, Block, Kind, NoMemory, Ref};
+use judy_arena::{Arena, Block, NoMemory};
 use judy_model::KEY_LIMIT;
 use judy_packing::word_at;
+use judy_refs::{Kind, Ref};
 use std::alloc::Global;
 
 // The place in a bucket of the next bucket's reference.

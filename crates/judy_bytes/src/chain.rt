@@ -1,7 +1,7 @@
 //! Chains of buckets. The keys of a chain have the same hash word.
 ghost use Rattle.std.specs.Prelude.{◌≡◌, ◌≢◌, ◌≤◌, IfOk, IfSome, OnSome, IfNone, OnErr, IsTrue, None, Some, length, is_ok};
 ghost use Rattle.judy_arena.specs.Blocks.{without};
-ghost use Rattle.judy_arena.specs.References.{is_reference, block_of, number_of};
+ghost use Rattle.judy_refs.specs.References.{is_reference, block_of, number_of};
 ghost use Rattle.judy_arena.specs.Takes.{Takes, TakesNothing};
 ghost use Rattle.judy_bytes.specs.Buckets.{IsBucket};
 ghost use Rattle.judy_bytes.specs.Chains.{IsBucketChain, IsFoundBucket, IsNewBucket, ChainBecomes, LosesHead, chain};
@@ -9,8 +9,9 @@ ghost use Rattle.judy_bytes.specs.Chains.{value_in_chain, chain_has, first_key};
 ghost use Rattle.judy_words.specs.LongArrays.{CountsRefusals};
 
 use crate::bucket;
-use judy_arena::{Arena, Block, Kind, NoMemory, Ref};
+use judy_arena::{Arena, Block, NoMemory};
 use judy_model::KEY_LIMIT;
+use judy_refs::{Kind, Ref};
 use std::alloc::Global;
 
 /// The bucket of the chain that has the key.

@@ -1,14 +1,15 @@
 //! The JudyL of hash words. Its values are the references of chains.
 ghost use Rattle.std.specs.Prelude.{◌≡◌, ◌≢◌, ◌≤◌, ℕ, IfOk, OnErr, IfSome, IfNone, IsTrue, None, Some, [], is_ok};
 ghost use Rattle.std.specs.Option.{unwrap_or};
-ghost use Rattle.judy_arena.specs.References.{is_reference};
+ghost use Rattle.judy_refs.specs.References.{is_reference};
 ghost use Rattle.judy_arena.specs.Takes.{Takes, TakesNothing};
 ghost use Rattle.judy_words.specs.LongArrays.{IsLongArray, long_in, CountsRefusals};
 ghost use Rattle.judy_model.specs.Contents.{word_order, value_of, has_key};
 ghost use Rattle.judy_bytes.specs.BytesArrays.{WordsBecome, first_at, if_some};
 
-use judy_arena::{Arena, NoMemory, Ref};
+use judy_arena::{Arena, NoMemory};
 use judy_model::Given;
+use judy_refs::Ref;
 use judy_words::JudyL;
 use std::alloc::Global;
 

@@ -5,8 +5,8 @@ ghost use Rattle.std.specs.Cmp.{partial_equiv_from_equiv};
 ghost use Rattle.std.specs.Cmp.Lexicographic.{pointwise, nat_list_eq_equiv, bytes_decides};
 ghost use Rattle.std.specs.Hash.{same_Alike, le_bytes};
 
-use judy_arena::Ref;
 use judy_model::Name;
+use judy_refs::Ref;
 use std::hash::{Hash, Hasher};
 use std::marker::Model;
 

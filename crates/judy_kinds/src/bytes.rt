@@ -13,10 +13,11 @@ ghost use Rattle.judy_tree.specs.Changes.{IsShort};
 
 use crate::counts;
 use crate::string::value_reply;
-use judy_arena::{Arena, NoMemory, Ref};
+use judy_arena::{Arena, NoMemory};
 use judy_bytes::{JudyHS, KeyHash};
 use judy_directory::Place;
 use judy_model::{BytesCall, Given, Key, Reply};
+use judy_refs::Ref;
 use std::alloc::Global;
 
 /// Whether the call asks for a key that the map does not have.

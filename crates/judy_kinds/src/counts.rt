@@ -2,9 +2,9 @@
 ghost use Rattle.std.specs.Prelude.{◌≡◌, ◌+◌, ◌-◌, ◌<◌, ◌≤◌, ◌^◌, IsNone, IsSome};
 ghost use Rattle.judy_model.specs.Pieces.{string_pieces};
 
-use judy_arena::Ref;
 use judy_directory::Place;
 use judy_model::Key;
+use judy_refs::Ref;
 use judy_tree::Inserted;
 
 /// The place after an insertion of this key.

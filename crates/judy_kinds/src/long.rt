@@ -10,9 +10,10 @@ ghost use Rattle.judy_words.specs.LongArrays.{IsLongArray, long_in, LongAnswers,
 ghost use Rattle.judy_tree.specs.Changes.{IsShort};
 
 use crate::counts;
-use judy_arena::{Arena, NoMemory, Ref};
+use judy_arena::{Arena, NoMemory};
 use judy_directory::Place;
 use judy_model::{LongCall, Reply};
+use judy_refs::Ref;
 use judy_words::JudyL;
 use std::alloc::Global;
 

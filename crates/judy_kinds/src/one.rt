@@ -10,9 +10,10 @@ ghost use Rattle.judy_words.specs.OneArrays.{IsOneArray, one_in, OneAnswers, One
 ghost use Rattle.judy_tree.specs.Changes.{IsShort};
 
 use crate::counts;
-use judy_arena::{Arena, NoMemory, Ref};
+use judy_arena::{Arena, NoMemory};
 use judy_directory::Place;
 use judy_model::{OneCall, Reply};
+use judy_refs::Ref;
 use judy_words::Judy1;
 use std::alloc::Global;
 

@@ -14,9 +14,10 @@ ghost use Rattle.judy_tree.specs.Changes.{IsShort};
 
 use crate::counts;
 use arrayvec::ArrayVec;
-use judy_arena::{Arena, NoMemory, Ref};
+use judy_arena::{Arena, NoMemory};
 use judy_directory::Place;
 use judy_model::{Given, KEY_LIMIT, Key, Reply, StrCall};
+use judy_refs::Ref;
 use judy_string::JudySL;
 use std::alloc::Global;
 

@@ -3,7 +3,7 @@ use Rattle.std.proofs.Common.{◌≡◌, ◌+◌, ◌<◌, ◌≤◌, ℕ, Some,
 use Rattle.std.proofs.lemmas.List.{length-replicate}
 use Rattle.judy_arena.specs.Blocks.{Blocks, ArenaState, words_of, zeros}
 use Rattle.judy_arena.specs.Draws.{DrawsBlock}
-use Rattle.judy_arena.specs.References.{block_of}
+use Rattle.judy_refs.specs.References.{block_of}
 use Rattle.judy_arena.proofs.lemmas.DrawLaws.{drew-block}
 use Rattle.judy_leaf.specs.Leaf.{leaf_size, size_by}
 use Rattle.judy_leaf.specs.Calls.{DrawsFor}

@@ -11,10 +11,10 @@ use Rattle.std.specs.Prelude.{◌≡◌, ◌<◌, ◌≤◌, ℕ, Bool, List, Op
 use Rattle.judy_arena.specs.Blocks.{ArenaState, count_up, words_of}
 use Rattle.judy_arena.specs.Draws.{DrawsBlock}
 use Rattle.judy_arena.specs.Frame.{Frame}
-use Rattle.judy_arena.specs.References.{kind_of}
-use Rattle.judy_arena.specs.declared.refs.Kind.{Kind}
-use Rattle.judy_arena.specs.declared.refs.Kind.TheVariants.{LinearLeaf, BitmapLeaf}
-use Rattle.judy_arena.specs.declared.refs.Ref.{Ref}
+use Rattle.judy_refs.specs.References.{kind_of}
+use Rattle.judy_refs.specs.declared.Kind.{Kind}
+use Rattle.judy_refs.specs.declared.Kind.TheVariants.{LinearLeaf, BitmapLeaf}
+use Rattle.judy_refs.specs.declared.Ref.{Ref}
 use Rattle.judy_arena.specs.declared.blocks.NoMemory.{NoMemory}
 use Rattle.judy_model.specs.Contents.{Entries, word_order, value_of, has_key, with_entry, without_key}
 use Rattle.judy_leaf.specs.Linear.{linear_entries}

@@ -4,7 +4,7 @@ use Rattle.std.specs.List.{list_all}
 use Rattle.judy_arena.specs.Blocks.{Blocks, block, is_live, words_of}
 use Rattle.judy_arena.specs.Totals.{are_distinct, words_over}
 use Rattle.judy_arena.specs.Frame.{holds, Frame, AreApart}
-use Rattle.judy_arena.specs.References.{kind_part, is_reference}
+use Rattle.judy_refs.specs.References.{kind_part, is_reference}
 use Rattle.judy_model.specs.Contents.{Entries, IsWordArray, HasWordValues}
 use Rattle.judy_leaf.specs.Entries.{share_bytes}
 use Rattle.judy_leaf.specs.Leaf.{IsLeaf, leaf_entries, leaf_numbers}

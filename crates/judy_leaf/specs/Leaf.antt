@@ -5,9 +5,9 @@
 use Rattle.std.specs.Prelude.{◌≡◌, ℕ, Bool, List, [], ◌∷◌, ◌≤◌, IsFalse, length, Option, Some, None}
 use Rattle.judy_arena.specs.Room.{room}
 use Rattle.judy_arena.specs.Blocks.{Blocks, words_of}
-use Rattle.judy_arena.specs.References.{kind_of, block_of, number_of}
-use Rattle.judy_arena.specs.declared.refs.Kind.{Kind}
-use Rattle.judy_arena.specs.declared.refs.Kind.TheVariants.{LinearLeaf, BitmapLeaf, FullLeaf}
+use Rattle.judy_refs.specs.References.{kind_of, block_of, number_of}
+use Rattle.judy_refs.specs.declared.Kind.{Kind}
+use Rattle.judy_refs.specs.declared.Kind.TheVariants.{LinearLeaf, BitmapLeaf, FullLeaf}
 use Rattle.judy_model.specs.Contents.{Entries}
 use Rattle.judy_leaf.specs.Entries.{share_bytes}
 use Rattle.judy_leaf.specs.Linear.{IsLinear, linear_entries, linear_size, leaf_count}

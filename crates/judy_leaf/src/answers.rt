@@ -1,5 +1,5 @@
 //! The results of the calls that change a leaf.
-use judy_arena::Ref;
+use judy_refs::Ref;
 
 /// The result of an insertion.
 #[derive(Clone, Copy, Debug, PartialEq, Eq)]

@@ -12,7 +12,8 @@ use crate::bitmap::{self, Bits};
 use crate::block::{refer, refer_bits};
 use crate::convert::narrow;
 use crate::linear;
-use judy_arena::{Arena, Block, Kind};
+use judy_arena::{Arena, Block};
+use judy_refs::Kind;
 use std::alloc::Global;
 
 /// The block of a bitmap leaf or a full leaf, with a value for each key or without.

@@ -1,9 +1,10 @@
 //! References to leaves.
 ghost use Rattle.std.specs.Prelude.{◌≡◌, Some};
-ghost use Rattle.judy_arena.specs.References.{kind_of, block_of};
-ghost use Rattle.judy_arena.specs.declared.refs.Kind.TheVariants.{BitmapLeaf, FullLeaf};
+ghost use Rattle.judy_refs.specs.References.{kind_of, block_of};
+ghost use Rattle.judy_refs.specs.declared.Kind.TheVariants.{BitmapLeaf, FullLeaf};
 
-use judy_arena::{Block, Kind, Ref};
+use judy_arena::Block;
+use judy_refs::{Kind, Ref};
 
 /// A reference to a block of this kind.
 pub(crate) fn refer(kind: Kind, block: Block) -> Ref

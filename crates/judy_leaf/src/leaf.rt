@@ -1,8 +1,8 @@
 //! Leaves, by their references.
 ghost use Rattle.std.specs.Prelude.{◌≡◌, ◌+◌, ◌<◌, ◌≤◌, true, IsTrue, IsFalse, Some, [], is_ok, if◌then◌else◌, length, take, drop, map, slice_get, get_or};
-ghost use Rattle.judy_arena.specs.declared.refs.Kind.TheVariants.{LinearLeaf, FullLeaf};
+ghost use Rattle.judy_refs.specs.declared.Kind.TheVariants.{LinearLeaf, FullLeaf};
 ghost use Rattle.judy_arena.specs.Frame.{Frame};
-ghost use Rattle.judy_arena.specs.References.{kind_of};
+ghost use Rattle.judy_refs.specs.References.{kind_of};
 ghost use Rattle.judy_arena.specs.Takes.{Takes, TakesNothing};
 ghost use Rattle.judy_model.specs.Contents.{word_order, has_key, value_of, with_entry, count, first, last};
 ghost use Rattle.judy_model.specs.Gaps.{first_empty, last_empty};
@@ -16,7 +16,8 @@ use crate::gather::gather;
 use crate::linear_leaf::LinearBlock;
 use crate::opened::{Opened, open};
 use crate::{bitmap, linear, linear_leaf};
-use judy_arena::{Arena, Kind, NoMemory, Ref};
+use judy_arena::{Arena, NoMemory};
+use judy_refs::{Kind, Ref};
 use std::alloc::Global;
 
 // Whether the reference has the kind of a linear leaf.

@@ -13,7 +13,8 @@ use crate::bitmap;
 use crate::block::refer;
 use crate::convert::widen;
 use crate::linear::{self, Linear};
-use judy_arena::{Arena, Block, Kind, NoMemory, Ref};
+use judy_arena::{Arena, Block, NoMemory};
+use judy_refs::{Kind, Ref};
 use std::alloc::Global;
 
 /// A new linear leaf of one key with its value, 0 in a set.

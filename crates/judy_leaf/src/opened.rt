@@ -6,7 +6,8 @@ ghost use Rattle.judy_leaf.specs.Views.{of_leaf};
 use crate::bitmap::Bits;
 use crate::leaf::is_linear;
 use crate::linear::Linear;
-use judy_arena::{Arena, Ref};
+use judy_arena::Arena;
+use judy_refs::Ref;
 
 /// A leaf by its kind, with its words at hand. The empty leaf has none.
 #[derive(Clone, Copy)]

@@ -2,7 +2,7 @@
 use Rattle.std.proofs.Common.{◌≡◌, ℕ, zero, suc, ◌+◌, ◌<◌, ◌≤◌, Bool, true, false, cond, not, ◌==◌, List, [], ◌∷◌, ◌++◌, drop, take}
 use Rattle.std.proofs.Common.{length, get_or, IsTrue, ap, sym, ◌∙◌, refl, subst, arith, drop-cons, eq-eqb, ne_eqb, append-nil, append_assoc}
 use Rattle.judy_arena.specs.Blocks.{Blocks}
-use Rattle.judy_arena.specs.References.{is_reference}
+use Rattle.judy_refs.specs.References.{is_reference}
 use Rattle.judy_model.specs.Contents.{Entries}
 use Rattle.std.specs.Prelude.{filter}
 use Rattle.judy_branch.specs.Branch.{branch_view}

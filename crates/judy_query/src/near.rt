@@ -8,7 +8,8 @@ ghost use Rattle.judy_query.specs.Fingers.{IsFinger};
 ghost use Rattle.judy_tree.specs.Root.{IsRoot, entries};
 
 use crate::{node, query};
-use judy_arena::{Arena, Ref};
+use judy_arena::Arena;
+use judy_refs::Ref;
 use judy_tree::{byte_of, leads_to_branch};
 
 // Where a word leads: a leaf, or the empty leaf, and the branch above.

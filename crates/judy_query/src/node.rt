@@ -8,8 +8,9 @@ ghost use Rattle.judy_branch.specs.Branch.{IsBranch, branch_view};
 ghost use Rattle.judy_tree.specs.Nodes.{head_at, is_branch};
 ghost use Rattle.judy_tree.specs.Root.{IsRoot, entries};
 
-use judy_arena::{Arena, Kind, Ref};
+use judy_arena::Arena;
 use judy_branch::{Head, head};
+use judy_refs::{Kind, Ref};
 use judy_tree::population;
 
 // The bytes of a key up to the one at the level, as a number.

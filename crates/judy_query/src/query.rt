@@ -9,7 +9,8 @@ ghost use Rattle.judy_query.specs.Keys.{key_found};
 ghost use Rattle.judy_query.specs.Parts.{entries_below};
 
 use crate::{near, node};
-use judy_arena::{Arena, Ref};
+use judy_arena::Arena;
+use judy_refs::Ref;
 use judy_tree::{leads_to_branch, population};
 
 /// The entry of the least key that is at least `x`.

@@ -11,7 +11,7 @@ use Rattle.std.proofs.lemmas.Bool.{false_from_ne_true}
 use Rattle.std.proofs.lemmas.Option.{none-some}
 use Rattle.judy_arena.specs.Blocks.{Blocks, block, without}
 use Rattle.judy_arena.specs.Frame.{holds, Frame}
-use Rattle.judy_arena.specs.References.{number_of}
+use Rattle.judy_refs.specs.References.{number_of}
 use Rattle.judy_arena.specs.Totals.{are_distinct}
 use Rattle.judy_arena.proofs.lemmas.FrameLaws.{holds-append, frame-release}
 use Rattle.judy_model.specs.Contents.{Entries, word_order, value_of, first, next}

@@ -4,7 +4,7 @@ use Rattle.std.proofs.Common.{◌≡◌, ◌≢◌, ℕ, zero, suc, ◌*◌, ◌
 use Rattle.std.proofs.Common.{Some, None, ap, ◌∙◌, refl, arith}
 use Rattle.judy_arena.specs.Blocks.{Blocks, words_of, without}
 use Rattle.judy_arena.specs.Frame.{Frame}
-use Rattle.judy_arena.specs.References.{number_of}
+use Rattle.judy_refs.specs.References.{number_of}
 use Rattle.judy_arena.proofs.lemmas.FrameLaws.{undone}
 use Rattle.judy_model.specs.Contents.{Entries, string_order, word_order, value_of, has_key, with_entry}
 use Rattle.judy_tree.specs.Root.{IsRoot, entries, numbers}

@@ -11,7 +11,7 @@ use Rattle.std.proofs.lemmas.Bool.{false≢true as not_true}
 use Rattle.judy_arena.specs.Blocks.{Blocks, ArenaState, block, is_live, put, words_of, without}
 use Rattle.judy_arena.specs.Frame.{Frame}
 use Rattle.judy_arena.specs.Room.{room}
-use Rattle.judy_arena.specs.References.{number_of}
+use Rattle.judy_refs.specs.References.{number_of}
 use Rattle.judy_arena.proofs.lemmas.BlockLaws.{block-put, words-at}
 use Rattle.judy_arena.proofs.lemmas.RoomLaws.{room-least}
 use Rattle.judy_arena.proofs.lemmas.FrameLaws.{frame-put, frame-stays}

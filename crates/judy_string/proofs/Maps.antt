@@ -4,7 +4,7 @@ use Rattle.std.specs.Prelude.{nat_le}
 use Rattle.std.proofs.Common.{◌≡◌, ℕ, ◌+◌, ◌*◌, ◌<◌, ◌≤◌, length, Bool, true, false, ◌&&◌, ◌||◌, ◌==◌, [], ap, sym, ◌∙◌, refl, subst, arith}
 use Rattle.judy_arena.specs.Blocks.{Blocks, block, is_live, words_of}
 use Rattle.judy_arena.specs.Frame.{holds}
-use Rattle.judy_arena.specs.References.{kind_part, is_reference}
+use Rattle.judy_refs.specs.References.{kind_part, is_reference}
 use Rattle.judy_arena.specs.Totals.{words_over}
 use Rattle.judy_model.specs.Contents.{HasWordValues}
 use Rattle.judy_tree.specs.Root.{IsRoot, entries, numbers, Spells}

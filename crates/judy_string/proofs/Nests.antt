@@ -18,7 +18,7 @@ use Rattle.judy_string.proofs.Maps.{map-kind}
 use Rattle.judy_string.proofs.Onces.{once-of, of-once}
 use Rattle.std.specs.Bool.{MatchBool}
 use Rattle.std.proofs.lemmas.Bool.{false≢true as not_true}
-use Rattle.judy_arena.specs.References.{number_of}
+use Rattle.judy_refs.specs.References.{number_of}
 use Rattle.judy_arena.specs.Totals.{are_distinct}
 use Rattle.judy_string.specs.Suffixes.{is_suffix, suffix_entry, IsSuffix}
 use Rattle.judy_packing.specs.Packing.{pack, word_bytes, is_last, IsString}

@@ -8,7 +8,7 @@ use Rattle.std.specs.FinMap.Entries.{below_all}
 use Rattle.judy_arena.specs.Blocks.{Blocks, words_of}
 use Rattle.judy_arena.specs.Totals.{words_over}
 use Rattle.judy_model.specs.Pieces.{pieces_of, string_pieces}
-use Rattle.judy_arena.specs.References.{number_of}
+use Rattle.judy_refs.specs.References.{number_of}
 use Rattle.judy_model.specs.Contents.{Entries, word_order, value_of}
 use Rattle.judy_model.proofs.lemmas.EntryLemmas.{lt_of}
 use Rattle.judy_tree.specs.Root.{IsRoot, entries, numbers as own_numbers}

@@ -5,7 +5,7 @@ use Rattle.std.specs.Ordering.{eq_by_cmp}
 use Rattle.std.proofs.lemmas.Bool.{false≢true as not_true}
 use Rattle.judy_arena.specs.Blocks.{Blocks, ArenaState, words_of, without}
 use Rattle.judy_arena.specs.Frame.{Frame}
-use Rattle.judy_arena.specs.References.{number_of, is_reference}
+use Rattle.judy_refs.specs.References.{number_of, is_reference}
 use Rattle.judy_arena.proofs.lemmas.FrameLaws.{frame-release}
 use Rattle.judy_model.specs.Contents.{string_order, word_order, value_of, with_entry, without_key}
 use Rattle.judy_tree.specs.Root.{IsRoot, entries, numbers as own_numbers}

@@ -5,8 +5,8 @@ use Rattle.std.proofs.lemmas.Bool.Decides.{nat_tests}
 use Rattle.judy_arena.specs.Blocks.{Blocks, words_of, is_live}
 use Rattle.judy_arena.specs.Room.{room}
 use Rattle.judy_arena.proofs.lemmas.RoomLaws.{room-covers}
-use Rattle.judy_arena.specs.References.{number_of, word_of}
-use Rattle.judy_arena.specs.declared.refs.Kind.TheVariants.{Suffix}
+use Rattle.judy_refs.specs.References.{number_of, word_of}
+use Rattle.judy_refs.specs.declared.Kind.TheVariants.{Suffix}
 use Rattle.std.proofs.lemmas.Nat.{div-mul-add, mod-mul-add}
 use Rattle.judy_model.specs.Contents.{string_order, value_of}
 use Rattle.judy_model.proofs.lemmas.EntryLemmas.{string_is}

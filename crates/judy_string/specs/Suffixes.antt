@@ -6,8 +6,8 @@ use Rattle.std.specs.Prelude.{◌≡◌, ℕ, ◌+◌, ◌*◌, ◌/◌, ◌^◌
 use Rattle.judy_arena.specs.Blocks.{Blocks, is_live, words_of, put}
 use Rattle.judy_arena.specs.Frame.{Frame}
 use Rattle.judy_arena.specs.Room.{room}
-use Rattle.judy_arena.specs.References.{leads_to, number_of}
-use Rattle.judy_arena.specs.declared.refs.Kind.TheVariants.{Suffix}
+use Rattle.judy_refs.specs.References.{leads_to, number_of}
+use Rattle.judy_refs.specs.declared.Kind.TheVariants.{Suffix}
 use Rattle.judy_packing.specs.Packing.{word_bytes, IsString, packed}
 
 -- whether a reference leads to a suffix block

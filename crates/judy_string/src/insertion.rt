@@ -13,9 +13,10 @@ ghost use Rattle.judy_tree.specs.Calls.{most_blocks};
 use crate::nodes::{clear, tail};
 use crate::{suffix, words};
 use arrayvec::ArrayVec;
-use judy_arena::{Arena, NoMemory, Ref};
+use judy_arena::{Arena, NoMemory};
 use judy_model::{Given, KEY_LIMIT};
 use judy_packing::word_at;
+use judy_refs::Ref;
 use judy_words::Inserted;
 use std::alloc::Global;
 

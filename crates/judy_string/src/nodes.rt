@@ -8,8 +8,9 @@ ghost use Rattle.judy_string.specs.Changes.{IsRest, IsWritten, RemovesString};
 ghost use Rattle.judy_string.specs.Strings.{IsNestedAt, IsSpelt, nested_content_at, nested_numbers_at, content_under, numbers_under};
 
 use crate::{suffix, words};
-use judy_arena::{Arena, Ref};
+use judy_arena::Arena;
 use judy_packing::word_at;
+use judy_refs::Ref;
 use judy_words::JudyL;
 
 /// The bytes of a string after its first word.

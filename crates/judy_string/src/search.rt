@@ -12,9 +12,10 @@ ghost use Rattle.judy_string.specs.Suffixes.{is_suffix, suffix_entry, IsSuffix};
 use crate::nodes::{is_last, tail};
 use crate::suffix;
 use arrayvec::ArrayVec;
-use judy_arena::{Arena, Ref};
+use judy_arena::Arena;
 use judy_model::KEY_LIMIT;
 use judy_packing::{byte, word_at};
+use judy_refs::Ref;
 use judy_words::{Finger, JudyL};
 use std::cmp::Ordering;
 

@@ -3,7 +3,7 @@ ghost use Rattle.std.specs.Prelude.{◌≡◌, ◌+◌, ◌*◌, ◌≤◌, ◌<
 ghost use Rattle.arrayvec.specs.ArrayVec.{array_vec_len};
 ghost use Rattle.judy_arena.specs.Blocks.{words_of, without};
 ghost use Rattle.judy_arena.specs.Frame.{Frame};
-ghost use Rattle.judy_arena.specs.References.{number_of};
+ghost use Rattle.judy_refs.specs.References.{number_of};
 ghost use Rattle.judy_arena.specs.Takes.{Takes, TakesNothing};
 ghost use Rattle.judy_model.specs.Contents.{string_order, value_of};
 ghost use Rattle.judy_words.specs.LongArrays.{CountsRefusals};
@@ -12,9 +12,10 @@ ghost use Rattle.judy_string.specs.Suffixes.{is_suffix, suffix_words, suffix_ent
 
 use crate::search::push_word;
 use arrayvec::ArrayVec;
-use judy_arena::{Arena, Kind, NoMemory, Ref};
+use judy_arena::{Arena, NoMemory};
 use judy_model::KEY_LIMIT;
 use judy_packing::word_at;
+use judy_refs::{Kind, Ref};
 use std::alloc::Global;
 
 /// Whether a reference leads to a suffix block.

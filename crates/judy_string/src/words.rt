@@ -5,8 +5,9 @@ ghost use Rattle.judy_words.specs.LongArrays.{IsLongArray, long_in, CountsRefusa
 ghost use Rattle.judy_model.specs.Contents.{word_order, value_of, has_key};
 ghost use Rattle.judy_string.specs.Changes.{IsGiven, IsPut, IsTakenWord};
 
-use judy_arena::{Arena, NoMemory, Ref};
+use judy_arena::{Arena, NoMemory};
 use judy_model::Given;
+use judy_refs::Ref;
 use judy_tree::Root;
 use judy_words::{Inserted, JudyL};
 use std::alloc::Global;

@@ -24,7 +24,7 @@ use Rattle.judy_branch.specs.Branch.{IsBranchOf}
 use Rattle.std.specs.Prelude.{Result, Ok, Err, IfOk, OnErr, IsErr, is_ok, if◌then◌else◌}
 use Rattle.std.proofs.lemmas.Bool.{false≢true as not_true}
 use Rattle.judy_arena.specs.Blocks.{ArenaState, count_up}
-use Rattle.judy_arena.specs.declared.refs.Ref.{Ref}
+use Rattle.judy_refs.specs.declared.Ref.{Ref}
 use Rattle.judy_arena.specs.declared.blocks.NoMemory.{NoMemory}
 use Rattle.judy_tree.specs.Nodes.{head_at, is_branch, joined, IsKid, depth}
 use Rattle.judy_tree.specs.Root.{entries, numbers, IsRoot}

@@ -10,7 +10,7 @@ use Rattle.judy_branch.specs.Branch.{IsBranchOf, branch_view, branch_number, wit
 use Rattle.judy_tree.specs.Nodes.{head_at, is_branch}
 use Rattle.judy_tree.specs.Root.{IsRoot, entries, numbers}
 use Rattle.judy_tree.specs.Calls.{NodeGrows, HasAdded}
-use Rattle.judy_arena.specs.References.{kind_of}
+use Rattle.judy_refs.specs.References.{kind_of}
 use Rattle.judy_leaf.specs.Leaf.{IsLeaf, CannotTake, leaf_entries}
 use Rattle.judy_tree.specs.Split.{MustSplit}
 use Rattle.judy_tree.specs.Changes.{Puts}

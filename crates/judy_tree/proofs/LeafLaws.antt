@@ -4,7 +4,7 @@ use Rattle.std.specs.Prelude.{nat_lt, IsTrue, ◌==◌, ◌&&◌}
 use Rattle.std.proofs.lemmas.Bool.Decides.{nat_tests}
 use Rattle.std.specs.List.{list_all}
 use Rattle.judy_arena.specs.Blocks.{Blocks, block, is_live, words_of}
-use Rattle.judy_arena.specs.References.{kind_part, kind_of, is_reference}
+use Rattle.judy_refs.specs.References.{kind_part, kind_of, is_reference}
 use Rattle.judy_arena.specs.Frame.{holds}
 use Rattle.judy_arena.specs.Totals.{are_distinct, words_over}
 use Rattle.judy_model.specs.Contents.{Entries, IsWordArray, HasWordValues}

@@ -28,7 +28,7 @@ use Rattle.judy_arena.specs.Totals.{are_distinct}
 use Rattle.judy_tree.specs.Fork.{IsFork}
 use Rattle.judy_tree.specs.Split.{IsRun, CanSpread, IsPartly, IsSpread, Spreads, SpreadsRest, IsGivenUp}
 use Rattle.judy_arena.specs.Blocks.{ArenaState, count_up}
-use Rattle.judy_arena.specs.declared.refs.Ref.{Ref}
+use Rattle.judy_refs.specs.declared.Ref.{Ref}
 use Rattle.judy_arena.specs.declared.blocks.NoMemory.{NoMemory}
 use Rattle.judy_arena.proofs.lemmas.FrameLaws.{frame-stays}
 use Rattle.judy_tree.proofs.LeafLaws.{leaf-kind, leaf-live, leaf-kept, leaf-words, leaf-once, Kept as LeafKept}

@@ -2,7 +2,7 @@
 use Rattle.std.specs.Prelude.{◌≡◌, ◌≢◌, ℕ, ◌+◌, ◌<◌, ◌≤◌, ◌%◌, Bool, List, [], ◌∷◌, Result, Ok, Err}
 use Rattle.judy_arena.specs.Blocks.{Blocks, ArenaState}
 use Rattle.judy_arena.specs.Frame.{Frame}
-use Rattle.judy_arena.specs.declared.refs.Ref.{Ref}
+use Rattle.judy_refs.specs.declared.Ref.{Ref}
 use Rattle.judy_arena.specs.declared.blocks.NoMemory.{NoMemory}
 use Rattle.judy_model.specs.Contents.{word_order, with_entry}
 use Rattle.judy_branch.specs.Branch.{IsBranch, View, branch_view, branch_number}

@@ -3,7 +3,7 @@ use Rattle.std.specs.Prelude.{◌≡◌, ℕ, ◌+◌, ◌*◌, ◌<◌, ◌≤�
 use Rattle.std.specs.List.{list_all}
 use Rattle.judy_arena.specs.Blocks.{Blocks, ArenaState, block, is_live, words_of}
 use Rattle.judy_arena.specs.Totals.{are_distinct, words_over}
-use Rattle.judy_arena.specs.References.{kind_part, is_reference}
+use Rattle.judy_refs.specs.References.{kind_part, is_reference}
 use Rattle.judy_arena.specs.Frame.{holds, Frame, AreApart}
 use Rattle.judy_model.specs.Contents.{Entries, IsWordArray, HasWordValues}
 use Rattle.judy_tree.specs.Root.{IsRoot, Spells, HasRootSpace, numbers}

@@ -7,8 +7,8 @@
 use Rattle.std.specs.Prelude.{◌≡◌, ℕ, zero, suc, ◌+◌, ◌-◌, ◌*◌, ◌/◌, ◌^◌, ◌<◌, Bool, true, false, cond, List, [], ◌∷◌, ◌++◌, length, IsTrue, nat_lt}
 use Rattle.std.specs.Bool.{MatchBool}
 use Rattle.judy_arena.specs.Blocks.{Blocks}
-use Rattle.judy_arena.specs.References.{kind_part, kind_number}
-use Rattle.judy_arena.specs.declared.refs.Kind.TheVariants.{FullLeaf}
+use Rattle.judy_refs.specs.References.{kind_part, kind_number}
+use Rattle.judy_refs.specs.declared.Kind.TheVariants.{FullLeaf}
 use Rattle.judy_arena.specs.Totals.{are_distinct}
 use Rattle.judy_model.specs.Contents.{Entries}
 use Rattle.judy_tree.specs.Each.{Each}

@@ -2,7 +2,7 @@
 use Rattle.std.specs.Prelude.{◌≡◌, ◌≢◌, ℕ, ◌+◌, ◌-◌, ◌/◌, ◌<◌, ◌≤◌, Bool, true, false, List, [], length, take, Result, Ok, Err}
 use Rattle.judy_arena.specs.Blocks.{Blocks, ArenaState, count_up}
 use Rattle.judy_arena.specs.Frame.{Frame, holds}
-use Rattle.judy_arena.specs.declared.refs.Ref.{Ref}
+use Rattle.judy_refs.specs.declared.Ref.{Ref}
 use Rattle.judy_arena.specs.declared.blocks.NoMemory.{NoMemory}
 use Rattle.judy_model.specs.Contents.{Entries}
 use Rattle.judy_leaf.specs.Leaf.{IsLeaf, leaf_entries, leaf_numbers}

@@ -1,5 +1,5 @@
 //! The answer of the calls that insert.
-use judy_arena::Ref;
+use judy_refs::Ref;
 
 /// What an insertion answers.
 #[derive(Clone, Copy, Debug, PartialEq, Eq)]

@@ -11,8 +11,9 @@ ghost use Rattle.judy_tree.specs.Fork.{Differ, CanFork, Forks};
 
 use crate::answers::Inserted;
 use crate::node::population;
-use judy_arena::{Arena, NoMemory, Ref};
+use judy_arena::{Arena, NoMemory};
 use judy_branch::Head;
+use judy_refs::Ref;
 use std::alloc::Global;
 
 /// Whether the reference leads to a branch.

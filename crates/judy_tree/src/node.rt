@@ -11,9 +11,10 @@ ghost use Rattle.judy_tree.specs.Calls.{Adds, TakesBelow, most_blocks};
 use crate::answers::Inserted;
 use crate::fork::{above, beside, byte_at, byte_of, leads_to_branch};
 use crate::split::{split_level, spread};
-use judy_arena::{Arena, NoMemory, Ref};
+use judy_arena::{Arena, NoMemory};
 use judy_branch::Taken;
 use judy_leaf::{Put, Removed};
+use judy_refs::Ref;
 use std::alloc::Global;
 
 /// The value of the key, 0 in a set. None if the key is absent.

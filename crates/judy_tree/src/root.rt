@@ -6,8 +6,9 @@ ghost use Rattle.judy_tree.specs.Root.{IsRoot, entries, HasRootSpace};
 
 use crate::answers::Inserted;
 use crate::node;
-use judy_arena::{Arena, NoMemory, Ref};
+use judy_arena::{Arena, NoMemory};
 use judy_leaf::Removed;
+use judy_refs::Ref;
 use std::alloc::Global;
 
 /// An array of words, by its reference. With `VALUES` it is a map from words to words. Without, it

@@ -1,6 +1,6 @@
 //! Splits a leaf: its keys go to leaves of their own under a branch, one for each byte at a level.
 ghost use Rattle.std.specs.Prelude.{◌≡◌, ◌*◌, ◌-◌, ◌<◌, ◌≤◌, IfSome, IfNone, IsFalse, length};
-ghost use Rattle.judy_arena.specs.References.{kind_of};
+ghost use Rattle.judy_refs.specs.References.{kind_of};
 ghost use Rattle.judy_arena.specs.Takes.{Takes};
 ghost use Rattle.judy_model.specs.Contents.{word_order, has_key};
 ghost use Rattle.judy_leaf.specs.Leaf.{IsLeaf, leaf_entries, CannotTake};
@@ -9,7 +9,8 @@ ghost use Rattle.judy_tree.specs.Split.{IsRun, CanSpread, MustSplit, IsPartly, S
 
 use crate::fork::{byte_of, difference, fork, head};
 use crate::node::clear;
-use judy_arena::{Arena, NoMemory, Ref};
+use judy_arena::{Arena, NoMemory};
+use judy_refs::Ref;
 use std::alloc::Global;
 
 // How many keys of a leaf, from a place on, agree with the key at that place up to the level.

@@ -12,9 +12,10 @@ ghost use Rattle.judy_model.specs.declared.replies.Reply.TheVariants as reply;
 ghost use Rattle.judy_tree.specs.Changes.{IsRefused};
 ghost use Rattle.judy_query.specs.Keys.{key_found};
 
-use judy_arena::{Arena, NoMemory, Ref};
+use judy_arena::{Arena, NoMemory};
 use judy_model::{Given, LongCall, Reply};
 use judy_query::Finger;
+use judy_refs::Ref;
 use judy_tree::{Inserted, Root};
 use std::alloc::Global;
 use std::marker::Model;

@@ -11,8 +11,9 @@ ghost use Rattle.judy_words.specs.OneArrays.{IsOneArray, one_in, index_shown, On
 ghost use Rattle.judy_tree.specs.Changes.{IsRefused};
 ghost use Rattle.judy_query.specs.Keys.{key_found};
 
-use judy_arena::{Arena, NoMemory, Ref};
+use judy_arena::{Arena, NoMemory};
 use judy_model::{OneCall, Reply};
+use judy_refs::Ref;
 use judy_tree::Root;
 use std::alloc::Global;
 use std::marker::Model;

@@ -4,7 +4,8 @@
 mod held;
 
 use held::{Held, Left, reference_of};
-use judy_arena::{NoMemory, Ref};
+use judy_arena::NoMemory;
+use judy_refs::Ref;
 use std::alloc::Global;
 use std::process::Abort;
 use std::test::Fail;

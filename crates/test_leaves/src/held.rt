@@ -1,11 +1,12 @@
 //! A leaf in an arena of its own.
 ghost use Rattle.std.specs.Prelude.{◌≡◌, IsFalse};
 
-use judy_arena::{Arena, Kind, Ref};
+use judy_arena::Arena;
 use judy_leaf::{
     Put, Removed, count, find, first_empty, first_entry, get, insert, key_at, last_empty,
     last_entry, nth, part, population, release, remove, single, write,
 };
+use judy_refs::{Kind, Ref};
 use std::alloc::Global;
 use std::marker::Model;
 

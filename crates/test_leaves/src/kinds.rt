@@ -1,8 +1,8 @@
 //! What no contract of a leaf states as a number: its kind and the words of its block at every
 //! count. Each request for memory may be refused once.
 use crate::held::{Held, given};
-use judy_arena::Kind;
 use judy_leaf::{Put, Removed};
+use judy_refs::Kind;
 use std::alloc::Global;
 use std::process::Abort;
 

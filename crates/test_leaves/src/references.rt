@@ -1,5 +1,5 @@
 //! References, compared with words written out by hand.
-use judy_arena::{Kind, Ref};
+use judy_refs::{Kind, Ref};
 use std::test::Fail;
 
 const KINDS: [(Kind, u64); 8] = [

@@ -4,7 +4,8 @@ ghost use Rattle.judy_branch.specs.Branch.{IsBranch};
 
 use crate::full;
 use crate::grown::{Entries, Grown, Trial, insert_given_each};
-use judy_arena::{Arena, NoMemory, Ref};
+use judy_arena::{Arena, NoMemory};
+use judy_refs::Ref;
 use std::alloc::Global;
 use std::marker::Model;
 use std::process::Abort;

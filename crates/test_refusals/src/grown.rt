@@ -5,7 +5,8 @@ ghost use Rattle.std.specs.Prelude.{◌≤◌};
 
 use crate::full::{CHUNK, SIZES, arena_with};
 use crate::words::{Case, key};
-use judy_arena::{Arena, Block, NoMemory, Ref};
+use judy_arena::{Arena, Block, NoMemory};
+use judy_refs::Ref;
 use std::alloc::Global;
 use std::process::Abort;
 

@@ -4,8 +4,9 @@ ghost use Rattle.std.specs.Prelude.{◌≤◌};
 use crate::full;
 use crate::grown::{Entries, Grown, insert_given_each};
 use crate::words::{Case, given, trial};
-use judy_arena::{Arena, NoMemory, Ref};
+use judy_arena::{Arena, NoMemory};
 use judy_leaf::Put;
+use judy_refs::Ref;
 use std::alloc::Global;
 use std::marker::Model;
 

@@ -2,9 +2,10 @@
 ghost use Rattle.std.specs.Prelude.{◌<◌, OnOk, IsTrue};
 ghost use Rattle.std.specs.FinMap as map;
 
-use judy_arena::{NoMemory, Ref};
+use judy_arena::NoMemory;
 use judy_directory::{ArrayKind, Directory, Place, Spot};
 use judy_model::Name;
+use judy_refs::Ref;
 use std::alloc::Global;
 use std::process::Abort;
 use std::test::Fail;

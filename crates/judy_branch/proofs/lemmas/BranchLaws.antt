@@ -6,9 +6,9 @@ use Rattle.std.proofs.lemmas.Bool.{cases_eq, cases_lt}
 use Rattle.std.specs.List.{list_all}
 use Rattle.std.specs.FinMap.{is_sorted}
 use Rattle.judy_arena.specs.Room.{room}
-use Rattle.judy_arena.specs.declared.refs.Kind.{Kind}
-use Rattle.judy_arena.specs.declared.refs.Kind.TheVariants.{LinearLeaf, BitmapLeaf, FullLeaf, LinearBranch, BitmapBranch, FullBranch, Suffix, Bucket}
-use Rattle.judy_arena.specs.References.{kind_part, kind_of_number}
+use Rattle.judy_refs.specs.declared.Kind.{Kind}
+use Rattle.judy_refs.specs.declared.Kind.TheVariants.{LinearLeaf, BitmapLeaf, FullLeaf, LinearBranch, BitmapBranch, FullBranch, Suffix, Bucket}
+use Rattle.judy_refs.specs.References.{kind_part, kind_of_number}
 use Rattle.judy_arena.proofs.lemmas.BlockLaws.{live-words}
 use Rattle.judy_model.specs.Contents.{word_order}
 use Rattle.judy_branch.specs.declared.shape.Shape.{Shape}

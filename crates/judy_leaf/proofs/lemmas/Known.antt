@@ -6,9 +6,9 @@ use Rattle.std.specs.Prelude.{nat_le, nat_lt}
 use Rattle.judy_arena.specs.Blocks.{Blocks, words_of}
 use Rattle.judy_arena.specs.Frame.{holds}
 use Rattle.judy_arena.specs.Room.{room}
-use Rattle.judy_arena.specs.References.{kind_part, kind_of, kind_of_number, block_of, is_reference}
-use Rattle.judy_arena.specs.declared.refs.Kind.{Kind}
-use Rattle.judy_arena.specs.declared.refs.Kind.TheVariants.{LinearLeaf, BitmapLeaf, FullLeaf, LinearBranch, BitmapBranch, FullBranch, Suffix, Bucket}
+use Rattle.judy_refs.specs.References.{kind_part, kind_of, kind_of_number, block_of, is_reference}
+use Rattle.judy_refs.specs.declared.Kind.{Kind}
+use Rattle.judy_refs.specs.declared.Kind.TheVariants.{LinearLeaf, BitmapLeaf, FullLeaf, LinearBranch, BitmapBranch, FullBranch, Suffix, Bucket}
 use Rattle.judy_arena.proofs.lemmas.RoomLaws.{room-tight}
 use Rattle.judy_leaf.specs.Leaf.{IsLeaf, IsSoundBy, leaf_numbers, leaf_words}
 use Rattle.judy_leaf.specs.Linear.{leaf_count, linear_size}

@@ -7,9 +7,9 @@ use Rattle.judy_arena.specs.Blocks.{Blocks, ArenaState, count_up, words_of, is_l
 use Rattle.judy_arena.specs.LendingBlocks.{written_over}
 use Rattle.judy_arena.specs.Frame.{holds, Frame}
 use Rattle.judy_arena.specs.Room.{room}
-use Rattle.judy_arena.specs.References.{kind_of, block_of, number_of}
-use Rattle.judy_arena.specs.declared.refs.Kind.{Kind}
-use Rattle.judy_arena.specs.declared.refs.Kind.TheVariants.{LinearLeaf, BitmapLeaf, FullLeaf, LinearBranch, BitmapBranch, FullBranch, Suffix, Bucket}
+use Rattle.judy_refs.specs.References.{kind_of, block_of, number_of}
+use Rattle.judy_refs.specs.declared.Kind.{Kind}
+use Rattle.judy_refs.specs.declared.Kind.TheVariants.{LinearLeaf, BitmapLeaf, FullLeaf, LinearBranch, BitmapBranch, FullBranch, Suffix, Bucket}
 use Rattle.judy_arena.proofs.lemmas.BlockLaws.{live-words, words-put, itself, same_test}
 use Rattle.judy_arena.proofs.lemmas.FrameLaws.{frame-same, frame-alloc, frame-release, frame-write, holds-one}
 use Rattle.judy_model.specs.Contents.{Entries, word_order, has_key}

@@ -7,10 +7,10 @@ use Rattle.std.specs.List.{list_all, zip}
 use Rattle.std.proofs.lemmas.Bool.Decides.{nat_tests}
 use Rattle.judy_arena.specs.Blocks.{Blocks, block, words_of, is_live}
 use Rattle.judy_arena.specs.Frame.{holds}
-use Rattle.judy_arena.specs.References.{kind_of, kind_of_number, kind_part, block_of}
+use Rattle.judy_refs.specs.References.{kind_of, kind_of_number, kind_part, block_of}
 use Rattle.judy_arena.specs.Totals.{are_distinct, words_over}
-use Rattle.judy_arena.specs.declared.refs.Kind.{Kind}
-use Rattle.judy_arena.specs.declared.refs.Kind.TheVariants.{LinearLeaf, BitmapLeaf, FullLeaf, LinearBranch, BitmapBranch, FullBranch, Suffix, Bucket}
+use Rattle.judy_refs.specs.declared.Kind.{Kind}
+use Rattle.judy_refs.specs.declared.Kind.TheVariants.{LinearLeaf, BitmapLeaf, FullLeaf, LinearBranch, BitmapBranch, FullBranch, Suffix, Bucket}
 use Rattle.judy_arena.proofs.lemmas.BlockLaws.{live-words, itself, same_test}
 use Rattle.judy_arena.proofs.lemmas.FrameLaws.{frame-stays, holds-one}
 use Rattle.judy_bitmap.proofs.lemmas.Each.{Each}

@@ -2,7 +2,7 @@
 use Rattle.std.proofs.Common.{◌≡◌, ◌≢◌, ℕ, ◌-◌, ◌*◌, ◌<◌, ◌≤◌, ◌%◌, ◌^◌, Bool, true, false, List, [], ◌∷◌, length, ap, sym, ◌∙◌, refl, subst, arith}
 use Rattle.std.specs.Prelude.{nat_lt, IsTrue}
 use Rattle.judy_arena.specs.Blocks.{Blocks, block, is_live, words_of}
-use Rattle.judy_arena.specs.References.{kind_part, is_reference}
+use Rattle.judy_refs.specs.References.{kind_part, is_reference}
 use Rattle.judy_model.specs.Contents.{word_order, IsRising}
 use Rattle.std.specs.Prelude.{not, ◌&&◌, ◌==◌}
 use Rattle.std.specs.List.{list_all}

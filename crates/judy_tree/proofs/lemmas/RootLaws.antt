@@ -21,7 +21,7 @@ use Rattle.std.proofs.Common.{◌||◌, ◌&&◌}
 use Rattle.std.proofs.lemmas.Bool.Decides.{nat_tests}
 use Rattle.std.specs.Prelude.{nat_le, nat_lt}
 use Rattle.std.proofs.Math.Bool.{or-true}
-use Rattle.judy_arena.specs.References.{kind_part, is_reference}
+use Rattle.judy_refs.specs.References.{kind_part, is_reference}
 use Rattle.judy_tree.proofs.LeafLaws.{leaf-none, leaf-empty, leaf-reference}
 use Rattle.judy_tree.proofs.lemmas.BranchLaws.{branch-most}
 use Rattle.judy_tree.proofs.lemmas.Trees.{root-kept, root-framed, numbers-live, numbers-once, root-words, root-values}

@@ -1,11 +1,12 @@
 //! A branch in an arena of its own.
 ghost use Rattle.std.specs.Prelude.{◌≡◌, ◌≢◌, ◌<◌, ◌%◌, ◌^◌, IfSome};
 
-use judy_arena::{Arena, NoMemory, Ref};
+use judy_arena::{Arena, NoMemory};
 use judy_branch::{
     Head, Taken, child, head, last_child, level, make, next_child, population, prefix, prev_child,
     put_child, release, set_child, slots, take_child,
 };
+use judy_refs::Ref;
 use std::alloc::Global;
 use std::marker::Model;
 

@@ -1,7 +1,8 @@
 //! A worked row: three leaves of one key, a branch of two of them, and the third inserted. The
 //! first leaf takes a chunk, which has room for all. That request may be refused once.
-use judy_arena::{Arena, Ref};
+use judy_arena::Arena;
 use judy_leaf::Put;
+use judy_refs::Ref;
 use std::alloc::Global;
 use std::process::Abort;
 use std::test::Fail;

@@ -1,7 +1,7 @@
 use Rattle.std.proofs.Common.{◌≡◌, ◌≢◌, ◌%◌, ◌∷◌, [], ℕ, List, get_or, length, refl, ap, sym, ◌∙◌, subst, arith}
 use Rattle.std.specs.Prelude.{IsTrue}
 use Rattle.judy_arena.specs.Blocks.{words_of}
-use Rattle.judy_arena.specs.References.{is_reference}
+use Rattle.judy_refs.specs.References.{is_reference}
 use Rattle.judy_arena.specs.Frame.{Frame}
 use Rattle.judy_model.specs.Contents.{word_order, has_key, without_key}
 use Rattle.judy_branch.specs.Children.{IsLaid, count_in, children_in}

@@ -2,7 +2,7 @@ use Rattle.std.proofs.Common.{◌<◌, length, sym, ◌∙◌, subst, arith}
 use Rattle.judy_arena.specs.Blocks.{words_of}
 use Rattle.judy_bytes.proofs.Below.{room-small}
 use Rattle.judy_bytes.proofs.Buckets.{bucket-long, bucket-small}
-use Rattle.judy_arena.specs.References.{number_of}
+use Rattle.judy_refs.specs.References.{number_of}
 use Rattle.judy_arena.proofs.lemmas.RoomLaws.{room-covers}
 use Rattle.judy_model.proofs.lemmas.EntryLemmas.{same_Some}
 use Rattle.judy_bytes.proofs.chain.release.Goals as goal

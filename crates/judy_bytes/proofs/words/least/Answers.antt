@@ -1,5 +1,5 @@
 use Rattle.std.proofs.Common.{◌≡◌, ◌∙◌, ap, sym, subst, unwrap_or, is_some, true}
-use Rattle.judy_arena.specs.References.{is_reference}
+use Rattle.judy_refs.specs.References.{is_reference}
 use Rattle.judy_words.specs.LongArrays.{long_in}
 use Rattle.judy_bytes.proofs.Least.{least-some, least-none, if-none}
 use Rattle.judy_bytes.proofs.words.least.Goals as goal

@@ -1,7 +1,7 @@
 use Rattle.std.proofs.Common.{Some, ap, sym, ◌∙◌, refl, subst, [], ◌∷◌}
 use Rattle.judy_arena.specs.Blocks.{words_of}
-use Rattle.judy_arena.specs.References.{kind_of}
-use Rattle.judy_arena.specs.declared.refs.Kind.TheVariants.{LinearLeaf}
+use Rattle.judy_refs.specs.References.{kind_of}
+use Rattle.judy_refs.specs.declared.Kind.TheVariants.{LinearLeaf}
 use Rattle.judy_leaf.specs.Calls.{Makes}
 use Rattle.judy_leaf.specs.Linear.{linear_entries}
 use Rattle.judy_leaf.specs.Bytes.{bitmap_entries}

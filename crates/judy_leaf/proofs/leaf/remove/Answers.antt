@@ -1,6 +1,6 @@
 use Rattle.std.proofs.Common.{ap, sym, ◌∙◌, refl, [], ◌∷◌}
 use Rattle.judy_arena.specs.Blocks.{words_of}
-use Rattle.judy_arena.specs.declared.refs.Kind.TheVariants.{LinearLeaf}
+use Rattle.judy_refs.specs.declared.Kind.TheVariants.{LinearLeaf}
 use Rattle.judy_model.specs.Contents.{word_order, has_key}
 use Rattle.judy_leaf.specs.Linear.{linear_entries}
 use Rattle.judy_leaf.specs.Bytes.{bitmap_entries}

@@ -1,6 +1,6 @@
 use Rattle.std.proofs.Common.{◌≡◌, Bool, List, ℕ, true, ap, sym, ◌∙◌, refl, subst, length}
 use Rattle.judy_arena.specs.Blocks.{words_of}
-use Rattle.judy_arena.specs.declared.refs.Kind.TheVariants.{LinearLeaf}
+use Rattle.judy_refs.specs.declared.Kind.TheVariants.{LinearLeaf}
 use Rattle.judy_model.specs.Contents.{word_order, has_key, with_entry}
 use Rattle.judy_leaf.specs.Linear.{linear_entries, linear_size, IsLinear, leaf_count}
 use Rattle.judy_leaf.specs.Leaf.{IsSized}

@@ -1,7 +1,7 @@
 use Rattle.std.proofs.Common.{length, [], ap, ◌∙◌, sym}
 use Rattle.judy_leaf.specs.Linear.{linear_size}
 use Rattle.judy_leaf.proofs.RoomFacts.{taken-sized}
-use Rattle.judy_arena.specs.declared.refs.Kind.TheVariants.{LinearLeaf}
+use Rattle.judy_refs.specs.declared.Kind.TheVariants.{LinearLeaf}
 use Rattle.judy_leaf.proofs.lemmas.LeafLaws.{lent-becomes, lent-words, taken-frame}
 use Rattle.judy_arena.proofs.lemmas.DrawLaws.{drew-block}
 use Rattle.judy_leaf.proofs.Draws.{size-at, zero-words}

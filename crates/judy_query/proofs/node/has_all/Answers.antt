@@ -2,8 +2,8 @@ use Rattle.std.proofs.Common.{◌≡◌, ℕ, true, arith, length, inl, inr, ap,
 use Rattle.std.specs.Prelude.{nat_lt}
 use Rattle.std.proofs.lemmas.Bool.{cases_eq}
 use Rattle.std.proofs.lemmas.Bool.Decides.{nat_tests}
-use Rattle.judy_arena.specs.References.{kind_of, kind_of_number, kind_part}
-use Rattle.judy_arena.specs.declared.refs.Kind.TheVariants.{FullLeaf}
+use Rattle.judy_refs.specs.References.{kind_of, kind_of_number, kind_part}
+use Rattle.judy_refs.specs.declared.Kind.TheVariants.{FullLeaf}
 use Rattle.judy_leaf.proofs.lemmas.LeafLaws.{full-length}
 use Rattle.judy_tree.specs.Nodes.{is_branch}
 use Rattle.judy_tree.specs.Root.{entries}

@@ -1,6 +1,6 @@
 use Rattle.std.proofs.Common.{◌<◌, true, length, ◌∙◌, ap, sym, subst}
 use Rattle.judy_arena.specs.Blocks.{words_of}
-use Rattle.judy_arena.specs.References.{number_of}
+use Rattle.judy_refs.specs.References.{number_of}
 use Rattle.judy_model.specs.Contents.{word_order, has_key, with_entry}
 use Rattle.judy_tree.specs.Root.{entries}
 use Rattle.judy_string.specs.Changes.{IsRewritten}

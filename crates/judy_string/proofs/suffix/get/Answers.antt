@@ -1,6 +1,6 @@
 use Rattle.std.proofs.Common.{◌≡◌, ◌+◌, ◌*◌, ◌<◌, Some, length, take, get_or, ◌∙◌, ap, sym, refl, subst, arith}
 use Rattle.judy_arena.specs.Blocks.{words_of}
-use Rattle.judy_arena.specs.References.{number_of}
+use Rattle.judy_refs.specs.References.{number_of}
 use Rattle.judy_string.specs.Suffixes.{suffix_string, suffix_words, suffix_size, packed_suffix}
 use Rattle.judy_string.proofs.Suffixes.{suffix-some, suffix-place, other-size, other-word, same-word, all-words}
 use Rattle.judy_string.proofs.suffix.get.Goals as goal

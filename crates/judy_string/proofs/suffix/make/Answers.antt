@@ -4,7 +4,7 @@ use Rattle.judy_arena.specs.Blocks.{ArenaState, Blocks, words_of}
 use Rattle.judy_arena.specs.Takes.{TakesNothing}
 use Rattle.judy_arena.proofs.lemmas.TakeLaws.{takes-rests, rests-two, same-rests}
 use Rattle.judy_arena.specs.Frame.{Frame}
-use Rattle.judy_arena.specs.References.{number_of}
+use Rattle.judy_refs.specs.References.{number_of}
 use Rattle.judy_arena.proofs.lemmas.FrameLaws.{frame-alloc, frame-write}
 use Rattle.judy_arena.proofs.lemmas.BlockLaws.{words-at, live-words, itself}
 use Rattle.judy_arena.specs.Room.{room}

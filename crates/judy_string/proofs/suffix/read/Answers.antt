@@ -1,6 +1,6 @@
 use Rattle.std.proofs.Common.{◌+◌, ◌*◌, ◌++◌, take, get_or, length, length-append, ◌∙◌, ap, sym, refl, subst, arith, append_assoc}
 use Rattle.std.specs.Prelude.{slice_index_or}
-use Rattle.judy_arena.specs.References.{number_of}
+use Rattle.judy_refs.specs.References.{number_of}
 use Rattle.judy_packing.specs.Packing.{word_bytes}
 use Rattle.judy_string.specs.Strings.{IsSpelt}
 use Rattle.judy_string.specs.Suffixes.{suffix_string, suffix_words, suffix_size}

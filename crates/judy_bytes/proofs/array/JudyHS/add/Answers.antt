@@ -1,6 +1,6 @@
 use Rattle.std.proofs.Common.{◌≡◌, ◌∙◌, ap, sym, subst, refl, Some, None}
 use Rattle.judy_arena.specs.Blocks.{count_up}
-use Rattle.judy_arena.specs.References.{number_of, block_of}
+use Rattle.judy_refs.specs.References.{number_of, block_of}
 use Rattle.judy_bytes.specs.Buckets.{IsBucket}
 use Rattle.judy_bytes.specs.BytesArrays.{first_at}
 use Rattle.judy_bytes.proofs.Changes.{map-found, still-words, still-there, still-absent, changed, taken-back}

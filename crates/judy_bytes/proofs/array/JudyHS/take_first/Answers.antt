@@ -1,6 +1,6 @@
 use Rattle.std.proofs.Common.{◌∙◌, ap, sym, subst, None, is_some}
 use Rattle.judy_arena.specs.Blocks.{words_of}
-use Rattle.judy_arena.specs.References.{number_of}
+use Rattle.judy_refs.specs.References.{number_of}
 use Rattle.judy_bytes.specs.Buckets.{bucket_key}
 use Rattle.judy_bytes.specs.Chains.{IsBucketChain}
 use Rattle.judy_bytes.proofs.Changes.{map-found, still-words, still-there, changed, hash-of}

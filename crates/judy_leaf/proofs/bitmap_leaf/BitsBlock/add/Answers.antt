@@ -2,7 +2,7 @@ use Rattle.std.proofs.Common.{◌≡◌, ◌+◌, ◌≤◌, length, List, ℕ, 
 use Rattle.judy_arena.specs.Blocks.{words_of}
 use Rattle.judy_model.specs.Contents.{word_order, with_entry, has_key}
 use Rattle.judy_leaf.specs.Linear.{leaf_count}
-use Rattle.judy_arena.specs.declared.refs.Kind.TheVariants.{BitmapLeaf}
+use Rattle.judy_refs.specs.declared.Kind.TheVariants.{BitmapLeaf}
 use Rattle.judy_leaf.specs.Bytes.{bitmap_entries, bitmap_size, IsBits}
 use Rattle.judy_leaf.proofs.RoomFacts.{covers, still-sized, newly-sized, bitmap-more, bitmap-most, holds_len}
 use Rattle.judy_leaf.proofs.BitmapLaws.{bits-live, bits-few, bits-share, moved-bits}

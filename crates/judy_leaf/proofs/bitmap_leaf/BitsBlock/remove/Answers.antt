@@ -2,7 +2,7 @@ use Rattle.std.proofs.Common.{◌≡◌, ◌+◌, ◌-◌, ◌<◌, ◌≤◌, c
 use Rattle.judy_arena.specs.Blocks.{words_of}
 use Rattle.judy_arena.specs.Room.{room}
 use Rattle.judy_leaf.proofs.RoomFacts.{covers, seven, backed, bitmap-less, cut-sized}
-use Rattle.judy_arena.specs.declared.refs.Kind.TheVariants.{LinearLeaf, BitmapLeaf}
+use Rattle.judy_refs.specs.declared.Kind.TheVariants.{LinearLeaf, BitmapLeaf}
 use Rattle.judy_arena.proofs.lemmas.RoomLaws.{room-mono}
 use Rattle.judy_model.specs.Contents.{word_order, without_key, value_of}
 use Rattle.judy_leaf.specs.Linear.{leaf_count, linear_size}

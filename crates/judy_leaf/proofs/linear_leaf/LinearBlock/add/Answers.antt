@@ -1,6 +1,6 @@
 use Rattle.std.proofs.Common.{◌+◌, ◌≤◌, arith, length, List, ℕ, [], ◌∷◌, is_some, ap, sym, ◌∙◌, refl, subst}
 use Rattle.judy_arena.specs.Blocks.{words_of}
-use Rattle.judy_arena.specs.declared.refs.Kind.TheVariants.{LinearLeaf}
+use Rattle.judy_refs.specs.declared.Kind.TheVariants.{LinearLeaf}
 use Rattle.judy_model.specs.Contents.{word_order, with_entry}
 use Rattle.judy_leaf.specs.Linear.{leaf_count, linear_size, linear_entries, IsLinear, GoesTo}
 use Rattle.judy_leaf.proofs.RoomFacts.{covers, still-sized, newly-sized, holds_len}

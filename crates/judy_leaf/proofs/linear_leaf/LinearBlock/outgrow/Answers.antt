@@ -2,7 +2,7 @@ use Rattle.std.proofs.Common.{◌≡◌, ◌+◌, ◌≤◌, cond, length, List,
 use Rattle.judy_arena.specs.Blocks.{words_of}
 use Rattle.judy_arena.specs.Room.{room}
 use Rattle.judy_leaf.proofs.RoomFacts.{covers, backed, fewer_words, cut-sized}
-use Rattle.judy_arena.specs.declared.refs.Kind.TheVariants.{LinearLeaf, BitmapLeaf}
+use Rattle.judy_refs.specs.declared.Kind.TheVariants.{LinearLeaf, BitmapLeaf}
 use Rattle.judy_arena.proofs.lemmas.RoomLaws.{room-mono}
 use Rattle.judy_model.specs.Contents.{word_order, with_entry}
 use Rattle.judy_leaf.specs.Entries.{share_bytes}

@@ -3,7 +3,7 @@ use Rattle.std.specs.Prelude.{slice_get, map}
 use Rattle.judy_arena.specs.Blocks.{words_of}
 use Rattle.judy_arena.specs.Room.{room}
 use Rattle.judy_leaf.proofs.RoomFacts.{covers, cut-sized}
-use Rattle.judy_arena.specs.declared.refs.Kind.TheVariants.{LinearLeaf}
+use Rattle.judy_refs.specs.declared.Kind.TheVariants.{LinearLeaf}
 use Rattle.judy_arena.proofs.lemmas.RoomLaws.{room-mono}
 use Rattle.judy_model.specs.Contents.{word_order, without_key, value_of}
 use Rattle.judy_leaf.specs.Leaf.{IsLinearLeaf}

@@ -1,49 +1,11 @@
-//! Blocks by their numbers, and references to them.
+//! References: words that name a block of an arena and say what it holds.
+#![tactic(auto)]
+
 ghost use Rattle.std.specs.Prelude.{◌≡◌, ◌<◌, IsTrue, ◌+◌, ◌*◌, IfNone, IfSome, IsNone, IsSome, false, true, ◌↔◌};
-ghost use Rattle.judy_arena.specs.References.{word_of, is_reference, kind_of, leads_to, leads_to_leaf, block_of, kind_number};
+ghost use Rattle.judy_refs.specs.References.{word_of, is_reference, kind_of, leads_to, leads_to_leaf, block_of, kind_number};
 
+use judy_arena::{Block, NUMBERS};
 use std::marker::Model;
-
-/// A block of an arena, by its number. It may be live or not.
-#[derive(Clone, Copy, Debug, PartialEq, Eq)]
-pub struct Block {
-    number: u32,
-}
-
-impl Model for Block {
-    ghost use Rattle.std.specs.Prelude.{ℕ, ◌<◌};
-
-    ghost Value = { ℕ };
-
-    ghost view = { λ b. b.number };
-
-    ghost invariant = { λ b. b.number < 4294967296 };
-
-    ghost inverse = { λ n. record { number = n } };
-}
-
-impl Block {
-    /// The block of this number, live or not.
-    pub(crate) fn numbered(number: u32) -> Block
-        ensures { result ≡ number }
-    {
-        Block { number }
-    }
-
-    /// Its number.
-    pub fn number(self) -> u32
-        ensures { result ≡ self }
-    {
-        self.number
-    }
-
-    /// A law, with an empty body: a block's number is below 2^32.
-    pub fn is_numbered(self)
-        ensures { self < 4294967296 }
-    {
-        let _ = self.number;
-    }
-}
 
 /// What a block holds. The number of a kind is its place in this list, from 1 on.
 #[derive(Clone, Copy, Debug, PartialEq, Eq)]
@@ -74,7 +36,7 @@ pub struct Ref {
 
 impl Model for Ref {
     ghost use Rattle.std.specs.Prelude.{ℕ, IsTrue};
-    ghost use Rattle.judy_arena.specs.References.{is_reference};
+    ghost use Rattle.judy_refs.specs.References.{is_reference};
 
     ghost Value = { ℕ };
 
@@ -85,9 +47,6 @@ impl Model for Ref {
     ghost inverse = { λ n. record { word = n } };
 }
 
-/// How many block numbers there are. The kind stands above this part of a word.
-pub(crate) const NUMBERS: u64 = 4_294_967_296;
-
 impl Ref {
     /// The reference to nothing.
     pub const EMPTY: Ref = Ref { word: 0 };
@@ -97,7 +56,7 @@ impl Ref {
         ensures { result ≡ word_of kind block }
     {
         Ref {
-            word: kind as u64 * NUMBERS + u64::from(block.number),
+            word: kind as u64 * NUMBERS + u64::from(block.number()),
         }
     }
 
