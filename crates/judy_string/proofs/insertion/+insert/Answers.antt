@@ -1,4 +1,4 @@
-use Rattle.std.proofs.Common.{◌≡◌, ◌+◌, ◌-◌, ◌*◌, suc, true, Some, None, drop, is_some, ◌∙◌, ap, sym, refl, subst, arith}
+use Rattle.std.proofs.Common.{◌+◌, ◌-◌, ◌*◌, suc, true, Some, drop, is_some, ◌∙◌, ap, sym, refl, subst, arith}
 use Rattle.judy_model.specs.Contents.{word_order, value_of, with_entry}
 use Rattle.judy_tree.specs.Root.{entries}
 use Rattle.judy_packing.specs.Packing.{pack}

@@ -9,7 +9,7 @@ use Rattle.judy_string.specs.Strings.{IsChanged}
 use Rattle.judy_string.specs.Suffixes.{suffix_string, suffix_words, suffix_entry}
 use Rattle.judy_string.proofs.Options.{on-err}
 use Rattle.judy_string.proofs.Steps.{suffix-sound, suffix-value, suffix-live}
-use Rattle.judy_string.proofs.Inserts.{entered-same, entered-split, other-string, suffix-stays, suffix-small}
+use Rattle.judy_string.proofs.Inserts.{entered-same, entered-split, other-string, suffix-stays}
 use Rattle.judy_string.proofs.insertion.split.Goals as goal
 
 pub get-requires-clause-sound : goal.get-requires-clause-sound

@@ -1,5 +1,5 @@
-use Rattle.std.proofs.Common.{◌≡◌, ◌-◌, suc, true, Some, None, ◌∙◌, ap, sym, subst, arith}
-use Rattle.judy_model.specs.Contents.{word_order, string_order, value_of}
+use Rattle.std.proofs.Common.{◌-◌, suc, true, ◌∙◌, ap, sym, subst, arith}
+use Rattle.judy_model.specs.Contents.{string_order, value_of}
 use Rattle.judy_tree.specs.Root.{entries}
 use Rattle.judy_packing.specs.Packing.{pack}
 use Rattle.judy_string.specs.Changes.{IsRest}

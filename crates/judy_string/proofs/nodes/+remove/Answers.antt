@@ -1,4 +1,4 @@
-use Rattle.std.proofs.Common.{◌≡◌, ◌-◌, suc, true, Some, None, is_some, ◌∙◌, ap, sym, refl, subst, arith}
+use Rattle.std.proofs.Common.{◌-◌, suc, true, Some, None, is_some, ◌∙◌, ap, sym, refl, subst, arith}
 use Rattle.judy_model.specs.Contents.{word_order, value_of, with_entry, without_key}
 use Rattle.judy_tree.specs.Root.{entries}
 use Rattle.judy_packing.specs.Packing.{pack}

@@ -1,5 +1,5 @@
-use Rattle.std.proofs.Common.{◌≡◌, ◌-◌, suc, true, Some, None, drop, ◌∙◌, ap, sym, subst, arith}
-use Rattle.judy_model.specs.Contents.{word_order, string_order, value_of, has_key, with_entry}
+use Rattle.std.proofs.Common.{◌≡◌, ◌-◌, suc, true, drop, ◌∙◌, ap, sym, subst, arith}
+use Rattle.judy_model.specs.Contents.{word_order, string_order, has_key, with_entry}
 use Rattle.judy_tree.specs.Root.{entries}
 use Rattle.judy_packing.specs.Packing.{pack}
 use Rattle.judy_string.specs.Changes.{IsRest, IsRewritten}

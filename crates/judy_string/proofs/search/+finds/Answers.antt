@@ -9,7 +9,7 @@ use Rattle.judy_string.specs.Searches.{keeps, here, end_of, found_by, found_here
 use Rattle.judy_string.specs.Strings.{IsNestedAt, IsSpelt, nested_content_at, part}
 use Rattle.judy_string.proofs.Joins.{more_long}
 use Rattle.judy_string.proofs.Levels.{few_bytes}
-use Rattle.judy_string.proofs.Nests.{nest-of, nest-sorted, suffix-of, suffix-content, string-spelt}
+use Rattle.judy_string.proofs.Nests.{nest-of, suffix-of, suffix-content, string-spelt}
 use Rattle.judy_string.proofs.Steps.{node-reference, rest-below, rest-bound, step-child}
 use Rattle.judy_string.proofs.Shows.{otherwise, then_end, nest-found, beside-there, below-shown, no-end, then-end, shown-first, shown-none}
 use Rattle.judy_string.proofs.Shows.{shown-some, shown-none_under, here-yes, here-no, here-below}

@@ -12,8 +12,8 @@ write-requires-clause-there c =
     ap (λ z. has_key word_order z c.args.x) c.in_ok-answer.ensures.array.content
     ∙ has_key-with before c.args.x (unwrap_or (value_of word_order before c.args.x) c.value_after.result)
 
-pub returns-in_default-clause-step : goal.returns-in_default-clause-step
-returns-in_default-clause-step c =
+pub returns-clause-step : goal.returns-clause-step
+returns-clause-step c =
     let b = c.args.arena.now.blocks in
     let before = long_in b c.self.inside.root.reference in
     subst (λ w. insert word_order true (long_in b w) c.args.x c.args.given
