@@ -159,20 +159,14 @@ fn word_given(alloc: Global, matches: &ArgMatches<'_>, id: &str) -> Result<Optio
 fn is_set(matches: &ArgMatches<'_>, id: &str) -> bool
     ensures { result ≡ is_set id.now (rows_of (found_of matches.now)) }
 {
-    match text_of(matches, id) {
-        Some(text) => text == "true",
-        None => false,
-    }
+    text_of(matches, id).is_some_and(|text| text == "true")
 }
 
 /// The number from 1 to `most` given as an argument's value, if it has one.
 fn number_given(matches: &ArgMatches<'_>, id: &str, most: u32) -> Option<u32>
     ensures { result ≡ number_given most id.now (rows_of (found_of matches.now)) }
 {
-    match text_of(matches, id) {
-        Some(text) => Some(number(text, most)),
-        None => None,
-    }
+    Some(number(text_of(matches, id)?, most))
 }
 
 /// Seconds from 1 to 4294967295, as a text says them.
@@ -202,10 +196,9 @@ fn sync_in(text: &str) -> Option<Sync>
 fn sync_given(matches: &ArgMatches<'_>) -> Sync
     ensures { result ≡ sync_given (rows_of (found_of matches.now)) }
 {
-    match text_of(matches, "sync") {
-        Some(text) => sync_in(text).unwrap_or(Sync::Round),
-        None => Sync::Round,
-    }
+    text_of(matches, "sync")
+        .and_then(|text| sync_in(text))
+        .unwrap_or(Sync::Round)
 }
 
 /// The job of `serve` with these matches.
@@ -310,10 +303,7 @@ fn obtain(alloc: Global, name: &str, matches: &ArgMatches<'_>) -> Result<Job, Re
     if let Some(text) = sync_fault(matches) {
         return Err(usage(alloc, text));
     }
-    match job_of(alloc, name, matches) {
-        Ok(job) => Ok(job),
-        Err(_) => Err(Refusal::Memory),
-    }
+    job_of(alloc, name, matches).map_err(|_| Refusal::Memory)
 }
 
 /// Reads the words of a command line, without the program's name.

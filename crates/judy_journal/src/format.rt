@@ -5,6 +5,7 @@ ghost use Rattle.judy_journal.specs.Journals.{number_after, numbered, sum_of as 
 
 use arrayvec::ArrayVec;
 use itoa::Buffer;
+use judy_model::{LINE_LIMIT, NAME_LIMIT};
 
 /// The bytes of a checksum: the digits of 8 bytes.
 pub const SUM_LEN: usize = 16;
@@ -12,11 +13,14 @@ pub const SUM_LEN: usize = 16;
 /// The most bytes of a commit, with the line that ends it.
 pub const TEXT_LIMIT: usize = 16384;
 
-/// The most bytes of the records of a commit.
-pub const COMMIT_LIMIT: usize = 16282;
+/// How many bytes of a commit no record takes. The line that ends it has fewer.
+const MARK_ROOM: usize = 102;
 
-/// The most bytes of a record with its line feed: a name of 32 bytes and a request of 4,096.
-pub const RECORD_LIMIT: usize = 4130;
+/// The most bytes of the records of a commit.
+pub const COMMIT_LIMIT: usize = TEXT_LIMIT - MARK_ROOM;
+
+/// The most bytes of a record: a name, a space, a request and a line feed.
+pub const RECORD_LIMIT: usize = NAME_LIMIT + 1 + LINE_LIMIT + 1;
 
 /// A segment with at least this many bytes is full: the next commit begins the next one.
 pub const SEGMENT_LIMIT: u64 = 67108864;
@@ -33,11 +37,14 @@ pub const SNAPSHOT: &[u8; 17] = b"judyd snapshot 1 ";
 /// What comes before the count in the line that ends a commit.
 pub const MARK: &[u8; 2] = b"# ";
 
-/// The most bytes of a line with a number and a checksum.
-pub const LINE_ROOM: usize = 103;
+/// The most bytes of a line with a number and a checksum before its number.
+pub const FRONT_LIMIT: usize = SNAPSHOT.len();
 
-/// The most bytes of such a line before its number.
-pub const FRONT_LIMIT: usize = 17;
+/// The most digits of a number.
+const DIGITS_LIMIT: usize = 20;
+
+/// The most bytes of such a line, with its line feed: the front, the number, a space and the checksum.
+pub const LINE_ROOM: usize = FRONT_LIMIT + DIGITS_LIMIT + 1 + SUM_LEN + 1;
 
 /// What a checksum is multiplied by before each byte. It is odd, so the checksum is another one if a
 /// single byte is changed.
@@ -84,7 +91,7 @@ pub fn put<const N: usize>(line: &mut ArrayVec<u8, N>, bytes: &[u8])
 pub fn numbered_line(front: &[u8], number: u64, sum: &[u8; SUM_LEN]) -> ArrayVec<u8, LINE_ROOM>
     requires { length front.now ≤ FRONT_LIMIT }
     ensures text { result.items ≡ numbered front.now number sum.now }
-    ensures short { length result.items ≤ length front.now + 85 }
+    ensures short { length result.items ≤ length front.now + 37 }
 {
     let mut line = ArrayVec::new();
     let mut digits = Buffer::new();

@@ -16,7 +16,10 @@ mod replays;
 mod writer;
 
 pub use damage::Damage;
-pub use format::{COMMIT_LIMIT, LAST_SEGMENT, RECORD_LIMIT, SEGMENT_LIMIT, SUM_LEN, TEXT_LIMIT};
+pub use format::{
+    COMMIT_LIMIT, HEADER, LAST_SEGMENT, LINE_ROOM, RECORD_LIMIT, SEGMENT_LIMIT, SNAPSHOT, SUM_LEN,
+    TEXT_LIMIT,
+};
 pub use laws::{
     crashes_keep_marks, journal_is_exact, recovery_is_exact, what_is_read_is_found,
     what_is_recovered_is_found, what_is_recovered_is_whole,
