@@ -29,7 +29,7 @@ use Rattle.judy_many.proofs.Passing.{AreRead-append, Lasts-append, Passes-append
 use Rattle.judy_many.proofs.Beside.{IsAside, IsBeside, Passed, after_lines, beside, keeping, keeping_passes, later, reads_not_writes, stays_past, told_lasts}
 use Rattle.judy_many.proofs.Journals.{Carries-append, keeps_allowed, keeps_quiet, keeps_turn, settled_turn}
 use Rattle.judy_many.proofs.Recording.{noted_none}
-use Rattle.judy_many.proofs.Living.{no_log, then_log}
+use Rattle.judy_many.proofs.Living.{cut_log, no_log, then_log}
 use Rattle.judy_many.proofs.Telling.{AreWithin-append, IsPhased-append, acts_in-append, acts_in-told, came-append, closed-append, lives_served, split, writes_since-append}
 
 -- ---- the whole story
@@ -707,6 +707,21 @@ module _ {B S : Type 0} (view : B → View) (rules : Rules S) (limits : Limits) 
       others : (j : ℕ) (c : B) → ((j ≡ i) × (None ≡ Some c)) ⊎ ((j ≢ i) × At slots j c) → At slots j c
       others j c (inl p) = absurd (nothing c p.1)
       others j c (inr p) = p.1
+
+  -- the same, with what is told after the arrival
+  pub crowd_arrival : (past : Past) (log log' : Acts) (slots : List (Option B)) (count one : ℕ) (now : S) (i : ℕ) (came has : Bool) (lost told : List Act) (s : Option B)
+      → i < length slots → ((b : B) → At slots i b → ⊥) → count < limits.connections → Now Phase.Reads nobody past log slots count now
+      → (more : Story) × DidLog log (acts_in more ++ lost) log' × Arrives count came (option_map view s) more
+      → one ≡ (if has then 1 else 0) → has ≡ came → lost ≡ told
+      → (mid : Acts) × DidLog mid told log' × Now Phase.Reads nobody past mid (slice_set slots i s) (count + one) now
+  crowd_arrival past log log' slots count one now i came has lost told s within free below h (more, did, arrives) e f same =
+      let (mid, before, after) = cut_log log log' (acts_in more) lost did in
+      let n : count + (if came then 1 else 0) ≡ count + one = ap (λ n. count + n) (sym (e ∙ ap (λ (b : Bool). (if b then 1 else 0)) f)) in (
+        mid,
+        subst (λ l. DidLog mid l log') same after,
+        subst (λ k. Now Phase.Reads nobody past mid (slice_set slots i s) k now) n
+            (crowd_seat past log mid slots count now i came s more within free below h before arrives),
+      )
 
   -- equal slots, and an equal count
   pub shown : (phase : Phase) (had : ℕ → Type 0) (past : Past) (log : Acts) (slots slots' : List (Option B)) (count count' : ℕ) (now : S) → slots' ≡ slots → count' ≡ count
