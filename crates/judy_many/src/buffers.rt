@@ -9,10 +9,10 @@ ghost use Rattle.judy_many.specs.Stories.{AreReads, AreWrites, TellsRead, TellsW
 
 use crate::keeping::Keeper;
 use crate::network::{Got, Network, Put};
-use crate::session::{ANSWERS_LIMIT, Ran, Rooms, Session, run_lines};
+use crate::session::{Ran, Rooms, Session, run_lines};
 use crate::shows::Shows;
 use arrayvec::ArrayVec;
-use judy_protocol::PULL_LIMIT;
+use judy_protocol::{ANSWERS_LIMIT, PULL_LIMIT};
 use std::alloc::Global;
 use std::marker::Model;
 

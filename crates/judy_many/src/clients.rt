@@ -3,8 +3,9 @@ ghost use Rattle.std.specs.Prelude.{◌≡◌, ◌<◌, ◌≤◌, true, None, I
 ghost use Rattle.judy_many.specs.Crowds.{AreFree};
 
 use crate::client::Client;
+use crate::limits::CLIENTS_LIMIT;
 use crate::network::Network;
-use crate::queue::{CLIENTS_LIMIT, Queue};
+use crate::queue::Queue;
 use crate::times::is_past;
 use judy_protocol::Served;
 use std::alloc::{AllocError, Global};

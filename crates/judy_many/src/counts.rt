@@ -1,14 +1,12 @@
 //! What the sockets count, and its text. The counts saturate.
 
+use crate::limits::COUNTS_LIMIT;
 use crate::network::How;
 use arrayvec::ArrayVec;
 use itoa::Buffer;
 
-/// The most bytes of the text.
-const TEXT_LIMIT: usize = 4096;
-
 /// The text, as it grows.
-type Text = ArrayVec<u8, TEXT_LIMIT>;
+type Text = ArrayVec<u8, COUNTS_LIMIT>;
 
 /// Connections and bytes since the start.
 #[derive(Clone, Copy, Debug)]

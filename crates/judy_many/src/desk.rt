@@ -1,5 +1,6 @@
 //! The status socket: one question at a time. Nothing here waits.
 
+use crate::limits::QUESTION_LIMIT;
 use crate::network::Question;
 use crate::times::is_past;
 use arrayvec::ArrayVec;
@@ -16,9 +17,6 @@ pub const DESK: Token = Token(usize::MAX - 1);
 
 /// The token of the connection that asks.
 pub const ASKER: Token = Token(usize::MAX - 2);
-
-/// The most bytes of a question.
-const ASKED_LIMIT: usize = 4096;
 
 /// How many seconds a question may take to come.
 const PATIENCE: u32 = 5;
@@ -47,22 +45,19 @@ pub struct Desk {
     comes: bool,
     asker: Option<UnixStream>,
     since: Option<u64>,
-    asked: ArrayVec<u8, ASKED_LIMIT>,
+    asked: ArrayVec<u8, QUESTION_LIMIT>,
     page: bool,
 }
 
 /// A line without the carriage return at its end.
 fn without_return(line: &[u8]) -> &[u8] {
-    match line.strip_suffix(b"\r".as_slice()) {
-        Some(line) => line,
-        None => line,
-    }
+    line.strip_suffix(b"\r".as_slice()).unwrap_or(line)
 }
 
 /// Whether the lines of an HTTP request end here: an empty line follows them.
 fn has_end(text: &[u8]) -> bool {
     let mut rest = text;
-    for _line in 0..ASKED_LIMIT {
+    for _line in 0..QUESTION_LIMIT {
         let Some((line, after)) = cut_line(rest) else {
             return false;
         };
@@ -177,7 +172,7 @@ impl Desk {
 
     /// Reads once. Whether bytes came. Drops a connection that sends no more, or is too slow.
     fn pull(&mut self, now: Option<u64>) -> bool {
-        let mut bytes = [0u8; ASKED_LIMIT];
+        let mut bytes = [0u8; QUESTION_LIMIT];
         let Some(stream) = &mut self.asker else {
             return false;
         };

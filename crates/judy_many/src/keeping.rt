@@ -196,10 +196,7 @@ impl Keeper {
     pub fn has_room(&self) -> bool
         ensures { result ≡ has_room_for self.now }
     {
-        match &self.writer {
-            Some(writer) => writer.has_room(),
-            None => true,
-        }
+        self.writer.as_ref().is_none_or(|writer| writer.has_room())
     }
 
     /// Whether something that was kept still has to be synced.
@@ -223,15 +220,13 @@ impl Keeper {
         ensures written { AreWritten result self.old self.new (N.log network.old) (N.log network.new) }
         ensures room { result ≡ true → IsTrue (has_room_for self.new) }
     {
-        match &mut self.writer {
-            Some(writer) => {
-                if writer.has_room() {
-                    return true;
-                }
-                keep_commit(network, writer, &mut self.clean)
-            }
-            None => true,
+        let Some(writer) = &mut self.writer else {
+            return true;
+        };
+        if writer.has_room() {
+            return true;
         }
+        keep_commit(network, writer, &mut self.clean)
     }
 
     /// Keeps all records, and syncs them if they have to be. False if the journal fails.
@@ -239,20 +234,18 @@ impl Keeper {
         ensures written { AreWritten result self.old self.new (N.log network.old) (N.log network.new) }
         ensures settled { result ≡ true → AreSettled self.new }
     {
-        match &mut self.writer {
-            Some(writer) => {
-                if !keep_commit(network, writer, &mut self.clean) {
-                    return false;
-                }
-                sync_if_due(
-                    network,
-                    &*writer,
-                    self.rule,
-                    &mut self.clean,
-                    &mut self.since,
-                )
-            }
-            None => true,
+        let Some(writer) = &mut self.writer else {
+            return true;
+        };
+        if !keep_commit(network, writer, &mut self.clean) {
+            return false;
         }
+        sync_if_due(
+            network,
+            &*writer,
+            self.rule,
+            &mut self.clean,
+            &mut self.since,
+        )
     }
 }

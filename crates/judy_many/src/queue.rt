@@ -2,10 +2,8 @@
 ghost use Rattle.std.specs.Prelude.{◌≡◌, length, true};
 ghost use Rattle.judy_many.specs.Queues.{AreApart, slot_in, stands};
 
+use crate::limits::CLIENTS_LIMIT;
 use std::marker::Model;
-
-/// The most clients at once.
-pub const CLIENTS_LIMIT: usize = 1024;
 
 /// What is known of a slot's connection.
 #[derive(Clone, Copy, Debug, PartialEq, Eq)]

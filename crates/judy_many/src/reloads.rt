@@ -15,10 +15,11 @@ ghost use Rattle.judy_many.specs.declared.serve.Limits.{Limits};
 
 use crate::client::Client;
 use crate::clients::Clients;
+use crate::limits::TOLD_LIMIT;
 use crate::network::{How, Network, Unread};
 use crate::queue::Left;
 use crate::shows::Shows;
-use crate::warnings::{LINE_LIMIT, add, begin};
+use crate::warnings::{add, begin};
 use arrayvec::ArrayVec;
 use std::alloc::Global;
 
@@ -154,7 +155,7 @@ fn close_after<S: Shows, N: Network>(
 }
 
 /// What the asker is answered.
-fn reply_line(changed: bool, told: &[u8]) -> ArrayVec<u8, LINE_LIMIT>
+fn reply_line(changed: bool, told: &[u8]) -> ArrayVec<u8, TOLD_LIMIT>
     ensures { BeginsWith (reply_head changed) result.items }
 {
     if changed {
@@ -169,7 +170,7 @@ fn reply_line(changed: bool, told: &[u8]) -> ArrayVec<u8, LINE_LIMIT>
 }
 
 /// What the operator is told.
-fn told_line(changed: bool, told: &[u8]) -> ArrayVec<u8, LINE_LIMIT>
+fn told_line(changed: bool, told: &[u8]) -> ArrayVec<u8, TOLD_LIMIT>
     ensures { BeginsWith (told_head changed) result.items }
 {
     if changed {

@@ -97,13 +97,11 @@ fn wait<S: Served, N: Network>(
 {
     let busy = !clients.queue.is_empty() || clients.listening == Listening::Ready;
     let time = time_to_wait(busy, owed || asks_for_time(&*clients, limits));
-    match network.wait(time, &mut clients.queue) {
-        Some(comes) => {
-            clients.listening = clients.listening.after_wait(comes);
-            true
-        }
-        None => false,
-    }
+    let Some(comes) = network.wait(time, &mut clients.queue) else {
+        return false;
+    };
+    clients.listening = clients.listening.after_wait(comes);
+    true
 }
 
 /// The second, where it is asked for. None if the clock fails.

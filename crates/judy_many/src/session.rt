@@ -12,12 +12,9 @@ use crate::shows::Shows;
 use arrayvec::ArrayVec;
 use judy_model::{KEY_LIMIT, LINE_LIMIT};
 use judy_protocol::{
-    Held, REPLY_LIMIT, asks_to_quit, cut_line, hear_line, join_line, run, whole_line,
+    ANSWERS_LIMIT, Held, REPLY_LIMIT, asks_to_quit, cut_line, hear_line, join_line, run, whole_line,
 };
 use std::alloc::Global;
-
-/// The most bytes of the answers that one turn of a connection leaves to be written.
-pub const ANSWERS_LIMIT: usize = 16384;
 
 /// Buffers for a line's key, for a key that a call finds, and for the answer to a line.
 #[derive(Drop)]

@@ -3,8 +3,9 @@ ghost use Rattle.std.specs.Prelude.{None};
 
 use crate::counts::Counts;
 use crate::desk::{ASKER, DESK, Desk};
+use crate::limits::{CLIENTS_LIMIT, EVENTS_LIMIT};
 use crate::network::{Accept, Got, How, Network, Put, Question, Unread};
-use crate::queue::{CLIENTS_LIMIT, Queue};
+use crate::queue::Queue;
 use mio::net::{UnixListener, UnixStream};
 use mio::{Events, Interest, Poll, Token};
 use std::alloc::Global;
@@ -13,10 +14,6 @@ use std::io::{self, Eprint, ErrorKind, Read, Write};
 use std::net::Net;
 use std::rt::Clock;
 use std::time::{Duration, Instant};
-
-/// The most events of one wait: one for each client, one for the listener, and two for the status
-/// socket.
-const EVENTS: usize = CLIENTS_LIMIT + 3;
 
 /// The token of the listener.
 const LISTENER: Token = Token(usize::MAX);
@@ -54,9 +51,7 @@ impl<'a, F: Files + Net + Clock + Eprint> Sockets<'a, F> {
         let poll = Poll::new(rt)?;
         poll.registry()
             .register(&mut listener, LISTENER, Interest::READABLE)?;
-        let Ok(events) = Events::with_capacity(alloc, EVENTS) else {
-            return Err(io::Error::from(ErrorKind::OutOfMemory));
-        };
+        let events = Events::with_capacity(alloc, EVENTS_LIMIT)?;
         Ok(Sockets {
             rt,
             listener,
@@ -143,14 +138,8 @@ impl<'a, F: Files + Net + Clock + Eprint> Network for Sockets<'a, F> {
     }
 
     fn wait(&mut self, time: Option<u32>, queue: &mut Queue) -> Option<bool> {
-        let time = match &self.desk {
-            Some(desk) => desk.patience(time),
-            None => time,
-        };
-        let timeout = match time {
-            Some(n) => Some(Duration::from_millis(u64::from(n))),
-            None => None,
-        };
+        let time = self.desk.as_ref().map_or(time, |desk| desk.patience(time));
+        let timeout = time.map(|n| Duration::from_millis(u64::from(n)));
         if let Err(e) = self.poll.poll(&mut self.events, timeout) {
             if e.kind() == ErrorKind::Interrupted {
                 return Some(false);
@@ -230,10 +219,8 @@ impl<'a, F: Files + Net + Clock + Eprint> Network for Sockets<'a, F> {
 
     fn seconds(&mut self) -> Option<u64> {
         let began = self.began?;
-        match began.elapsed(self.rt) {
-            Ok(time) => Some(time.as_secs()),
-            Err(_) => None,
-        }
+        let time = began.elapsed(self.rt).ok()?;
+        Some(time.as_secs())
     }
 
     fn ask(&mut self) -> Question {

@@ -4,13 +4,11 @@ ghost use Rattle.judy_many.specs.Nets.{DidLog};
 ghost use Rattle.judy_many.specs.Stories.{BeginsWith};
 ghost use Rattle.judy_many.specs.Warnings.{HasWarned, is_due, is_later, told_after, warning_acts};
 
+use crate::limits::TOLD_LIMIT;
 use crate::network::Network;
 use crate::shows::Shows;
 use arrayvec::ArrayVec;
 use itoa::Buffer;
-
-/// The most bytes of a line.
-pub const LINE_LIMIT: usize = 512;
 
 /// How much of a count was told, and at which second it was told last.
 #[derive(Clone, Copy, Debug, PartialEq, Eq)]
@@ -47,8 +45,8 @@ fn is_due(told: Told, count: u64, now: Option<u64>) -> bool
 }
 
 /// A line that begins with this text.
-pub fn begin(text: &'static [u8]) -> ArrayVec<u8, LINE_LIMIT>
-    requires { length text.now ≤ LINE_LIMIT }
+pub fn begin(text: &'static [u8]) -> ArrayVec<u8, TOLD_LIMIT>
+    requires { length text.now ≤ TOLD_LIMIT }
     ensures { result.items ≡ text.now }
 {
     let mut line = ArrayVec::new();
@@ -57,14 +55,14 @@ pub fn begin(text: &'static [u8]) -> ArrayVec<u8, LINE_LIMIT>
 }
 
 /// Appends a text, or nothing if there is no room for it.
-pub fn add(line: &mut ArrayVec<u8, LINE_LIMIT>, text: &[u8])
+pub fn add(line: &mut ArrayVec<u8, TOLD_LIMIT>, text: &[u8])
     ensures { (head : List ℕ) → BeginsWith head line.old.items → BeginsWith head line.new.items }
 {
     let _fits = line.try_extend_from_slice(text);
 }
 
 /// Appends a number.
-fn add_number(line: &mut ArrayVec<u8, LINE_LIMIT>, n: u64)
+fn add_number(line: &mut ArrayVec<u8, TOLD_LIMIT>, n: u64)
     ensures { (head : List ℕ) → BeginsWith head line.old.items → BeginsWith head line.new.items }
 {
     let mut buffer = Buffer::new();
@@ -72,7 +70,7 @@ fn add_number(line: &mut ArrayVec<u8, LINE_LIMIT>, n: u64)
 }
 
 /// Appends a tenant's name.
-fn add_name(line: &mut ArrayVec<u8, LINE_LIMIT>, name: &[u8])
+fn add_name(line: &mut ArrayVec<u8, TOLD_LIMIT>, name: &[u8])
     ensures { (head : List ℕ) → BeginsWith head line.old.items → BeginsWith head line.new.items }
 {
     if name.is_empty() {
@@ -83,7 +81,7 @@ fn add_name(line: &mut ArrayVec<u8, LINE_LIMIT>, name: &[u8])
 }
 
 /// Appends how many others there are, if there are some.
-fn add_others(line: &mut ArrayVec<u8, LINE_LIMIT>, others: u64)
+fn add_others(line: &mut ArrayVec<u8, TOLD_LIMIT>, others: u64)
     ensures { (head : List ℕ) → BeginsWith head line.old.items → BeginsWith head line.new.items }
 {
     if others == 0 {
@@ -95,7 +93,7 @@ fn add_others(line: &mut ArrayVec<u8, LINE_LIMIT>, others: u64)
 }
 
 /// The line of this number of refused log-ins, the last of them with this tenant's name, if it has one.
-fn logins_line(name: &[u8], count: u64) -> ArrayVec<u8, LINE_LIMIT>
+fn logins_line(name: &[u8], count: u64) -> ArrayVec<u8, TOLD_LIMIT>
     ensures { BeginsWith (codes "log-in refused: ") result.items }
 {
     let mut line = begin(b"log-in refused: ");
@@ -105,7 +103,7 @@ fn logins_line(name: &[u8], count: u64) -> ArrayVec<u8, LINE_LIMIT>
 }
 
 /// The line of this number of requests that were refused for memory.
-fn requests_line(count: u64) -> ArrayVec<u8, LINE_LIMIT>
+fn requests_line(count: u64) -> ArrayVec<u8, TOLD_LIMIT>
     ensures { BeginsWith (codes "out of memory: ") result.items }
 {
     let mut line = begin(b"out of memory: ");

@@ -7,7 +7,7 @@ ghost use Rattle.judy_recovery.specs.Played.{ReadsAll, ReadsOn};
 
 use crate::faults::Flaw;
 use crate::player::{Halt, Player};
-use judy_journal::{Damage, Read as Found, Recovery};
+use judy_journal::{Damage, HEADER, Read as Found, Recovery};
 use judy_protocol::cut_line;
 use judy_stream::{Pull, Source};
 
@@ -49,7 +49,7 @@ fn start_of(records: &[u8], halt: Halt) -> usize {
 
 /// Whether these bytes begin a file of another version.
 fn is_other_version(bytes: &[u8]) -> bool {
-    bytes.starts_with(ANY_VERSION) && !bytes.starts_with(b"judyd journal 1 ")
+    bytes.starts_with(ANY_VERSION) && !bytes.starts_with(HEADER)
 }
 
 /// What a damage is told as, by the first bytes of the file if it was found among them.

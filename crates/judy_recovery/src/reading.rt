@@ -13,22 +13,13 @@ use crate::sources::FileReads;
 use itoa::Buffer;
 use judy_disk::{DiskFault, Folder, Found, Place};
 use judy_journal::{
-    Damage, LAST_SEGMENT, Position, Recovery, SUM_LEN, snapshot_sum, what_is_recovered_is_found,
-    what_is_recovered_is_whole,
+    Damage, HEADER, LAST_SEGMENT, LINE_ROOM, Position, Recovery, SNAPSHOT, SUM_LEN, snapshot_sum,
+    what_is_recovered_is_found, what_is_recovered_is_whole,
 };
 use judy_protocol::cut_line;
 use std::alloc::Global;
 use std::fs::Files;
 use std::io::{self, Read};
-
-/// How many bytes come before the number in the first line of a segment.
-const SEGMENT_FRONT: usize = 16;
-
-/// How many bytes come before the number in the first line of a snapshot.
-const SNAPSHOT_FRONT: usize = 17;
-
-/// The most bytes of the first line of a snapshot, with its line feed.
-const LINE_ROOM: usize = 103;
 
 /// The fault of a file.
 fn fault_at(place: Place, byte: u64, flaw: Flaw) -> JournalFault {
@@ -61,20 +52,15 @@ fn read_rest<R: Read + Drop, P: Player>(
         recovery.old player.old recovery.new player.new) }
 {
     let mut source = FileReads::new(file);
-    match read_file(&mut source, recovery, player, progress) {
-        Ok(()) => Ok(()),
-        Err(stop) => Err(fault_of(place, stop, source.take_fault())),
-    }
+    let read = read_file(&mut source, recovery, player, progress);
+    read.map_err(|stop| fault_of(place, stop, source.take_fault()))
 }
 
 /// A recovery on the heap, since it is large.
 fn boxed(alloc: Global, place: Place, recovery: Recovery) -> Result<Box<Recovery>, JournalFault>
     ensures { IfOk result (λ b. b.value ≡ recovery) }
 {
-    match Box::new(alloc, recovery) {
-        Ok(recovery) => Ok(recovery),
-        Err(_) => Err(fault_at(place, 0, Flaw::Memory)),
-    }
+    Box::new(alloc, recovery).map_err(|_| fault_at(place, 0, Flaw::Memory))
 }
 
 /// How many digits a number has.
@@ -87,7 +73,7 @@ fn digits_of(number: u64) -> usize
 
 /// How many bytes the first line of this segment has, with its line feed.
 pub(crate) fn first_line_len(segment: u64) -> u64 {
-    (SEGMENT_FRONT + digits_of(segment) + 1 + SUM_LEN + 1) as u64
+    (HEADER.len() + digits_of(segment) + 1 + SUM_LEN + 1) as u64
 }
 
 /// Reads the first line of a snapshot of the segments up to this one, with its line feed. Returns its
@@ -97,7 +83,7 @@ fn read_first_line<R: Read>(file: &mut R, number: u64) -> Result<([u8; SUM_LEN],
 {
     let place = Place::Snapshot(number);
     let mut room = [0u8; LINE_ROOM];
-    let len = SNAPSHOT_FRONT + digits_of(number) + 1 + SUM_LEN + 1;
+    let len = SNAPSHOT.len() + digits_of(number) + 1 + SUM_LEN + 1;
     let line = &mut room[..len];
     if let Err(e) = file.read_exact(line) {
         if e.kind() == io::ErrorKind::UnexpectedEof {

@@ -4,8 +4,8 @@ use Rattle.judy_many.specs.Books.{journal_of}
 use Rattle.judy_many.proofs.Written.{some_written}
 use Rattle.judy_many.proofs.keeping.Keeper.make_room.Goals as goal
 
-pub returns-else-has_room-clause-written : goal.returns-else-has_room-clause-written
-returns-else-has_room-clause-written g c =
+pub returns-clause-written : goal.returns-clause-written
+returns-clause-written g c =
     let rule = c.self.inside.rule in
     let clean = c.self.inside.clean in
     some_written c.keep_commit.result c.args.self.now (journal_of rule clean c.deref_mut.result.now) (journal_of rule c.keep_commit.new.clean c.keep_commit.new.writer) _ _

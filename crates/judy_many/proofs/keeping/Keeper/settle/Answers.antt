@@ -12,8 +12,8 @@ returns-then-not-keep_commit-clause-written g c =
     (sym c.self.view_is ∙ ap (option_map (λ w. journal_of rule clean w.value)) c.in-Some.is ∙ ap (λ w. Some (journal_of rule clean w)) (sym c.deref_mut.ensures.value))
     (rw c.if-not-keep_commit.true at c.keep_commit.ensures.written rule)
 
-pub returns-else-not-keep_commit-clause-written : goal.returns-else-not-keep_commit-clause-written
-returns-else-not-keep_commit-clause-written g c =
+pub returns-clause-written : goal.returns-clause-written
+returns-clause-written g c =
     let rule = c.self.inside.rule in
     let clean = c.self.inside.clean in
     some_written c.sync_if_due.result c.args.self.now (journal_of rule clean c.deref_mut.result.now) (journal_of rule c.sync_if_due.new.clean c.keep_commit.new.writer) _ _
