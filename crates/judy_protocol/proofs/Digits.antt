@@ -5,8 +5,7 @@ use Rattle.std.proofs.Math.Nat.{pow-le-pow_right, pow-suc}
 use Rattle.std.proofs.Math.Seq.{take-length}
 use Rattle.std.proofs.lemmas.Int.Digits.{digits_value_more}
 use Rattle.std.proofs.lemmas.Bool.{false≢true, and_from}
-use Rattle.std.specs.Prelude.{nat_le, is_ok, Result, Ok, Err}
-use Rattle.hex.specs.declared.error.FromHexError.{FromHexError}
+use Rattle.std.specs.Prelude.{nat_le}
 use Rattle.std.specs.List.{list_all}
 use Rattle.std.specs.Char.{digit_value, is_ascii_digit}
 use Rattle.std.specs.Str.Parse.{digits_value}
@@ -106,8 +105,3 @@ twenty field front last value len is_front is_last read digit =
         ap digit_value at,
       ),
     )
-
--- an answer without a value has an error
-pub is_error : (r : Result ℕ FromHexError) → is_ok r ≡ false → (e : FromHexError) × (r ≡ Err e)
-is_error (Ok v) h = absurd (false≢true (sym h))
-is_error (Err e) h = (e, refl)

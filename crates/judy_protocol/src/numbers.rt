@@ -1,8 +1,7 @@
 //! Reads the fields that write words and keys.
-ghost use Rattle.std.specs.Prelude.{◌≡◌, ◌≤◌, ◌*◌, ℕ, false, true, None, Some, Ok, MatchOption, is_ok, length, unwrap_or, if◌then◌else◌};
+ghost use Rattle.std.specs.Prelude.{◌≡◌, ◌≤◌, None, Some, length, if◌then◌else◌};
 ghost use Rattle.std.specs.List.{list_all};
 ghost use Rattle.std.specs.Str.Parse.{digits_value};
-ghost use Rattle.hex.specs.Hex.{decode_pairs, hex_digit_value, pair_value};
 ghost use Rattle.judy_model.specs.Grammar.{is_digit, key_of, number_of_field, string_of};
 ghost use Rattle.judy_protocol.specs.Digits.{digits_of};
 
@@ -68,55 +67,6 @@ pub fn number(field: &[u8]) -> Option<u64>
     digits(field)
 }
 
-/// The value of each byte as a hexadecimal digit in either case, and 16 for other bytes.
-static DIGIT_VALUES: [u8; 256] = [
-    16, 16, 16, 16, 16, 16, 16, 16, 16, 16, 16, 16, 16, 16, 16, 16, 16, 16, 16, 16, 16, 16, 16, 16,
-    16, 16, 16, 16, 16, 16, 16, 16, 16, 16, 16, 16, 16, 16, 16, 16, 16, 16, 16, 16, 16, 16, 16, 16,
-    0, 1, 2, 3, 4, 5, 6, 7, 8, 9, 16, 16, 16, 16, 16, 16, 16, 10, 11, 12, 13, 14, 15, 16, 16, 16,
-    16, 16, 16, 16, 16, 16, 16, 16, 16, 16, 16, 16, 16, 16, 16, 16, 16, 16, 16, 16, 16, 16, 16, 10,
-    11, 12, 13, 14, 15, 16, 16, 16, 16, 16, 16, 16, 16, 16, 16, 16, 16, 16, 16, 16, 16, 16, 16, 16,
-    16, 16, 16, 16, 16, 16, 16, 16, 16, 16, 16, 16, 16, 16, 16, 16, 16, 16, 16, 16, 16, 16, 16, 16,
-    16, 16, 16, 16, 16, 16, 16, 16, 16, 16, 16, 16, 16, 16, 16, 16, 16, 16, 16, 16, 16, 16, 16, 16,
-    16, 16, 16, 16, 16, 16, 16, 16, 16, 16, 16, 16, 16, 16, 16, 16, 16, 16, 16, 16, 16, 16, 16, 16,
-    16, 16, 16, 16, 16, 16, 16, 16, 16, 16, 16, 16, 16, 16, 16, 16, 16, 16, 16, 16, 16, 16, 16, 16,
-    16, 16, 16, 16, 16, 16, 16, 16, 16, 16, 16, 16, 16, 16, 16, 16, 16, 16, 16, 16, 16, 16, 16, 16,
-    16, 16, 16, 16, 16, 16, 16, 16, 16, 16, 16, 16, 16, 16,
-];
-
-/// The value of a hexadecimal digit in either case, and 16 for other bytes.
-fn hex_digit(b: u8) -> u8
-    ensures { result ≡ unwrap_or (hex_digit_value b) 16 }
-{
-    DIGIT_VALUES[usize::from(b)]
-}
-
-/// The byte of two hexadecimal digits.
-fn hex_pair(high: u8, low: u8) -> Option<u8>
-    ensures { MatchOption result ((i : ℕ) → is_ok (pair_value high low i) ≡ false)
-        (λ byte. (i : ℕ) → pair_value high low i ≡ Ok byte) }
-{
-    let (high, low) = (hex_digit(high), hex_digit(low));
-    if high > 15 || low > 15 {
-        return None;
-    }
-    Some(high * 16 + low)
-}
-
-/// Reads pairs of hexadecimal digits, each into a byte. Returns whether all of them are digits.
-fn read_pairs(digits: &[u8], bytes: &mut [u8]) -> bool
-    requires { length digits.now ≡ 2 * length bytes.old }
-    ensures read { result ≡ true → decode_pairs 0 digits.now ≡ Ok bytes.new }
-    ensures other { result ≡ false → is_ok (decode_pairs 0 digits.now) ≡ false }
-{
-    'bytes: for i in 0..bytes.len() {
-        let Some(byte) = hex_pair(digits[2 * i], digits[2 * i + 1]) else {
-            return false;
-        };
-        bytes[i] = byte;
-    }
-    true
-}
-
 /// The key that a field writes: `x` and its bytes as pairs of hexadecimal digits. Its bytes are put
 /// into the room.
 pub fn key<'a>(field: &[u8], room: &'a mut [u8; KEY_LIMIT]) -> Option<Key<'a>>
@@ -126,13 +76,11 @@ pub fn key<'a>(field: &[u8], room: &'a mut [u8; KEY_LIMIT]) -> Option<Key<'a>>
         return None;
     };
     let len = digits.len() / 2;
-    if len > KEY_LIMIT || digits.len() != 2 * len {
+    if len > KEY_LIMIT {
         return None;
     }
     let bytes = &mut room[..len];
-    if !read_pairs(digits, bytes) {
-        return None;
-    }
+    hex::decode_to_slice(digits, bytes).ok()?;
     Key::read(bytes)
 }
 
