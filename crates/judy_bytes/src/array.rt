@@ -143,12 +143,12 @@ impl<H: KeyHash> JudyHS<H> {
         let Some(bucket) = chain::find(arena, first, key) else {
             let value = given.value_after(0);
             self.add(alloc, arena, hash, first, key, value)?;
-            let root = self.words;
+            let root = self.reference();
             return Ok(Inserted { root, before: None });
         };
         let value = bucket::value(arena, bucket);
         let answer = Inserted {
-            root: self.words,
+            root: self.reference(),
             before: Some(value),
         };
         if let Given::Nothing = given {
