@@ -37,15 +37,10 @@ fn refusal_of_words(alloc: Global, e: &io::Error) -> Refusal {
 
 /// The words of the command line after the program's name.
 fn read_words(rt: &HostRuntime) -> Result<Vec<String>, Refusal> {
-    let args = match env::args(rt) {
-        Ok(args) => args,
-        Err(e) => return Err(refusal_of_words(rt.alloc(), &e)),
-    };
+    let args = env::args(rt).map_err(|e| refusal_of_words(rt.alloc(), &e))?;
     let mut words = Vec::new(rt.alloc());
     for word in args.skip(1) {
-        if words.push(word).is_err() {
-            return Err(Refusal::Memory);
-        }
+        words.push(word).map_err(|_| Refusal::Memory)?;
     }
     Ok(words)
 }
@@ -160,10 +155,8 @@ fn refuse(rt: &HostRuntime, refusal: &Refusal) -> u8
 
 /// The directory of a journal.
 fn folder_at<'a>(rt: &'a HostRuntime, path: &str) -> Option<Folder<'a, HostRuntime>> {
-    match String::from_str(rt.alloc(), path) {
-        Ok(path) => Some(Folder::new(rt, rt.alloc(), path)),
-        Err(_) => None,
-    }
+    let path = String::from_str(rt.alloc(), path).ok()?;
+    Some(Folder::new(rt, rt.alloc(), path))
 }
 
 /// Prints that memory ran out. Returns the status of the program.
@@ -224,10 +217,7 @@ fn print_at(rt: &HostRuntime, path: &str, tenant: &Option<Word>) -> u8
     let Some(folder) = folder_at(rt, path) else {
         return refuse_memory(rt);
     };
-    let name = match tenant {
-        Some(word) => Some(word.0.as_bytes()),
-        None => None,
-    };
+    let name = tenant.as_ref().map(|word| word.0.as_bytes());
     match print(rt.alloc(), &folder, rt.stdout(), name) {
         Ok(()) => 0,
         Err(Unprinted::Write) => {
@@ -338,9 +328,6 @@ fn obey(rt: &HostRuntime, asked: &Result<Job, Refusal>) -> u8
 }
 
 fn main(rt: HostRuntime) -> ExitCode {
-    let asked = match read_words(&rt) {
-        Ok(words) => parse_words(rt.alloc(), words.as_slice()),
-        Err(refusal) => Err(refusal),
-    };
+    let asked = read_words(&rt).and_then(|words| parse_words(rt.alloc(), words.as_slice()));
     ExitCode::from(obey(&rt, &asked))
 }
