@@ -5,13 +5,10 @@ ghost use Rattle.judy_stream.specs.Streams.{MayAlwaysPull};
 ghost use Rattle.judy_protocol.specs.Serving.{pull_limit};
 ghost use Rattle.judy_programs.specs.TableEnds.{IsReadBy, file_ends, file_faults};
 
-use crate::table_end::TABLE_LIMIT;
+use crate::limits::{FILE_LIMIT, TABLE_LIMIT};
 use arrayvec::ArrayVec;
 use judy_protocol::PULL_LIMIT;
 use judy_stream::{Pull, Source};
-
-/// The most bytes of a file that are held: those of a table, and of one pull.
-pub const FILE_LIMIT: usize = 69_632;
 
 /// How the reading of a file ended.
 #[derive(Clone, Copy, Debug, PartialEq, Eq)]

@@ -7,6 +7,7 @@ mod directory;
 mod hosts;
 mod journaled;
 mod journals;
+mod limits;
 mod opens;
 mod program;
 mod reading;

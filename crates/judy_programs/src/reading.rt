@@ -4,14 +4,11 @@ ghost use Rattle.std.specs.Io.KnownBytes.{Consumes};
 ghost use Rattle.judy_programs.specs.TableEnds.{Finds, HasLines, Reads, reading_ends, reading_faults};
 ghost use Rattle.judy_programs.specs.Tables.{MayPullTable};
 
+pub use crate::limits::HELD_LIMIT;
 use crate::table_end::{TableEnd, find_end};
 use arrayvec::ArrayVec;
 use judy_protocol::PULL_LIMIT;
 use judy_stream::{Pull, Source};
-
-/// The most bytes of the input that are held: those of a table, of the line that ends it, and of
-/// one pull.
-pub const HELD_LIMIT: usize = 69_636;
 
 /// How the reading of the table ended.
 #[derive(Clone, Copy, Debug, PartialEq, Eq)]

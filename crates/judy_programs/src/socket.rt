@@ -7,8 +7,9 @@ ghost use Rattle.judy_programs.specs.Hosting.{Begins, Checks, Hosts as IsHosted,
 ghost use Rattle.judy_programs.specs.Opening.{HasOpened, IsShut, open_ends, open_faults};
 ghost use Rattle.judy_table.specs.declared.tenant.Tenant.{Tenant};
 
-use crate::config::{FILE_LIMIT, FileRead, read_file};
+use crate::config::{FileRead, read_file};
 use crate::hosts::Hosts;
+use crate::limits::FILE_LIMIT;
 use crate::opens::{Opens, Unopened};
 use arrayvec::ArrayVec;
 use judy_journal::Writer;

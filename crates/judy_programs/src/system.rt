@@ -1,10 +1,11 @@
 //! The random bytes, the files and the Unix sockets of the system.
 ghost use Rattle.std.specs.Prelude.{None};
 
-use crate::config::{FILE_LIMIT, FileRead, read_file};
+use crate::config::{FileRead, read_file};
 use crate::directory::Directory;
 use crate::hosts::Hosts;
 use crate::journals::Journals;
+use crate::limits::{FILE_LIMIT, PATH_LIMIT};
 use arrayvec::ArrayVec;
 use judy_disk::Locks;
 use judy_many::{Accept, Connection, Got, How, Network, Put, Question, Queue, Sockets, Unread};
@@ -15,9 +16,6 @@ use std::fs::{self, Files};
 use std::io::{self, Eprint, Read};
 use std::net::Net;
 use std::rt::Clock;
-
-/// The most bytes of the path of a file: the system opens none with a longer path.
-const PATH_LIMIT: usize = 4096;
 
 /// What the system refused, and its reason.
 #[derive(Clone, Copy, Debug)]
@@ -56,13 +54,9 @@ pub struct System<'a, F: Locks> {
 
 /// Random bytes that nobody can guess, read from this file of the system. None if it gives too few.
 pub fn read_secret<F: Files>(rt: &F, path: &str) -> Option<[u8; 16]> {
-    let Ok(mut file) = fs::open(rt, path) else {
-        return None;
-    };
+    let mut file = fs::open(rt, path).ok()?;
     let mut secret = [0u8; 16];
-    if file.read_exact(&mut secret).is_err() {
-        return None;
-    }
+    file.read_exact(&mut secret).ok()?;
     Some(secret)
 }
 
@@ -208,19 +202,14 @@ impl<'a, F: Locks + Net + Clock + Eprint + Clone + Drop> Network for System<'a, 
     }
 
     fn table(&mut self, text: &mut Vec<u8>) -> Result<(), Unread> {
-        let Ok(path) = str::from_utf8(self.path.as_slice()) else {
-            return Err(Unread::File);
-        };
-        let Ok(file) = fs::open(self.rt, path) else {
-            return Err(Unread::File);
-        };
+        let path = str::from_utf8(self.path.as_slice()).map_err(|_| Unread::File)?;
+        let file = fs::open(self.rt, path).map_err(|_| Unread::File)?;
         let mut reads = Reads::new(file);
         let mut bytes: ArrayVec<u8, FILE_LIMIT> = ArrayVec::new();
         match read_file(&mut reads, &mut bytes) {
-            FileRead::Whole => match text.extend_from_slice(bytes.as_slice()) {
-                Ok(()) => Ok(()),
-                Err(_) => Err(Unread::Memory),
-            },
+            FileRead::Whole => text
+                .extend_from_slice(bytes.as_slice())
+                .map_err(|_| Unread::Memory),
             FileRead::Long => Err(Unread::Long),
             FileRead::Fault => Err(Unread::File),
         }

@@ -3,10 +3,8 @@ ghost use Rattle.std.specs.Prelude.{◌≡◌, ◌↔◌, ◌≤◌, true, false
 ghost use Rattle.judy_programs.specs.TableEnds.{BeginsMark, Finds, HasLines, MayEnd};
 ghost use Rattle.judy_programs.specs.Tables.{is_mark};
 
+use crate::limits::TABLE_LIMIT;
 use judy_protocol::cut_line;
-
-/// The most bytes that a table may have.
-pub const TABLE_LIMIT: usize = 65536;
 
 /// Where a table ends.
 #[derive(Clone, Copy, Debug, PartialEq, Eq)]

@@ -48,7 +48,8 @@ fn begin_after<F: Files>(
     let Ok(mut writer) = Box::new(alloc, Writer::new(at.segment, &at.sum, at.size)) else {
         return Err(Uncompacted::Memory);
     };
-    begin_next(folder, &mut *writer).map_err(|e| Uncompacted::Disk(e))
+    begin_next(folder, &mut *writer)?;
+    Ok(())
 }
 
 /// Closes the last segment, if there is one and it has a commit: what a crash left behind its last
@@ -57,14 +58,11 @@ pub fn close_last<F: Files + Clone + Drop>(
     alloc: Global,
     folder: &Folder<'_, F>,
 ) -> Result<(), Uncompacted> {
-    let found = folder.scan().map_err(|e| Uncompacted::Disk(e))?;
-    let end = match recover(folder, alloc, &found, &mut Nobody) {
-        Ok(end) => end,
-        Err(fault) => return Err(Uncompacted::Journal(fault)),
-    };
+    let found = folder.scan()?;
+    let end = recover(folder, alloc, &found, &mut Nobody)?;
     if end.is_none() {
         return Ok(());
     }
-    let (at, _) = resume(folder, end).map_err(|e| Uncompacted::Disk(e))?;
+    let (at, _) = resume(folder, end)?;
     begin_after(alloc, folder, at)
 }

@@ -33,6 +33,18 @@ pub enum Uncompacted {
     Left,
 }
 
+impl From<JournalFault> for Uncompacted {
+    fn from(fault: JournalFault) -> Uncompacted {
+        Uncompacted::Journal(fault)
+    }
+}
+
+impl From<DiskFault> for Uncompacted {
+    fn from(fault: DiskFault) -> Uncompacted {
+        Uncompacted::Disk(fault)
+    }
+}
+
 /// A service with all entries that the closed segments make.
 fn replay_closed<S: Opens + Drop, F: Files>(
     alloc: Global,
@@ -41,19 +53,11 @@ fn replay_closed<S: Opens + Drop, F: Files>(
     found: &Found,
     names: &Names,
 ) -> Result<Replaying<S>, Uncompacted> {
-    let table = match names.table(alloc) {
-        Ok(table) => table,
-        Err(_) => return Err(Uncompacted::Memory),
-    };
-    let service = match S::open(alloc, secret, table.as_slice()) {
-        Ok(service) => service,
-        Err(_) => return Err(Uncompacted::Memory),
-    };
+    let table = names.table(alloc).map_err(|_| Uncompacted::Memory)?;
+    let service = S::open(alloc, secret, table.as_slice()).map_err(|_| Uncompacted::Memory)?;
     let mut state = Replaying::new(alloc, service);
-    match recover_closed(folder, alloc, found, &mut state) {
-        Ok(_) => Ok(state),
-        Err(fault) => Err(Uncompacted::Journal(fault)),
-    }
+    recover_closed(folder, alloc, found, &mut state)?;
+    Ok(state)
 }
 
 /// Begins a snapshot of the segments up to this end.
@@ -62,19 +66,13 @@ fn begin<F: Files>(
     folder: &Folder<'_, F>,
     end: &End,
 ) -> Result<(Box<Writer>, NewSnapshot<F>), Uncompacted> {
-    let mut writer = match Box::new(alloc, Writer::new(end.segment, &end.sum, 0)) {
-        Ok(writer) => writer,
-        Err(_) => return Err(Uncompacted::Memory),
+    let Ok(mut writer) = Box::new(alloc, Writer::new(end.segment, &end.sum, 0)) else {
+        return Err(Uncompacted::Memory);
     };
-    let mut file = match folder.begin_snapshot() {
-        Ok(file) => file,
-        Err(fault) => return Err(Uncompacted::Disk(fault)),
-    };
+    let mut file = folder.begin_snapshot()?;
     writer.begin_snapshot();
-    match file.append(writer.text()) {
-        Ok(()) => Ok((writer, file)),
-        Err(fault) => Err(Uncompacted::Disk(fault)),
-    }
+    file.append(writer.text())?;
+    Ok((writer, file))
 }
 
 /// Writes all entries of a service to a new snapshot, which has no name yet.
@@ -114,27 +112,19 @@ pub fn compact<S: Opens + Drop, F: Locks + Clone + Drop>(
     secret: &[u8],
     folder: &Folder<'_, F>,
 ) -> Result<Compacted, Uncompacted> {
-    let _closed = folder.take_closed().map_err(|e| Uncompacted::Disk(e))?;
-    if let Some(_lock) = folder.take_if_free().map_err(|e| Uncompacted::Disk(e))? {
+    let _closed = folder.take_closed()?;
+    if let Some(_lock) = folder.take_if_free()? {
         close_last(alloc, folder)?;
     }
-    let found = folder.scan().map_err(|e| Uncompacted::Disk(e))?;
+    let found = folder.scan()?;
     let mut names = Names::new(alloc);
-    let closed = match recover_closed(folder, alloc, &found, &mut names) {
-        Ok(closed) => closed,
-        Err(fault) => return Err(Uncompacted::Journal(fault)),
-    };
-    let Some(end) = closed else {
+    let Some(end) = recover_closed(folder, alloc, &found, &mut names)? else {
         let kept = found.snapshot.unwrap_or(0);
-        remove_stale(&mut Replacing::new(folder, None), &found, kept).map_err(|e| Uncompacted::Disk(
-            e,
-        ))?;
+        remove_stale(&mut Replacing::new(folder, None), &found, kept)?;
         return Ok(Compacted::Nothing);
     };
     let state: Replaying<S> = replay_closed(alloc, secret, folder, &found, &names)?;
     let file = rewrite(alloc, folder, &found, &end, state)?;
-    replace(&mut Replacing::new(folder, Some(file)), &found, end.segment).map_err(
-        |e| Uncompacted::Disk(e),
-    )?;
+    replace(&mut Replacing::new(folder, Some(file)), &found, end.segment)?;
     Ok(Compacted::Snapshot(end.segment))
 }

@@ -42,9 +42,7 @@ impl Names {
 
     /// Gathers the name of a record.
     fn gather(&mut self, record: &[u8]) -> Result<(), Reason> {
-        let Some((name, _)) = read_record(record) else {
-            return Err(Reason::Record);
-        };
+        let (name, _) = read_record(record).ok_or(Reason::Record)?;
         if !name_ok(name) {
             return Err(Reason::Record);
         }
@@ -56,10 +54,7 @@ impl Names {
         }
         let mut copy = ArrayVec::new();
         let _fits = copy.try_extend_from_slice(name);
-        match self.names.push(copy) {
-            Ok(()) => Ok(()),
-            Err(_) => Err(Reason::Memory),
-        }
+        self.names.push(copy).map_err(|_| Reason::Memory)
     }
 
     /// The text of a table with these tenants, or with one that nobody names if there are none.
@@ -92,9 +87,7 @@ impl Player for Names {
         let mut rest = records;
         let mut played = 0;
         while let Some((record, after)) = cut_line(rest) {
-            if let Err(why) = self.gather(record) {
-                return Err(Halt { played, why });
-            }
+            self.gather(record).map_err(|why| Halt { played, why })?;
             played = usize::saturating_add(played, 1);
             rest = after;
         }

@@ -86,18 +86,12 @@ pub fn print<F: Locks + Clone + Drop, W: Write + Drop>(
     tenant: Option<&[u8]>,
 ) -> Result<(), Unprinted> {
     let _closed = folder.hold_closed_if_there();
-    let found = match folder.scan() {
-        Ok(found) => found,
-        Err(fault) => return Err(Unprinted::Journal(JournalFault::Disk(fault))),
-    };
+    let found = folder
+        .scan()
+        .map_err(|e| Unprinted::Journal(JournalFault::Disk(e)))?;
     let mut printing = Printing { output, tenant };
-    match recover(folder, alloc, &found, &mut printing) {
-        Ok(_) => match printing.output.flush() {
-            Ok(()) => Ok(()),
-            Err(_) => Err(Unprinted::Write),
-        },
-        Err(fault) => Err(of_fault(fault)),
-    }
+    recover(folder, alloc, &found, &mut printing).map_err(of_fault)?;
+    printing.output.flush().map_err(|_| Unprinted::Write)
 }
 
 /// Why a journal is not printed whole, by the fault of its reading.

@@ -155,14 +155,8 @@ pub fn remove_stale<D: Replaces>(
 pub fn replace<D: Replaces>(directory: &mut D, found: &Found, upto: u64) -> Result<(), DiskFault>
     ensures { HasReplaced result upto (D.log directory.old) (D.log directory.new) }
 {
-    if let Err(fault) = directory.secure() {
-        return Err(fault);
-    }
-    if let Err(fault) = directory.rename(upto) {
-        return Err(fault);
-    }
-    if let Err(fault) = directory.sync() {
-        return Err(fault);
-    }
+    directory.secure()?;
+    directory.rename(upto)?;
+    directory.sync()?;
     remove_stale(directory, found, upto)
 }

@@ -66,9 +66,7 @@ impl<S: Served> Replaying<S> {
         let Ok(Line::Call(call)) = read_line(line, &mut self.key) else {
             return Err(Reason::Record);
         };
-        let Some(speaker) = self.service.login(tenant, TOKEN) else {
-            return Err(Reason::Tenant);
-        };
+        let speaker = self.service.login(tenant, TOKEN).ok_or(Reason::Tenant)?;
         let reply = self
             .service
             .call(self.alloc, speaker, &call, &mut self.found);
@@ -77,13 +75,9 @@ impl<S: Served> Replaying<S> {
 
     /// Makes the call of a record.
     fn replay(&mut self, record: &[u8]) -> Result<(), Reason> {
-        let Some((tenant, line)) = read_record(record) else {
-            return Err(Reason::Record);
-        };
-        match self.ask(tenant, line) {
-            Ok(_) => Ok(()),
-            Err(why) => Err(why),
-        }
+        let (tenant, line) = read_record(record).ok_or(Reason::Record)?;
+        self.ask(tenant, line)?;
+        Ok(())
     }
 }
 
@@ -95,9 +89,7 @@ impl<S: Served> Player for Replaying<S> {
         let mut rest = records;
         let mut played = 0;
         while let Some((record, after)) = cut_line(rest) {
-            if let Err(why) = self.replay(record) {
-                return Err(Halt { played, why });
-            }
+            self.replay(record).map_err(|why| Halt { played, why })?;
             played = usize::saturating_add(played, 1);
             rest = after;
         }

@@ -52,13 +52,10 @@ impl<S: Served + Drop, F: Files> Rewriting<S, F> {
 
     /// Appends the text that the writer made.
     fn append(&mut self) -> Result<(), Reason> {
-        match self.file.append(self.writer.text()) {
-            Ok(()) => Ok(()),
-            Err(fault) => {
-                self.fault = Some(fault);
-                Err(Reason::Write)
-            }
-        }
+        self.file.append(self.writer.text()).map_err(|fault| {
+            self.fault = Some(fault);
+            Reason::Write
+        })
     }
 
     /// Ends the commit that is open, if it has a record.
@@ -87,9 +84,7 @@ impl<S: Served + Drop, F: Files> Rewriting<S, F> {
 
     /// Writes the entry that a record asks for, if it is there still, and removes it.
     fn rewrite(&mut self, record: &[u8]) -> Result<(), Reason> {
-        let Some((tenant, request)) = read_record(record) else {
-            return Err(Reason::Record);
-        };
+        let (tenant, request) = read_record(record).ok_or(Reason::Record)?;
         let Some(insertion) = insertion_of(request) else {
             return Ok(());
         };
@@ -129,9 +124,7 @@ impl<S: Served + Drop, F: Files> Player for Rewriting<S, F> {
         let mut rest = records;
         let mut played = 0;
         while let Some((record, after)) = cut_line(rest) {
-            if let Err(why) = self.rewrite(record) {
-                return Err(Halt { played, why });
-            }
+            self.rewrite(record).map_err(|why| Halt { played, why })?;
             played = usize::saturating_add(played, 1);
             rest = after;
         }
