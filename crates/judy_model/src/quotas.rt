@@ -1,17 +1,18 @@
 //! A tenant's quota and right.
+use crate::names::KEY_LIMIT;
 
 /// How many bytes of a key make one piece.
 pub const PIECE: u64 = 8;
 
-/// The most pieces of an entry: those of a key of 1,000 bytes.
-pub const ENTRY_PIECES_LIMIT: u64 = 126;
+/// The most pieces of an entry: those of the longest key, and one more.
+pub const ENTRY_PIECES_LIMIT: u64 = KEY_LIMIT as u64 / PIECE + 1;
 
 /// The largest quota of entries that a table of tenants can grant.
 pub const ENTRIES_LIMIT: u64 = 16_777_216;
 
 /// The largest quota of pieces that a table of tenants can grant: `ENTRIES_LIMIT` entries of the
 /// most pieces.
-pub const PIECES_LIMIT: u64 = 2_113_929_216;
+pub const PIECES_LIMIT: u64 = ENTRIES_LIMIT * ENTRY_PIECES_LIMIT;
 
 /// The most that a tenant can have. An entry of a Judy1 or a JudyL is one piece. An entry of a
 /// JudySL or a JudyHS has one piece for each eight bytes of its key, and one more.
