@@ -37,7 +37,7 @@ impl Timed {
     /// Inserts a string, if the bytes are one.
     pub(crate) fn insert(&mut self, alloc: Global, key: &[u8], value: u64) -> Result<(), NoMemory> {
         if is_string(key) {
-            let _before = self
+            let _answer = self
                 .map
                 .insert(alloc, &mut self.arena, key, Given::Value(value))?;
         }
