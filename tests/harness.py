@@ -96,17 +96,24 @@ class Server:
     def start(self):
         """Starts the server and waits until it listens, at most half an hour. The program may have
         to be built first."""
-        words = [program(), "serve", "--config", self.config, "--socket", self.path, *self.words]
+        # Clients of the tests may be silent for longer than the program has it unless it is told otherwise.
+        patient = () if "--login" in self.words else ("--login", "3600")
+        words = [program(), "serve", "--config", self.config, "--socket", self.path, *patient, *self.words]
         self._tell()
         self.said = None if self.heard else tempfile.TemporaryFile()
         self.process = subprocess.Popen(words, stderr=self.said or subprocess.PIPE)
         until = time.monotonic() + 1800
-        while not is_listening(self.path):
+        desks = [after for word, after in zip(words, words[1:]) if word in ("--status", "--control")]
+        while not all(is_listening(path) for path in (self.path, *desks)):
             if self.process.poll() is not None:
                 sys.exit("judyd serve ended with status %d" % self.process.returncode)
             if time.monotonic() > until:
                 sys.exit("judyd serve does not listen")
             time.sleep(0.01)
+
+    def sockets(self):
+        """The paths of its sockets. That of the status is made after that of the clients."""
+        return [self.path, *(path for word, path in zip(self.words, self.words[1:]) if word == "--status")]
 
     def files(self):
         """How many files the server has open."""

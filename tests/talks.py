@@ -202,6 +202,27 @@ def calls_of(path, count, seconds):
     return list(calls.values())
 
 
+def refills(path, line, wanted, count, seconds):
+    """A client that keeps this many lines in flight: when half of them are answered it sends as many
+    again. It checks each reply, and ends when none comes in ten seconds."""
+    talk, flying, came = Talk(path, LOG_IN), 0, b""
+    talk.say(b"JLI m -1 -1\n")
+    talk.socket.settimeout(10)
+    until = time.monotonic() + seconds
+    while flying or time.monotonic() < until:
+        if flying <= count // 2 and time.monotonic() < until:
+            talk.socket.sendall(line * (count - flying))
+            flying = count
+        try:
+            came += talk.socket.recv(65536)
+        except socket.timeout:
+            sys.exit("%d of %d lines %r in flight have no reply in ten seconds" % (flying, count, line))
+        whole = came.count(b"\n")
+        replies, came = came[: whole * len(wanted)], came[whole * len(wanted) :]
+        want("replies to %r" % line, wanted * whole, replies)
+        flying -= whole
+
+
 # ---- clients that do harm ----
 
 

@@ -9,7 +9,7 @@ from typing import Dict, List, NamedTuple, Optional, Tuple
 
 from judyd import wording
 
-CAUSES = ("quit", "end", "fault", "idle", "turn", "memory", "gone")
+CAUSES = ("quit", "end", "fault", "login", "idle", "turn", "memory", "gone")
 CALLS = ("AUTH", "QUIT", "USED", *sorted(wording.CALLS), "none")
 KINDS = {b"FULL": "full", b"ERR MEMORY": "memory", b"ERR AUTH": "auth", b"ERR READONLY": "readonly", b"ERR SYNTAX": "syntax", b"ERR LONG": "long"}
 
@@ -30,6 +30,7 @@ METRICS = [
     Metric("judyd_accepts_failed_total", "counter", "", "Connections that could not be accepted."),
     Metric("judyd_bytes_received_total", "counter", "", "Bytes that came from clients."),
     Metric("judyd_bytes_sent_total", "counter", "", "Bytes that went to clients."),
+    Metric("judyd_log_lines_dropped_total", "counter", "", "Lines that standard error did not take."),
     Metric("judyd_uptime_seconds", "gauge", "", "Seconds since the start."),
     Metric("judyd_live_words", "gauge", "", "Words in the blocks of all arrays."),
     Metric("judyd_machine_words", "gauge", "", "Words taken from the machine."),

@@ -115,7 +115,7 @@ class Lines(unittest.TestCase):
         for text in (b"", b"\n", b"hello\n", good[:-1], good.replace(b"judyd_live_words ", b"judyd_live_words -"), b"judyd_live_words 0\n", good.replace(b'{tenant="alice"', b"{alice"), b"<html>\n", b"\xff\xfe\n"):
             with self.assertRaises(Error, msg=repr(text[:40])):
                 Metrics(text)
-        shown = [metric.name for metric in METRICS if not metric.label and metric.name not in ("judyd_arrays", "judyd_live_words", "judyd_logins_unknown_total")]
+        shown = [metric.name for metric in METRICS if not metric.label and metric.name not in ("judyd_arrays", "judyd_live_words", "judyd_log_lines_dropped_total", "judyd_logins_unknown_total")]
         self.assertEqual(len(shown), 10)  # those that each server tells
         for name in shown:
             with self.assertRaisesRegex(Error, "the status has no " + name):
@@ -171,14 +171,16 @@ class Status(WithStatus):
         for it in (*words, ("stop",), ("reload",)):
             self.fails(4, "no server listens there, and one that ended left the socket", *it)
         os.remove(self.server.path)
-        for it in (*words, ("stop",), ("reload",)):
+        for it in words:
             self.fails(4, "no server has made that socket (judyd serve --status %s)" % self.server.path, *it)
+        for it in (("stop",), ("reload",)):
+            self.fails(4, "no server has made that socket (judyd serve --control %s)" % self.server.path, *it)
 
     def test_the_socket_of_clients(self):
         for words in (("status",), ("top", "--once"), ("stop",), ("reload",)):
             status, said, wrong = run_judy(b"", *words, self.path())
             self.assertEqual((status, said), (1, ""))
-            self.assertIn("answers ERR SYNTAX: it is not the socket of --status", wrong)
+            self.assertIn("answers ERR SYNTAX: it is not the socket of --%s" % ("control" if words[0] in ("stop", "reload") else "status"), wrong)
 
     def test_command_lines(self):
         for words in (("top",), ("stop",), ("reload",), ("top", "--twice", "x"), ("stop", "x", "y"), ("stop", "--timeout", "-1", "x")):
@@ -194,7 +196,7 @@ class Reload(WithStatus):
         self.assertEqual(self.server.asked, [b"RELOAD\n"])
 
     def test_refused(self):
-        for answer, said in ((b"ERR fault Digest\n", "the table is not read again: fault Digest"), (b"ERR\n", "answers ERR: it is not the socket of --status"), (b"hello\n", "answers hello: it is not the socket of --status")):
+        for answer, said in ((b"ERR fault Digest\n", "the table is not read again: fault Digest"), (b"ERR\n", "answers ERR: it is not the socket of --control"), (b"hello\n", "answers hello: it is not the socket of --control")):
             self.server.fixed = answer
             self.fails(1, said, "reload")
 

@@ -1,4 +1,5 @@
-"""The status socket of a judyd (`judyd serve --status PATH`): its requests, and the numbers of its text."""
+"""The sockets of a judyd for its operator: the numbers of its status (`judyd serve --status PATH`), and its
+commands (`--control PATH`)."""
 
 import errno
 import os
@@ -15,9 +16,9 @@ LIMIT = 1 << 20
 
 _LINE = re.compile(r'(\w+)(?:\{\w+="([^"\\]*)"\})? (\d{1,20})\Z')
 _CAUSES = {
-    errno.ENOENT: "no server has made that socket (judyd serve --status %s)",
-    errno.ECONNREFUSED: "no server listens there, and one that ended left the socket: %s",
-    errno.EACCES: "this user may not connect to %s: be root, or in the group judyd",
+    errno.ENOENT: "no server has made that socket (judyd serve --%(option)s %(path)s)",
+    errno.ECONNREFUSED: "no server listens there, and one that ended left the socket: %(path)s",
+    errno.EACCES: "this user may not connect to %(path)s: be root, or for the status in the group judyd-monitor",
 }
 
 
@@ -50,10 +51,10 @@ class Metrics:
 
 
 class Question:
-    """A request line on a status socket, whose answer comes bit by bit."""
+    """A request line on a socket of the operator, whose answer comes bit by bit."""
 
-    def __init__(self, path: str, line: str, seconds: Optional[float]) -> None:
-        self._path = path
+    def __init__(self, path: str, line: str, seconds: Optional[float], option: str = "status") -> None:
+        self._path, self._option = path, option
         self._sock = socket.socket(socket.AF_UNIX, socket.SOCK_STREAM)
         self._sock.settimeout(seconds)
         self._got = b""
@@ -62,7 +63,7 @@ class Question:
             self._sock.sendall(b"%b\n" % line.encode("ascii"))
         except OSError as e:
             self._sock.close()
-            raise NoServer(_CAUSES.get(e.errno or 0, "no connection to %%s: %s" % str(e).replace("%", "%%")) % path) from None
+            raise NoServer(_CAUSES.get(e.errno or 0, "no connection to %%(path)s: %s" % str(e).replace("%", "%%")) % {"path": path, "option": option}) from None
         self._sock.setblocking(False)
 
     def __enter__(self) -> "Question":
@@ -93,16 +94,16 @@ class Question:
         if not self._got:
             raise ConnectionLost("%s: the server closed without an answer" % self._path)
         if self._got.startswith(b"ERR") and self._got.endswith(b"\n"):
-            raise Error("%s answers %s: it is not the socket of --status" % (self._path, self._got.split(b"\n")[0].decode("ascii", "replace")))
+            raise Error("%s answers %s: it is not the socket of --%s" % (self._path, self._got.split(b"\n")[0].decode("ascii", "replace"), self._option))
         if len(self._got) > LIMIT:
-            raise Error("%s gives more than %d bytes: it is not the socket of --status" % (self._path, LIMIT))
+            raise Error("%s gives more than %d bytes: it is not the socket of --%s" % (self._path, LIMIT, self._option))
         return None if piece else self._got
 
 
-def ask(path: str, line: str, seconds: Optional[float]) -> bytes:
-    """The answer to a request line, which comes within so many seconds."""
+def ask(path: str, line: str, seconds: Optional[float], option: str = "status") -> bytes:
+    """The answer to a request line, which comes within so many seconds, at the socket of this option."""
     until = None if seconds is None else time.monotonic() + seconds
-    with Question(path, line, seconds) as question:
+    with Question(path, line, seconds, option) as question:
         while True:
             left = None if until is None else max(until - time.monotonic(), 0)
             if not select.select([question], [], [], left)[0]:
@@ -120,10 +121,10 @@ def status(path: str, seconds: Optional[float]) -> bytes:
 
 
 def stop(path: str, seconds: Optional[float]) -> None:
-    """Tells a server to end, and waits until its status socket is gone."""
+    """Tells a server to end at its control socket, and waits until that is gone."""
     before, until = _identity(path), None if seconds is None else time.monotonic() + seconds
     try:
-        ask(path, "STOP", seconds)
+        ask(path, "STOP", seconds, "control")
     except ConnectionLost:
         pass  # it may be gone before its answer is read
     while before is not None and _identity(path) == before:
@@ -133,9 +134,9 @@ def stop(path: str, seconds: Optional[float]) -> None:
 
 
 def reload(path: str, seconds: Optional[float]) -> None:
-    """Tells a server to read its table again. An error has the reason if it does not."""
+    """Tells a server at its control socket to read its table again. An error has the reason if it does not."""
     until = None if seconds is None else time.monotonic() + seconds
-    with Question(path, "RELOAD", seconds) as question:
+    with Question(path, "RELOAD", seconds, "control") as question:
         got = b""
         while not got.endswith(b"\n"):
             left = None if until is None else max(until - time.monotonic(), 0)
@@ -148,7 +149,7 @@ def reload(path: str, seconds: Optional[float]) -> None:
     if got.startswith(b"ERR ") and got not in (b"ERR SYNTAX\n", b"ERR AUTH\n", b"ERR LONG\n"):
         raise Error("the table is not read again: %s" % got[4:-1].decode("ascii", "replace"))
     if got != b"OK\n":
-        raise Error("%s answers %s: it is not the socket of --status" % (path, got[:-1].decode("ascii", "replace")))
+        raise Error("%s answers %s: it is not the socket of --control" % (path, got[:-1].decode("ascii", "replace")))
 
 
 def _identity(path: str) -> Optional[Tuple[int, int, int]]:

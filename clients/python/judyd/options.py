@@ -80,7 +80,7 @@ def subcommand(name: str) -> argparse.ArgumentParser:
         sub.add_argument("--once", action="store_true", help="print one table")
         sub.add_argument("path", metavar="PATH", help="the socket of judyd serve --status")
     elif name in ("stop", "reload"):
-        sub.add_argument("path", metavar="PATH", help="the socket of judyd serve --status")
+        sub.add_argument("path", metavar="PATH", help="the socket of judyd serve --control")
     elif name == "add":
         sub.add_argument("array", metavar="ARRAY", help="JL:NAME, JSL:NAME or JHS:NAME")
         sub.add_argument("key", metavar="KEY", help="a number for JL, a text for JSL and JHS")

@@ -8,8 +8,8 @@ mod Maps
 mod Contents
 mod Changes
 mod Counts
-mod Least
 mod WellFormed
 mod MapLaws
 mod Space
 mod Taking
+mod Clears

@@ -173,7 +173,7 @@ module _ (H : List ℕ → ℕ) (b : Blocks) (w : ℕ) (h : IsBytesArray H b w) 
       let u = of-buckets b q (long_in b w) (words-rise b w h.words) i in
       linked-bucket b u.first q (chain b u.first) (subst (λ v. Linked b v (chain b v)) (at-first u.hash u.first u.found) (h.chains u.hash).linked) u.held
 
-  once : HasEachOnce (bucket_entries b (bucket_numbers b (long_in b w)))
+  pub once : HasEachOnce (bucket_entries b (bucket_numbers b (long_in b w)))
   once = gathered-once H b (long_in b w) (words-rise b w h.words) (λ k v i. (
     subst (λ u. HaveHash H k (bucket_entries b (chain b u))) (at-first k v i) (h.hashes k),
     subst (λ u. HasEachOnce (bucket_entries b (chain b u))) (at-first k v i) (h.chains k).keys,

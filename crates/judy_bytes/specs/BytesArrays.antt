@@ -5,7 +5,7 @@
 --     bytes_value_in a w key     the value of a key
 --     has_bytes_key a w key      whether the key is present
 --     BytesGains, BytesSets      how an insertion or a write changes the content
---     BytesLoses, LosesFirst     how a removal changes it
+--     BytesLoses                 how a removal changes it
 --     BytesAnswers, BytesLooks   the reply to a call, and what the call leaves
 --     BytesBecomes               what every call leaves of the map and of other arrays
 --     HasBytesSpace a w          its blocks have few words
@@ -24,7 +24,7 @@ use Rattle.judy_model.specs.declared.calls.BytesCall.{BytesCall}
 use Rattle.judy_model.specs.declared.calls.BytesCall.TheVariants as bytes
 use Rattle.judy_model.specs.declared.replies.Reply.{Reply}
 use Rattle.judy_model.specs.declared.replies.Reply.TheVariants as reply
-use Rattle.judy_bytes.specs.Chains.{ByteEntries, chain, bucket_entries, chain_entries, first_key, IsBucketChain}
+use Rattle.judy_bytes.specs.Chains.{ByteEntries, chain, bucket_entries, chain_entries, IsBucketChain}
 
 -- the numbers of the buckets of these chains
 abbrev pub bucket_numbers : Blocks → Entries ℕ → List ℕ
@@ -92,10 +92,6 @@ pub record KeyBecomes (H : List ℕ → ℕ) (a c : Blocks) (w x : ℕ) (key : L
 -- the map at w in a became the one at x in b, with this value at the key
 abbrev pub BytesGains : (List ℕ → ℕ) → ArenaState → ℕ → ArenaState → ℕ → List ℕ → ℕ → Type 0
 BytesGains H a w b x key v = KeyBecomes H a.blocks b.blocks w x key (Some v)
-
--- the map at w in a became the one at x in b, without the first key of a chain
-abbrev pub LosesFirst : (List ℕ → ℕ) → ArenaState → ℕ → ArenaState → ℕ → ℕ → Type 0
-LosesFirst H a w b x first = KeyBecomes H a.blocks b.blocks w x (first_key a.blocks first) None
 
 -- the value of the key in the map at w, or None if it is absent
 abbrev pub bytes_value_in : ArenaState → ℕ → List ℕ → Option ℕ

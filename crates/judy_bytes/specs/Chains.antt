@@ -43,10 +43,6 @@ value_in_chain b w key = value_of string_order (chain_entries b w) key
 abbrev pub chain_has : Blocks → ℕ → List ℕ → Bool
 chain_has b w key = has_key string_order (chain_entries b w) key
 
--- the key of the first bucket of the chain
-abbrev pub first_key : Blocks → ℕ → List ℕ
-first_key b w = bucket_key (words_of b (number_of w))
-
 -- the chain from the reference on is exactly these buckets
 abbrev pub Linked : Blocks → ℕ → List ℕ → Type 0
 Linked b w [] = w ≡ 0
@@ -74,10 +70,6 @@ pub record ChainBecomes (a c : Blocks) (w x : ℕ) (key : List ℕ) (new : Optio
   pub frame : Frame a c (chain a w) (chain c x)
   pub found : (k : List ℕ)
       → value_in_chain c x k ≡ cond (eq_by_cmp string_order k key) new (value_in_chain a w k)
-
--- the chain w became x, without its first key
-abbrev pub LosesHead : Blocks → Blocks → ℕ → ℕ → Type 0
-LosesHead a c w x = ChainBecomes a c w x (first_key a w) None
 
 -- the reference leads to a new bucket
 pub record IsNewBucket (a c : Blocks) (x : ℕ) : Type 0 where

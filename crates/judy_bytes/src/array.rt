@@ -1,9 +1,8 @@
 //! JudyHS: a map from byte keys to words.
-ghost use Rattle.std.specs.Prelude.{◌≡◌, ◌≢◌, ℕ, ◌≤◌, IfOk, OnOk, OnErr, IsTrue, IsFalse, if◌then◌else◌, None, [], length};
+ghost use Rattle.std.specs.Prelude.{◌≡◌, ℕ, ◌≤◌, IfOk, OnOk, OnErr, IsTrue, IsFalse, if◌then◌else◌, None, [], length};
 ghost use Rattle.judy_arena.specs.Blocks.{Blocks};
 ghost use Rattle.judy_arena.specs.Takes.{Takes, TakesNothing};
-ghost use Rattle.judy_bytes.specs.Chains.{first_key};
-ghost use Rattle.judy_bytes.specs.BytesArrays.{IsBytesArray, bytes_in, bytes_value_in, has_bytes_key, first_at, BytesGains, BytesSets, BytesLoses, LosesFirst};
+ghost use Rattle.judy_bytes.specs.BytesArrays.{IsBytesArray, bytes_in, bytes_value_in, has_bytes_key, first_at, BytesGains, BytesSets, BytesLoses};
 ghost use Rattle.judy_bytes.specs.BytesArrays.{BytesAnswers, BytesInserts, AnswersDelete, BytesLooks, BytesBecomes, HasBytesSpace};
 ghost use Rattle.judy_model.specs.Tenant.{value_or_null};
 ghost use Rattle.judy_model.specs.declared.calls.BytesCall.TheVariants as bytes;
@@ -197,21 +196,6 @@ impl<H: KeyHash> JudyHS<H> {
         true
     }
 
-    // Removes the first key of the chain at a hash word.
-    fn take_first(&mut self, arena: &mut Arena, hash: u64, first: Ref)
-        requires array { IsBytesArray H.hashed arena.old.blocks self.old.words }
-        requires first { first ≡ first_at arena.old.blocks self.old.words hash }
-        requires some { first ≢ 0 }
-        ensures array { LosesFirst H.hashed arena.old self.old.words arena.new self.new.words
-            first }
-        ensures there { IsTrue
-            (has_bytes_key arena.old self.old.words (first_key arena.old.blocks first)) }
-        ensures memory { TakesNothing arena.old arena.new }
-    {
-        let rest = chain::pop(arena, first);
-        self.words = words::lead(arena, self.words, hash, rest);
-    }
-
     /// Removes all keys and returns how many there were. As `JudyHSFreeArray` of JudyHS(3), which
     /// returns bytes.
     pub fn clear(&mut self, arena: &mut Arena) -> u64
@@ -224,11 +208,18 @@ impl<H: KeyHash> JudyHS<H> {
             arena.new self.new.words }
         ensures memory { TakesNothing arena.old arena.new }
     {
+        let mut words = self.words;
         let mut count = 0;
-        while let Some(least) = words::least(arena, self.words) {
-            self.take_first(arena, least.0, least.1);
-            count += 1;
+        let mut found = words.first(arena, 0);
+        for place in 0..words.population(arena) {
+            let Some(entry) = found else {
+                continue;
+            };
+            count += chain::clear(arena, words::reference_of(entry.1));
+            found = words.next(arena, entry.0);
         }
+        words.clear(arena);
+        self.words = JudyL::new();
         count
     }
 }

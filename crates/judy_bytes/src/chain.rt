@@ -1,11 +1,12 @@
 //! Chains of buckets. The keys of a chain have the same hash word.
-ghost use Rattle.std.specs.Prelude.{◌≡◌, ◌≢◌, ◌≤◌, IfOk, IfSome, OnSome, IfNone, OnErr, IsTrue, None, Some, length, is_ok};
+ghost use Rattle.std.specs.Prelude.{◌≡◌, ◌≢◌, ◌≤◌, IfOk, IfSome, OnSome, IfNone, OnErr, IsTrue, None, Some, length, is_ok, []};
 ghost use Rattle.judy_arena.specs.Blocks.{without};
+ghost use Rattle.judy_arena.specs.Frame.{Frame};
 ghost use Rattle.judy_refs.specs.References.{is_reference, block_of, number_of};
 ghost use Rattle.judy_arena.specs.Takes.{Takes, TakesNothing};
 ghost use Rattle.judy_bytes.specs.Buckets.{IsBucket};
-ghost use Rattle.judy_bytes.specs.Chains.{IsBucketChain, IsFoundBucket, IsNewBucket, ChainBecomes, LosesHead, chain};
-ghost use Rattle.judy_bytes.specs.Chains.{value_in_chain, chain_has, first_key};
+ghost use Rattle.judy_bytes.specs.Chains.{IsBucketChain, IsFoundBucket, IsNewBucket, ChainBecomes, chain};
+ghost use Rattle.judy_bytes.specs.Chains.{value_in_chain, chain_has};
 ghost use Rattle.judy_words.specs.LongArrays.{CountsRefusals};
 
 use crate::bucket;
@@ -90,18 +91,17 @@ pub(crate) fn release(arena: &mut Arena, bucket: Ref)
     }
 }
 
-/// Removes the first key of a chain. Returns the reference of the rest.
-pub(crate) fn pop(arena: &mut Arena, first: Ref) -> Ref
-    requires chain { IsBucketChain arena.old.blocks first }
-    requires some { first ≢ 0 }
-    ensures chain { LosesHead arena.old.blocks arena.new.blocks first result }
-    ensures there { IsTrue (chain_has arena.old.blocks first (first_key arena.old.blocks first)) }
+/// Releases all buckets of a chain. Returns how many there were.
+pub(crate) fn clear(arena: &mut Arena, first: Ref) -> u64
+    requires { IsBucketChain arena.old.blocks first }
+    ensures gone { Frame arena.old.blocks arena.new.blocks (chain arena.old.blocks first) [] }
+    ensures count { result ≡ length (chain arena.old.blocks first) }
     ensures memory { TakesNothing arena.old arena.new }
 {
     let Some(block) = first.block() else {
-        unreachable!()
+        return 0;
     };
     let rest = bucket::next(arena, block);
     arena.release(block);
-    rest
+    clear(arena, rest) + 1
 }

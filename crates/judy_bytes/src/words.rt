@@ -1,5 +1,5 @@
 //! The JudyL of hash words. Its values are the references of chains.
-ghost use Rattle.std.specs.Prelude.{◌≡◌, ◌≢◌, ◌≤◌, ℕ, IfOk, OnErr, IfSome, IfNone, IsTrue, None, Some, [], is_ok};
+ghost use Rattle.std.specs.Prelude.{◌≡◌, ◌≢◌, ◌≤◌, ℕ, IfOk, OnErr, IsTrue, None, Some, is_ok};
 ghost use Rattle.std.specs.Option.{unwrap_or};
 ghost use Rattle.judy_refs.specs.References.{is_reference};
 ghost use Rattle.judy_arena.specs.Takes.{Takes, TakesNothing};
@@ -23,19 +23,6 @@ pub(crate) fn first(arena: &Arena, words: JudyL, hash: u64) -> Ref
         return Ref::EMPTY;
     };
     reference_of(word)
-}
-
-/// The least hash word, with the reference of its first bucket. None if there is no hash word.
-pub(crate) fn least(arena: &Arena, words: JudyL) -> Option<(u64, Ref)>
-    requires array { IsLongArray arena.now.blocks words }
-    requires references { (h : ℕ) → IsTrue (is_reference (first_at arena.now.blocks words h)) }
-    ensures some { IfSome result (λ e. e.1 ≡ first_at arena.now.blocks words e.0) }
-    ensures there { IfSome result
-        (λ e. IsTrue (has_key word_order (long_in arena.now.blocks words) e.0)) }
-    ensures none { IfNone result (long_in arena.now.blocks words ≡ []) }
-{
-    let entry = words.first(arena, 0)?;
-    Some((entry.0, reference_of(entry.1)))
 }
 
 /// Reads a word that is known to be a reference.

@@ -98,6 +98,7 @@ served-in_range : (rows : List Row) → IsInRange (served rows)
 served-in_range rows = (
   count_given 1024 64 (omega arith, omega arith) (first_of (codes "clients") rows),
   count_given most_count most_count (omega arith, omega arith) (first_of (codes "connections") rows),
+  count_given most_count 10 (omega arith, omega arith) (first_of (codes "login") rows),
   counts_given most_count (omega arith) (first_of (codes "idle") rows),
   counts_given most_count (omega arith) (first_of (codes "turn") rows),
   counts_given most_megabytes (omega arith) (first_of (codes "reserve") rows),
@@ -163,17 +164,17 @@ unfolding clap_on_literals
 taken-serve = refl
 
 job-serve : job_of (subcommand_of judyd_app (codes "serve" ∷ codes "--config" ∷ codes "c" ∷ codes "--socket" ∷ codes "s" ∷ []))
-    ≡ Some (Serve (codes "c") (codes "s") None 64 4294967295 None None None None Round false)
+    ≡ Some (Serve (codes "c") (codes "s") None None 64 4294967295 10 None None None None Round false)
 unfolding clap_on_literals
 job-serve = refl
 
 job-status : job_of (subcommand_of judyd_app (codes "serve" ∷ codes "--config" ∷ codes "c" ∷ codes "--socket" ∷ codes "s" ∷ codes "--status" ∷ codes "t" ∷ []))
-    ≡ Some (Serve (codes "c") (codes "s") (Some (codes "t")) 64 4294967295 None None None None Round false)
+    ≡ Some (Serve (codes "c") (codes "s") (Some (codes "t")) None 64 4294967295 10 None None None None Round false)
 unfolding clap_on_literals
 job-status = refl
 
 job-reserve : job_of (subcommand_of judyd_app (codes "serve" ∷ codes "--config" ∷ codes "c" ∷ codes "--socket" ∷ codes "s" ∷ codes
-    "--reserve" ∷ codes "64" ∷ [])) ≡ Some (Serve (codes "c") (codes "s") None 64 4294967295 None None (Some 64) None Round false)
+    "--reserve" ∷ codes "64" ∷ [])) ≡ Some (Serve (codes "c") (codes "s") None None 64 4294967295 10 None None (Some 64) None Round false)
 unfolding clap_on_literals
 job-reserve = refl
 
@@ -196,7 +197,7 @@ abbrev serve-words : Text → Text → List Text
 serve-words dir when = codes "serve" ∷ codes "--config" ∷ codes "c" ∷ codes "--socket" ∷ codes "s" ∷ codes "--journal" ∷ dir ∷ codes "--sync" ∷ when ∷ []
 
 job-journal : job_of (subcommand_of judyd_app (serve-words (codes "d") (codes "5")))
-    ≡ Some (Serve (codes "c") (codes "s") None 64 4294967295 None None None (Some (codes "d")) (Seconds 5) false)
+    ≡ Some (Serve (codes "c") (codes "s") None None 64 4294967295 10 None None None (Some (codes "d")) (Seconds 5) false)
 unfolding clap_on_literals
 job-journal = refl
 

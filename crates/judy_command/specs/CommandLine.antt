@@ -55,24 +55,32 @@ clients_rule = record (limited_rule (codes "clients")) { defaults = codes "64" �
 abbrev pub connections_rule : Rule
 connections_rule = record (number_rule (codes "connections")) { defaults = codes "4294967295" ∷ [] }
 
+-- 10 unless it is given
+abbrev pub login_rule : Rule
+login_rule = record (number_rule (codes "login")) { defaults = codes "10" ∷ [] }
+
 -- `run [--words]`
 abbrev pub run_app : App
 run_app = with_rule (new_app (codes "run")) (flag_rule (codes "words"))
 
--- `--config FILE --socket PATH [--status PATH]`
+-- `--config FILE --socket PATH [--status PATH] [--control PATH]`
 abbrev pub with_places : App → App
-with_places a = with_rule (with_rule (with_rule a (needed_rule (codes "config"))) (needed_rule (codes "socket"))) (valued_rule (codes "status"))
+with_places a = with_rule (with_rule (with_rule (with_rule a (needed_rule (codes "config"))) (needed_rule (codes "socket"))) (valued_rule (codes "status"))) (valued_rule (codes "control"))
 
--- `[--clients N] [--connections N] [--idle SECONDS] [--turn SECONDS]`
+-- `[--login SECONDS] [--idle SECONDS] [--turn SECONDS]`
+abbrev pub with_times : App → App
+with_times a = with_rule (with_rule (with_rule a login_rule) (number_rule (codes "idle"))) (number_rule (codes "turn"))
+
+-- `[--clients N] [--connections N]`, and the limits of time
 abbrev pub with_limits : App → App
-with_limits a = with_rule (with_rule (with_rule (with_rule a clients_rule) connections_rule) (number_rule (codes "idle"))) (number_rule (codes "turn"))
+with_limits a = with_times (with_rule (with_rule a clients_rule) connections_rule)
 
 -- `[--journal DIR] [--sync WHEN]`
 abbrev pub with_journal : App → App
 with_journal a = with_rule (with_rule a (valued_rule (codes "journal"))) (valued_rule (codes "sync"))
 
--- `serve --config FILE --socket PATH [--status PATH] [--clients N] [--connections N]
--- [--idle SECONDS] [--turn SECONDS] [--reserve MB] [--journal DIR] [--sync WHEN] [--check]`
+-- `serve --config FILE --socket PATH [--status PATH] [--control PATH] [--clients N] [--connections N]
+-- [--login SECONDS] [--idle SECONDS] [--turn SECONDS] [--reserve MB] [--journal DIR] [--sync WHEN] [--check]`
 abbrev pub serve_app : App
 serve_app = with_rule (with_journal (with_rule (with_limits (with_places (new_app (codes "serve")))) reserve_rule)) (flag_rule (codes "check"))
 
@@ -130,9 +138,10 @@ abbrev pub sync_given : List Row → Sync
 sync_given rows = option_map_or (λ t. unwrap_or (sync_in t) Round) (first_of (codes "sync") rows) Round
 
 abbrev pub served : List Row → Job
-served rows = Serve (unwrap_or (first_of (codes "config") rows) []) (unwrap_or (first_of (codes "socket") rows) []) (first_of (codes "status") rows)
+served rows = Serve (unwrap_or (first_of (codes "config") rows) []) (unwrap_or (first_of (codes "socket") rows) []) (first_of (codes "status") rows) (first_of (codes "control") rows)
     (unwrap_or (number_given most_clients (codes "clients") rows) 64)
     (unwrap_or (number_given most_count (codes "connections") rows) most_count)
+    (unwrap_or (number_given most_count (codes "login") rows) 10)
     (number_given most_count (codes "idle") rows) (number_given most_count (codes "turn") rows)
     (number_given most_megabytes (codes "reserve") rows)
     (first_of (codes "journal") rows) (sync_given rows) (is_set (codes "check") rows)
@@ -175,8 +184,8 @@ IsSync Never = Unit {0}
 
 abbrev pub IsInRange : Job → Type 0
 IsInRange (Run words) = Unit {0}
-IsInRange (Serve config socket status clients connections idle turn reserve journal sync check) =
-    IsCount most_clients clients × IsCount most_count connections
+IsInRange (Serve config socket status control clients connections login idle turn reserve journal sync check) =
+    IsCount most_clients clients × IsCount most_count connections × IsCount most_count login
     × IfSome idle (IsCount most_count) × IfSome turn (IsCount most_count)
     × IfSome reserve (IsCount most_megabytes) × IsSync sync
 IsInRange (Compact directory) = Unit {0}

@@ -3,9 +3,9 @@ ghost use Rattle.std.specs.Prelude.{◌≡◌, false, true, IfOk};
 ghost use Rattle.clap.specs.Words.{app_of, new_app, rule_of, with_rule, with_subcommand};
 ghost use Rattle.clap.specs.declared.builder.Command.TheViews.{out-Command as fields_of};
 ghost use Rattle.judy_command.specs.CommandLine.{bare_app, clients_rule, compact_app, connections_rule, flag_rule};
-ghost use Rattle.judy_command.specs.CommandLine.{journal_app, judyd_app, limited_rule, number_rule, placed_rule};
+ghost use Rattle.judy_command.specs.CommandLine.{journal_app, judyd_app, limited_rule, login_rule, number_rule, placed_rule};
 ghost use Rattle.judy_command.specs.CommandLine.{reserve_rule, run_app, serve_app, valued_rule};
-ghost use Rattle.judy_command.specs.CommandLine.{with_journal, with_limits, with_places};
+ghost use Rattle.judy_command.specs.CommandLine.{with_journal, with_limits, with_places, with_times};
 
 use clap::{Arg, ArgAction, Command};
 use std::alloc::{AllocError, Global};
@@ -32,11 +32,15 @@ const CONFIG_HELP: &str = "The file with the table of tenants";
 
 const SOCKET_HELP: &str = "Where the Unix socket is made; nothing may stand there yet";
 
-const STATUS_HELP: &str = "Where a second Unix socket is made, for STATUS, GET /metrics and STOP";
+const STATUS_HELP: &str = "Where a second Unix socket is made, for STATUS and GET /metrics";
+
+const CONTROL_HELP: &str = "Where a third Unix socket is made, for RELOAD and STOP";
 
 const CLIENTS_HELP: &str = "How many clients to serve at once, 1 to 1024; others wait";
 
 const CONNECTIONS_HELP: &str = "How many connections to serve before it ends";
+
+const LOGIN_HELP: &str = "Close a connection on which nobody is logged in after so long";
 
 const IDLE_HELP: &str = "Close a client that sends no byte and takes none for so long";
 
@@ -145,6 +149,14 @@ fn connections<'a>(alloc: Global) -> Arg<'a>
     numbered(alloc, "connections", "N", CONNECTIONS_HELP).default_value("4294967295")
 }
 
+/// `--login SECONDS`; the default is 10.
+fn login<'a>(alloc: Global) -> Arg<'a>
+    ensures rule { rule_of result ≡ login_rule }
+    ensures local { result.global ≡ false }
+{
+    numbered(alloc, "login", "SECONDS", LOGIN_HELP).default_value("10")
+}
+
 /// A value that must be given, without the argument's name.
 fn placed<'a>(alloc: Global, name: &'a str, value: &'a str, help: &'a str) -> Arg<'a>
     ensures rule { rule_of result ≡ placed_rule name.entry.now }
@@ -201,7 +213,19 @@ fn with_places<'a>(alloc: Global, command: Command<'a>) -> Result<Command<'a>, A
     let socket = valued(alloc, "socket", "PATH", SOCKET_HELP);
     let command = with(command, config.required(true))?;
     let command = with(command, socket.required(true))?;
-    with(command, valued(alloc, "status", "PATH", STATUS_HELP))
+    let command = with(command, valued(alloc, "status", "PATH", STATUS_HELP))?;
+    with(command, valued(alloc, "control", "PATH", CONTROL_HELP))
+}
+
+/// A command with the options for the limits of time.
+fn with_times<'a>(alloc: Global, command: Command<'a>) -> Result<Command<'a>, AllocError>
+    requires local { (fields_of command).has_globals ≡ false }
+    ensures app { IfOk result (λ c. app_of c ≡ with_times (app_of command.entry)) }
+    ensures local { IfOk result (λ c. (fields_of c).has_globals ≡ false) }
+{
+    let command = with(command, login(alloc))?;
+    let command = with(command, numbered(alloc, "idle", "SECONDS", IDLE_HELP))?;
+    with(command, numbered(alloc, "turn", "SECONDS", TURN_HELP))
 }
 
 /// A command with the options for the limits of connections.
@@ -212,8 +236,7 @@ fn with_limits<'a>(alloc: Global, command: Command<'a>) -> Result<Command<'a>, A
 {
     let command = with(command, clients(alloc))?;
     let command = with(command, connections(alloc))?;
-    let command = with(command, numbered(alloc, "idle", "SECONDS", IDLE_HELP))?;
-    with(command, numbered(alloc, "turn", "SECONDS", TURN_HELP))
+    with_times(alloc, command)
 }
 
 /// A command with the options for the journal.

@@ -52,10 +52,14 @@ pub enum Job {
         socket: Word,
         /// The path of the status socket, if one is wanted.
         status: Option<Word>,
+        /// The path of the control socket, if one is wanted.
+        control: Option<Word>,
         /// How many clients to serve at once: 1 to 1024.
         clients: u32,
-        /// How many connections to serve: 1 to 4294967295.
+        /// How many connections to serve: 1 to 4294967295, and the last of these stands for no limit.
         connections: u32,
+        /// How many seconds a connection may last on which nobody is logged in: 1 to 4294967295.
+        login: u32,
         /// How many seconds a client may send no byte and take none, if there is a limit: 1 to
         /// 4294967295.
         idle: Option<u32>,
@@ -208,13 +212,16 @@ fn served(alloc: Global, matches: &ArgMatches<'_>) -> Result<Job, AllocError>
     let config = word_of(alloc, matches, "config")?;
     let socket = word_of(alloc, matches, "socket")?;
     let status = word_given(alloc, matches, "status")?;
+    let control = word_given(alloc, matches, "control")?;
     let journal = word_given(alloc, matches, "journal")?;
     Ok(Job::Serve {
         config,
         socket,
         status,
+        control,
         clients: number_given(matches, "clients", MOST_CLIENTS).unwrap_or(64),
         connections: number_given(matches, "connections", u32::MAX).unwrap_or(u32::MAX),
+        login: number_given(matches, "login", u32::MAX).unwrap_or(10),
         idle: number_given(matches, "idle", u32::MAX),
         turn: number_given(matches, "turn", u32::MAX),
         reserve: number_given(matches, "reserve", MOST_MEGABYTES),

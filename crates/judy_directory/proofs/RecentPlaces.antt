@@ -4,13 +4,15 @@ use Rattle.std.proofs.lemmas.Bool.{false≢true}
 use Rattle.std.specs.Option.{option_or}
 use Rattle.std.specs.Cmp.Lexicographic.{bytes_decides, nat_list_eq_equiv}
 use Rattle.std.specs.Ordering.{eq_by_cmp}
-use Rattle.std.specs.FinMap.{FinMap, get, insert, remove, len, contains_key, get-insert, get-remove, len-insert, same_map}
+use Rattle.std.specs.FinMap.{FinMap, get, insert, remove, len, contains_key, retain_keys, get-insert, get-remove, len-insert, same_map}
 use Rattle.judy_model.specs.Contents.{string_order}
 use Rattle.judy_model.proofs.lemmas.FormLemmas.{names_apart}
 use Rattle.judy_directory.specs.declared.recent.Recent.{Recent}
 use Rattle.judy_directory.specs.Places.{Stand}
 use Rattle.judy_directory.specs.Rooms.{alike}
-use Rattle.judy_directory.specs.Recent.{recent_at, with_recent, without_recent, has_recent}
+use Rattle.judy_directory.specs.Recent.{recent_at, with_recent, without_recent, without_gone, has_recent}
+use Rattle.judy_directory.specs.Kinds.{is_gone, is_staying}
+use Rattle.judy_directory.proofs.Leaving.{get-staying}
 use Rattle.judy_directory.proofs.Listed.{alike-tied}
 use Rattle.judy_directory.proofs.Rooms.{one, none_before}
 use Rattle.judy_directory.proofs.lemmas.Changes.{total}
@@ -174,3 +176,51 @@ with-none r m q h e = get-recent r m q ∙ ap (λ o. option_or o (get m q)) (non
     by : (b : Bool) → is_some (recent_at r q) ≡ b → is_some (recent_at r q) ≡ false
     by false g = g
     by true g = let there = has-recent m q r h g in let absent = ap is_some e in absurd (false≢true (sym absent ∙ there))
+
+-- a key is present with that of the name used last if it is present
+pub same-keys : (r : Option Recent) (m : FinMap string_order Stand) (q : List ℕ) → IsTrue (has_recent r m)
+    → contains_key m q ≡ contains_key (with_recent r m) q
+same-keys r m q h = by (contains_key m q) refl
+  where
+    by : (b : Bool) → contains_key m q ≡ b → contains_key m q ≡ contains_key (with_recent r m) q
+    by true e = e ∙ sym (with-key r m q e)
+    by false e = e ∙ sym (ap is_some (with-none r m q h (none_of (get m q) e)))
+
+-- ---- the names of some tenants are forgotten
+
+module _ (gone : List Bool) (m : FinMap string_order Stand) where
+  at-gone : (r : Option Recent) (q : List ℕ) → recent_at (without_gone gone r) q ≡ cond (is_gone gone q) None (recent_at r q)
+  at-gone None q = nothing_twice (is_gone gone q)
+  at-gone (Some r) q = is_it (is_gone gone r.spot) refl
+    where
+      is_it : (b : Bool) → is_gone gone r.spot ≡ b
+          → recent_at (cond b None (Some r)) q ≡ cond (is_gone gone q) None (cond (alike r.spot q) (Some r.place) None)
+      is_it true e = at_key (alike r.spot q) refl
+        where
+          at_key : (b : Bool) → alike r.spot q ≡ b → None ≡ cond (is_gone gone q) None (cond b (Some r.place) None)
+          at_key true a = ap (λ x. cond x None (Some r.place)) (sym (ap (is_gone gone) (sym (one r.spot q a)) ∙ e))
+          at_key false a = nothing_twice (is_gone gone q)
+      is_it false e = at_key (alike r.spot q) refl
+        where
+          at_key : (b : Bool) → alike r.spot q ≡ b → cond b (Some r.place) None ≡ cond (is_gone gone q) None (cond b (Some r.place) None)
+          at_key true a = ap (λ x. cond x None (Some r.place)) (sym (ap (is_gone gone) (sym (one r.spot q a)) ∙ e))
+          at_key false a = nothing_twice (is_gone gone q)
+
+  pub recent-gone : (r : Option Recent) → with_recent (without_gone gone r) (retain_keys m (is_staying gone))
+      ≡ retain_keys (with_recent r m) (is_staying gone)
+  recent-gone r = same_map total names_apart _ _ (λ q.
+      get-recent (without_gone gone r) (retain_keys m (is_staying gone)) q
+      ∙ ap (λ o. option_or o (get (retain_keys m (is_staying gone)) q)) (at-gone r q)
+      ∙ ap (option_or (cond (is_gone gone q) None (recent_at r q))) (get-staying gone m q)
+      ∙ none_before (is_gone gone q) (recent_at r q) (get m q)
+      ∙ ap (cond (is_gone gone q) None) (sym (get-recent r m q))
+      ∙ sym (get-staying gone (with_recent r m) q))
+
+  -- the name used last stays among the places, if its tenant stays
+  pub has-gone : (r : Option Recent) → IsTrue (has_recent r m) → IsTrue (has_recent (without_gone gone r) (retain_keys m (is_staying gone)))
+  has-gone None h = refl
+  has-gone (Some r) h = is_it (is_gone gone r.spot) refl
+    where
+      is_it : (b : Bool) → is_gone gone r.spot ≡ b → has_recent (cond b None (Some r)) (retain_keys m (is_staying gone)) ≡ true
+      is_it true e = refl
+      is_it false e = ap is_some (get-staying gone m r.spot ∙ ap (λ b. cond b None (get m r.spot)) e) ∙ h

@@ -1,5 +1,5 @@
 -- The numbers of the four kinds of array, and the keys of arrays.
-use Rattle.std.specs.Prelude.{◌≡◌, ℕ, zero, suc, ◌+◌, ◌*◌, ◌/◌, ◌==◌, Bool, false, List, [], ◌∷◌}
+use Rattle.std.specs.Prelude.{◌≡◌, ℕ, zero, suc, ◌+◌, ◌*◌, ◌/◌, ◌==◌, Bool, false, not, List, [], ◌∷◌, get_or}
 use Rattle.judy_directory.specs.declared.spot.ArrayKind.{ArrayKind}
 use Rattle.judy_directory.specs.declared.spot.ArrayKind.TheVariants.{One, Long, Str, Bytes}
 
@@ -33,3 +33,11 @@ IsOf tenant key = (kind : ArrayKind) × (name : List ℕ) × (key ≡ spot_of te
 abbrev pub is_of : ℕ → List ℕ → Bool
 is_of tenant [] = false
 is_of tenant (owner ∷ name) = owner / 4 == tenant
+
+-- whether the key is that of an array of a tenant that is marked
+abbrev pub is_gone : List Bool → List ℕ → Bool
+is_gone gone [] = false
+is_gone gone (owner ∷ name) = get_or gone (owner / 4) false
+
+abbrev pub is_staying : List Bool → List ℕ → Bool
+is_staying gone key = not (is_gone gone key)

@@ -1,6 +1,7 @@
 //! The directory of all arrays: the place and the size of each array, by tenant, kind and name.
 #![tactic(auto)]
 
+mod all_names;
 mod directory;
 mod kept;
 mod keyed;
@@ -8,6 +9,7 @@ mod names;
 mod recent;
 mod spot;
 
+pub use all_names::AllNames;
 pub use directory::Directory;
 pub use keyed::names_are_hashed_whole;
 pub use spot::{ArrayKind, Place, Spot};

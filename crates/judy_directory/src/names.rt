@@ -2,12 +2,13 @@
 ghost use Rattle.std.specs.Prelude.{◌≡◌, ◌≤◌, ℕ, List, IfOk, IfSome, IfNone, OnOk, OnErr, IsTrue, None, [], max};
 ghost use Rattle.std.specs.FinMap as map;
 ghost use Rattle.std.specs.HashMap.{hasher_of, spare};
-ghost use Rattle.judy_directory.specs.Kinds.{IsOf};
+ghost use Rattle.judy_directory.specs.Kinds.{IsOf, is_staying};
 ghost use Rattle.judy_directory.specs.Places.{at, nothing};
-ghost use Rattle.judy_directory.specs.Rooms.{own_key};
+ghost use Rattle.judy_directory.specs.Rooms.{own_key, staying, is_listed, AreOnce};
 ghost use Rattle.judy_directory.specs.Secrets.{start_of};
 
-use crate::kept::{drop_kept, find_kept, own_kept, push_kept, reserve_kept};
+use crate::all_names::AllNames;
+use crate::kept::{drop_gone, drop_kept, find_kept, own_kept, push_kept, reserve_kept};
 use crate::keyed::Keyed;
 use crate::spot::{Place, Spot};
 use judy_arena::NoMemory;
@@ -53,6 +54,14 @@ fn own_listed(table: &HashMap<Spot, Place, Keyed>, tenant: u8) -> Option<Spot>
         }
     }
     None
+}
+
+/// Removes the names of the tenants that are marked from the table.
+fn drop_listed(table: &mut HashMap<Spot, Place, Keyed>, gone: &[bool])
+    ensures entries { table.new.entries ≡ staying gone.now table.old.entries }
+    ensures hasher { hasher_of table.new ≡ hasher_of table.old }
+{
+    table.retain(|spot, _place| !spot.is_gone(gone));
 }
 
 /// The place of each tenant, kind and name. Contracts see a finite map, the start of every hash, and
@@ -122,6 +131,23 @@ impl Names {
             return Some(spot);
         }
         own_kept(self.kept.as_slice(), tenant)
+    }
+
+    /// All names that have a place, each once.
+    pub fn list(&self) -> AllNames<'_>
+        ensures all { (key : List ℕ) → is_listed key result ≡ map.contains_key self.now.0 key }
+        ensures once { AreOnce result }
+    {
+        AllNames::of(&self.table, self.kept.as_slice())
+    }
+
+    /// Removes all names of the tenants that are marked, in one pass.
+    pub fn forget_gone(&mut self, gone: &[bool])
+        ensures places { self.new.0 ≡ map.retain_keys self.old.0 (is_staying gone.now) }
+        ensures footing { self.new.1 ≡ self.old.1 }
+    {
+        drop_listed(&mut self.table, gone);
+        drop_gone(&mut self.kept, gone);
     }
 
     /// The number of names that have a place.

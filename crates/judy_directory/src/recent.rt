@@ -1,6 +1,6 @@
 //! The name used last, and its place.
 ghost use Rattle.std.specs.Prelude.{◌≡◌, Some, IsTrue, IsFalse, is_some};
-ghost use Rattle.judy_directory.specs.Recent.{recent_at, with_recent, without_recent, has_recent};
+ghost use Rattle.judy_directory.specs.Recent.{recent_at, with_recent, without_recent, without_gone, has_recent};
 
 use crate::names::Names;
 use crate::spot::{Place, Spot};
@@ -44,6 +44,19 @@ pub fn drop_recent(recent: &mut Option<Recent>, spot: &Spot)
 {
     if find_recent(recent, spot).is_some() {
         *recent = None;
+    }
+}
+
+/// Forgets the name used last, if its tenant is marked.
+pub fn drop_gone_recent(recent: &mut Option<Recent>, gone: &[bool])
+    ensures { recent.new ≡ without_gone gone.now recent.old }
+{
+    let leaves = match recent {
+        Some(recent) => recent.spot.is_gone(gone),
+        None => false,
+    };
+    if leaves {
+        let _old = recent.take();
     }
 }
 

@@ -7,11 +7,12 @@ use Rattle.judy_journal.specs.Writes.{Writing}
 use Rattle.judy_many.specs.Books.{Journal, opened}
 use Rattle.judy_many.specs.Crowds.{AreFree, Crowd, HasFailed, HasServedMany, IsTold, past_of}
 use Rattle.judy_many.specs.Endings.{IsCaused, IsSpent, lost_in, waits_in}
-use Rattle.judy_many.specs.Queues.{everybody, nobody}
+use Rattle.judy_many.specs.Queues.{Line}
+use Rattle.judy_many.specs.Watches.{Queued, nobody, unqueued}
 use Rattle.judy_many.specs.Lives.{IsServed, View}
 use Rattle.judy_many.specs.Journaling.{AreKept, Carries, IsFailure, MayKeep}
 use Rattle.judy_many.specs.Nets.{Act, Acts, DidLog}
-use Rattle.judy_many.specs.Nets.Act.{Came, Refused, Read, Ended, Broke, Wrote, Failed, Closed, Waited, Lost, Asked, Questioned, Reported, Warned, Tabled, Untabled, Replied, Began, Kept, Unkept, Synced, Unsynced}
+use Rattle.judy_many.specs.Nets.Act.{Came, Refused, Read, Dry, Ended, Broke, Wrote, Failed, Closed, Waited, Lost, Asked, Questioned, Reported, Warned, Tabled, Untabled, Replied, Began, Kept, Unkept, Synced, Unsynced}
 use Rattle.judy_many.specs.Rules.{Rules}
 use Rattle.judy_many.specs.Statuses.{HasAnswered, Lasts, Passes}
 use Rattle.judy_many.specs.Stories.{AreRead, AreWithin, Phase, IsPhased, Share, Story, acts_in, came_in, closed_in, own, times, writes_since}
@@ -29,6 +30,7 @@ use Rattle.judy_many.proofs.Chaining.{Stays, kept_alone, runs_alone}
 use Rattle.judy_many.proofs.Seeing.{IsUnseen, KeepsApart}
 use Rattle.judy_many.proofs.Seats.{free_at, taken_most}
 use Rattle.judy_many.proofs.Turning.{still}
+use Rattle.judy_many.proofs.Watching.{no_looks}
 use Rattle.judy_many.proofs.Living.{no_log}
 use Rattle.judy_many.proofs.Crowding.{crowd_first, told_more}
 
@@ -48,7 +50,7 @@ are_kept (Some i) j story h = h.0
 -- the server ends, after these last answers
 crowd_ends : {B S : Type 0} (view : B → View) (rules : Rules S) (apart : KeepsApart rules) (unseen : IsUnseen rules) (stays : Stays rules)
     → ServingGoesOn → ServingIsStepwise → SoloIsDetermined → SoloGoesOn
-    → (first : S) (start mid log : Acts) (writer : Option Writing) (phase : Phase) (had : ℕ → Type 0) (waits : ℕ) (journal : Option Journal) (lost : ℕ) (slots : List (Option B)) (count : ℕ) (now : S) (limits : Limits) (how : Ending) (more : Story)
+    → (first : S) (start mid log : Acts) (writer : Option Writing) (phase : Phase) (had : Queued) (waits : ℕ) (journal : Option Journal) (lost : ℕ) (slots : List (Option B)) (count : ℕ) (now : S) (limits : Limits) (how : Ending) (more : Story)
     → (how ≡ ending.Done → (limits.connections ≤ count) × AreFree slots)
     → (h : Crowd view rules limits first start phase had (past_of waits (opened limits.journal writer) journal) mid slots count now)
     → ((n : ℕ) → own n more ≡ []) → IsTold rules limits first start phase lost (past_of waits (opened limits.journal writer) journal) log slots count now (h.story ++ more) → IsCaused how (h.story ++ more)
@@ -62,6 +64,8 @@ crowd_ends view rules apart unseen stays goes_on one equal steps first start mid
       order = λ p q cut n. (h.served n).order (own n p) (own n q) (sym (same n) ∙ ap (own n) cut ∙ own-append n p q);
       phases = told.phases;
       fair = told.fair;
+      awake = told.awake;
+      each = told.each;
       few = told.few;
       total = let e = told.total in let f = told.capped in omega (arith, e, f);
       within = told.within;
@@ -88,7 +92,7 @@ crowd_ends view rules apart unseen stays goes_on one equal steps first start mid
 module _ {B S : Type 0} (view : B → View) (rules : Rules S) (apart : KeepsApart rules) (unseen : IsUnseen rules) (stays : Stays rules)
     (goes_on : ServingGoesOn) (one : ServingIsStepwise) (equal : SoloIsDetermined) (steps : SoloGoesOn)
     (first : S) (start : Acts) (limits : Limits) (writer : Option Writing) where
-  told_on : (phase : Phase) (had : ℕ → Type 0) (waits : ℕ) (journal : Option Journal) (lost : ℕ) (mid log : Acts) (slots : List (Option B)) (count : ℕ) (now : S)
+  told_on : (phase : Phase) (had : Queued) (waits : ℕ) (journal : Option Journal) (lost : ℕ) (mid log : Acts) (slots : List (Option B)) (count : ℕ) (now : S)
       (h : Crowd view rules limits first start phase had (past_of waits (opened limits.journal writer) journal) mid slots count now) (more : Story)
       → DidLog mid (acts_in more) log → Passes rules now more now → Lasts rules (is_some limits.journal) now more now → came_in (acts_in more) ≡ 0 → closed_in (acts_in more) ≡ 0 → AreWithin limits (acts_in more)
       → ((wrote : Bool) → IsPhased wrote more × (writes_since wrote more ≡ wrote)) → ((share : Share) → times share more ≡ 0)
@@ -97,11 +101,11 @@ module _ {B S : Type 0} (view : B → View) (rules : Rules S) (apart : KeepsApar
   told_on phase had waits journal lost mid log slots count now h more k r l came closed within phases silent lose wait quiet reads =
       told_more rules limits first start phase phase 0 lost (past_of waits (opened limits.journal writer) journal) (past_of waits (opened limits.journal writer) journal) mid log slots slots count count now now h.story more h.is_told k r l
       (omega (arith, came)) h.is_told.capped (omega (arith, came, closed))
-      (let a = taken_most slots in let b = h.is_told.sized in omega (arith, a, b, came)) h.is_told.sized within
+      (let a = taken_most slots in let b = h.is_told.sized in omega (arith, a, b, came)) (omega arith) within
       (phases (writes_since false h.story)).0 (λ e. (phases (writes_since false h.story)).1 ∙ h.is_told.quiet e)
-      (still h.story more h.is_told.fair silent) (omega (arith, lose)) (stays_past phase (past_of waits (opened limits.journal writer) journal) more wait (keeps_quiet journal more quiet) h.is_told.settled) reads
+      (still h.story more h.is_told.fair silent) (omega (arith, lose)) (stays_past phase (past_of waits (opened limits.journal writer) journal) more wait (keeps_quiet journal more quiet) h.is_told.settled) reads (no_looks h.story more wait)
 
-  pub ends_here : (log : Acts) (phase : Phase) (had : ℕ → Type 0) (waits : ℕ) (journal : Option Journal) (slots : List (Option B)) (count : ℕ) (now : S) (how : Ending)
+  pub ends_here : (log : Acts) (phase : Phase) (had : Queued) (waits : ℕ) (journal : Option Journal) (slots : List (Option B)) (count : ℕ) (now : S) (how : Ending)
       → (how ≡ ending.Done → (limits.connections ≤ count) × AreFree slots)
       → (h : Crowd view rules limits first start phase had (past_of waits (opened limits.journal writer) journal) log slots count now)
       → IsCaused how (h.story ++ []) → HasServedMany rules limits writer how start log first now
@@ -110,23 +114,23 @@ module _ {B S : Type 0} (view : B → View) (rules : Rules S) (apart : KeepsApar
       (told_on phase had waits journal 0 log log slots count now h [] (no_log log) refl refl refl refl tt (λ wrote. (tt, refl)) (λ share. refl) refl refl refl (λ last. tt)) cause
 
   -- before anything was asked of the system
-  pub ends_first : (slots : List (Option B)) → AreFree slots → length slots ≤ limits.clients → HasServedMany rules limits writer ending.Memory start start first first
-  ends_first slots free sized =
-      let first_of = crowd_first view rules limits first start (opened limits.journal writer) slots free sized (opened_allowed limits writer) in
-      ends_here start Phase.Reads nobody 0 (opened limits.journal writer) slots 0 first ending.Memory (λ e. absurd (memory_not e)) first_of.0 (ap (λ t. t ++ []) first_of.1)
+  pub ends_first : (line : Line) (slots : List (Option B)) → AreFree slots → length slots ≤ limits.clients → length slots ≤ 1024 → HasServedMany rules limits writer ending.Memory start start first first
+  ends_first line slots free sized small =
+      let first_of = crowd_first line view rules limits first start (opened limits.journal writer) slots free sized small (opened_allowed limits writer) in
+      ends_here start Phase.Sweeps (nobody line) 0 (opened limits.journal writer) slots 0 first ending.Memory (λ e. absurd (memory_not e)) first_of.0 (ap (λ t. t ++ []) first_of.1)
     where
       memory_not : ending.Memory ≡ ending.Done → ⊥
       memory_not e = cc
 
   -- in order
-  pub ends_done : (log : Acts) (phase : Phase) (had : ℕ → Type 0) (waits : ℕ) (journal : Option Journal) (slots : List (Option B)) (count : ℕ) (now : S)
+  pub ends_done : (log : Acts) (phase : Phase) (had : Queued) (waits : ℕ) (journal : Option Journal) (slots : List (Option B)) (count : ℕ) (now : S)
       → limits.connections ≤ count → AreFree slots → Crowd view rules limits first start phase had (past_of waits (opened limits.journal writer) journal) log slots count now
       → HasServedMany rules limits writer ending.Done start log first now
   ends_done log phase had waits journal slots count now enough free h =
       ends_here log phase had waits journal slots count now ending.Done (λ e. (enough, free)) h (subst (λ t. lost_in (acts_in t) ≡ 0) (sym (append-nil h.story)) h.is_told.unlost)
 
   -- after all rounds
-  pub ends_spent : (log : Acts) (phase : Phase) (had : ℕ → Type 0) (waits : ℕ) (journal : Option Journal) (slots : List (Option B)) (count : ℕ) (now : S)
+  pub ends_spent : (log : Acts) (phase : Phase) (had : Queued) (waits : ℕ) (journal : Option Journal) (slots : List (Option B)) (count : ℕ) (now : S)
       → waits ≡ 18446744073709551615 → Crowd view rules limits first start phase had (past_of waits (opened limits.journal writer) journal) log slots count now
       → HasServedMany rules limits writer ending.Socket start log first now
   ends_spent log phase had waits journal slots count now all h =
@@ -137,7 +141,7 @@ module _ {B S : Type 0} (view : B → View) (rules : Rules S) (apart : KeepsApar
       socket_not e = cc
 
   -- where the listener, or the wait, failed for good
-  pub ends_lost : (mid log : Acts) (phase : Phase) (had : ℕ → Type 0) (waits : ℕ) (journal : Option Journal) (slots : List (Option B)) (count : ℕ) (now : S)
+  pub ends_lost : (mid log : Acts) (phase : Phase) (had : Queued) (waits : ℕ) (journal : Option Journal) (slots : List (Option B)) (count : ℕ) (now : S)
       → DidLog mid (Lost ∷ []) log → Crowd view rules limits first start phase had (past_of waits (opened limits.journal writer) journal) mid slots count now
       → HasServedMany rules limits writer ending.Socket start log first now
   ends_lost mid log phase had waits journal slots count now k h =
@@ -149,7 +153,7 @@ module _ {B S : Type 0} (view : B → View) (rules : Rules S) (apart : KeepsApar
       socket_not e = cc
 
   -- where a stop was asked for
-  pub ends_stopped : (mid log : Acts) (phase : Phase) (had : ℕ → Type 0) (waits : ℕ) (journal : Option Journal) (slots : List (Option B)) (count : ℕ) (now : S) (watches : Bool) → limits.status ≡ watches
+  pub ends_stopped : (mid log : Acts) (phase : Phase) (had : Queued) (waits : ℕ) (journal : Option Journal) (slots : List (Option B)) (count : ℕ) (now : S) (watches : Bool) → limits.status ≡ watches
       → HasAnswered watches next.Stop (rules.status now) mid log → Crowd view rules limits first start phase had (past_of waits (opened limits.journal writer) journal) mid slots count now
       → HasServedMany rules limits writer ending.Stopped start log first now
   ends_stopped mid log phase had waits journal slots count now false e bad h = absurd bad
@@ -184,8 +188,8 @@ module _ {B S : Type 0} (view : B → View) (rules : Rules S) (apart : KeepsApar
           → ((share : Share) → times share (Did a ∷ []) ≡ 0) → waits_in (a ∷ []) ≡ 0 → is_quiet (Did a ∷ []) ≡ true → Passes rules now (Did a ∷ []) now
           → HasServedMany rules limits writer ending.Journal start log first now
       ended a fails lost within k none came closed phases silent wait quiet passes =
-          crowd_ends view rules apart unseen stays goes_on one equal steps first start f.mid log writer Phase.Reads everybody f.waits f.journal 1 slots count now limits ending.Journal (Did a ∷ []) (λ e. absurd (journal_not e)) f.crowd none
-          (told_on Phase.Reads everybody f.waits f.journal 1 f.mid log slots count now f.crowd (Did a ∷ []) k passes refl came closed within phases silent (sym lost) wait quiet (λ last. tt))
+          crowd_ends view rules apart unseen stays goes_on one equal steps first start f.mid log writer Phase.Reads unqueued f.waits f.journal 1 slots count now limits ending.Journal (Did a ∷ []) (λ e. absurd (journal_not e)) f.crowd none
+          (told_on Phase.Reads unqueued f.waits f.journal 1 f.mid log slots count now f.crowd (Did a ∷ []) k passes refl came closed within phases silent (sym lost) wait quiet (λ last. tt))
           (record { before = f.crowd.story; act = a; fails = fails; last = refl; once = f.crowd.is_told.unlost })
 
       failed : (a : Act) → IsFailure a → DidLog f.mid (a ∷ []) log → HasServedMany rules limits writer ending.Journal start log first now

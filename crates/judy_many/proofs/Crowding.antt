@@ -1,16 +1,17 @@
 -- Many clients: what a turn of one does to all.
-use Rattle.std.proofs.Common.{◌≡◌, ◌≢◌, ◌⊎◌, inl, inr, ◌<◌, ◌≤◌, ◌+◌, ℕ, Bool, true, false, List, [], ◌∷◌, ◌++◌, length, Option, None, Some, arith, sym, ◌∙◌, ap, subst, refl, append-nil, slice_set, slice_index_or}
+use Rattle.std.proofs.Common.{◌≡◌, ◌≢◌, ◌⊎◌, inl, inr, ◌<◌, ◌≤◌, ◌+◌, ℕ, zero, suc, Bool, true, false, List, [], ◌∷◌, ◌++◌, length, Option, None, Some, arith, sym, ◌∙◌, ap, subst, refl, append-nil, slice_set, slice_index_or}
 use Rattle.std.specs.Prelude.{if◌then◌else◌, is_some, option_map}
 use Rattle.std.proofs.lemmas.Bool.Decides.{eqb_tells}
 use Rattle.judy_many.specs.Books.{Journal}
 use Rattle.judy_many.specs.Changes.{HasChanged, KeepsTenants}
 use Rattle.judy_many.specs.Crowds.{AreFree, At, Crowd, HasFailed, IsThere, IsTold, Past, past_of, taken, taken_by}
-use Rattle.judy_many.specs.Endings.{lost_in}
+use Rattle.judy_many.specs.Endings.{lost_in, waits_in}
 use Rattle.judy_many.specs.Journaling.{AreSettled, AreWritten, Carries, MayKeep, Writes}
-use Rattle.judy_many.specs.Queues.{everybody, nobody}
+use Rattle.judy_many.specs.Queues.{AreAwake, IsBefore, IsPlaced, Line, StayAwake, awake_in, is_awake, mark_in, slot_in, stands, stands_in}
 use Rattle.judy_many.specs.Lives.{IsPart, IsServed, Lives, SlotDid, View}
 use Rattle.judy_many.specs.Nets.{Act, Acts, DidLog}
-use Rattle.judy_many.specs.Nets.Act.{Closed, Questioned, Replied, Reported, Tabled, Untabled, Waited, Warned}
+use Rattle.judy_many.specs.Nets.Act.{Came, Closed, Questioned, Replied, Reported, Tabled, Untabled, Waited, Warned}
+use Rattle.std.specs.List.{list_any}
 use Rattle.judy_many.specs.Arrivals.{Arrives, IsArrival}
 use Rattle.judy_many.specs.Rules.{Rules}
 use Rattle.judy_many.specs.Sessions.{AreTurns, records_in}
@@ -18,18 +19,22 @@ use Rattle.judy_many.specs.Statuses.{HasAnswered, Lasts, Passes, Tells}
 use Rattle.judy_many.specs.Warnings.{HasWarned, warning_acts}
 use Rattle.judy_many.specs.Stories.{AreRead, AreWithin, BeginsWith, Phase, InPhase, IsPhased, IsWarning, Mine, Share, Story, acts_in, came_in, closed_in, most, own, times, told, told_head, turns_in, turns_since, writes_since}
 use Rattle.judy_many.specs.Stories.Moment.{Changed, Did}
+use Rattle.judy_many.specs.Watches.{Alert, IsAlert, IsClosedOr, IsOpen, Looks, Queued, is_seat, Rests, everybody, nobody, those_before, unqueued, upto_wait, watch}
 use Rattle.judy_many.specs.declared.serve.Limits.{Limits}
 use Rattle.judy_many.specs.declared.network.How.{How}
 use Rattle.judy_many.specs.declared.asking.Next.TheVariants as next
 use Rattle.judy_many.specs.declared.network.Question.TheVariants as question
 use Rattle.judy_many.proofs.Owning.{own-append, own-mine, own-other}
-use Rattle.judy_many.proofs.Seats.{At-here, At-index, At-keep, At-only, At-set, At-some, free_at, long_set, taken_at, taken_free, taken_most, taken_none}
+use Rattle.judy_many.proofs.Looking.{closed_in_slot}
+use Rattle.judy_many.proofs.Queueing.{before_later, before_none, before_only}
+use Rattle.judy_many.proofs.Seats.{At-here, At-index, At-keep, At-only, At-set, At-some, At-within, free_at, long_set, taken_at, taken_free, taken_most, taken_none}
 use Rattle.judy_many.proofs.Turning.{GoOn, fair-append, lost-append, mine_plain, since-append, since_fresh, since_most, since_other, since_quiet, still, takes_turn, waits-append}
 use Rattle.judy_many.proofs.Passing.{AreRead-append, Lasts-append, Passes-append, lasts_plain, passes_plain, reads_plain}
 use Rattle.judy_many.proofs.Beside.{IsAside, IsBeside, Passed, after_lines, beside, keeping, keeping_passes, later, reads_not_writes, stays_past, told_lasts}
 use Rattle.judy_many.proofs.Journals.{Carries-append, keeps_allowed, keeps_quiet, keeps_turn, settled_turn}
 use Rattle.judy_many.proofs.Recording.{noted_none}
 use Rattle.judy_many.proofs.Living.{no_log, then_log}
+use Rattle.judy_many.proofs.Watching.{alert_anew, alert_beside, alert_comes, alert_keep, alert_looks, alert_read, alert_swept, alert_told, alert_turned, alert_waits, awake-append, awake_none, each-append, each_none, no_looks}
 use Rattle.judy_many.proofs.Telling.{AreWithin-append, IsPhased-append, acts_in-append, acts_in-told, came-append, closed-append, lives_served, split, writes_since-append}
 
 -- ---- the whole story
@@ -41,20 +46,21 @@ module _ {B S : Type 0} (rules : Rules S) (limits : Limits) (first : S) (start :
       → DidLog log (acts_in more) log' → Passes rules now more after → Lasts rules (is_some limits.journal) now more after
       → count' ≡ count + came_in (acts_in more) → count' ≤ limits.connections
       → came_in (acts_in more) + taken slots ≡ closed_in (acts_in more) + taken slots'
-      → taken slots + came_in (acts_in more) ≤ limits.clients → length slots' ≤ limits.clients
+      → taken slots + came_in (acts_in more) ≤ limits.clients → length slots' ≤ length slots
       → AreWithin limits (acts_in more)
       → IsPhased (writes_since false story) more
       → (phase' ≡ Phase.Reads → writes_since (writes_since false story) more ≡ false)
-      → GoOn story more → lost' ≡ lost + lost_in (acts_in more) → Passed phase' past more past' → ((last : Option (List ℕ)) → AreRead limits last more)
+      → GoOn story more → lost' ≡ lost + lost_in (acts_in more) → Passed phase' past more past' → ((last : Option (List ℕ)) → AreRead limits last more) → Looks story more
       → IsTold rules limits first start phase' lost' past' log' slots' count' after (story ++ more)
-  told_more phase phase' lost lost' past past' log log' slots slots' count count' now after story more h k r l counts capped sums room sized within phases quiet turns lose passed reads = record {
+  told_more phase phase' lost lost' past past' log log' slots slots' count count' now after story more h k r l counts capped sums room sized within phases quiet turns lose passed reads looks = record {
     logged = subst (λ a. DidLog start a log') (sym (acts_in-append story more)) (then_log start log log' (acts_in story) (acts_in more) h.logged k);
     run = Passes-append rules first now after story more h.run r;
     lasts = Lasts-append rules (is_some limits.journal) first now after story more h.lasts l;
     total = let e = came-append story more in let f = h.total in omega (arith, e, f, counts);
     capped = capped;
     opened = let e = came-append story more in let f = closed-append story more in let o = h.opened in omega (arith, e, f, o, sums);
-    sized = sized;
+    sized = let e = h.sized in omega (arith, e, sized);
+    small = let e = h.small in omega (arith, e, sized);
     few = λ p q cut. elim (split story more p q cut) [
       | inl c ↦ h.few p c.0 c.1
       | inr c ↦ at_end p q c.0 c.1 c.2
@@ -69,6 +75,8 @@ module _ {B S : Type 0} (rules : Rules S) (limits : Limits) (first : S) (start :
     keeps = subst (λ b. Carries b (story ++ more) past'.journal) (sym passed.began) (Carries-append past.began past.journal past'.journal story more h.keeps passed.keeps);
     allowed = keeps_allowed limits past.journal past'.journal more h.allowed passed.keeps;
     settled = passed.settled;
+    awake = awake-append story more h.awake looks;
+    each = each-append story more h.each looks;
   }
     where
       at_end : (p q r : Story) → p ≡ story ++ r → more ≡ r ++ q → came_in (acts_in p) ≤ closed_in (acts_in p) + limits.clients
@@ -100,13 +108,18 @@ module _ {B S : Type 0} (rules : Rules S) (limits : Limits) (first : S) (start :
 never : false ≡ true → ⊥
 never e = cc
 
+below_or : (n count : ℕ) → (n < count) ⊎ (count ≤ n)
+below_or n zero = inr (omega arith)
+below_or zero (suc count) = inl (omega arith)
+below_or (suc n) (suc count) = elim (below_or n count) [ inl p ↦ inl (omega (arith, p)) | inr p ↦ inr (omega (arith, p)) ]
+
 reads_most : (share : Share) → most Phase.Reads share ≤ 1
 reads_most Share.Reading = omega arith
 reads_most Share.Running = omega arith
 reads_most Share.Writing = omega arith
 
 module _ {B S : Type 0} (view : B → View) (rules : Rules S) (limits : Limits) (first : S) (start : Acts) where
-  abbrev Now : Phase → (ℕ → Type 0) → Past → Acts → List (Option B) → ℕ → S → Type 0
+  abbrev Now : Phase → Queued → Past → Acts → List (Option B) → ℕ → S → Type 0
   Now = Crowd view rules limits first start
 
   abbrev Told : Phase → Past → Acts → List (Option B) → ℕ → S → Story → Type 0
@@ -121,8 +134,8 @@ module _ {B S : Type 0} (view : B → View) (rules : Rules S) (limits : Limits) 
       let k = free share in
       omega (arith, e, f, k)
 
-  module _ (phase : Phase) (had had' : ℕ → Type 0) (wider : (j : ℕ) → had j → had' j) (past past' : Past) (log log' : Acts) (slots : List (Option B)) (count : ℕ) (now after : S)
-      (h : Now phase had past log slots count now) (n : ℕ) (more : Story) (mine : Mine n more) where
+  module _ (phase : Phase) (had had' : Queued) (wider : (j : ℕ) → had.had j → had'.had j) (past past' : Past) (log log' : Acts) (slots : List (Option B)) (count : ℕ) (now after : S)
+      (h : Now phase had past log slots count now) (n : ℕ) (more : Story) (mine : Mine n more) (calm : waits_in (acts_in more) ≡ 0) where
     abbrev story' : Story
     story' = h.story ++ more
 
@@ -133,6 +146,10 @@ module _ {B S : Type 0} (view : B → View) (rules : Rules S) (limits : Limits) 
     at_other : (m : ℕ) → m ≢ n → (P : Story → Type 0) → P (own m h.story) → P (own m story')
     at_other m d P p =
         subst P (sym (own-append m h.story more ∙ ap (λ l. own m h.story ++ l) (own-other n m more mine d) ∙ append-nil (own m h.story))) p
+
+    -- what is known of the client of another slot
+    alert' : (i j : ℕ) → ((j : ℕ) → j ≢ i → (v : View) (s : Story) → Alert phase had j v s → Alert phase had' j v s) → (c : B) → j ≢ i → (view c).number ≢ n → At slots j c → Alert phase had' j (view c) story'
+    alert' i j beside c d e there = beside j d (view c) story' (alert_keep phase had j (view c) h.story more (own-other n (view c).number more mine e) calm (h.alert j c there))
 
     served' : IsServed (own n h.story ++ more) → (m : ℕ) → IsServed (own m story')
     served' k m = elim (eqb_tells m n) [
@@ -146,10 +163,10 @@ module _ {B S : Type 0} (view : B → View) (rules : Rules S) (limits : Limits) 
         at_other m d (λ s. s ≡ []) (h.fresh m (omega arith))
 
     -- the client of slot i is gone
-    pub gone : (i : ℕ) (b : B) → At slots i b → (view b).number ≡ n → Told phase past' log' (slice_set slots i None) count after story'
+    pub gone : (i : ℕ) (b : B) → ((j : ℕ) → j ≢ i → (v : View) (s : Story) → Alert phase had j v s → Alert phase had' j v s) → At slots i b → (view b).number ≡ n → Told phase past' log' (slice_set slots i None) count after story'
         → closed_in (acts_in (own n h.story ++ more)) ≡ 1
         → IsServed (own n h.story ++ more) → Now phase had' past' log' (slice_set slots i None) count after
-    gone i b at is told close s = record {
+    gone i b beside at is told close s = record {
       story = story';
       is_told = told;
       below = λ j c there. h.below j c (others j c there).1;
@@ -174,6 +191,7 @@ module _ {B S : Type 0} (view : B → View) (rules : Rules S) (limits : Limits) 
           })
         ]
       ];
+      alert = λ j c there. let p = others j c there in alert' i j beside c p.0 (λ e. p.0 (h.apart j i c b p.1 at (e ∙ sym is))) p.1;
     }
       where
         nothing : (c : B) → None ≡ Some c → ⊥
@@ -188,13 +206,13 @@ module _ {B S : Type 0} (view : B → View) (rules : Rules S) (limits : Limits) 
         others j c there = elim (At-set slots i None j c there) [ inl p ↦ absurd (nothing c p.1) | inr p ↦ p ]
 
     -- a client of this number is in slot i, where there was none or the one of this number
-    pub seated : (i bound : ℕ) (s : B) → i < length slots → bound ≤ count + 1 → (bound ≡ count + 1 → n ≡ count)
+    pub seated : (i bound : ℕ) (s : B) → ((j : ℕ) → j ≢ i → (v : View) (s : Story) → Alert phase had j v s → Alert phase had' j v s) → Alert phase had' i (view s) story' → i < length slots → bound ≤ count + 1 → (bound ≡ count + 1 → n ≡ count)
         → ((m : ℕ) (q : IsThere view slots m) → m ≢ n → q.i ≢ i) → (view s).number ≡ n → count ≤ bound → n < bound
         → ((j : ℕ) (c : B) → j ≢ i → At slots j c → (view c).number ≢ n)
         → Told phase past' log' (slice_set slots i (Some s)) bound after story'
-        → ((had' i → ⊥) → (share : Share) → turns_since n share 0 story' + most phase share ≤ 1)
+        → ((had'.had i → ⊥) → (share : Share) → turns_since n share 0 story' + most phase share ≤ 1)
         → Lives (own n h.story ++ more) (view s) → Now phase had' past' log' (slice_set slots i (Some s)) bound after
-    seated i bound s within highest last away is above under alone told free l = record {
+    seated i bound s beside alerted within highest last away is above under alone told free l = record {
       story = story';
       is_told = told;
       below = λ j c there. elim (At-set slots i (Some s) j c there) [
@@ -211,7 +229,7 @@ module _ {B S : Type 0} (view : B → View) (rules : Rules S) (limits : Limits) 
       served = served' (lives_served (own n h.story ++ more) (view s) l);
       ready = λ j c there not share. elim (At-set slots i (Some s) j c there) [
         | inl p ↦ subst (λ b. turns_since (view b).number share 0 story' + most phase share ≤ 1) (same c p.1)
-            (subst (λ m. turns_since m share 0 story' + most phase share ≤ 1) (sym is) (free (λ k. not (subst had' (sym p.0) k)) share))
+            (subst (λ m. turns_since m share 0 story' + most phase share ≤ 1) (sym is) (free (λ k. not (subst had'.had (sym p.0) k)) share))
         | inr p ↦ open_other h.story more n (view c).number (most phase) mine (alone j c p.0 p.1) (h.ready j c p.1 (λ k. not (wider j k))) share
       ];
       ends = λ m few. elim (eqb_tells m n) [
@@ -220,6 +238,10 @@ module _ {B S : Type 0} (view : B → View) (rules : Rules S) (limits : Limits) 
           | inl q ↦ inl (at_other m p.1 (λ t. closed_in (acts_in t) ≡ 1) q)
           | inr q ↦ inr (record { i = q.i; b = q.b; there = At-keep slots i (Some s) q.i q.b (away m q p.1) q.there; is = q.is })
         ]
+      ];
+      alert = λ j c there. elim (At-set slots i (Some s) j c there) [
+        | inl p ↦ subst (λ k. Alert phase had' k (view c) story') (sym p.0) (subst (λ b. Alert phase had' i (view b) story') (same c p.1) alerted)
+        | inr p ↦ alert' i j beside c p.0 (alone j c p.0 p.1) p.1
       ];
     }
       where
@@ -249,12 +271,13 @@ module _ {B S : Type 0} (view : B → View) (rules : Rules S) (limits : Limits) 
         both j m c d (inr p) (inr q) e = h.apart j m c d p.1 q.1 e
 
   -- What happened is no connection's. The slots have the same clients.
-  foreign : (phase phase' : Phase) (had had' : ℕ → Type 0) (past past' : Past) (log log' : Acts) (slots slots' : List (Option B)) (count : ℕ) (now after : S) (h : Now phase had past log slots count now) (more : Story)
+  foreign : (phase phase' : Phase) (had had' : Queued) (past past' : Past) (log log' : Acts) (slots slots' : List (Option B)) (count : ℕ) (now after : S) (h : Now phase had past log slots count now) (more : Story)
       → ((n : ℕ) → own n more ≡ []) → Told phase' past' log' slots' count after (h.story ++ more)
       → ((j : ℕ) (c : B) → At slots' j c → At slots j c) → ((j : ℕ) (c : B) → At slots j c → At slots' j c)
-      → ((j : ℕ) (c : B) → At slots j c → (had' j → ⊥) → (share : Share) → turns_since (view c).number share 0 (h.story ++ more) + most phase' share ≤ 1)
+      → ((j : ℕ) (c : B) → At slots j c → (had'.had j → ⊥) → (share : Share) → turns_since (view c).number share 0 (h.story ++ more) + most phase' share ≤ 1)
+      → ((j : ℕ) (c : B) → At slots j c → Alert phase' had' j (view c) (h.story ++ more))
       → Now phase' had' past' log' slots' count after
-  foreign phase phase' had had' past past' log log' slots slots' count now after h more none told back forth free = record {
+  foreign phase phase' had had' past past' log log' slots slots' count now after h more none told back forth free alerts = record {
     story = h.story ++ more;
     is_told = told;
     below = λ j c there. h.below j c (back j c there);
@@ -267,15 +290,16 @@ module _ {B S : Type 0} (view : B → View) (rules : Rules S) (limits : Limits) 
       | inl q ↦ inl (subst (λ t. closed_in (acts_in t) ≡ 1) (sym (same m)) q)
       | inr q ↦ inr (record { i = q.i; b = q.b; there = forth q.i q.b q.there; is = q.is })
     ];
+    alert = λ j c there. alerts j c (back j c there);
   }
     where
       same : (n : ℕ) → own n (h.story ++ more) ≡ own n h.story
       same n = own-append n h.story more ∙ ap (λ l. own n h.story ++ l) (none n) ∙ append-nil (own n h.story)
 
   -- the same, where what happened is no share of a turn
-  open_still : (phase : Phase) (had had' : ℕ → Type 0) (past : Past) (log : Acts) (slots : List (Option B)) (count : ℕ) (now : S) (h : Now phase had past log slots count now) (more : Story)
-      → ((j : ℕ) → had j → had' j) → ((share : Share) → times share more ≡ 0)
-      → (j : ℕ) (c : B) → At slots j c → (had' j → ⊥) → (share : Share) → turns_since (view c).number share 0 (h.story ++ more) + most phase share ≤ 1
+  open_still : (phase : Phase) (had had' : Queued) (past : Past) (log : Acts) (slots : List (Option B)) (count : ℕ) (now : S) (h : Now phase had past log slots count now) (more : Story)
+      → ((j : ℕ) → had.had j → had'.had j) → ((share : Share) → times share more ≡ 0)
+      → (j : ℕ) (c : B) → At slots j c → (had'.had j → ⊥) → (share : Share) → turns_since (view c).number share 0 (h.story ++ more) + most phase share ≤ 1
   open_still phase had had' past log slots count now h more wider none j c there not share =
       let e = since-append (view c).number share 0 h.story more in
       let f = since_most (view c).number share (turns_since (view c).number share 0 h.story) more in
@@ -284,7 +308,7 @@ module _ {B S : Type 0} (view : B → View) (rules : Rules S) (limits : Limits) 
       omega (arith, e, f, k, n)
 
   -- what happened beside: it changes no client and no slot
-  aside_to : (phase : Phase) (had : ℕ → Type 0) (past past' : Past) (log log' : Acts) (slots : List (Option B)) (count : ℕ) (now after : S) (more : Story) → IsBeside limits more
+  aside_to : (phase : Phase) (had : Queued) (past past' : Past) (log log' : Acts) (slots : List (Option B)) (count : ℕ) (now after : S) (more : Story) → IsBeside limits more
       → Passed phase past more past' → DidLog log (acts_in more) log' → Passes rules now more after → Lasts rules (is_some limits.journal) now more after → Now phase had past log slots count now → Now phase had past' log' slots count after
   aside_to phase had past past' log log' slots count now after more a passed k r l h =
       let came = a.came in
@@ -292,40 +316,81 @@ module _ {B S : Type 0} (view : B → View) (rules : Rules S) (limits : Limits) 
       let lost = a.unlost in
       foreign phase phase had had past past' log log' slots slots count now after h more a.foreign
       (told_more rules limits first start phase phase 0 0 past past' log log' slots slots count count now after h.story more h.is_told k r l (omega (arith, came)) h.is_told.capped
-      (omega (arith, came, closed)) (let a = taken_most slots in let b = h.is_told.sized in omega (arith, a, b, came)) h.is_told.sized a.within
+      (omega (arith, came, closed)) (let a = taken_most slots in let b = h.is_told.sized in omega (arith, a, b, came)) (omega arith) a.within
       (a.phases (writes_since false h.story)).0 (λ e. (a.phases (writes_since false h.story)).1 ∙ h.is_told.quiet e)
-      (still h.story more h.is_told.fair a.silent) (omega (arith, lost)) passed a.reads)
+      (still h.story more h.is_told.fair a.silent) (omega (arith, lost)) passed a.reads (no_looks h.story more a.waited))
       (λ j c at. at) (λ j c at. at) (open_still phase had had past log slots count now h more (λ j k. k) a.silent)
+      (λ j c at. alert_keep phase had j (view c) h.story more (a.foreign (view c).number) a.waited (h.alert j c at))
 
-  aside : (phase : Phase) (had : ℕ → Type 0) (past : Past) (log log' : Acts) (slots : List (Option B)) (count : ℕ) (now after : S) (more : Story) → IsAside limits more
+  aside : (phase : Phase) (had : Queued) (past : Past) (log log' : Acts) (slots : List (Option B)) (count : ℕ) (now after : S) (more : Story) → IsAside limits more
       → DidLog log (acts_in more) log' → Passes rules now more after → Lasts rules (is_some limits.journal) now more after → Now phase had past log slots count now → Now phase had past log' slots count after
   aside phase had past log log' slots count now after more a k r l h =
       aside_to phase had past past log log' slots count now after more (beside limits more a)
       (stays_past phase past more a.waited (keeps_quiet past.journal more a.quiet) h.is_told.settled) k r l h
 
   -- nothing was asked of the system
-  pub idle : (phase : Phase) (had : ℕ → Type 0) (past : Past) (log log' : Acts) (slots : List (Option B)) (count : ℕ) (now : S) → DidLog log [] log' → Now phase had past log slots count now
+  pub idle : (phase : Phase) (had : Queued) (past : Past) (log log' : Acts) (slots : List (Option B)) (count : ℕ) (now : S) → DidLog log [] log' → Now phase had past log slots count now
       → Now phase had past log' slots count now
   idle phase had past log log' slots count now k h =
       aside phase had past log log' slots count now now []
       (record { foreign = λ n. refl; came = refl; closed = refl; within = tt; phases = λ wrote. (tt, refl); silent = λ share. refl; unlost = refl; waited = refl; reads = λ last. tt; quiet = refl }) k refl refl h
 
+  -- at a wait nothing is owed to an open connection, if it may sleep, and each had its turn
+  looks_waits : (line : Line) (past : Past) (log : Acts) (slots : List (Option B)) (count : ℕ) (now : S) (sleeps : Bool) (slots_told : List ℕ)
+      → (sleeps ≡ true → (i : ℕ) → awake_in line i ≡ true → ⊥) → (h : Now Phase.Sweeps (nobody line) past log slots count now) → Looks h.story (Did (Waited sleeps slots_told) ∷ [])
+  looks_waits line past log slots count now sleeps slots_told asleep h p q s t cut n i is_open =
+      subst (λ r. (s ≡ true → Rests n i (h.story ++ r)) × (((watch n i (h.story ++ r)).turned ≡ true) ⊎ Rests n i (upto_wait (h.story ++ r)))) (sym (at_front p cut))
+      (subst (λ r. (s ≡ true → Rests n i r) × (((watch n i r).turned ≡ true) ⊎ Rests n i (upto_wait r))) (sym (append-nil h.story))
+      (at_story (subst (λ r. IsOpen n i r) (append-nil h.story) (subst (λ r. IsOpen n i (h.story ++ r)) (at_front p cut) is_open))))
+    where
+      at_front : (p : Story) → Did (Waited sleeps slots_told) ∷ [] ≡ p ++ Did (Waited s t) ∷ q → p ≡ []
+      at_front [] e = refl
+      at_front (m ∷ []) e = cc
+      at_front (m ∷ x ∷ p) e = cc
+
+      alike : (p : Story) → Did (Waited sleeps slots_told) ∷ [] ≡ p ++ Did (Waited s t) ∷ q → s ≡ sleeps
+      alike [] e = cc
+      alike (m ∷ []) e = cc
+      alike (m ∷ x ∷ p) e = cc
+
+      of_slot : (k : ℕ) (b : B) → At slots k b → (view b).number ≡ n → IsOpen n i h.story → (s ≡ true → Rests n i h.story) × (((watch n i h.story).turned ≡ true) ⊎ Rests n i (upto_wait h.story))
+      of_slot k b there is is_open =
+          let alert = h.alert k b there in
+          let here : i ≡ k = alert.seat i (subst (λ m. list_any (is_seat i) (acts_in (own m h.story)) ≡ true) (sym is) is_open.0) in
+          let found = alert_looks line line k (view b) h.story sleeps slots_told (λ e. asleep e k) (h.live k b there) alert in
+          subst (λ j. (s ≡ true → Rests n j h.story) × (((watch n j h.story).turned ≡ true) ⊎ Rests n j (upto_wait h.story))) (sym here)
+          (subst (λ m. (s ≡ true → Rests m k h.story) × (((watch m k h.story).turned ≡ true) ⊎ Rests m k (upto_wait h.story))) is
+          (λ e. found.0 (sym (alike p cut) ∙ e), found.1))
+
+      at_story : IsOpen n i h.story → (s ≡ true → Rests n i h.story) × (((watch n i h.story).turned ≡ true) ⊎ Rests n i (upto_wait h.story))
+      at_story is_open = elim (below_or n count) [
+        | inl few ↦ elim (h.ends n few) [
+          | inl closed ↦ absurd (omega (arith, closed, is_open.1))
+          | inr q ↦ of_slot q.i q.b q.there q.is is_open
+        ]
+        | inr over ↦ absurd (never (ap (λ t. list_any (is_seat i) (acts_in t)) (sym (h.fresh n over)) ∙ is_open.0))
+      ]
+
   -- the server waited
-  has_waited : (phase : Phase) (had : ℕ → Type 0) (past : Past) (log log' : Acts) (slots : List (Option B)) (count : ℕ) (now : S) → DidLog log (Waited ∷ []) log' → Now phase had past log slots count now
-      → Now Phase.Reads nobody (later past) log' slots count now
-  has_waited phase had past log log' slots count now k h =
-      foreign phase Phase.Reads had nobody past (later past) log log' slots slots count now now h (Did Waited ∷ []) (λ n. refl)
-      (told_more rules limits first start phase Phase.Reads 0 0 past (later past) log log' slots slots count count now now h.story (Did Waited ∷ []) h.is_told k (tt, refl) refl (omega arith) h.is_told.capped (omega arith)
-      (let a = taken_most slots in let b = h.is_told.sized in omega (arith, a, b)) h.is_told.sized (tt, tt) (tt, tt) (λ e. refl)
-      (still h.story (Did Waited ∷ []) h.is_told.fair (λ share. refl)) refl
-      (record { waited = refl; began = refl; keeps = keeps_quiet past.journal (Did Waited ∷ []) refl; settled = λ e. absurd (reads_not_writes e) }) (λ last. tt))
+  has_waited : (line line' : Line) (past : Past) (log log' : Acts) (slots : List (Option B)) (count : ℕ) (now : S) (sleeps : Bool) (slots_told : List ℕ)
+      → (sleeps ≡ true → (i : ℕ) → awake_in line i ≡ true → ⊥) → StayAwake line line' → AreAwake slots_told line' → DidLog log (Waited sleeps slots_told ∷ []) log'
+      → Now Phase.Sweeps (nobody line) past log slots count now → Now Phase.Reads (nobody line') (later past) log' slots count now
+  has_waited line line' past log log' slots count now sleeps slots_told asleep stay wakes k h =
+      let last : Story = Did (Waited sleeps slots_told) ∷ [] in
+      foreign Phase.Sweeps Phase.Reads (nobody line) (nobody line') past (later past) log log' slots slots count now now h last (λ n. refl)
+      (told_more rules limits first start Phase.Sweeps Phase.Reads 0 0 past (later past) log log' slots slots count count now now h.story last h.is_told k (tt, refl) refl (omega arith) h.is_told.capped (omega arith)
+      (let a = taken_most slots in let b = h.is_told.sized in omega (arith, a, b)) (omega arith) (tt, tt) (tt, tt) (λ e. refl)
+      (still h.story last h.is_told.fair (λ share. refl)) refl
+      (record { waited = refl; began = refl; keeps = keeps_quiet past.journal last refl; settled = λ e. absurd (reads_not_writes e) }) (λ last. tt)
+      (looks_waits line past log slots count now sleeps slots_told asleep h))
       (λ j c at. at) (λ j c at. at) (λ j c at not share.
-      let e : turns_since (view c).number share 0 (h.story ++ Did Waited ∷ []) ≡ 0 = since-append (view c).number share 0 h.story (Did Waited ∷ []) in
+      let e : turns_since (view c).number share 0 (h.story ++ last) ≡ 0 = since-append (view c).number share 0 h.story last in
       let f = reads_most share in
       omega (arith, e, f))
+      (λ j c at. alert_waits line line' j (view c) h.story sleeps slots_told stay wakes (h.live j c at) (h.alert j c at))
 
   -- a status was asked for, and told
-  has_told : (phase : Phase) (had : ℕ → Type 0) (past : Past) (log log' : Acts) (slots : List (Option B)) (count : ℕ) (now : S) (text : List ℕ) → limits.status ≡ true
+  has_told : (phase : Phase) (had : Queued) (past : Past) (log log' : Acts) (slots : List (Option B)) (count : ℕ) (now : S) (text : List ℕ) → limits.status ≡ true
       → Tells (rules.status now) (Reported text) → DidLog log (Questioned question.Status ∷ Reported text ∷ []) log' → Now phase had past log slots count now
       → Now phase had past log' slots count now
   has_told phase had past log log' slots count now text watches tells k h =
@@ -344,28 +409,28 @@ module _ {B S : Type 0} (view : B → View) (rules : Rules S) (limits : Limits) 
       }) k (tt, (tells, refl)) refl h
 
   -- a line was told to the operator, if it was due
-  has_warned : (phase : Phase) (had : ℕ → Type 0) (past : Past) (log log' : Acts) (slots : List (Option B)) (count : ℕ) (now : S) (due : Bool) (line : List ℕ) → IsWarning limits line
+  has_warned : (phase : Phase) (had : Queued) (past : Past) (log log' : Acts) (slots : List (Option B)) (count : ℕ) (now : S) (due : Bool) (line : List ℕ) → IsWarning limits line
       → DidLog log (warning_acts due line) log' → Now phase had past log slots count now → Now phase had past log' slots count now
   has_warned phase had past log log' slots count now true line is k h =
       aside phase had past log log' slots count now now (Did (Warned line) ∷ [])
       (record { foreign = λ n. refl; came = refl; closed = refl; within = (is, tt); phases = λ wrote. ((tt, tt), refl); silent = λ share. refl; unlost = refl; waited = refl; reads = λ last. tt; quiet = refl }) k (tt, refl) refl h
   has_warned phase had past log log' slots count now false line is k h = idle phase had past log log' slots count now k h
 
-  pub warned : (phase : Phase) (had : ℕ → Type 0) (past : Past) (log log' : Acts) (slots : List (Option B)) (count : ℕ) (now : S) → HasWarned log log'
+  pub warned : (phase : Phase) (had : Queued) (past : Past) (log log' : Acts) (slots : List (Option B)) (count : ℕ) (now : S) → HasWarned log log'
       → Now phase had past log slots count now → Now phase had past log' slots count now
   warned phase had past log log' slots count now w h =
       has_warned phase had past w.mid log' slots count now w.due_requests w.requests (inr (inl w.of_requests)) w.then_requests
       (has_warned phase had past log w.mid slots count now w.due_logins w.logins (inl w.of_logins) w.first h)
 
   -- the server goes on after it asked
-  pub answered : (phase : Phase) (had : ℕ → Type 0) (past : Past) (log log' : Acts) (slots : List (Option B)) (count : ℕ) (now : S) (watches : Bool) → limits.status ≡ watches
+  pub answered : (phase : Phase) (had : Queued) (past : Past) (log log' : Acts) (slots : List (Option B)) (count : ℕ) (now : S) (watches : Bool) → limits.status ≡ watches
       → HasAnswered watches next.Round (rules.status now) log log' → Now phase had past log slots count now → Now phase had past log' slots count now
   answered phase had past log log' slots count now true e (inl k) h = idle phase had past log log' slots count now k h
   answered phase had past log log' slots count now true e (inr (text, tells, k)) h = has_told phase had past log log' slots count now text e tells k h
   answered phase had past log log' slots count now false e k h = idle phase had past log log' slots count now k h
 
   -- it is asked to read the table again
-  pub asked_again : (phase : Phase) (had : ℕ → Type 0) (past : Past) (log log' : Acts) (slots : List (Option B)) (count : ℕ) (now : S) (watches : Bool) → limits.status ≡ watches
+  pub asked_again : (phase : Phase) (had : Queued) (past : Past) (log log' : Acts) (slots : List (Option B)) (count : ℕ) (now : S) (watches : Bool) → limits.status ≡ watches
       → HasAnswered watches next.Reload (rules.status now) log log' → Now phase had past log slots count now → (limits.status ≡ true) × Now phase had past log' slots count now
   asked_again phase had past log log' slots count now false e bad h = absurd bad
   asked_again phase had past log log' slots count now true e k h = (
@@ -375,7 +440,7 @@ module _ {B S : Type 0} (view : B → View) (rules : Rules S) (limits : Limits) 
   )
 
   -- the table was read, and put in force if it could be
-  pub has_changed : (phase : Phase) (had : ℕ → Type 0) (past : Past) (log log' : Acts) (slots : List (Option B)) (count : ℕ) (now after : S) (changed : Bool) → limits.status ≡ true
+  pub has_changed : (phase : Phase) (had : Queued) (past : Past) (log log' : Acts) (slots : List (Option B)) (count : ℕ) (now after : S) (changed : Bool) → limits.status ≡ true
       → (changed ≡ true → (is_some limits.journal) ≡ true → KeepsTenants (rules.seen now) (rules.seen after))
       → HasChanged rules changed log log' now after → Now phase had past log slots count now → Now phase had past log' slots count after
   has_changed phase had past log log' slots count now after true e keeps (text, k, step) h =
@@ -402,7 +467,7 @@ module _ {B S : Type 0} (view : B → View) (rules : Rules S) (limits : Limits) 
       (record { foreign = λ n. refl; came = refl; closed = refl; within = (e, tt); phases = λ wrote. ((tt, tt), refl); silent = λ share. refl; unlost = refl; waited = refl; reads = λ last. tt; quiet = refl }) k (tt, refl) refl h)
 
   -- the asker was answered, and the operator told
-  pub has_replied : (phase : Phase) (had : ℕ → Type 0) (past : Past) (log log' : Acts) (slots : List (Option B)) (count : ℕ) (now : S) (changed : Bool) (reply line : List ℕ) → limits.status ≡ true
+  pub has_replied : (phase : Phase) (had : Queued) (past : Past) (log log' : Acts) (slots : List (Option B)) (count : ℕ) (now : S) (changed : Bool) (reply line : List ℕ) → limits.status ≡ true
       → BeginsWith (told_head changed) line → DidLog log (Replied reply ∷ Warned line ∷ []) log' → Now phase had past log slots count now → Now phase had past log' slots count now
   has_replied phase had past log log' slots count now changed reply line e is k h =
       aside phase had past log log' slots count now now (Did (Replied reply) ∷ Did (Warned line) ∷ [])
@@ -420,11 +485,11 @@ module _ {B S : Type 0} (view : B → View) (rules : Rules S) (limits : Limits) 
       }) k (tt, (tt, refl)) refl h
 
   -- the next phase of a round begins, or more slots are said to have had a turn
-  next_phase : (phase phase' : Phase) (had had' : ℕ → Type 0) (past : Past) (log : Acts) (slots : List (Option B)) (count : ℕ) (now : S) (h : Now phase had past log slots count now)
+  next_phase : (phase phase' : Phase) (had had' : Queued) (past : Past) (log : Acts) (slots : List (Option B)) (count : ℕ) (now : S) (h : Now phase had past log slots count now)
       → (phase' ≡ Phase.Reads → writes_since false h.story ≡ false) → (phase' ≡ Phase.Writes → AreSettled past.journal)
-      → ((j : ℕ) (c : B) → At slots j c → (had' j → ⊥) → (share : Share) → turns_since (view c).number share 0 h.story + most phase' share ≤ 1)
-      → Now phase' had' past log slots count now
-  next_phase phase phase' had had' past log slots count now h quiet settled free = record {
+      → ((j : ℕ) (c : B) → At slots j c → (had'.had j → ⊥) → (share : Share) → turns_since (view c).number share 0 h.story + most phase' share ≤ 1)
+      → ((j : ℕ) (c : B) → At slots j c → Alert phase' had' j (view c) h.story) → Now phase' had' past log slots count now
+  next_phase phase phase' had had' past log slots count now h quiet settled free alerts = record {
     story = h.story;
     is_told = record {
       logged = h.is_told.logged;
@@ -434,6 +499,7 @@ module _ {B S : Type 0} (view : B → View) (rules : Rules S) (limits : Limits) 
       capped = h.is_told.capped;
       opened = h.is_told.opened;
       sized = h.is_told.sized;
+      small = h.is_told.small;
       few = h.is_told.few;
       within = h.is_told.within;
       phases = h.is_told.phases;
@@ -445,6 +511,8 @@ module _ {B S : Type 0} (view : B → View) (rules : Rules S) (limits : Limits) 
       keeps = h.is_told.keeps;
       allowed = h.is_told.allowed;
       settled = settled;
+      awake = h.is_told.awake;
+      each = h.is_told.each;
     };
     below = h.below;
     live = h.live;
@@ -453,15 +521,43 @@ module _ {B S : Type 0} (view : B → View) (rules : Rules S) (limits : Limits) 
     served = h.served;
     ready = free;
     ends = h.ends;
+    alert = alerts;
   }
 
-  pub widen : (phase : Phase) (had had' : ℕ → Type 0) (past : Past) (log : Acts) (slots : List (Option B)) (count : ℕ) (now : S) → ((j : ℕ) → had j → had' j)
+  pub widen : (phase : Phase) (had had' : Queued) (past : Past) (log : Acts) (slots : List (Option B)) (count : ℕ) (now : S) → ((j : ℕ) → had.had j → had'.had j)
+      → ((j : ℕ) (c : B) (s : Story) → At slots j c → Alert phase had j (view c) s → Alert phase had' j (view c) s)
       → Now phase had past log slots count now → Now phase had' past log slots count now
-  widen phase had had' past log slots count now wider h =
+  widen phase had had' past log slots count now wider alerts h =
       next_phase phase phase had had' past log slots count now h h.is_told.quiet h.is_told.settled (λ j c at not. h.ready j c at (λ k. not (wider j k)))
+      (λ j c at. alerts j c h.story at (h.alert j c at))
+
+  -- before the first turn of a phase
+  pub begins : (phase : Phase) (line : Line) (past : Past) (log : Acts) (slots : List (Option B)) (count : ℕ) (now : S) → Now phase (nobody line) past log slots count now → Now phase (those_before line 0) past log slots count now
+  begins phase line past log slots count now h =
+      widen phase (nobody line) (those_before line 0) past log slots count now (λ j k. absurd k)
+      (λ j c s at k. alert_beside phase line line (λ i. ⊥) (IsBefore line.order 0) j (view c) s (λ e. e) (λ e. e) (λ k. absurd k) (before_none line.order j) k) h
+
+  -- a place of the queue whose slot is none
+  pub passes : (phase : Phase) (line line' : Line) (place slot : ℕ) (past : Past) (log : Acts) (slots : List (Option B)) (count : ℕ) (now : S) → line'.order ≡ line.order
+      → ((i : ℕ) → i ≢ slot → mark_in line'.marks i ≡ mark_in line.marks i) → slot ≡ slot_in line.order place → length slots ≤ slot
+      → Now phase (those_before line place) past log slots count now → Now phase (those_before line' (place + 1)) past log slots count now
+  passes phase line line' place slot past log slots count now order marks is far h =
+      widen phase (those_before line place) (those_before line' (place + 1)) past log slots count now (λ j k. before_later line.order line'.order place j order k)
+      (λ j c s at k.
+      let apart : j ≢ slot = λ e. let w = At-within slots j c at in absurd (omega (arith, e, w, far)) in
+      alert_beside phase line line' (IsBefore line.order place) (IsBefore line'.order (place + 1)) j (view c) s (λ e. ap is_awake (marks j apart) ∙ e) (λ e. ap stands (marks j apart) ∙ e)
+      (before_later line.order line'.order place j order) (λ k. before_only line.order place j slot apart is (subst (λ l. IsBefore l (place + 1) j) order k)) k) h
+
+  -- all slots of the queue had the first half of their turn
+  pub all_read : (line line' : Line) (place : ℕ) (past : Past) (log : Acts) (slots : List (Option B)) (count : ℕ) (now : S) → line' ≡ line → ((i : ℕ) → stands_in line i ≡ true → IsPlaced line i) → length line.order ≤ place
+      → Now Phase.Reads (those_before line place) past log slots count now → Now Phase.Reads (everybody line') past log slots count now
+  all_read line line' place past log slots count now same found all h =
+      subst (λ q. Now Phase.Reads (everybody q) past log slots count now) (sym same)
+      (widen Phase.Reads (those_before line place) (everybody line) past log slots count now (λ j k. tt)
+      (λ j c s at k. alert_read line (IsBefore line.order place) j (view c) s (λ e. let p = found j e in let few = p.1 in (p.0, omega (arith, few, all), p.2)) k) h)
 
   -- these answers were those of writing the journal
-  written_acts : (had : ℕ → Type 0) (waits : ℕ) (began : Option Journal) (i j : Journal) (log log' : Acts) (slots : List (Option B)) (count : ℕ) (now : S) (acts : List Act) → DidLog log acts log'
+  written_acts : (had : Queued) (waits : ℕ) (began : Option Journal) (i j : Journal) (log log' : Acts) (slots : List (Option B)) (count : ℕ) (now : S) (acts : List Act) → DidLog log acts log'
       → Writes i acts j → Now Phase.Reads had (past_of waits began (Some i)) log slots count now → Now Phase.Reads had (past_of waits began (Some j)) log' slots count now
   written_acts had waits began i j log log' slots count now acts k w h =
       let b = keeping limits acts h.is_told.allowed w.keeping in
@@ -471,7 +567,7 @@ module _ {B S : Type 0} (view : B → View) (rules : Rules S) (limits : Limits) 
       (subst (λ a. DidLog log a log') (sym (acts_in-told acts)) k) (keeping_passes rules limits acts now h.is_told.allowed w.keeping) (told_lasts rules (is_some limits.journal) acts now) h
 
   -- the journal was written, if there is one
-  pub has_written : (had : ℕ → Type 0) (waits : ℕ) (began i j : Option Journal) (log log' : Acts) (slots : List (Option B)) (count : ℕ) (now : S) → AreWritten true i j log log'
+  pub has_written : (had : Queued) (waits : ℕ) (began i j : Option Journal) (log log' : Acts) (slots : List (Option B)) (count : ℕ) (now : S) → AreWritten true i j log log'
       → Now Phase.Reads had (past_of waits began i) log slots count now → Now Phase.Reads had (past_of waits began j) log' slots count now
   has_written had waits began None j log log' slots count now w h =
       subst (λ k. Now Phase.Reads had (past_of waits began k) log' slots count now) (sym w.0) (idle Phase.Reads had (past_of waits began None) log log' slots count now w.1 h)
@@ -479,7 +575,7 @@ module _ {B S : Type 0} (view : B → View) (rules : Rules S) (limits : Limits) 
   has_written had waits began (Some i) (Some j) log log' slots count now (acts, k, w) h = written_acts had waits began i j log log' slots count now acts k w h
 
   -- it failed
-  pub has_failed : (had : ℕ → Type 0) (waits : ℕ) (began i j : Option Journal) (log log' : Acts) (slots : List (Option B)) (count : ℕ) (now : S) → AreWritten false i j log log'
+  pub has_failed : (had : Queued) (waits : ℕ) (began i j : Option Journal) (log log' : Acts) (slots : List (Option B)) (count : ℕ) (now : S) → AreWritten false i j log log'
       → Now Phase.Reads had (past_of waits began i) log slots count now → HasFailed view rules limits first start began log' slots count now
   has_failed had waits began None j log log' slots count now w h = absurd w
   has_failed had waits began (Some i) j log log' slots count now (acts, mid, reached, last, k, w, fails, logged) h = record {
@@ -487,17 +583,18 @@ module _ {B S : Type 0} (view : B → View) (rules : Rules S) (limits : Limits) 
     journal = Some reached;
     mid = mid;
     last = last;
-    crowd = widen Phase.Reads had everybody (past_of waits began (Some reached)) mid slots count now (λ j k. tt) (written_acts had waits began i reached log mid slots count now acts k w h);
+    crowd = widen Phase.Reads had unqueued (past_of waits began (Some reached)) mid slots count now (λ j k. tt) (λ j c s at k. tt) (written_acts had waits began i reached log mid slots count now acts k w h);
     some = refl;
     fails = fails;
     logged = logged;
   }
 
   -- the second phase of a round begins: no client was written since the server last waited
-  pub turned : (had : ℕ → Type 0) (past : Past) (log : Acts) (slots : List (Option B)) (count : ℕ) (now : S) → AreSettled past.journal → Now Phase.Reads had past log slots count now
-      → Now Phase.Writes nobody past log slots count now
-  turned had past log slots count now settled h =
-      next_phase Phase.Reads Phase.Writes had nobody past log slots count now h (λ e. absurd (other e)) (λ e. settled) (λ j c at not share. unwritten (view c).number share)
+  pub turned : (line : Line) (past : Past) (log : Acts) (slots : List (Option B)) (count : ℕ) (now : S) → AreSettled past.journal → Now Phase.Reads (everybody line) past log slots count now
+      → Now Phase.Writes (nobody line) past log slots count now
+  turned line past log slots count now settled h =
+      next_phase Phase.Reads Phase.Writes (everybody line) (nobody line) past log slots count now h (λ e. absurd (other e)) (λ e. settled) (λ j c at not share. unwritten (view c).number share)
+      (λ j c at. alert_turned line j (view c) h.story (h.alert j c at))
     where
       other : Phase.Writes ≡ Phase.Reads → ⊥
       other e = cc
@@ -508,11 +605,13 @@ module _ {B S : Type 0} (view : B → View) (rules : Rules S) (limits : Limits) 
       unwritten n Share.Writing = let e = since_quiet n false 0 h.story (λ e. refl) (h.is_told.quiet refl) in omega (arith, e)
 
   -- the last phase of a round begins, or goes on
-  pub swept : (phase : Phase) (had : ℕ → Type 0) (past : Past) (log : Acts) (slots : List (Option B)) (count : ℕ) (now : S) → Now phase had past log slots count now
-      → Now Phase.Sweeps nobody past log slots count now
-  swept phase had past log slots count now h =
-      next_phase phase Phase.Sweeps had nobody past log slots count now h (λ e. absurd (other e)) (λ e. absurd (not_writes e))
+  pub swept : (phase : Phase) (had : Queued) (line : Line) (past : Past) (log : Acts) (slots : List (Option B)) (count : ℕ) (now : S)
+      → ((j : ℕ) (c : B) (s : Story) → At slots j c → Alert phase had j (view c) s → Alert Phase.Sweeps (nobody line) j (view c) s) → Now phase had past log slots count now
+      → Now Phase.Sweeps (nobody line) past log slots count now
+  swept phase had line past log slots count now alerts h =
+      next_phase phase Phase.Sweeps had (nobody line) past log slots count now h (λ e. absurd (other e)) (λ e. absurd (not_writes e))
       (λ j c at not share. let e = h.is_told.fair h.story [] (sym (append-nil h.story)) (view c).number share in omega (arith, e))
+      (λ j c at. alerts j c h.story at (h.alert j c at))
     where
       not_writes : Phase.Sweeps ≡ Phase.Writes → ⊥
       not_writes e = cc
@@ -520,12 +619,31 @@ module _ {B S : Type 0} (view : B → View) (rules : Rules S) (limits : Limits) 
       other : Phase.Sweeps ≡ Phase.Reads → ⊥
       other e = cc
 
+  -- all slots of the queue had the second half
+  pub all_told : (first_line line : Line) (place : ℕ) (past : Past) (log : Acts) (slots : List (Option B)) (count : ℕ) (now : S) → line.order ≡ first_line.order → ((i : ℕ) → stands_in line i ≡ stands_in first_line i)
+      → ((i : ℕ) → stands_in first_line i ≡ true → IsPlaced first_line i) → length first_line.order ≤ place
+      → Now Phase.Writes (those_before line place) past log slots count now → Now Phase.Sweeps (nobody line) past log slots count now
+  all_told first_line line place past log slots count now order stay found all h =
+      swept Phase.Writes (those_before line place) line past log slots count now
+      (λ j c s at k. alert_told line (IsBefore line.order place) (λ i. ⊥) j (view c) s
+      (λ e. let p = found j (sym (stay j) ∙ e) in let few = p.1 in (p.0, omega (arith, few, all), ap (λ l. slot_in l p.0) order ∙ p.2)) k) h
+
+  -- the round is over
+  pub round_ends : (line line' : Line) (past : Past) (log : Acts) (slots : List (Option B)) (count : ℕ) (now : S) → StayAwake line line' → Now Phase.Sweeps (nobody line) past log slots count now
+      → Now Phase.Sweeps (nobody line') past log slots count now
+  round_ends line line' past log slots count now stay h =
+      swept Phase.Sweeps (nobody line) line' past log slots count now (λ j c s at k. alert_swept line line' (λ j. ⊥) (λ j. ⊥) j (view c) s (stay j) k) h
+
   -- what happened to the client of a slot that had no turn in this phase
-  pub crowd_turn : (phase : Phase) (had had' : ℕ → Type 0) (past : Past) (log log' : Acts) (slots : List (Option B)) (count : ℕ) (now after : S) (i : ℕ) (d s : Option B) (more : Story)
-      → ((j : ℕ) → had j → had' j) → (had i → ⊥) → had' i
+  pub crowd_turn : (phase : Phase) (had had' : Queued) (past : Past) (log log' : Acts) (slots : List (Option B)) (count : ℕ) (now after : S) (i : ℕ) (d s' : Option B) (more : Story)
+      → ((j : ℕ) → had.had j → had'.had j) → (had.had i → ⊥) → had'.had i
       → Now phase had past log slots count now → i < length slots → d ≡ slice_index_or slots i d → DidLog log (acts_in more) log' → AreTurns rules now (turns_in more) after
-      → SlotDid limits phase (option_map view d) (option_map view s) more → Now phase had' (after_lines (records_in (turns_in more)) past) log' (slice_set slots i s) count after
-  crowd_turn phase had had' past log log' slots count now after i None None more wider new done h within is k r did =
+      → SlotDid limits phase (option_map view d) (option_map view s') more
+      → ((j : ℕ) → j ≢ i → (v : View) (s : Story) → Alert phase had j v s → Alert phase had' j v s)
+      → ((b c : B) (s : Story) → d ≡ Some b → s' ≡ Some c → (view c).number ≡ (view b).number → Mine (view b).number more → came_in (acts_in more) ≡ 0 → waits_in (acts_in more) ≡ 0
+      → Alert phase had i (view b) s → Alert phase had' i (view c) (s ++ more))
+      → Now phase had' (after_lines (records_in (turns_in more)) past) log' (slice_set slots i s') count after
+  crowd_turn phase had had' past log log' slots count now after i None None more wider new done h within is k r did beside turn =
       let same : after ≡ now = subst (λ m. AreTurns rules now (turns_in m) after) did.1 r in
       let quiet : DidLog log [] log' = subst (λ m. DidLog log (acts_in m) log') did.1 k in
       let free : (b : B) → At slots i b → ⊥ = λ b there. nobody_is b (At-some slots i None b is there) in
@@ -537,11 +655,12 @@ module _ {B S : Type 0} (view : B → View) (rules : Rules S) (limits : Limits) 
       (told_more rules limits first start phase phase 0 0 past past log log' slots (slice_set slots i None) count count now now h.story [] h.is_told quiet refl refl (omega arith) h.is_told.capped
       (let a = count_is.0 in omega (arith, a))
       (let a = taken_most slots in let b = h.is_told.sized in omega (arith, a, b))
-      (let a = long_set slots i None in let b = h.is_told.sized in omega (arith, a, b)) tt tt h.is_told.quiet
-      (still h.story [] h.is_told.fair (λ share. refl)) refl (stays_past phase past [] refl (keeps_quiet past.journal [] refl) h.is_told.settled) (λ last. tt))
+      (let a = long_set slots i None in omega (arith, a)) tt tt h.is_told.quiet
+      (still h.story [] h.is_told.fair (λ share. refl)) refl (stays_past phase past [] refl (keeps_quiet past.journal [] refl) h.is_told.settled) (λ last. tt) (no_looks h.story [] refl))
       (λ j c there. others j c (At-set slots i None j c there))
       (λ j c there. At-keep slots i None j c (λ e. free c (subst (λ j. At slots j c) e there)) there)
-      (open_still phase had had' past log slots count now h [] wider (λ share. refl)))))
+      (open_still phase had had' past log slots count now h [] wider (λ share. refl))
+      (λ j c there. beside j (λ e. free c (subst (λ j. At slots j c) e there)) (view c) (h.story ++ []) (alert_keep phase had j (view c) h.story [] refl refl (h.alert j c there))))))
     where
       nobody_is : (b : B) → None ≡ Some b → ⊥
       nobody_is b e = cc
@@ -549,11 +668,11 @@ module _ {B S : Type 0} (view : B → View) (rules : Rules S) (limits : Limits) 
       others : (j : ℕ) (c : B) → ((j ≡ i) × (None ≡ Some c)) ⊎ ((j ≢ i) × At slots j c) → At slots j c
       others j c (inl p) = absurd (nobody_is c p.1)
       others j c (inr p) = p.1
-  crowd_turn phase had had' past log log' slots count now after i None (Some b) more wider new done h within is k r did = absurd (none (view b) did.0)
+  crowd_turn phase had had' past log log' slots count now after i None (Some b) more wider new done h within is k r did beside turn = absurd (none (view b) did.0)
     where
       none : (v : View) → Some v ≡ None → ⊥
       none v e = cc
-  crowd_turn phase had had' past log log' slots count now after i (Some b) None more wider new done h within is k r (mine, came, closing, part, once, (close, goes)) =
+  crowd_turn phase had had' past log log' slots count now after i (Some b) None more wider new done h within is k r (mine, came, closing, part, once, (close, goes)) beside turn =
       let at = At-index slots i (Some b) b within is refl in
       let n = (view b).number in
       let fits = told_phase rules limits first start phase 0 past log slots count now h.story more h.is_told part in
@@ -566,14 +685,14 @@ module _ {B S : Type 0} (view : B → View) (rules : Rules S) (limits : Limits) 
       let later_past = after_lines (records_in (turns_in more)) past in
       let passed : Passed phase past more later_past
       = record { waited = omega (arith, waited); began = refl; keeps = keeps_turn phase n past.journal more mine once h.is_told.settled; settled = settled_turn phase past.journal more once h.is_told.settled } in
-      gone phase had had' wider past later_past log log' slots count now after h n more mine i b at refl
+      gone phase had had' wider past later_past log log' slots count now after h n more mine waited i b beside at refl
       (told_more rules limits first start phase phase 0 0 past later_past log log' slots (slice_set slots i None) count count now after h.story more h.is_told k (passes_plain rules now after more plain.2 plain.3 r) (lasts_plain rules (is_some limits.journal) now after more plain.3 r)
       (omega (arith, came)) h.is_told.capped (omega (arith, came, close, count_is))
       (let a = taken_most slots in let b = h.is_told.sized in omega (arith, a, b, came))
-      (let a = long_set slots i None in let b = h.is_told.sized in omega (arith, a, b)) closing fits.0 fits.1
-      (takes_turn h.story more n (most phase) h.is_told.fair mine once (h.ready i b at new)) (omega (arith, lost)) passed (reads_plain limits more plain.3))
+      (let a = long_set slots i None in omega (arith, a)) closing fits.0 fits.1
+      (takes_turn h.story more n (most phase) h.is_told.fair mine once (h.ready i b at new)) (omega (arith, lost)) passed (reads_plain limits more plain.3) (no_looks h.story more waited))
       (omega (arith, all, unclosed, close)) (goes (own n h.story) (h.live i b at))
-  crowd_turn phase had had' past log log' slots count now after i (Some b) (Some s) more wider new done h within is k r (mine, came, closing, part, once, (same, close, goes)) =
+  crowd_turn phase had had' past log log' slots count now after i (Some b) (Some s) more wider new done h within is k r (mine, came, closing, part, once, (same, close, goes)) beside turn =
       let at = At-index slots i (Some b) b within is refl in
       let n = (view b).number in
       let fits = told_phase rules limits first start phase 0 past log slots count now h.story more h.is_told part in
@@ -584,33 +703,59 @@ module _ {B S : Type 0} (view : B → View) (rules : Rules S) (limits : Limits) 
       let later_past = after_lines (records_in (turns_in more)) past in
       let passed : Passed phase past more later_past
       = record { waited = omega (arith, waited); began = refl; keeps = keeps_turn phase n past.journal more mine once h.is_told.settled; settled = settled_turn phase past.journal more once h.is_told.settled } in
-      seated phase had had' wider past later_past log log' slots count now after h n more mine i count s within (omega arith) (λ e. absurd (omega (arith, e)))
+      seated phase had had' wider past later_past log log' slots count now after h n more mine waited i count s beside (turn b s h.story refl refl same mine came waited (h.alert i b at)) within (omega arith) (λ e. absurd (omega (arith, e)))
       (λ m q d e. d (sym q.is ∙ ap (λ c. (view c).number) (At-only slots i q.b b (subst (λ j. At slots j q.b) e q.there) at)))
       same (omega arith) (h.below i b at)
       (λ j c d there e. d (h.apart j i c b there at e))
       (told_more rules limits first start phase phase 0 0 past later_past log log' slots (slice_set slots i (Some s)) count count now after h.story more h.is_told k (passes_plain rules now after more plain.2 plain.3 r) (lasts_plain rules (is_some limits.journal) now after more plain.3 r)
       (omega (arith, came)) h.is_told.capped (omega (arith, came, close, count_is))
       (let a = taken_most slots in let b = h.is_told.sized in omega (arith, a, b, came))
-      (let a = long_set slots i (Some s) in let b = h.is_told.sized in omega (arith, a, b)) closing fits.0 fits.1
-      (takes_turn h.story more n (most phase) h.is_told.fair mine once (h.ready i b at new)) (omega (arith, lost)) passed (reads_plain limits more plain.3))
+      (let a = long_set slots i (Some s) in omega (arith, a)) closing fits.0 fits.1
+      (takes_turn h.story more n (most phase) h.is_told.fair mine once (h.ready i b at new)) (omega (arith, lost)) passed (reads_plain limits more plain.3) (no_looks h.story more waited))
       (λ not. absurd (not done))
       (goes (own n h.story) (h.live i b at))
 
   -- the same, where no line was run
-  pub crowd_still : (phase : Phase) (had had' : ℕ → Type 0) (past : Past) (log log' : Acts) (slots : List (Option B)) (count : ℕ) (now : S) (i : ℕ) (d s : Option B) (more : Story)
-      → ((j : ℕ) → had j → had' j) → (had i → ⊥) → had' i
+  pub crowd_still : (phase : Phase) (had had' : Queued) (past : Past) (log log' : Acts) (slots : List (Option B)) (count : ℕ) (now : S) (i : ℕ) (d s' : Option B) (more : Story)
+      → ((j : ℕ) → had.had j → had'.had j) → (had.had i → ⊥) → had'.had i
       → Now phase had past log slots count now → i < length slots → d ≡ slice_index_or slots i d → DidLog log (acts_in more) log' → turns_in more ≡ []
-      → SlotDid limits phase (option_map view d) (option_map view s) more → Now phase had' past log' (slice_set slots i s) count now
-  crowd_still phase had had' past log log' slots count now i d s more wider new done h within is k none did =
-      subst (λ p. Now phase had' p log' (slice_set slots i s) count now) (ap (λ t. after_lines (records_in t) past) none ∙ sym (ap (λ j. record past { journal = j }) (noted_none past.journal)))
-      (crowd_turn phase had had' past log log' slots count now now i d s more wider new done h within is k (subst (λ t. AreTurns rules now t now) (sym none) refl) did)
+      → SlotDid limits phase (option_map view d) (option_map view s') more
+      → ((j : ℕ) → j ≢ i → (v : View) (s : Story) → Alert phase had j v s → Alert phase had' j v s)
+      → ((b c : B) (s : Story) → d ≡ Some b → s' ≡ Some c → (view c).number ≡ (view b).number → Mine (view b).number more → came_in (acts_in more) ≡ 0 → waits_in (acts_in more) ≡ 0
+      → Alert phase had i (view b) s → Alert phase had' i (view c) (s ++ more))
+      → Now phase had' past log' (slice_set slots i s') count now
+  crowd_still phase had had' past log log' slots count now i d s' more wider new done h within is k none did beside turn =
+      subst (λ p. Now phase had' p log' (slice_set slots i s') count now) (ap (λ t. after_lines (records_in t) past) none ∙ sym (ap (λ j. record past { journal = j }) (noted_none past.journal)))
+      (crowd_turn phase had had' past log log' slots count now now i d s' more wider new done h within is k (subst (λ t. AreTurns rules now t now) (sym none) refl) did beside turn)
+
+  -- a client was closed after the turns, or is as it was
+  pub crowd_closed : (line line' : Line) (past : Past) (log log' : Acts) (slots : List (Option B)) (count : ℕ) (now : S) (i : ℕ) (d s' : Option B) (more : Story) (closed : Bool)
+      → Now Phase.Sweeps (nobody line) past log slots count now → i < length slots → d ≡ slice_index_or slots i d → DidLog log (acts_in more) log' → turns_in more ≡ []
+      → SlotDid limits Phase.Sweeps (option_map view d) (option_map view s') more → IsClosedOr closed (option_map view d) (option_map view s') more
+      → ((j : ℕ) → j ≢ i → awake_in line' j ≡ awake_in line j) → (closed ≡ false → line' ≡ line)
+      → Now Phase.Sweeps (nobody line') past log' (slice_set slots i s') count now
+  crowd_closed line line' past log log' slots count now i d s' more closed h within is k none did or_same others same =
+      swept Phase.Sweeps (record { line = Some line'; had = λ j. j ≡ i }) line' past log' (slice_set slots i s') count now
+      (λ j c s at k. alert_swept line' line' (λ j. j ≡ i) (λ j. ⊥) j (view c) s (λ e. e) k)
+      (crowd_still Phase.Sweeps (nobody line) (record { line = Some line'; had = λ j. j ≡ i }) past log log' slots count now i d s' more (λ j k. absurd k) (λ k. k) refl h within is k none did
+      (λ j apart v s k. alert_swept line line' (λ j. ⊥) (λ j. j ≡ i) j v s (λ e. others j apart ∙ e) k)
+      (λ b c s e f number mine came quiet k.
+      let whole = closed_in_slot view closed d s' c more f or_same in
+      let one : view c ≡ view b = some_same (sym (ap (option_map view) f) ∙ whole.1 ∙ ap (option_map view) e) in
+      subst (λ m. IsAlert Phase.Sweeps line' (λ j. j ≡ i) i (view c) (s ++ m)) (sym whole.2)
+      (subst (λ t. IsAlert Phase.Sweeps line' (λ j. j ≡ i) i (view c) t) (sym (append-nil s))
+      (subst (λ v. IsAlert Phase.Sweeps line' (λ j. j ≡ i) i v s) (sym one)
+      (alert_swept line line' (λ j. ⊥) (λ j. j ≡ i) i (view b) s (λ e. ap (λ q. awake_in q i) (same whole.0) ∙ e) k)))))
+    where
+      some_same : {v w : View} → Some v ≡ Some w → v ≡ w
+      some_same e = cc
 
   -- what an accept did, for a free slot
   arrives : (past : Past) (log log' : Acts) (slots : List (Option B)) (count : ℕ) (now : S) (i : ℕ) (s : Option B) (more : Story) (came closed : ℕ)
-      (h : Now Phase.Reads nobody past log slots count now) → i < length slots → ((b : B) → At slots i b → ⊥) → DidLog log (acts_in more) log'
+      (line : Line) (h : Now Phase.Reads (nobody line) past log slots count now) → i < length slots → ((b : B) → At slots i b → ⊥) → DidLog log (acts_in more) log'
       → IsArrival came closed more → came ≡ closed + taken_by s → came ≤ 1 → count + came ≤ limits.connections
       → Told Phase.Reads past log' (slice_set slots i s) (count + came) now (h.story ++ more)
-  arrives past log log' slots count now i s more came closed h within free k a sums one capped =
+  arrives past log log' slots count now i s more came closed line h within free k a sums one capped =
       let count_is = taken_free slots i s within free in
       let fits = told_phase rules limits first start Phase.Reads 0 past log slots count now h.story more h.is_told a.part in
       let came_is = a.came_is in
@@ -623,19 +768,20 @@ module _ {B S : Type 0} (view : B → View) (rules : Rules S) (limits : Limits) 
       (lasts_plain rules (is_some limits.journal) now now more a.unchanged (subst (λ t. AreTurns rules now t now) (sym a.none) refl))
       (omega (arith, came_is)) capped (let e = count_is.0 in omega (arith, came_is, closed_is, sums, e))
       (let e = count_is.1 in omega (arith, came_is, one, e, sized))
-      (let e = long_set slots i s in omega (arith, e, sized)) (a.within limits) fits.0 fits.1
-      (still h.story more h.is_told.fair a.silent) (omega (arith, lost)) (stays_past Phase.Reads past more waited (a.unkept past.journal) (λ e. absurd (reads_not_writes e))) (reads_plain limits more a.unchanged)
+      (let e = long_set slots i s in omega (arith, e)) (a.within limits) fits.0 fits.1
+      (still h.story more h.is_told.fair a.silent) (omega (arith, lost)) (stays_past Phase.Reads past more waited (a.unkept past.journal) (λ e. absurd (reads_not_writes e))) (reads_plain limits more a.unchanged) (no_looks h.story more waited)
 
-  pub crowd_seat : (past : Past) (log log' : Acts) (slots : List (Option B)) (count : ℕ) (now : S) (i : ℕ) (came : Bool) (s : Option B) (more : Story)
-      → i < length slots → ((b : B) → At slots i b → ⊥) → count < limits.connections → Now Phase.Reads nobody past log slots count now → DidLog log (acts_in more) log'
-      → Arrives count came (option_map view s) more
-      → Now Phase.Reads nobody past log' (slice_set slots i s) (count + (if came then 1 else 0)) now
-  crowd_seat past log log' slots count now i true (Some s) more within free below h k (arrival, is, mine, live) =
+  pub crowd_seat : (line line' : Line) (past : Past) (log log' : Acts) (slots : List (Option B)) (count : ℕ) (now : S) (i : ℕ) (came : Bool) (s : Option B) (more : Story)
+      → StayAwake line line' → (came ≡ true → i < 1024 → awake_in line' i ≡ true)
+      → i < length slots → ((b : B) → At slots i b → ⊥) → count < limits.connections → Now Phase.Reads (nobody line) past log slots count now → DidLog log (acts_in more) log'
+      → Arrives count i came (option_map view s) more
+      → Now Phase.Reads (nobody line') past log' (slice_set slots i s) (count + (if came then 1 else 0)) now
+  crowd_seat line line' past log log' slots count now i true (Some s) more stay wakes within free below h k (arrival, is, came, new, mine, live) =
       let none = h.fresh count (omega arith) in
-      seated Phase.Reads nobody nobody (λ j k. k) past past log log' slots count now now h count more mine i (count + 1) s within (omega arith) (λ e. refl)
+      seated Phase.Reads (nobody line) (nobody line') (λ j k. k) past past log log' slots count now now h count more mine arrival.waited i (count + 1) s (λ j d v s k. alert_anew line line' j v s stay k) alerted within (omega arith) (λ e. refl)
       (λ m q d e. free q.b (subst (λ j. At slots j q.b) e q.there)) is (omega arith) (omega arith)
       (λ j c d there e. let q = h.below j c there in absurd (omega (arith, e, q)))
-      (arrives past log log' slots count now i (Some s) more 1 0 h within free k arrival refl (omega arith) (omega (arith, below)))
+      (arrives past log log' slots count now i (Some s) more 1 0 line h within free k arrival refl (omega arith) (omega (arith, below)))
       (λ not share.
       let e = since-append count share 0 h.story more in
       let f = since_fresh count share 0 h.story none in
@@ -644,23 +790,30 @@ module _ {B S : Type 0} (view : B → View) (rules : Rules S) (limits : Limits) 
       let r = reads_most share in
       omega (arith, e, f, g, q, r))
       (subst (λ t. Lives (t ++ more) (view s)) (sym none) (live))
-  crowd_seat past log log' slots count now i true None more within free below h k (arrival, mine, done) = record {
-    story = story' Phase.Reads nobody nobody (λ j k. k) past past log log' slots count now now h count more mine;
+    where
+      alerted : Alert Phase.Reads (nobody line') i (view s) (h.story ++ more)
+      alerted =
+          subst (λ m. Alert Phase.Reads (nobody line') i (view s) (h.story ++ m)) (sym came)
+          (subst (λ n. Alert Phase.Reads (nobody line') i (view s) (h.story ++ Did (Came n i) ∷ [])) is
+          (alert_comes line' i (view s) h.story (subst (λ n. own n h.story ≡ []) (sym is) (h.fresh count (omega arith)))
+          (wakes refl (let small = h.is_told.small in omega (arith, within, small))) new))
+  crowd_seat line line' past log log' slots count now i true None more stay wakes within free below h k (arrival, mine, done) = record {
+    story = story' Phase.Reads (nobody line) (nobody line') (λ j k. k) past past log log' slots count now now h count more mine arrival.waited;
     is_told = told;
     below = λ j c there. let q = h.below j c (others j c there) in omega arith;
     live = λ j c there.
         let q = h.below j c (others j c there) in
-        at_other Phase.Reads nobody nobody (λ j k. k) past past log log' slots count now now h count more mine (view c).number (λ e. absurd (omega (arith, e, q)))
+        at_other Phase.Reads (nobody line) (nobody line') (λ j k. k) past past log log' slots count now now h count more mine arrival.waited (view c).number (λ e. absurd (omega (arith, e, q)))
         (λ t. Lives t (view c)) (h.live j c (others j c there));
     apart = λ j m c d there too e. h.apart j m c d (others j c there) (others m d too) e;
-    fresh = fresh' Phase.Reads nobody nobody (λ j k. k) past past log log' slots count now now h count more mine (count + 1) (omega arith) (omega arith);
-    served = served' Phase.Reads nobody nobody (λ j k. k) past past log log' slots count now now h count more mine kept;
-    ready = λ j c there. open_still Phase.Reads nobody nobody past log slots count now h more (λ j k. k) arrival.silent j c (others j c there);
+    fresh = fresh' Phase.Reads (nobody line) (nobody line') (λ j k. k) past past log log' slots count now now h count more mine arrival.waited (count + 1) (omega arith) (omega arith);
+    served = served' Phase.Reads (nobody line) (nobody line') (λ j k. k) past past log log' slots count now now h count more mine arrival.waited kept;
+    ready = λ j c there. open_still Phase.Reads (nobody line) (nobody line') past log slots count now h more (λ j k. k) arrival.silent j c (others j c there);
     ends = λ m few. elim (eqb_tells m count) [
-      | inl p ↦ inl (subst (λ l. closed_in (acts_in (own l (story' Phase.Reads nobody nobody (λ j k. k) past past log log' slots count now now h count more mine))) ≡ 1) (sym p.1)
-          (at_own Phase.Reads nobody nobody (λ j k. k) past past log log' slots count now now h count more mine (λ t. closed_in (acts_in t) ≡ 1) closing))
+      | inl p ↦ inl (subst (λ l. closed_in (acts_in (own l (story' Phase.Reads (nobody line) (nobody line') (λ j k. k) past past log log' slots count now now h count more mine arrival.waited))) ≡ 1) (sym p.1)
+          (at_own Phase.Reads (nobody line) (nobody line') (λ j k. k) past past log log' slots count now now h count more mine arrival.waited (λ t. closed_in (acts_in t) ≡ 1) closing))
       | inr p ↦ let q = p.1 in elim (h.ends m (omega (arith, few, q))) [
-        | inl q ↦ inl (at_other Phase.Reads nobody nobody (λ j k. k) past past log log' slots count now now h count more mine m p.1 (λ t. closed_in (acts_in t) ≡ 1) q)
+        | inl q ↦ inl (at_other Phase.Reads (nobody line) (nobody line') (λ j k. k) past past log log' slots count now now h count more mine arrival.waited m p.1 (λ t. closed_in (acts_in t) ≡ 1) q)
         | inr q ↦ inr (record {
           i = q.i;
           b = q.b;
@@ -669,10 +822,14 @@ module _ {B S : Type 0} (view : B → View) (rules : Rules S) (limits : Limits) 
         })
       ]
     ];
+    alert = λ j c there.
+        let q = h.below j c (others j c there) in
+        alert' Phase.Reads (nobody line) (nobody line') (λ j k. k) past past log log' slots count now now h count more mine arrival.waited i j (λ j d v s k. alert_anew line line' j v s stay k) c
+        (λ e. free c (subst (λ j. At slots j c) e (others j c there))) (λ e. absurd (omega (arith, e, q))) (others j c there);
   }
     where
-      told : Told Phase.Reads past log' (slice_set slots i None) (count + 1) now (story' Phase.Reads nobody nobody (λ j k. k) past past log log' slots count now now h count more mine)
-      told = arrives past log log' slots count now i None more 1 1 h within free k arrival refl (omega arith) (omega (arith, below))
+      told : Told Phase.Reads past log' (slice_set slots i None) (count + 1) now (story' Phase.Reads (nobody line) (nobody line') (λ j k. k) past past log log' slots count now now h count more mine arrival.waited)
+      told = arrives past log log' slots count now i None more 1 1 line h within free k arrival refl (omega arith) (omega (arith, below))
 
       none : own count h.story ≡ []
       none = h.fresh count (omega arith)
@@ -688,15 +845,16 @@ module _ {B S : Type 0} (view : B → View) (rules : Rules S) (limits : Limits) 
 
       closing : closed_in (acts_in (own count h.story ++ more)) ≡ 1
       closing = subst (λ t. closed_in (acts_in (t ++ more)) ≡ 1) (sym none) arrival.closed_is
-  crowd_seat past log log' slots count now i false (Some s) more within free below h k bad = absurd bad
-  crowd_seat past log log' slots count now i false None more within free below h k (arrival, none) =
-      subst (λ c. Now Phase.Reads nobody past log' (slice_set slots i None) c now) same
-      (foreign Phase.Reads Phase.Reads nobody nobody past past log log' slots (slice_set slots i None) count now now h more none
+  crowd_seat line line' past log log' slots count now i false (Some s) more stay wakes within free below h k bad = absurd bad
+  crowd_seat line line' past log log' slots count now i false None more stay wakes within free below h k (arrival, none) =
+      subst (λ c. Now Phase.Reads (nobody line') past log' (slice_set slots i None) c now) same
+      (foreign Phase.Reads Phase.Reads (nobody line) (nobody line') past past log log' slots (slice_set slots i None) count now now h more none
       (subst (λ c. Told Phase.Reads past log' (slice_set slots i None) c now (h.story ++ more)) (sym same)
-      (arrives past log log' slots count now i None more 0 0 h within free k arrival refl (omega arith) (omega (arith, below))))
+      (arrives past log log' slots count now i None more 0 0 line h within free k arrival refl (omega arith) (omega (arith, below))))
       (λ j c there. others j c (At-set slots i None j c there))
       (λ j c there. At-keep slots i None j c (λ e. free c (subst (λ j. At slots j c) e there)) there)
-      (open_still Phase.Reads nobody nobody past log slots count now h more (λ j k. k) arrival.silent))
+      (open_still Phase.Reads (nobody line) (nobody line') past log slots count now h more (λ j k. k) arrival.silent)
+      (λ j c there. alert_anew line line' j (view c) (h.story ++ more) stay (alert_keep Phase.Reads (nobody line) j (view c) h.story more (none (view c).number) arrival.waited (h.alert j c there))))
     where
       same : count ≡ count + 0
       same = omega arith
@@ -709,15 +867,16 @@ module _ {B S : Type 0} (view : B → View) (rules : Rules S) (limits : Limits) 
       others j c (inr p) = p.1
 
   -- equal slots, and an equal count
-  pub shown : (phase : Phase) (had : ℕ → Type 0) (past : Past) (log : Acts) (slots slots' : List (Option B)) (count count' : ℕ) (now : S) → slots' ≡ slots → count' ≡ count
+  pub shown : (phase : Phase) (had : Queued) (past : Past) (log : Acts) (slots slots' : List (Option B)) (count count' : ℕ) (now : S) → slots' ≡ slots → count' ≡ count
       → Now phase had past log slots count now → Now phase had past log slots' count' now
   shown phase had past log slots slots' count count' now e f h =
       subst (λ s. Now phase had past log s count' now) (sym e) (subst (λ n. Now phase had past log slots n now) (sym f) h)
 
-  pub waited : (phase : Phase) (had : ℕ → Type 0) (past : Past) (log log' : Acts) (slots slots' : List (Option B)) (count count' : ℕ) (now : S) → DidLog log (Waited ∷ []) log' → slots' ≡ slots → count' ≡ count
-      → Now phase had past log slots count now → Now Phase.Reads nobody (later past) log' slots' count' now
-  waited phase had past log log' slots slots' count count' now k e f h =
-      subst (λ s. Now Phase.Reads nobody (later past) log' s count' now) (sym e) (subst (λ n. Now Phase.Reads nobody (later past) log' slots n now) (sym f) (has_waited phase had past log log' slots count now k h))
+  pub waited : (line line' : Line) (past : Past) (log log' : Acts) (slots slots' : List (Option B)) (count count' : ℕ) (now : S) (sleeps : Bool) (slots_told : List ℕ)
+      → (sleeps ≡ true → (i : ℕ) → awake_in line i ≡ true → ⊥) → StayAwake line line' → AreAwake slots_told line' → DidLog log (Waited sleeps slots_told ∷ []) log' → slots' ≡ slots → count' ≡ count
+      → Now Phase.Sweeps (nobody line) past log slots count now → Now Phase.Reads (nobody line') (later past) log' slots' count' now
+  waited line line' past log log' slots slots' count count' now sleeps slots_told asleep stay wakes k e f h =
+      subst (λ s. Now Phase.Reads (nobody line') (later past) log' s count' now) (sym e) (subst (λ n. Now Phase.Reads (nobody line') (later past) log' slots n now) (sym f) (has_waited line line' past log log' slots count now sleeps slots_told asleep stay wakes k h))
 
 -- ---- the beginning
 
@@ -740,9 +899,9 @@ unserved = record {
         some : m ∷ (p ++ q) ≡ [] → ⊥
         some e = cc
 
-pub crowd_first : {B S : Type 0} (view : B → View) (rules : Rules S) (limits : Limits) (first : S) (start : Acts) (began : Option Journal) (slots : List (Option B)) → AreFree slots
-    → length slots ≤ limits.clients → MayKeep limits began → (h : Crowd view rules limits first start Phase.Reads nobody (past_of 0 began began) start slots 0 first) × (h.story ≡ [])
-crowd_first view rules limits first start began slots free sized allowed = (
+pub crowd_first : {B S : Type 0} (line : Line) (view : B → View) (rules : Rules S) (limits : Limits) (first : S) (start : Acts) (began : Option Journal) (slots : List (Option B)) → AreFree slots
+    → length slots ≤ limits.clients → length slots ≤ 1024 → MayKeep limits began → (h : Crowd view rules limits first start Phase.Sweeps (nobody line) (past_of 0 began began) start slots 0 first) × (h.story ≡ [])
+crowd_first line view rules limits first start began slots free sized small allowed = (
   record {
     story = [];
     is_told = record {
@@ -753,6 +912,7 @@ crowd_first view rules limits first start began slots free sized allowed = (
       capped = omega arith;
       opened = let e = taken_none slots free in omega (arith, e);
       sized = sized;
+      small = small;
       few = λ p q cut. at_start p q (sym cut);
       within = tt;
       phases = tt;
@@ -763,7 +923,9 @@ crowd_first view rules limits first start began slots free sized allowed = (
       reads = tt;
       keeps = keeps_quiet began [] refl;
       allowed = allowed;
-      settled = λ e. absurd (reads_not_writes e);
+      settled = λ e. absurd (sweeps_not_writes e);
+      awake = awake_none;
+      each = each_none;
     };
     below = λ i b there. absurd (free_at slots i b free there);
     live = λ i b there. absurd (free_at slots i b free there);
@@ -772,10 +934,14 @@ crowd_first view rules limits first start began slots free sized allowed = (
     served = λ n. unserved;
     ready = λ i b there. absurd (free_at slots i b free there);
     ends = λ n few. absurd (omega (arith, few));
+    alert = λ i b there. absurd (free_at slots i b free there);
   },
   refl,
 )
   where
+    sweeps_not_writes : Phase.Sweeps ≡ Phase.Writes → ⊥
+    sweeps_not_writes e = cc
+
     unturned : (p q : Story) (n : ℕ) (share : Share) → p ++ q ≡ [] → turns_since n share 0 p ≤ 1
     unturned [] q n share e = omega arith
     unturned (m ∷ p) q n share e = absurd (some e)
@@ -790,6 +956,6 @@ crowd_first view rules limits first start began slots free sized allowed = (
         some : m ∷ (p ++ q) ≡ [] → ⊥
         some e = cc
 
-pub crowd_none : {B S : Type 0} (view : B → View) (rules : Rules S) (limits : Limits) (first : S) (start : Acts) (began : Option Journal) (slots : List (Option B)) → AreFree slots
-    → length slots ≤ limits.clients → MayKeep limits began → Crowd view rules limits first start Phase.Reads nobody (past_of 0 began began) start slots 0 first
-crowd_none view rules limits first start began slots free sized allowed = (crowd_first view rules limits first start began slots free sized allowed).0
+pub crowd_none : {B S : Type 0} (line : Line) (view : B → View) (rules : Rules S) (limits : Limits) (first : S) (start : Acts) (began : Option Journal) (slots : List (Option B)) → AreFree slots
+    → length slots ≤ limits.clients → length slots ≤ 1024 → MayKeep limits began → Crowd view rules limits first start Phase.Sweeps (nobody line) (past_of 0 began began) start slots 0 first
+crowd_none line view rules limits first start began slots free sized small allowed = (crowd_first line view rules limits first start began slots free sized small allowed).0

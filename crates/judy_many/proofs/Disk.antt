@@ -10,7 +10,7 @@ use Rattle.judy_many.specs.Books.{Journal, noted}
 use Rattle.judy_many.specs.declared.network.Sync.{Sync}
 use Rattle.judy_many.specs.declared.network.Sync.TheVariants as sync
 use Rattle.judy_many.specs.Journaling.{AnswersAreKept, IsJournaled, IsOnDisk, IsSecured, IsText, StoriesAreWritten, disk_acts, journal_after, journal_since, kept_after, phase_of, writer_at}
-use Rattle.judy_many.specs.Nets.Act.{Came, Refused, Read, Ended, Broke, Wrote, Failed, Closed, Waited, Lost, Asked, Questioned, Reported, Warned, Tabled, Untabled, Replied, Began, Kept, Unkept, Synced, Unsynced}
+use Rattle.judy_many.specs.Nets.Act.{Came, Refused, Read, Dry, Ended, Broke, Wrote, Failed, Closed, Waited, Lost, Asked, Questioned, Reported, Warned, Tabled, Untabled, Replied, Began, Kept, Unkept, Synced, Unsynced}
 use Rattle.judy_many.specs.Sessions.{Turn, records_in}
 use Rattle.judy_many.specs.Stories.{Moment, Story, acts_in, turns_in}
 use Rattle.judy_many.specs.Stories.Moment.{Changed, Did, Ran}
@@ -38,15 +38,16 @@ more_lines before records turns more =
 pub on_disk : (j : Journal) (kept more : List Commit) (story : Story) → IsJournaled j story → (j.clean ≡ true → more ≡ [])
     → (kept' : List Commit) × (more' : List Commit) × IsOnDisk j kept more story kept' more'
 on_disk j kept more [] h c = (kept, more, (refl, sym (append-nil (all_records (kept ++ more) ++ j.records)), c))
-on_disk j kept more (Did (Came m) ∷ story) h c = on_disk j kept more story h.1 c
+on_disk j kept more (Did (Came m i) ∷ story) h c = on_disk j kept more story h.1 c
 on_disk j kept more (Did Refused ∷ story) h c = on_disk j kept more story h.1 c
 on_disk j kept more (Did (Read m bytes) ∷ story) h c = on_disk j kept more story h.1 c
+on_disk j kept more (Did (Dry m) ∷ story) h c = on_disk j kept more story h.1 c
 on_disk j kept more (Did (Ended m) ∷ story) h c = on_disk j kept more story h.1 c
 on_disk j kept more (Did (Broke m) ∷ story) h c = on_disk j kept more story h.1 c
 on_disk j kept more (Did (Wrote m bytes) ∷ story) h c = on_disk j kept more story h.1 c
 on_disk j kept more (Did (Failed m) ∷ story) h c = on_disk j kept more story h.1 c
 on_disk j kept more (Did (Closed m how) ∷ story) h c = on_disk j kept more story h.1 c
-on_disk j kept more (Did Waited ∷ story) h c = on_disk j kept more story h.1 c
+on_disk j kept more (Did (Waited sleeps woken) ∷ story) h c = on_disk j kept more story h.1 c
 on_disk j kept more (Did Lost ∷ story) h c = on_disk j kept more story h.1 c
 on_disk j kept more (Did (Asked s) ∷ story) h c = on_disk j kept more story h.1 c
 on_disk j kept more (Did (Questioned q) ∷ story) h c = on_disk j kept more story h.1 c
@@ -111,15 +112,16 @@ back j [] q h = h
 back j (m ∷ p) q h = back (journal_after j m) p q h.1
 
 rule_after : (j : Journal) (m : Moment) → (journal_after j m).rule ≡ j.rule
-rule_after j (Did (Came m)) = refl
+rule_after j (Did (Came m i)) = refl
 rule_after j (Did Refused) = refl
 rule_after j (Did (Read m bytes)) = refl
+rule_after j (Did (Dry m)) = refl
 rule_after j (Did (Ended m)) = refl
 rule_after j (Did (Broke m)) = refl
 rule_after j (Did (Wrote m bytes)) = refl
 rule_after j (Did (Failed m)) = refl
 rule_after j (Did (Closed m how)) = refl
-rule_after j (Did Waited) = refl
+rule_after j (Did (Waited sleeps woken)) = refl
 rule_after j (Did Lost) = refl
 rule_after j (Did (Asked s)) = refl
 rule_after j (Did (Questioned q)) = refl

@@ -6,6 +6,7 @@ mod Crowding
 pub mod Journals
 mod Disk
 mod Known
+mod Looking
 mod Living
 pub mod Logins
 mod OneSlot
@@ -18,5 +19,6 @@ pub mod Seeing
 pub mod Stepping
 mod Telling
 mod Turning
+mod Watching
 pub mod Unchanged
 mod Written

@@ -70,11 +70,11 @@ module _ (did : List Act) (ran : List Turn) (v : View) (h : IsLive did ran v) wh
 
   -- lines were run
   pub live_hear : {S : Type 0} (rules : Rules S) (used rest : List ℕ) (turns : List Turn) (quit : Bool) (held' : Held) (who' : Option Speaker)
-      (before after : S) (answers' waiting' : List ℕ) (journal journal' : Option Journal)
+      (before after : S) (answers' waiting' : List ℕ) (more' : Bool) (journal journal' : Option Journal)
       → v.quits ≡ false → v.pending ≡ [] → used ++ rest ≡ v.waiting → waiting' ≡ rest
       → Steps rules used turns quit v.held held' v.who who' before after [] answers' journal journal'
-      → IsLive did (ran ++ turns) (record { number = v.number; waiting = waiting'; held = held'; who = who'; pending = answers'; quits = quit })
-  live_hear rules used rest turns quit held' who' before after answers' waiting' journal journal' stays none cut is s =
+      → IsLive did (ran ++ turns) (record { number = v.number; waiting = waiting'; more = more'; held = held'; who = who'; pending = answers'; quits = quit })
+  live_hear rules used rest turns quit held' who' before after answers' waiting' more' journal journal' stays none cut is s =
       let goes_on : asks_to_quit (lines_in ran) ≡ false = sym h.asked ∙ stays in
       record {
         heard = h.heard ++ used;

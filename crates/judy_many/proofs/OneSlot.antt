@@ -19,7 +19,7 @@ use Rattle.judy_many.proofs.Owning.{same_eq}
 use Rattle.judy_many.proofs.Turning.{times-append}
 use Rattle.judy_many.proofs.Journals.{keeps_quiet}
 use Rattle.judy_many.proofs.Living.{live_part}
-use Rattle.judy_many.proofs.Telling.{AreWithin-append, InPhase-append, Mine-append, came-append, closed-append, leaves_gone, leaves_part, left_served, piece_none, stays_none}
+use Rattle.judy_many.proofs.Telling.{AreWithin-append, InPhase-append, Mine-append, came-append, closed-append, leaves_gone, leaves_part, leaves_silent, left_served, piece_none, stays_none}
 
 never : false ≡ true → ⊥
 never e = cc
@@ -69,36 +69,43 @@ module _ {B : Type 0} (view : B → View) (limits : Limits) (phase : Phase) wher
   did_idle h s t b not why allowed e f =
       did_left h s t b [] e f (piece_none (view b).number phase) allowed (leaves_part h (view b) (view b) [] not (λ acts turns. why (acts ++ []) turns) (stays_none (view b)))
 
+  -- the client was closed, since nobody speaks for it
+  pub did_silent : (s t : Option B) (b : B) → (view b).who ≡ None → IsAllowed limits how.Login → Some b ≡ s → t ≡ None
+      → SlotDid limits phase (option_map view s) (option_map view t) (Did (Closed (view b).number how.Login) ∷ [])
+  did_silent s t b is allowed e f = did_left how.Login s t b [] e f (piece_none (view b).number phase) allowed (leaves_silent (view b) is)
+
   -- the client was closed, since its speaker is gone
   pub did_gone : (s t : Option B) (b : B) (who : Speaker) → (view b).who ≡ Some who → IsAllowed limits how.Gone → Some b ≡ s → t ≡ None
       → SlotDid limits phase (option_map view s) (option_map view t) (Did (Closed (view b).number how.Gone) ∷ [])
   did_gone s t b who is allowed e f = did_left how.Gone s t b [] e f (piece_none (view b).number phase) allowed (leaves_gone (view b) who is)
 
 -- a client came
-pub arrived : (n : ℕ) → IsArrival 1 0 (Did (Came n) ∷ [])
-arrived n = record { came_is = refl; closed_is = refl; within = λ limits. (tt, tt); none = refl; silent = λ share. refl; waited = refl; unlost = refl; untold = refl; part = ((tt, tt), refl); unchanged = refl; unkept = λ j. keeps_quiet j _ refl }
+pub arrived : (n i : ℕ) → IsArrival 1 0 (Did (Came n i) ∷ [])
+arrived n i = record { came_is = refl; closed_is = refl; within = λ limits. (tt, tt); none = refl; silent = λ share. refl; waited = refl; unlost = refl; untold = refl; part = ((tt, tt), refl); unchanged = refl; unkept = λ j. keeps_quiet j _ refl }
 
 -- none came
-pub came_not : {B : Type 0} (view : B → View) (s : Option B) (n : ℕ) → s ≡ None → Arrives n false (option_map view s) []
-came_not view s n e = subst (λ o. Arrives n false (option_map view o) []) (sym e)
+pub came_not : {B : Type 0} (view : B → View) (s : Option B) (n i : ℕ) → s ≡ None → Arrives n i false (option_map view s) []
+came_not view s n i e = subst (λ o. Arrives n i false (option_map view o) []) (sym e)
     (record { came_is = refl; closed_is = refl; within = λ limits. tt; none = refl; silent = λ share. refl; waited = refl; unlost = refl; untold = refl; part = (tt, refl); unchanged = refl; unkept = λ j. keeps_quiet j _ refl }, λ m. refl)
 
 -- one could not be accepted
-pub refused : {B : Type 0} (view : B → View) (s : Option B) (n : ℕ) → s ≡ None → Arrives n false (option_map view s) (Did Refused ∷ [])
-refused view s n e = subst (λ o. Arrives n false (option_map view o) (Did Refused ∷ [])) (sym e)
+pub refused : {B : Type 0} (view : B → View) (s : Option B) (n i : ℕ) → s ≡ None → Arrives n i false (option_map view s) (Did Refused ∷ [])
+refused view s n i e = subst (λ o. Arrives n i false (option_map view o) (Did Refused ∷ [])) (sym e)
     (record { came_is = refl; closed_is = refl; within = λ limits. (tt, tt); none = refl; silent = λ share. refl; waited = refl; unlost = refl; untold = refl; part = ((tt, tt), refl); unchanged = refl; unkept = λ j. keeps_quiet j _ refl }, λ m. refl)
 
 -- a client came, and is in the slot
-pub came_in_slot : (v : View) (n : ℕ) → v.number ≡ n → Holds [] v.held → v.who ≡ None → v.waiting ≡ [] → v.pending ≡ [] → v.quits ≡ false
-    → Arrives n true (Some v) (Did (Came n) ∷ [])
-came_in_slot v n is held who waiting pending quits = (
-  arrived n,
+pub came_in_slot : (v : View) (n i : ℕ) → v.number ≡ n → Holds [] v.held → v.who ≡ None → v.waiting ≡ [] → v.pending ≡ [] → v.quits ≡ false
+    → Arrives n i true (Some v) (Did (Came n i) ∷ [])
+came_in_slot v n i is held who waiting pending quits = (
+  arrived n i,
   is,
+  refl,
+  record { waiting = waiting; pending = pending },
   (same_eq n, tt),
   record { live = live; order = λ p q cut. at_each p q cut; came = refl; unclosed = refl },
 )
   where
-    live : IsLive (Came n ∷ []) [] v
+    live : IsLive (Came n i ∷ []) [] v
     live = record {
       heard = [];
       read = sym waiting;
@@ -111,11 +118,11 @@ came_in_slot v n is held who waiting pending quits = (
       stays = refl;
     }
 
-    at_each : (p q : Story) → Did (Came n) ∷ [] ≡ p ++ q → IsPart (acts_in p) (turns_in p)
+    at_each : (p q : Story) → Did (Came n i) ∷ [] ≡ p ++ q → IsPart (acts_in p) (turns_in p)
     at_each [] q cut = record { heard = []; unheard = []; missing = []; last_who = None; read = refl; ran = refl; speaks = refl; text = refl; last = refl }
-    at_each (x ∷ []) q cut = subst (λ y. IsPart (acts_in (y ∷ [])) (turns_in (y ∷ []))) (one cut) (live_part (Came n ∷ []) [] v live)
+    at_each (x ∷ []) q cut = subst (λ y. IsPart (acts_in (y ∷ [])) (turns_in (y ∷ []))) (one cut) (live_part (Came n i ∷ []) [] v live)
       where
-        one : Did (Came n) ∷ [] ≡ x ∷ q → Did (Came n) ≡ x
+        one : Did (Came n i) ∷ [] ≡ x ∷ q → Did (Came n i) ≡ x
         one e = cc
     at_each (x ∷ y ∷ p) q cut = absurd (short (ap length cut))
       where
@@ -123,9 +130,9 @@ came_in_slot v n is held who waiting pending quits = (
         short e = omega (arith, e)
 
 -- a client came and was closed
-pub dropped : {B : Type 0} (view : B → View) (s : Option B) (n : ℕ) → s ≡ None
-    → Arrives n true (option_map view s) (Did (Came n) ∷ Did (Closed n how.Memory) ∷ [])
-dropped view s n e = subst (λ o. Arrives n true (option_map view o) (Did (Came n) ∷ Did (Closed n how.Memory) ∷ [])) (sym e) (
+pub dropped : {B : Type 0} (view : B → View) (s : Option B) (n i : ℕ) → s ≡ None
+    → Arrives n i true (option_map view s) (Did (Came n i) ∷ Did (Closed n how.Memory) ∷ [])
+dropped view s n i e = subst (λ o. Arrives n i true (option_map view o) (Did (Came n i) ∷ Did (Closed n how.Memory) ∷ [])) (sym e) (
   record { came_is = refl; closed_is = refl; within = λ limits. (tt, (tt, tt)); none = refl; silent = λ share. refl; waited = refl; unlost = refl; untold = refl; part = ((tt, (tt, tt)), refl); unchanged = refl; unkept = λ j. keeps_quiet j _ refl },
   (same_eq n, (same_eq n, tt)),
   record {
@@ -149,33 +156,33 @@ dropped view s n e = subst (λ o. Arrives n true (option_map view o) (Did (Came 
       last = refl;
     }
 
-    reason : (p q : Story) (m : ℕ) (other : How) → Did (Came n) ∷ Did (Closed n how.Memory) ∷ [] ≡ p ++ Did (Closed m other) ∷ q → IsReason other (acts_in p) (turns_in p)
+    reason : (p q : Story) (m : ℕ) (other : How) → Did (Came n i) ∷ Did (Closed n how.Memory) ∷ [] ≡ p ++ Did (Closed m other) ∷ q → IsReason other (acts_in p) (turns_in p)
     reason [] q m other cut = absurd (apart cut)
       where
-        apart : Did (Came n) ∷ Did (Closed n how.Memory) ∷ [] ≡ Did (Closed m other) ∷ q → ⊥
+        apart : Did (Came n i) ∷ Did (Closed n how.Memory) ∷ [] ≡ Did (Closed m other) ∷ q → ⊥
         apart e = cc
     reason (x ∷ []) q m other cut = subst (λ h. IsReason h (acts_in (x ∷ [])) (turns_in (x ∷ []))) (one cut) tt
       where
-        one : Did (Came n) ∷ Did (Closed n how.Memory) ∷ [] ≡ x ∷ Did (Closed m other) ∷ q → how.Memory ≡ other
+        one : Did (Came n i) ∷ Did (Closed n how.Memory) ∷ [] ≡ x ∷ Did (Closed m other) ∷ q → how.Memory ≡ other
         one e = cc
     reason (x ∷ y ∷ p) q m other cut = absurd (short (ap length cut ∙ ap (λ k. suc (suc k)) (length-append p (Did (Closed m other) ∷ q))))
       where
         short : 2 ≡ suc (suc (length p + suc (length q))) → ⊥
         short e = omega (arith, e)
 
-    at_each : (p q : Story) → Did (Came n) ∷ Did (Closed n how.Memory) ∷ [] ≡ p ++ q → IsPart (acts_in p) (turns_in p)
+    at_each : (p q : Story) → Did (Came n i) ∷ Did (Closed n how.Memory) ∷ [] ≡ p ++ q → IsPart (acts_in p) (turns_in p)
     at_each [] q cut = nothing_yet [] refl refl
-    at_each (x ∷ []) q cut = subst (λ y. IsPart (acts_in (y ∷ [])) (turns_in (y ∷ []))) (one cut) (nothing_yet (Came n ∷ []) refl refl)
+    at_each (x ∷ []) q cut = subst (λ y. IsPart (acts_in (y ∷ [])) (turns_in (y ∷ []))) (one cut) (nothing_yet (Came n i ∷ []) refl refl)
       where
-        one : Did (Came n) ∷ Did (Closed n how.Memory) ∷ [] ≡ x ∷ q → Did (Came n) ≡ x
+        one : Did (Came n i) ∷ Did (Closed n how.Memory) ∷ [] ≡ x ∷ q → Did (Came n i) ≡ x
         one e = cc
     at_each (x ∷ y ∷ []) q cut = subst (λ z. IsPart (acts_in (z ∷ y ∷ [])) (turns_in (z ∷ y ∷ []))) (one cut)
-        (subst (λ z. IsPart (acts_in (Did (Came n) ∷ z ∷ [])) (turns_in (Did (Came n) ∷ z ∷ []))) (two cut) (nothing_yet (Came n ∷ Closed n how.Memory ∷ []) refl refl))
+        (subst (λ z. IsPart (acts_in (Did (Came n i) ∷ z ∷ [])) (turns_in (Did (Came n i) ∷ z ∷ []))) (two cut) (nothing_yet (Came n i ∷ Closed n how.Memory ∷ []) refl refl))
       where
-        one : Did (Came n) ∷ Did (Closed n how.Memory) ∷ [] ≡ x ∷ y ∷ q → Did (Came n) ≡ x
+        one : Did (Came n i) ∷ Did (Closed n how.Memory) ∷ [] ≡ x ∷ y ∷ q → Did (Came n i) ≡ x
         one e = cc
 
-        two : Did (Came n) ∷ Did (Closed n how.Memory) ∷ [] ≡ x ∷ y ∷ q → Did (Closed n how.Memory) ≡ y
+        two : Did (Came n i) ∷ Did (Closed n how.Memory) ∷ [] ≡ x ∷ y ∷ q → Did (Closed n how.Memory) ≡ y
         two e = cc
     at_each (x ∷ y ∷ z ∷ p) q cut = absurd (short (ap length cut))
       where

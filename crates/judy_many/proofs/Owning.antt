@@ -4,7 +4,7 @@ use Rattle.std.specs.Prelude.{◌==◌, if◌then◌else◌}
 use Rattle.std.proofs.lemmas.Bool.{eqb-true}
 use Rattle.std.proofs.lemmas.Bool.Decides.{eqb_tells}
 use Rattle.judy_many.specs.Nets.{Act}
-use Rattle.judy_many.specs.Nets.Act.{Came, Refused, Read, Ended, Broke, Wrote, Failed, Closed, Waited, Lost, Asked, Questioned, Reported, Warned, Tabled, Untabled, Replied, Began, Kept, Unkept, Synced, Unsynced}
+use Rattle.judy_many.specs.Nets.Act.{Came, Refused, Read, Dry, Ended, Broke, Wrote, Failed, Closed, Waited, Lost, Asked, Questioned, Reported, Warned, Tabled, Untabled, Replied, Began, Kept, Unkept, Synced, Unsynced}
 use Rattle.judy_many.specs.Stories.{Mine, Moment, Story, belongs, is_of, own}
 use Rattle.judy_many.specs.Stories.Moment.{Changed, Did, Ran}
 
@@ -27,8 +27,9 @@ never : false ≡ true → ⊥
 never e = cc
 
 is_other : (n m : ℕ) (x : Act) → is_of n x ≡ true → m ≢ n → is_of m x ≡ false
-is_other n m (Came k) e d = eq_other k n m e d
+is_other n m (Came k i) e d = eq_other k n m e d
 is_other n m (Read k bytes) e d = eq_other k n m e d
+is_other n m (Dry k) e d = eq_other k n m e d
 is_other n m (Ended k) e d = eq_other k n m e d
 is_other n m (Broke k) e d = eq_other k n m e d
 is_other n m (Wrote k bytes) e d = eq_other k n m e d

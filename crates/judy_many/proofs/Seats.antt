@@ -45,6 +45,13 @@ module _ {B : Type 0} where
   At-some (t ∷ slots) zero d b e h = e ∙ h
   At-some (t ∷ slots) (suc i) d b e h = At-some slots i d b e h
 
+-- a client's slot is one of them
+module _ {B : Type 0} where
+  pub At-within : (slots : List (Option B)) (i : ℕ) (b : B) → At slots i b → i < length slots
+  At-within [] i b h = absurd h
+  At-within (s ∷ slots) zero b h = omega arith
+  At-within (s ∷ slots) (suc i) b h = let e = At-within slots i b h in omega (arith, e)
+
 -- how many slots are taken
 module _ {B : Type 0} where
   pub taken_most : (slots : List (Option B)) → taken slots ≤ length slots

@@ -12,7 +12,7 @@ use Rattle.judy_many.specs.declared.serve.Limits.{Limits}
 use Rattle.judy_many.specs.Fates.{Ends, IsLeft, Leaves, Stays}
 use Rattle.judy_many.specs.Lives.{HasReason, IsLive, IsOrdered, IsReason, IsPart, IsServed, IsWhole, Lives, View, end_well, ends_well, is_orderly, read_in, wrote_in}
 use Rattle.judy_many.specs.Nets.{Act}
-use Rattle.judy_many.specs.Nets.Act.{Came, Refused, Read, Ended, Broke, Wrote, Failed, Closed, Waited, Lost, Asked, Questioned, Reported, Warned, Tabled, Untabled, Replied, Began, Kept, Unkept, Synced, Unsynced}
+use Rattle.judy_many.specs.Nets.Act.{Came, Refused, Read, Dry, Ended, Broke, Wrote, Failed, Closed, Waited, Lost, Asked, Questioned, Reported, Warned, Tabled, Untabled, Replied, Began, Kept, Unkept, Synced, Unsynced}
 use Rattle.judy_many.specs.Sessions.{Speaks, Turn}
 use Rattle.judy_many.specs.Stories.{AreReads, AreWithin, AreWrites, Phase, InPhase, IsOnce, IsPhased, IsPiece, IsRead, IsWrite, Mine, Moment, Share, Story, acts_by, acts_in, came_by, came_in, closed_by, closed_in, reading, running, share_of, times, told, turns_by, turns_in, writes_after, writes_since}
 use Rattle.judy_many.specs.Stories.Moment.{Did, Ran}
@@ -126,6 +126,7 @@ piece_ran n turns = record { mine = (eq-eqb n n refl, tt); once = λ share. omeg
 
 one_read : (n : ℕ) (a : Act) → IsRead n a → IsPiece n Phase.Reads (Did a ∷ [])
 one_read n (Read m bytes) h = record { mine = (h, tt); once = λ share. omega arith; came = refl; unclosed = refl; within = λ limits. (tt, tt); part = ((tt, tt), refl) }
+one_read n (Dry m) h = record { mine = (h, tt); once = λ share. omega arith; came = refl; unclosed = refl; within = λ limits. (tt, tt); part = ((tt, tt), refl) }
 one_read n (Ended m) h = record { mine = (h, tt); once = λ share. omega arith; came = refl; unclosed = refl; within = λ limits. (tt, tt); part = ((tt, tt), refl) }
 one_read n (Broke m) h = record { mine = (h, tt); once = λ share. omega arith; came = refl; unclosed = refl; within = λ limits. (tt, tt); part = ((tt, tt), refl) }
 one_read n act h = absurd h
@@ -137,6 +138,7 @@ reads_once n (a ∷ []) h few share = let e = one_share n a h.0 share in omega (
   where
     one_share : (n : ℕ) (a : Act) → IsRead n a → (share : Share) → share_of a share ≡ reading share
     one_share n (Read m bytes) h share = refl
+    one_share n (Dry m) h share = refl
     one_share n (Ended m) h share = refl
     one_share n (Broke m) h share = refl
     one_share n act h share = absurd h
@@ -260,6 +262,22 @@ leaves_whole how v w a none ends why h s live =
       came = later.came;
       unclosed = later.unclosed;
     }
+
+-- a client that nobody speaks for
+pub leaves_silent : (v : View) → v.who ≡ None → Leaves how.Login v []
+leaves_silent v is s live =
+    let same = stays_none v s live in
+    record {
+      order = same.order;
+      whole = λ yes. absurd (no yes);
+      stays = same.live.stays;
+      why = subst (Speaks None (turns_in (s ++ []))) is same.live.speaks;
+      came = same.came;
+      unclosed = same.unclosed;
+    }
+  where
+    no : false ≡ true → ⊥
+    no e = cc
 
 -- a client whose speaker is gone
 pub leaves_gone : (v : View) (who : Speaker) → v.who ≡ Some who → Leaves how.Gone v []
@@ -388,8 +406,8 @@ writes_plain n acts h few =
     (ap came_in (sym (acts_in-told acts)) ∙ piece.came, ap closed_in (sym (acts_in-told acts)) ∙ piece.unclosed)
 
 -- the connection is seen anew
-renumber : (acts : List Act) (turns : List Turn) (v : View) (n : ℕ) → IsLive acts turns v → IsLive acts turns (record v { number = n })
-renumber acts turns v n l = record {
+renumber : (acts : List Act) (turns : List Turn) (v : View) (n : ℕ) (more : Bool) → IsLive acts turns v → IsLive acts turns (record v { number = n; more = more })
+renumber acts turns v n more l = record {
   heard = l.heard;
   read = l.read;
   ran = l.ran;
@@ -401,20 +419,20 @@ renumber acts turns v n l = record {
   stays = l.stays;
 }
 
-pub stays_read : (v : View) (m n : ℕ) (acts : List Act) (bytes : List ℕ) → v.waiting ≡ [] → AreReads m acts → length acts ≤ 1
-    → read_in acts ≡ bytes → wrote_in acts ≡ [] → Stays v (record v { waiting = bytes; number = n }) (told acts)
-stays_read v m n acts bytes none reads few read wrote =
+pub stays_read : (v : View) (m n : ℕ) (acts : List Act) (bytes : List ℕ) (more : Bool) → v.waiting ≡ [] → AreReads m acts → length acts ≤ 1
+    → read_in acts ≡ bytes → wrote_in acts ≡ [] → Stays v (record v { waiting = bytes; number = n; more = more }) (told acts)
+stays_read v m n acts bytes more none reads few read wrote =
     let plain = reads_plain m acts reads few in
-    stays_did v (record v { waiting = bytes; number = n }) acts few plain.0 plain.1
-    (λ did ran live. renumber (did ++ acts) ran (record v { waiting = bytes }) n (live_read did ran v live acts bytes none read wrote (plain_ends acts plain.1)))
+    stays_did v (record v { waiting = bytes; number = n; more = more }) acts few plain.0 plain.1
+    (λ did ran live. renumber (did ++ acts) ran (record v { waiting = bytes }) n more (live_read did ran v live acts bytes none read wrote (plain_ends acts plain.1)))
 
-pub stays_send : (v : View) (m n : ℕ) (acts : List Act) (pending waiting : List ℕ) → waiting ≡ v.waiting → AreWrites m acts → length acts ≤ 1
-    → wrote_in acts ++ pending ≡ v.pending → read_in acts ≡ [] → Stays v (record v { pending = pending; waiting = waiting; number = n }) (told acts)
-stays_send v m n acts pending waiting same writes few wrote read =
+pub stays_send : (v : View) (m n : ℕ) (acts : List Act) (pending waiting : List ℕ) (more : Bool) → waiting ≡ v.waiting → AreWrites m acts → length acts ≤ 1
+    → wrote_in acts ++ pending ≡ v.pending → read_in acts ≡ [] → Stays v (record v { pending = pending; waiting = waiting; number = n; more = more }) (told acts)
+stays_send v m n acts pending waiting more same writes few wrote read =
     let plain = writes_plain m acts writes few in
-    subst (λ w. Stays v (record v { pending = pending; waiting = w; number = n }) (told acts)) (sym same)
-    (stays_did v (record v { pending = pending; number = n }) acts few plain.0 plain.1
-    (λ did ran live. renumber (did ++ acts) ran (record v { pending = pending }) n (live_send did ran v live acts pending wrote read (plain_ends acts plain.1))))
+    subst (λ w. Stays v (record v { pending = pending; waiting = w; number = n; more = more }) (told acts)) (sym same)
+    (stays_did v (record v { pending = pending; number = n; more = more }) acts few plain.0 plain.1
+    (λ did ran live. renumber (did ++ acts) ran (record v { pending = pending }) n more (live_send did ran v live acts pending wrote read (plain_ends acts plain.1))))
 
 -- a read, and then lines
 pub acts_heard : (n : ℕ) (acts : List Act) (turns : List Turn) → acts_in (told acts ++ Ran n turns ∷ []) ≡ acts

@@ -4,7 +4,7 @@ use Rattle.std.specs.Prelude.{◌==◌, if◌then◌else◌}
 use Rattle.std.proofs.lemmas.Bool.Decides.{eqb_tells}
 use Rattle.judy_many.specs.Endings.{lost_by, lost_in, reports_by, reports_in, waits_in}
 use Rattle.judy_many.specs.Nets.{Act}
-use Rattle.judy_many.specs.Nets.Act.{Came, Refused, Read, Ended, Broke, Wrote, Failed, Closed, Waited, Lost, Asked, Questioned, Reported, Warned, Tabled, Untabled, Replied, Began, Kept, Unkept, Synced, Unsynced}
+use Rattle.judy_many.specs.Nets.Act.{Came, Refused, Read, Dry, Ended, Broke, Wrote, Failed, Closed, Waited, Lost, Asked, Questioned, Reported, Warned, Tabled, Untabled, Replied, Began, Kept, Unkept, Synced, Unsynced}
 use Rattle.judy_many.specs.Stories.{HasTurns, Mine, Moment, Share, Story, acts_in, belongs, changes_in, is_of, is_wait, own, share_by, times, turns_after, turns_since, waits_by, writes_after, writes_since}
 use Rattle.judy_many.specs.Stories.Moment.{Changed, Did, Ran}
 use Rattle.judy_many.proofs.Owning.{belongs_other}
@@ -128,14 +128,15 @@ since_quiet n wrote count (m ∷ story) h e = since_quiet n (writes_after wrote 
     same false e = h e
 
     after : (m : Moment) → writes_after wrote m ≡ false → turns_after n Share.Writing count m ≡ 0
-    after (Did (Came k)) e = same (k == n) e
+    after (Did (Came k i)) e = same (k == n) e
     after (Did (Read k bytes)) e = same (k == n) e
+    after (Did (Dry k)) e = same (k == n) e
     after (Did (Ended k)) e = same (k == n) e
     after (Did (Broke k)) e = same (k == n) e
     after (Did (Wrote k bytes)) e = absurd (never e)
     after (Did (Failed k)) e = absurd (never e)
     after (Did (Closed k how)) e = same (k == n) e
-    after (Did Waited) e = refl
+    after (Did (Waited sleeps told)) e = refl
     after (Ran k turns) e = same (k == n) e
     after moment e = h e
 
@@ -143,15 +144,16 @@ since_quiet n wrote count (m ∷ story) h e = since_quiet n (writes_after wrote 
 
 -- a connection's own moments are no wait, no fault of the listener, and no report
 no_wait : (n : ℕ) (a : Act) → is_of n a ≡ true → (is_wait a ≡ false) × (lost_by a ≡ 0) × (reports_by a ≡ 0)
-no_wait n (Came m) e = (refl, refl, refl)
+no_wait n (Came m i) e = (refl, refl, refl)
 no_wait n Refused e = (refl, refl, refl)
 no_wait n (Read m bytes) e = (refl, refl, refl)
+no_wait n (Dry m) e = (refl, refl, refl)
 no_wait n (Ended m) e = (refl, refl, refl)
 no_wait n (Broke m) e = (refl, refl, refl)
 no_wait n (Wrote m bytes) e = (refl, refl, refl)
 no_wait n (Failed m) e = (refl, refl, refl)
 no_wait n (Closed m how) e = (refl, refl, refl)
-no_wait n Waited e = absurd (never e)
+no_wait n (Waited sleeps told) e = absurd (never e)
   where
     never : false ≡ true → ⊥
     never e = cc

@@ -5,9 +5,10 @@ use Rattle.judy_many.specs.Nets.Act.{Came, Lost, Refused}
 use Rattle.judy_many.specs.declared.network.Accept.{Accept}
 use Rattle.judy_many.specs.declared.network.Accept.TheVariants as accept
 
--- a connection of this number came; or none did; or one could not be accepted; or none can ever be
-abbrev pub HasCome : {C : Type 0} → (C → ℕ) → Accept C → ℕ → Acts → Acts → Type 0
-HasCome number (accept.Came c) n log log' = (number c ≡ n) × DidLog log (Came n ∷ []) log'
-HasCome number accept.Nothing n log log' = DidLog log [] log'
-HasCome number accept.Later n log log' = DidLog log (Refused ∷ []) log'
-HasCome number accept.Fault n log log' = DidLog log (Lost ∷ []) log'
+-- a connection of this number came for this slot; or none did; or one could not be accepted; or none can
+-- ever be
+abbrev pub HasCome : {C : Type 0} → (C → ℕ) → Accept C → ℕ → ℕ → Acts → Acts → Type 0
+HasCome number (accept.Came c) n slot log log' = (number c ≡ n) × DidLog log (Came n slot ∷ []) log'
+HasCome number accept.Nothing n slot log log' = DidLog log [] log'
+HasCome number accept.Later n slot log log' = DidLog log (Refused ∷ []) log'
+HasCome number accept.Fault n slot log log' = DidLog log (Lost ∷ []) log'

@@ -12,10 +12,10 @@ use Rattle.judy_many.specs.Endings.{IsCaused, lost_in, waits_in}
 use Rattle.judy_many.specs.Journaling.{AreKept, AreSettled, Carries, IsFailure, MayKeep}
 use Rattle.judy_many.specs.Lives.{IsPart, IsServed, Lives, View}
 use Rattle.judy_many.specs.Nets.{Act, Acts, DidLog}
-use Rattle.judy_many.specs.Queues.{everybody}
 use Rattle.judy_many.specs.Rules.{Rules}
 use Rattle.judy_many.specs.Statuses.{Keeps, Lasts, Passes}
 use Rattle.judy_many.specs.Stories.{AreRead, AreWithin, HasTurns, IsPhased, Phase, Share, Story, acts_in, came_in, closed_in, most, own, runs_in, turns_in, turns_since, writes_since}
+use Rattle.judy_many.specs.Watches.{Alert, HasEach, IsAwake, Queued, unqueued}
 
 -- this client is in this slot
 abbrev pub At : {B : Type 0} → List (Option B) → ℕ → B → Type 0
@@ -67,6 +67,7 @@ pub record IsTold {B S : Type 0} (rules : Rules S) (limits : Limits) (first : S)
   pub capped : count ≤ limits.connections
   pub opened : came_in (acts_in story) ≡ closed_in (acts_in story) + taken slots
   pub sized : length slots ≤ limits.clients
+  pub small : length slots ≤ 1024
   pub few : HasFew limits.clients story
   pub within : AreWithin limits (acts_in story)
   pub phases : IsPhased false story
@@ -78,11 +79,13 @@ pub record IsTold {B S : Type 0} (rules : Rules S) (limits : Limits) (first : S)
   pub keeps : Carries past.began story past.journal
   pub allowed : MayKeep limits past.journal
   pub settled : phase ≡ Phase.Writes → AreSettled past.journal
+  pub awake : IsAwake story
+  pub each : HasEach story
 
 -- So far this happened. Each client in a slot is one of its own number, below the count of connections,
 -- and every connection is served so far. Each connection that came is in a slot or was closed. Those
 -- whose slots had no turn in this phase may have one.
-pub record Crowd {B S : Type 0} (view : B → View) (rules : Rules S) (limits : Limits) (first : S) (start : Acts) (phase : Phase) (had : ℕ → Type 0) (past : Past) (log : Acts) (slots : List (Option B)) (count : ℕ) (now : S) : Type 0 where
+pub record Crowd {B S : Type 0} (view : B → View) (rules : Rules S) (limits : Limits) (first : S) (start : Acts) (phase : Phase) (queued : Queued) (past : Past) (log : Acts) (slots : List (Option B)) (count : ℕ) (now : S) : Type 0 where
   pub story : Story
   pub is_told : IsTold rules limits first start phase 0 past log slots count now story
   pub below : (i : ℕ) (b : B) → At slots i b → (view b).number < count
@@ -90,8 +93,9 @@ pub record Crowd {B S : Type 0} (view : B → View) (rules : Rules S) (limits : 
   pub apart : (i j : ℕ) (b c : B) → At slots i b → At slots j c → (view b).number ≡ (view c).number → i ≡ j
   pub fresh : (n : ℕ) → count ≤ n → own n story ≡ []
   pub served : (n : ℕ) → IsServed (own n story)
-  pub ready : (i : ℕ) (b : B) → At slots i b → (had i → ⊥) → (share : Share) → turns_since (view b).number share 0 story + most phase share ≤ 1
+  pub ready : (i : ℕ) (b : B) → At slots i b → (queued.had i → ⊥) → (share : Share) → turns_since (view b).number share 0 story + most phase share ≤ 1
   pub ends : (n : ℕ) → n < count → (closed_in (acts_in (own n story)) ≡ 1) ⊎ IsThere view slots n
+  pub alert : (i : ℕ) (b : B) → At slots i b → Alert phase queued i (view b) story
 
 -- After a crowd so far the journal failed, which is the last answer.
 pub record HasFailed {B S : Type 0} (view : B → View) (rules : Rules S) (limits : Limits) (first : S) (start : Acts) (began : Option Journal) (log : Acts) (slots : List (Option B)) (count : ℕ) (now : S) : Type 0 where
@@ -99,7 +103,7 @@ pub record HasFailed {B S : Type 0} (view : B → View) (rules : Rules S) (limit
   pub journal : Option Journal
   pub mid : Acts
   pub last : Act
-  pub crowd : Crowd view rules limits first start Phase.Reads everybody (past_of waits began journal) mid slots count now
+  pub crowd : Crowd view rules limits first start Phase.Reads unqueued (past_of waits began journal) mid slots count now
   pub some : is_some journal ≡ true
   pub fails : IsFailure last
   pub logged : DidLog mid (last ∷ []) log
@@ -122,6 +126,12 @@ pub record HasServedMany {S : Type 0} (rules : Rules S) (limits : Limits) (write
   -- since the server last waited each connection was read at most once, had lines run at most once, and
   -- was written at most once
   pub fair : HasTurns story
+  -- Before each wait that may sleep, each open connection was read until nothing more had come, all its
+  -- lines were run, and their answers are written; or its answers wait for the client to read, and the
+  -- system was asked to tell when it does.
+  pub awake : IsAwake story
+  -- between two waits each open connection to which something was owed at the first one had its turn
+  pub each : HasEach story
   -- at each moment at most so many connections were open, and at most so many came
   pub few : HasFew limits.clients story
   pub total : came_in (acts_in story) ≤ limits.connections

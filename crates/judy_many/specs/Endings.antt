@@ -7,7 +7,7 @@ use Rattle.judy_many.specs.declared.network.Question.TheVariants as question
 use Rattle.judy_many.specs.declared.serve.Ending.{Ending}
 use Rattle.judy_many.specs.declared.serve.Ending.TheVariants as ending
 use Rattle.judy_many.specs.Nets.{Act}
-use Rattle.judy_many.specs.Nets.Act.{Came, Refused, Read, Ended, Broke, Wrote, Failed, Closed, Waited, Lost, Asked, Questioned, Reported, Warned, Tabled, Untabled, Replied, Began, Kept, Unkept, Synced, Unsynced}
+use Rattle.judy_many.specs.Nets.Act.{Came, Refused, Read, Dry, Ended, Broke, Wrote, Failed, Closed, Waited, Lost, Asked, Questioned, Reported, Warned, Tabled, Untabled, Replied, Began, Kept, Unkept, Synced, Unsynced}
 use Rattle.judy_many.specs.Journaling.{IsFailure}
 use Rattle.judy_many.specs.Stories.{Story, acts_in, is_wait}
 use Rattle.judy_many.specs.Stories.Moment.{Did}
@@ -50,9 +50,9 @@ abbrev pub lost_unless : Bool → List Act
 lost_unless true = []
 lost_unless false = Lost ∷ []
 
-abbrev pub waited_if : Bool → List Act
-waited_if true = Waited ∷ []
-waited_if false = Lost ∷ []
+abbrev pub waited_if : Bool → Bool → List ℕ → List Act
+waited_if true sleeps told = Waited sleeps told ∷ []
+waited_if false sleeps told = Lost ∷ []
 
 -- the last answer, and no other, is that the listener or the wait failed for good
 pub record IsLost (story : Story) : Type 0 where

@@ -6,6 +6,7 @@ pub mod Comes
 pub mod Crowds
 pub mod Endings
 pub mod Fates
+pub mod Intakes
 pub mod Journaling
 pub mod Lives
 pub mod Nets
@@ -18,3 +19,5 @@ pub mod Statuses
 pub mod Stories
 pub mod Times
 pub mod Warnings
+pub mod Watches
+pub mod Woken

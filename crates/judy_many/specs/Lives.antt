@@ -16,7 +16,7 @@ use Rattle.judy_many.specs.declared.network.How.{How}
 use Rattle.judy_many.specs.declared.network.How.TheVariants as how
 use Rattle.judy_many.specs.declared.serve.Limits.{Limits}
 use Rattle.judy_many.specs.Nets.{Act}
-use Rattle.judy_many.specs.Nets.Act.{Came, Refused, Read, Ended, Broke, Wrote, Failed, Closed, Waited, Lost, Asked, Questioned, Reported, Warned, Tabled, Untabled, Replied, Began, Kept, Unkept, Synced, Unsynced}
+use Rattle.judy_many.specs.Nets.Act.{Came, Refused, Read, Dry, Ended, Broke, Wrote, Failed, Closed, Waited, Lost, Asked, Questioned, Reported, Warned, Tabled, Untabled, Replied, Began, Kept, Unkept, Synced, Unsynced}
 use Rattle.judy_many.specs.Sessions.{Turn, lines_in, texts, Speaks}
 use Rattle.judy_many.specs.Stories.{AreWithin, Phase, InPhase, IsOnce, Mine, Story, acts_in, came_in, closed_in, is_end, is_fault, turns_in}
 use Rattle.judy_many.specs.Stories.Moment.{Did}
@@ -58,6 +58,8 @@ pub record View : Type 0 where
   pub number : ℕ
   -- what came and is not heard yet
   pub waiting : List ℕ
+  -- whether more may wait to be read
+  pub more : Bool
   pub held : Held
   pub who : Option Speaker
   -- the answers that are not written yet
@@ -68,7 +70,8 @@ pub record View : Type 0 where
 abbrev pub view_of : {P C : Type 0} → (P → Speaker) → (C → ℕ) → Client P C → View
 view_of who number c = record {
   number = number c.connection;
-  waiting = c.input;
+  waiting = c.input.waiting;
+  more = c.input.more;
   held = c.session.held;
   who = option_map who c.session.speaker;
   pending = c.answers;
@@ -114,12 +117,13 @@ pub record IsWhole (acts : List Act) (turns : List Turn) : Type 0 where
 abbrev pub IsOrdered : Story → Type 0
 IsOrdered story = (p q : Story) → story ≡ p ++ q → IsPart (acts_in p) (turns_in p)
 
--- Why a connection is closed: a line asked to quit; it sends no more; a read or a write of it failed. A
--- connection whose speaker is gone had logged in.
+-- Why a connection is closed: a line asked to quit; it sends no more; a read or a write of it failed;
+-- nobody had logged in on it. A connection whose speaker is gone had logged in.
 abbrev pub IsReason : How → List Act → List Turn → Type 0
 IsReason how.Quit acts turns = asks_to_quit (lines_in turns) ≡ true
 IsReason how.End acts turns = list_any is_end acts ≡ true
 IsReason how.Fault acts turns = list_any is_fault acts ≡ true
+IsReason how.Login acts turns = Speaks None turns None
 IsReason how.Idle acts turns = Unit {0}
 IsReason how.Over acts turns = Unit {0}
 IsReason how.Memory acts turns = Unit {0}

@@ -2,7 +2,7 @@
 --     Act                       one answer of the system
 --     Step                      one of those that are no connection's
 --     DidLog log acts log'      these were its answers and no others, where they are known
-use Rattle.std.specs.Prelude.{◌≡◌, ℕ, ◌≤◌, ◌++◌, Bool, true, false, List, [], ◌∷◌, Option, Some, None, Result, Ok, Err, take}
+use Rattle.std.specs.Prelude.{◌≡◌, ℕ, ◌≤◌, ◌++◌, ◌==◌, not, Bool, true, false, List, [], ◌∷◌, Option, Some, None, Result, Ok, Err, take}
 use Rattle.judy_many.specs.declared.network.How.{How}
 use Rattle.judy_many.specs.declared.network.Got.{Got}
 use Rattle.judy_many.specs.declared.network.Got.TheVariants as got
@@ -32,15 +32,21 @@ pub data Step : Type 0 where
   Watched : List ℕ → Step
   -- the status socket cannot be made
   Unwatched : List ℕ → Step
+  -- the control socket was made at this path
+  Controlled : List ℕ → Step
+  -- the control socket cannot be made
+  Uncontrolled : List ℕ → Step
 
 -- an answer of the system
 pub data Act : Type 0 where
-  -- this connection came, and was accepted
-  Came : ℕ → Act
+  -- this connection came, and was accepted into this slot
+  Came : ℕ → ℕ → Act
   -- a connection came, and could not be accepted
   Refused : Act
   -- the connection gave these bytes
   Read : ℕ → List ℕ → Act
+  -- a read of it gave nothing, since nothing more had come
+  Dry : ℕ → Act
   -- the connection ended, or a read of it failed
   Ended : ℕ → Act
   Broke : ℕ → Act
@@ -49,8 +55,9 @@ pub data Act : Type 0 where
   Failed : ℕ → Act
   -- the connection was closed, and why
   Closed : ℕ → How → Act
-  -- the server waited until something happened, or looked whether it had
-  Waited : Act
+  -- The server waited until something happened, if it might sleep, or looked whether it had. It was told
+  -- that the connections in these slots became ready.
+  Waited : Bool → List ℕ → Act
   -- the listener, or the wait, failed for good
   Lost : Act
   -- something else was asked of the system
@@ -93,7 +100,7 @@ Fits got.Fault room = Unit {0}
 -- the answer to a read
 abbrev pub read_acts : Got → ℕ → List ℕ → List Act
 read_acts (got.Bytes n) number buffer = Read number (take n buffer) ∷ []
-read_acts got.Nothing number buffer = []
+read_acts got.Nothing number buffer = Dry number ∷ []
 read_acts got.End number buffer = Ended number ∷ []
 read_acts got.Fault number buffer = Broke number ∷ []
 
@@ -107,10 +114,15 @@ abbrev pub write_acts : Put → ℕ → List ℕ → List Act
 write_acts (put.Took n) number bytes = Wrote number (take n bytes) ∷ []
 write_acts put.Fault number bytes = Failed number ∷ []
 
--- the answer to a wait
-abbrev pub wait_acts : Option Bool → List Act
-wait_acts (Some comes) = Waited ∷ []
-wait_acts None = Lost ∷ []
+-- whether a wait of so many milliseconds may sleep; without a time it has no limit
+abbrev pub may_sleep : Option ℕ → Bool
+may_sleep None = true
+may_sleep (Some time) = not (time == 0)
+
+-- the answer to a wait, which told of these slots
+abbrev pub wait_acts : Option Bool → Bool → List ℕ → List Act
+wait_acts (Some comes) sleeps told = Waited sleeps told ∷ []
+wait_acts None sleeps told = Lost ∷ []
 
 -- whether a read gave bytes
 abbrev pub gives : Got → Bool

@@ -1,7 +1,12 @@
 -- The slots whose clients have a turn, in their order.
 --     slot_in queue place     the slot at a place
 --     AreApart queue          each slot stands in the queue once
-use Rattle.std.specs.Prelude.{◌≡◌, ◌⊎◌, ◌<◌, ◌≤◌, ℕ, Bool, true, false, List, length, slice_index_or}
+--     awake_in q slot         the slot has a turn owed
+--     stands_in q slot        the slot stands in the queue
+--     IsPlaced q slot         the slot has a place in the queue
+--     StayAwake q q'          slots that are awake stay so
+use Rattle.std.specs.List.{list_any}
+use Rattle.std.specs.Prelude.{◌≡◌, ◌==◌, ◌⊎◌, ◌<◌, ◌≤◌, ℕ, Bool, true, false, List, length, slice_index_or}
 use Rattle.judy_many.specs.declared.queue.Mark.{Mark}
 use Rattle.judy_many.specs.declared.queue.Mark.TheVariants as mark
 
@@ -11,14 +16,6 @@ slot_in queue place = slice_index_or queue place 1024
 
 abbrev pub AreApart : List ℕ → Type 0
 AreApart queue = (j k : ℕ) → j < length queue → k < length queue → slot_in queue j ≡ slot_in queue k → j ≡ k
-
--- no slot has had a turn
-abbrev pub nobody : ℕ → Type 0
-nobody i = ⊥
-
--- each slot has had one
-abbrev pub everybody : ℕ → Type 0
-everybody i = Unit {0}
 
 -- a slot that stands in the queue before this place has had a turn
 abbrev pub IsBefore : List ℕ → ℕ → ℕ → Type 0
@@ -31,22 +28,58 @@ stands mark.Done = true
 stands mark.Ready = true
 stands mark.Ended = true
 
+-- whether a slot of this mark has a turn owed
+abbrev pub is_awake : Mark → Bool
+is_awake mark.Out = false
+is_awake mark.Done = false
+is_awake mark.Ready = true
+is_awake mark.Ended = true
+
 abbrev pub mark_in : List Mark → ℕ → Mark
 mark_in marks slot = slice_index_or marks slot mark.Out
 
--- the slots before this place are apart, and their marks say that they stand in the queue
+-- the queue: its slots in order, and what is known of each slot
+pub record Line : Type 0 where
+  pub order : List ℕ
+  pub marks : List Mark
+
+abbrev pub awake_in : Line → ℕ → Bool
+awake_in q i = is_awake (mark_in q.marks i)
+
+abbrev pub stands_in : Line → ℕ → Bool
+stands_in q i = stands (mark_in q.marks i)
+
+-- the slot has a place in the queue
+abbrev pub IsPlaced : Line → ℕ → Type 0
+IsPlaced q i = (k : ℕ) × (k < length q.order) × (slot_in q.order k ≡ i)
+
+-- whether a slot is among these
+abbrev pub is_among : ℕ → List ℕ → Bool
+is_among i told = list_any (λ j. j == i) told
+
+-- each of these slots is awake
+abbrev pub AreAwake : List ℕ → Line → Type 0
+AreAwake told q = (i : ℕ) → is_among i told ≡ true → awake_in q i ≡ true
+
+-- slots that are awake stay so
+abbrev pub StayAwake : Line → Line → Type 0
+StayAwake q q' = (i : ℕ) → awake_in q i ≡ true → awake_in q' i ≡ true
+
+-- the slots before this place are apart, and they are those whose marks say that they stand in the queue
 pub record IsQueue (order : List ℕ) (count : ℕ) (marks : List Mark) : Type 0 where
   pub few : count ≤ 1024
   pub apart : (j k : ℕ) → j < count → k < count → slot_in order j ≡ slot_in order k → j ≡ k
   pub stand : (k : ℕ) → k < count → stands (mark_in marks (slot_in order k)) ≡ true
+  pub found : (i : ℕ) → stands (mark_in marks i) ≡ true → (k : ℕ) × (k < count) × (slot_in order k ≡ i)
 
 -- Where a queue is sifted: the places of the slots that stay, and of those that were not looked at.
 abbrev pub IsOpen : ℕ → ℕ → ℕ → ℕ → Type 0
 IsOpen kept place count k = (k < kept) ⊎ ((place ≤ k) × (k < count))
 
--- the slots of these places are apart, and stand in the queue
+-- the slots of these places are apart, and they are those that stand in the queue
 pub record IsSifted (order : List ℕ) (count kept place : ℕ) (marks : List Mark) : Type 0 where
   pub few : count ≤ 1024
   pub short : kept ≤ place
   pub apart : (j k : ℕ) → IsOpen kept place count j → IsOpen kept place count k → slot_in order j ≡ slot_in order k → j ≡ k
   pub stand : (k : ℕ) → IsOpen kept place count k → stands (mark_in marks (slot_in order k)) ≡ true
+  pub found : (i : ℕ) → stands (mark_in marks i) ≡ true → (k : ℕ) × IsOpen kept place count k × (slot_in order k ≡ i)

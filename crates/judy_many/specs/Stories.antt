@@ -16,7 +16,7 @@ use Rattle.judy_many.specs.declared.network.Got.{Got}
 use Rattle.judy_many.specs.declared.network.Got.TheVariants as got
 use Rattle.judy_many.specs.declared.serve.Limits.{Limits}
 use Rattle.judy_many.specs.Nets.{Act}
-use Rattle.judy_many.specs.Nets.Act.{Came, Refused, Read, Ended, Broke, Wrote, Failed, Closed, Waited, Lost, Asked, Questioned, Reported, Warned, Tabled, Untabled, Replied, Began, Kept, Unkept, Synced, Unsynced}
+use Rattle.judy_many.specs.Nets.Act.{Came, Refused, Read, Dry, Ended, Broke, Wrote, Failed, Closed, Waited, Lost, Asked, Questioned, Reported, Warned, Tabled, Untabled, Replied, Began, Kept, Unkept, Synced, Unsynced}
 use Rattle.judy_many.specs.Sessions.{Turn}
 
 -- an answer of the system, or lines of one connection that were run one after another, or the table of
@@ -56,8 +56,9 @@ told (a ∷ acts) = Did a ∷ told acts
 
 -- whether an answer is this connection's
 abbrev pub is_of : ℕ → Act → Bool
-is_of n (Came m) = m == n
+is_of n (Came m i) = m == n
 is_of n (Read m bytes) = m == n
+is_of n (Dry m) = m == n
 is_of n (Ended m) = m == n
 is_of n (Broke m) = m == n
 is_of n (Wrote m bytes) = m == n
@@ -84,6 +85,7 @@ Mine n (m ∷ story) = (belongs n m ≡ true) × Mine n story
 -- they are answers to reads of this connection
 abbrev pub IsRead : ℕ → Act → Type 0
 IsRead n (Read m bytes) = (m == n) ≡ true
+IsRead n (Dry m) = (m == n) ≡ true
 IsRead n (Ended m) = (m == n) ≡ true
 IsRead n (Broke m) = (m == n) ≡ true
 IsRead n act = ⊥
@@ -127,7 +129,7 @@ TellsWrite sent.Fault acts = list_any is_fault acts ≡ true
 
 -- how many connections came
 abbrev pub came_by : Act → ℕ
-came_by (Came m) = 1
+came_by (Came m i) = 1
 came_by act = 0
 
 abbrev pub came_in : List Act → ℕ
@@ -147,7 +149,7 @@ closed_in (a ∷ acts) = closed_by a + closed_in acts
 abbrev pub writes_after : Bool → Moment → Bool
 writes_after wrote (Did (Wrote m bytes)) = true
 writes_after wrote (Did (Failed m)) = true
-writes_after wrote (Did Waited) = false
+writes_after wrote (Did (Waited sleeps told)) = false
 writes_after wrote moment = wrote
 
 abbrev pub writes_since : Bool → Story → Bool
@@ -167,6 +169,7 @@ IsPhased wrote (m ∷ story) = MayCome wrote m × IsPhased (writes_after wrote m
 
 -- a connection may be closed for this reason
 abbrev pub IsAllowed : Limits → How → Type 0
+IsAllowed limits how.Login = is_some limits.login ≡ true
 IsAllowed limits how.Idle = is_some limits.idle ≡ true
 IsAllowed limits how.Over = is_some limits.turn ≡ true
 IsAllowed limits how.Gone = limits.status ≡ true
@@ -279,6 +282,7 @@ writing Share.Writing = 1
 -- how often an answer, a moment or a story is such a share of a turn
 abbrev pub share_of : Act → Share → ℕ
 share_of (Read m bytes) share = reading share
+share_of (Dry m) share = reading share
 share_of (Ended m) share = reading share
 share_of (Broke m) share = reading share
 share_of (Wrote m bytes) share = writing share
@@ -305,7 +309,7 @@ IsOnce phase more = (share : Share) → times share more ≤ most phase share
 
 -- whether the server waited
 abbrev pub is_wait : Act → Bool
-is_wait Waited = true
+is_wait (Waited sleeps told) = true
 is_wait act = false
 
 abbrev pub waits_by : Moment → Bool

@@ -1,10 +1,10 @@
 //! Accepts connections into free slots.
-ghost use Rattle.std.specs.Prelude.{◌≡◌, ◌++◌, ℕ, None, option_map, if◌then◌else◌, List, Bool};
+ghost use Rattle.std.specs.Prelude.{◌≡◌, ◌<◌, ◌++◌, ℕ, true, None, option_map, if◌then◌else◌, List, Bool};
 ghost use Rattle.judy_model.specs.Speakers.{Speaker};
 ghost use Rattle.judy_many.specs.Came.{has_come};
 ghost use Rattle.judy_many.specs.Crowds.{Crowd, Past};
 ghost use Rattle.judy_many.specs.Endings.{lost_at, lost_unless};
-ghost use Rattle.judy_many.specs.Queues.{nobody};
+ghost use Rattle.judy_many.specs.Queues.{StayAwake, awake_in};
 ghost use Rattle.judy_many.specs.Slots.{AreKnown, IsKnownSlot};
 ghost use Rattle.judy_many.specs.Lives.{view_of};
 ghost use Rattle.judy_many.specs.Nets.{Acts, DidLog};
@@ -12,10 +12,13 @@ ghost use Rattle.judy_many.specs.Arrivals.{Arrives};
 ghost use Rattle.judy_many.specs.Rules.{rules_of};
 ghost use Rattle.judy_many.specs.Stories.{Story, acts_in};
 ghost use Rattle.judy_many.specs.Stories.Phase.{Reads};
+ghost use Rattle.judy_many.specs.Watches.{nobody};
 
 use crate::client::Client;
 use crate::clients::{Clients, Listening};
+use crate::limits::ACCEPTS_LIMIT;
 use crate::network::{Accept, How, Network};
+use crate::queue::Queue;
 use crate::serve::Limits;
 use crate::shows::Shows;
 use judy_protocol::Served;
@@ -47,7 +50,7 @@ fn has_come(arrival: Arrival) -> bool
 }
 
 /// 1 if it is so, else 0.
-fn one_if(so: bool) -> u32
+fn one_if(so: bool) -> u64
     ensures { result ≡ (if so then 1 else 0) }
 {
     if so { 1 } else { 0 }
@@ -63,6 +66,16 @@ fn listening_after(arrival: Arrival, now: u64) -> Listening {
     }
 }
 
+/// Gives the client of a slot that came a turn in this round: it may have sent bytes already.
+fn wake(queue: &mut Queue, at: usize, came: bool)
+    ensures stay { StayAwake queue.old queue.new }
+    ensures wakes { came ≡ true → at < 1024 → awake_in queue.new at ≡ true }
+{
+    if came {
+        queue.mark_ready(at);
+    }
+}
+
 /// Accepts a connection for a free slot.
 fn accept_at<S: Served, N: Network>(
     alloc: Global,
@@ -75,7 +88,7 @@ fn accept_at<S: Served, N: Network>(
     requires { slot.old ≡ None }
     ensures arrives { (more : Story)
         × DidLog (N.log network.old) (acts_in more ++ lost_at result) (N.log network.new)
-        × Arrives id (has_come result) (option_map (λ b. view_of S.who N.number b.value) slot.new) more }
+        × Arrives id at (has_come result) (option_map (λ b. view_of S.who N.number b.value) slot.new) more }
     ensures known { (speakers : Speaker → Bool)
         → IsKnownSlot (λ b. option_map S.who b.value.session.speaker) speakers slot.old
         → IsKnownSlot (λ b. option_map S.who b.value.session.speaker) speakers slot.new }
@@ -100,8 +113,8 @@ fn accept_at<S: Served, N: Network>(
     }
 }
 
-/// Accepts connections while one waits and a slot is free. False if the listener is broken, which is
-/// then the last answer.
+/// Accepts connections while one waits and a slot is free, a few at most: the others come in the next
+/// round. False if the listener is broken, which is then the last answer.
 pub fn accept<S: Shows, N: Network>(
     alloc: Global,
     network: &mut N,
@@ -111,10 +124,10 @@ pub fn accept<S: Shows, N: Network>(
 ) -> bool
     ensures crowd { (first now : S) (start : Acts) (past : Past)
         → Crowd (λ b. view_of S.who N.number b.value) (rules_of S.made S.seen S.noted S.status S.changed) limits first
-        start Reads nobody past (N.log network.old) clients.old.slots.items clients.old.accepted now
+        start Reads (nobody clients.old.queue) past (N.log network.old) clients.old.slots.items clients.old.accepted now
         → (mid : Acts) × DidLog mid (lost_unless result) (N.log network.new)
         × Crowd (λ b. view_of S.who N.number b.value) (rules_of S.made S.seen S.noted S.status S.changed) limits first
-        start Reads nobody past mid clients.new.slots.items clients.new.accepted now }
+        start Reads (nobody clients.new.queue) past mid clients.new.slots.items clients.new.accepted now }
     ensures known { (speakers : Speaker → Bool)
         → AreKnown (λ b. option_map S.who b.value.session.speaker) speakers clients.old.slots.items
         → AreKnown (λ b. option_map S.who b.value.session.speaker) speakers clients.new.slots.items }
@@ -123,7 +136,7 @@ pub fn accept<S: Shows, N: Network>(
         return true;
     }
     let second = now.unwrap_or(0);
-    for _try in 0..clients.slots.len() {
+    for _try in 0..ACCEPTS_LIMIT {
         if limits.connections <= clients.accepted {
             clients.listening = Listening::Quiet;
             return true;
@@ -132,9 +145,11 @@ pub fn accept<S: Shows, N: Network>(
             clients.listening = Listening::Full;
             return true;
         };
-        let id = clients.accepted as u64;
+        let id = clients.accepted;
         let arrival = accept_at::<S, N>(alloc, network, id, at, &mut clients.slots[at], second);
-        clients.accepted += one_if(has_come(arrival));
+        let came = has_come(arrival);
+        clients.accepted += one_if(came);
+        wake(&mut clients.queue, at, came);
         clients.listening = listening_after(arrival, second);
         match arrival {
             Arrival::Came => {}

@@ -1,4 +1,4 @@
-//! Answers what is asked on the status socket.
+//! Answers what the operator asks for.
 ghost use Rattle.std.specs.Prelude.{◌≡◌, ◌⊎◌, []};
 ghost use Rattle.judy_many.specs.Statuses.{HasAnswered};
 
@@ -27,7 +27,7 @@ pub enum Next {
     Stop,
 }
 
-/// Asks once, if there is a status socket. A question for the status is answered with that of the
+/// Asks once, if the operator has a socket. A question for the status is answered with that of the
 /// service at this moment. Returns how the loop goes on.
 pub fn answer<S: Shows, N: Network>(
     network: &mut N,

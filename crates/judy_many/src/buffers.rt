@@ -1,11 +1,13 @@
 //! The buffers of a connection: what it sent and is not heard yet, and what is not written yet.
-ghost use Rattle.std.specs.Prelude.{◌≡◌, ◌≤◌, ◌++◌, ℕ, List, [], length, true, false, option_map};
+ghost use Rattle.std.specs.Prelude.{◌≡◌, ◌<◌, ◌≤◌, ◌++◌, ℕ, IsTrue, List, [], length, true, false, option_map};
 ghost use Rattle.judy_protocol.specs.Services.{HasLoggedIn};
 ghost use Rattle.judy_many.specs.Nets.{Act, DidLog, gives};
+ghost use Rattle.judy_many.specs.Books.{has_room};
 ghost use Rattle.judy_many.specs.Lives.{read_in, wrote_in};
 ghost use Rattle.judy_many.specs.Rules.{rules_of};
 ghost use Rattle.judy_many.specs.Sessions.{Steps, Turn};
 ghost use Rattle.judy_many.specs.Stories.{AreReads, AreWrites, TellsRead, TellsWrite};
+ghost use Rattle.judy_many.specs.Watches.{HasLine, LeavesLine, TellsMore};
 
 use crate::keeping::Keeper;
 use crate::network::{Got, Network, Put};
@@ -16,7 +18,8 @@ use judy_protocol::{ANSWERS_LIMIT, PULL_LIMIT};
 use std::alloc::Global;
 use std::marker::Model;
 
-/// What a connection sent and is not heard yet: at most the bytes of one read.
+/// What a connection sent and is not heard yet: at most the bytes of one read. While some wait, and
+/// until a read finds that nothing more has come, it knows that more bytes may wait to be read.
 #[derive(Drop)]
 pub struct Input {
     bytes: [u8; PULL_LIMIT],
@@ -27,19 +30,21 @@ pub struct Input {
 }
 
 impl Model for Input {
-    ghost use Rattle.std.specs.Prelude.{◌≤◌, ℕ, List, drop, length, take};
+    ghost use Rattle.std.specs.Prelude.{◌≤◌, drop, length, take};
+    ghost use Rattle.judy_many.specs.Intakes.{Intake};
 
-    ghost Value = { List ℕ };
+    ghost Value = { Intake };
 
-    ghost view = { λ i. drop i.from (take i.to i.bytes) };
+    ghost view = { λ i. record { waiting = drop i.from (take i.to i.bytes); more = i.more } };
 
     ghost invariant = { λ i. (i.from ≤ i.to) × (i.to ≤ length i.bytes) };
 }
 
 impl Input {
-    /// Nothing.
+    /// Nothing, and more may wait to be read.
     pub fn new() -> Input
-        ensures { result ≡ [] }
+        ensures waiting { result.waiting ≡ [] }
+        ensures more { result.more ≡ true }
     {
         Input {
             bytes: [0; PULL_LIMIT],
@@ -51,46 +56,56 @@ impl Input {
 
     /// Whether everything is heard.
     pub fn is_empty(&self) -> bool
-        ensures { result ≡ true → self.now ≡ [] }
+        ensures none { result ≡ true → self.now.waiting ≡ [] }
+        ensures some { result ≡ false → self.now.waiting ≡ [] → ⊥ }
     {
         self.from == self.to
     }
 
     /// The bytes.
     pub fn as_slice(&self) -> &[u8]
-        ensures { result.now ≡ self.now }
+        ensures { result.now ≡ self.now.waiting }
     {
         self.bytes.split_at(self.to).0.split_at(self.from).1
     }
 
-    /// Keeps only this many bytes at the end.
+    /// Keeps only this many bytes at the end. If it keeps any, more may wait to be read: bytes that come
+    /// while they are heard are unread after that.
     pub fn keep(&mut self, left: usize)
-        requires { left ≤ length self.old }
-        ensures { (used rest : List ℕ) → used ++ rest ≡ self.old → length rest ≡ left
-            → self.new ≡ rest }
+        requires { left ≤ length self.old.waiting }
+        ensures waiting { (used rest : List ℕ) → used ++ rest ≡ self.old.waiting → length rest ≡ left
+            → self.new.waiting ≡ rest }
+        ensures more { 0 < left → self.new.more ≡ true }
+        ensures same { self.old.more ≡ true → self.new.more ≡ true }
+        ensures none { left ≡ 0 → self.new.more ≡ self.old.more }
     {
         self.from = self.to - left;
+        self.more = self.more || left > 0;
     }
 
     /// Whether everything is heard, and the last read found all that had come.
-    pub fn is_drained(&self) -> bool {
+    pub fn is_drained(&self) -> bool
+        ensures waiting { result ≡ true → self.now.waiting ≡ [] }
+        ensures more { result ≡ true → self.now.more ≡ false }
+    {
         self.from == self.to && !self.more
     }
 
     /// More bytes may wait to be read.
     pub fn expect_more(&mut self)
-        ensures { self.new ≡ self.old }
+        ensures waiting { self.new.waiting ≡ self.old.waiting }
+        ensures more { self.new.more ≡ true }
     {
         self.more = true;
     }
 
     /// Reads once, if everything is heard.
     pub fn fill<N: Network>(&mut self, network: &mut N, connection: &mut N::Connection) -> Got
-        requires empty { self.old ≡ [] }
+        requires empty { self.old.waiting ≡ [] }
         ensures acts { (acts : List Act) × DidLog (N.log network.old) acts (N.log network.new)
-            × AreReads (N.number connection.old) acts × (length acts ≤ 1) × (read_in acts ≡ self.new)
-            × (wrote_in acts ≡ []) × TellsRead result acts }
-        ensures none { gives result ≡ false → self.new ≡ [] }
+            × AreReads (N.number connection.old) acts × (length acts ≤ 1) × (read_in acts ≡ self.new.waiting)
+            × (wrote_in acts ≡ []) × TellsRead result acts × TellsMore acts self.new.more }
+        ensures none { gives result ≡ false → self.new.waiting ≡ [] }
         ensures same { N.number connection.new ≡ N.number connection.old }
     {
         let got = network.read(connection, &mut self.bytes);
@@ -146,7 +161,8 @@ impl Answers {
 
     /// Whether everything is written.
     pub fn is_empty(&self) -> bool
-        ensures { result ≡ true → self.now ≡ [] }
+        ensures none { result ≡ true → self.now ≡ [] }
+        ensures some { result ≡ false → self.now ≡ [] → ⊥ }
     {
         self.bytes.len() == self.written
     }
@@ -166,6 +182,7 @@ impl Answers {
             (option_map S.who session.old.speaker) }
         ensures steps { (used : List ℕ) × (rest : List ℕ) × (turns : List Turn)
             × (used ++ rest ≡ bytes.now) × (length rest ≡ result.left)
+            × LeavesLine result.quit rest × ((HasLine bytes.now × IsTrue (has_room keeper.old)) → 0 < length turns)
             × Steps (rules_of S.made S.seen S.noted S.status S.changed) used turns result.quit
             session.old.held session.new.held
             (option_map S.who session.old.speaker) (option_map S.who session.new.speaker)
@@ -193,7 +210,8 @@ impl Answers {
     pub fn send<N: Network>(&mut self, network: &mut N, connection: &mut N::Connection) -> Sent
         ensures acts { (acts : List Act) × DidLog (N.log network.old) acts (N.log network.new)
             × AreWrites (N.number connection.old) acts × (length acts ≤ 1)
-            × (wrote_in acts ++ self.new ≡ self.old) × (read_in acts ≡ []) × TellsWrite result acts }
+            × (wrote_in acts ++ self.new ≡ self.old) × (read_in acts ≡ []) × TellsWrite result acts
+            × ((self.old ≡ [] → ⊥) → 0 < length acts) }
         ensures same { N.number connection.new ≡ N.number connection.old }
     {
         let rest = self.bytes.as_slice().split_at(self.written).1;

@@ -1,7 +1,7 @@
 //! A client, and the two halves of its turn.
-ghost use Rattle.std.specs.Prelude.{◌≡◌, ◌++◌, List, [], None, false, option_map};
+ghost use Rattle.std.specs.Prelude.{◌≡◌, ◌++◌, IsTrue, List, [], None, true, false, option_map};
 ghost use Rattle.judy_protocol.specs.Services.{HasLoggedIn};
-ghost use Rattle.judy_many.specs.Books.{noted_by};
+ghost use Rattle.judy_many.specs.Books.{has_room, noted_by};
 ghost use Rattle.judy_many.specs.Fates.{FateGoes, HeardGoes};
 ghost use Rattle.judy_many.specs.Lives.{IsLive, view_of};
 ghost use Rattle.judy_many.specs.Nets.{Act, DidLog};
@@ -9,6 +9,7 @@ ghost use Rattle.judy_many.specs.Rules.{rules_of};
 ghost use Rattle.judy_many.specs.Sessions.{AreTurns, Turn, records_in};
 ghost use Rattle.judy_many.specs.Stories.{IsPiece, Story, acts_in, turns_in};
 ghost use Rattle.judy_many.specs.Stories.Phase.{Reads, Writes};
+ghost use Rattle.judy_many.specs.Watches.{FateTells, HearsAll, Listens};
 
 use crate::buffers::{Answers, Input, Sent};
 use crate::keeping::Keeper;
@@ -45,7 +46,8 @@ impl<P: Copy, C: Drop> Client<P, C> {
         ensures connection { result.connection ≡ connection }
         ensures speaker { result.session.speaker ≡ None }
         ensures held { Holds [] result.session.held }
-        ensures input { result.input ≡ [] }
+        ensures waiting { result.input.waiting ≡ [] }
+        ensures more { result.input.more ≡ true }
         ensures answers { result.answers ≡ [] }
         ensures quits { result.quits ≡ false }
     {
@@ -61,7 +63,8 @@ impl<P: Copy, C: Drop> Client<P, C> {
     }
 }
 
-/// Runs the lines that have come, as long as there is room for the longest answer and record.
+/// Runs the lines that have come, as long as there is room for the longest answer and record. At least
+/// one is run, if there is room for its record.
 fn hear<S: Shows, N: Network>(
     alloc: Global,
     service: &mut S,
@@ -78,7 +81,9 @@ fn hear<S: Shows, N: Network>(
         × ((acts : List Act) (ran : List Turn)
         → IsLive acts ran (view_of S.who N.number client.old)
         → IsLive acts (ran ++ turns) (view_of S.who N.number client.new))
-        × (keeper.new ≡ noted_by (records_in turns) keeper.old) }
+        × (keeper.new ≡ noted_by (records_in turns) keeper.old)
+        × HearsAll (IsTrue (has_room keeper.old)) (view_of S.who N.number client.old)
+        (view_of S.who N.number client.new) turns }
     ensures same { N.number client.new.connection ≡ N.number client.old.connection }
     ensures logins { (S.seen service.new).logins ≡ (S.seen service.old).logins }
     ensures speakers { (S.seen service.new).speakers ≡ (S.seen service.old).speakers }
@@ -111,12 +116,14 @@ pub fn listen<S: Shows, N: Network>(
 ) -> Option<How>
     requires known { HasLoggedIn (S.seen service.old).speakers
         (option_map S.who client.old.session.speaker) }
+    requires room { IsTrue (has_room keeper.old) }
     ensures goes { (more : Story) × DidLog (N.log network.old) (acts_in more) (N.log network.new)
         × IsPiece (N.number client.old.connection) Reads more
         × AreTurns (rules_of S.made S.seen S.noted S.status S.changed) service.old (turns_in more) service.new
         × HeardGoes result (view_of S.who N.number client.old)
         (view_of S.who N.number client.new) more
-        × (keeper.new ≡ noted_by (records_in (turns_in more)) keeper.old) }
+        × (keeper.new ≡ noted_by (records_in (turns_in more)) keeper.old)
+        × Listens (view_of S.who N.number client.old) (view_of S.who N.number client.new) more }
     ensures same { N.number client.new.connection ≡ N.number client.old.connection }
     ensures logins { (S.seen service.new).logins ≡ (S.seen service.old).logins }
     ensures speakers { (S.seen service.new).speakers ≡ (S.seen service.old).speakers }
@@ -176,6 +183,8 @@ pub fn tell<S: Served, N: Network>(
     ensures goes { (more : Story) × DidLog (N.log network.old) (acts_in more) (N.log network.new)
         × IsPiece (N.number client.old.connection) Writes more × (turns_in more ≡ [])
         × FateGoes result (view_of S.who N.number client.old)
+        (view_of S.who N.number client.new) more
+        × FateTells result (view_of S.who N.number client.old)
         (view_of S.who N.number client.new) more }
     ensures same { N.number client.new.connection ≡ N.number client.old.connection }
     ensures session { client.new.session ≡ client.old.session }

@@ -1,11 +1,12 @@
 //! The clients in their slots.
-ghost use Rattle.std.specs.Prelude.{◌≡◌, ◌<◌, ◌≤◌, true, None, IfOk, IfSome, length, slice_index_or, vec_len};
+ghost use Rattle.std.specs.Prelude.{◌≡◌, ◌≢◌, ◌<◌, ◌≤◌, ℕ, true, false, None, IfOk, IfSome, length, slice_index_or, vec_len};
 ghost use Rattle.judy_many.specs.Crowds.{AreFree};
+ghost use Rattle.judy_many.specs.Queues.{awake_in};
 
 use crate::client::Client;
 use crate::limits::CLIENTS_LIMIT;
 use crate::network::Network;
-use crate::queue::Queue;
+use crate::queue::{Left, Queue};
 use crate::times::is_past;
 use judy_protocol::Served;
 use std::alloc::{AllocError, Global};
@@ -70,7 +71,7 @@ pub struct Clients<S: Served, N: Network> {
     /// Those whose clients are ready.
     pub queue: Queue,
     /// How many connections were accepted.
-    pub accepted: u32,
+    pub accepted: u64,
     /// Whether connections are accepted.
     pub listening: Listening,
     /// At which second the clients whose time is over were last looked for.
@@ -82,6 +83,7 @@ impl<S: Served, N: Network> Clients<S, N> {
     pub fn new(alloc: Global, clients: u32) -> Result<Clients<S, N>, AllocError>
         ensures free { IfOk result (λ c. AreFree c.slots.items) }
         ensures many { IfOk result (λ c. length c.slots.items ≤ clients) }
+        ensures small { IfOk result (λ c. length c.slots.items ≤ CLIENTS_LIMIT) }
         ensures count { IfOk result (λ c. c.accepted ≡ 0) }
     {
         let count = (clients as usize).min(CLIENTS_LIMIT);
@@ -96,6 +98,19 @@ impl<S: Served, N: Network> Clients<S, N> {
             listening: Listening::Ready,
             swept: None,
         })
+    }
+
+    /// Notes that the client of a slot was closed, if it was. The marks of other slots stay.
+    pub fn note_closed(&mut self, at: usize, closed: bool)
+        ensures slots { self.new.slots ≡ self.old.slots }
+        ensures count { self.new.accepted ≡ self.old.accepted }
+        ensures others { (i : ℕ) → i ≢ at → awake_in self.new.queue i ≡ awake_in self.old.queue i }
+        ensures same { closed ≡ false → self.new.queue ≡ self.old.queue }
+    {
+        if closed {
+            self.queue.settle(at, Left::Closed);
+            self.listening = self.listening.after_close(true);
+        }
     }
 
     /// Whether no slot has a client.

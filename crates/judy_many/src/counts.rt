@@ -16,12 +16,14 @@ pub struct Counts {
     quit: u64,
     end: u64,
     fault: u64,
+    login: u64,
     idle: u64,
     turn: u64,
     memory: u64,
     gone: u64,
     received: u64,
     sent: u64,
+    dropped: u64,
 }
 
 /// One more.
@@ -77,12 +79,14 @@ impl Counts {
             quit: 0,
             end: 0,
             fault: 0,
+            login: 0,
             idle: 0,
             turn: 0,
             memory: 0,
             gone: 0,
             received: 0,
             sent: 0,
+            dropped: 0,
         }
     }
 
@@ -106,12 +110,18 @@ impl Counts {
         self.sent = self.sent.saturating_add(n as u64);
     }
 
+    /// A line to the operator was dropped.
+    pub fn drop_line(&mut self) {
+        self.dropped = up(self.dropped);
+    }
+
     /// A connection was closed.
     pub fn close(&mut self, how: How) {
         match how {
             How::Quit => self.quit = up(self.quit),
             How::End => self.end = up(self.end),
             How::Fault => self.fault = up(self.fault),
+            How::Login => self.login = up(self.login),
             How::Idle => self.idle = up(self.idle),
             How::Over => self.turn = up(self.turn),
             How::Memory => self.memory = up(self.memory),
@@ -126,7 +136,8 @@ impl Counts {
             .saturating_add(self.end)
             .saturating_add(self.fault);
         let rest = self
-            .idle
+            .login
+            .saturating_add(self.idle)
             .saturating_add(self.turn)
             .saturating_add(self.memory)
             .saturating_add(self.gone);
@@ -155,6 +166,11 @@ impl Counts {
             text,
             b"judyd_connections_ended_total{cause=\"fault\"}",
             self.fault,
+        );
+        add(
+            text,
+            b"judyd_connections_ended_total{cause=\"login\"}",
+            self.login,
         );
         add(
             text,
@@ -217,6 +233,12 @@ impl Counts {
         let mut text = ArrayVec::new();
         self.add_connections(&mut text);
         self.add_bytes(&mut text);
+        add_counter(
+            &mut text,
+            b"judyd_log_lines_dropped_total",
+            b"Lines that standard error did not take.",
+            self.dropped,
+        );
         add_gauge(
             &mut text,
             b"judyd_uptime_seconds",

@@ -1,6 +1,6 @@
-//! The status socket: one question at a time. Nothing here waits.
+//! A socket of the operator: a few may ask at once. Nothing here waits.
 
-use crate::limits::QUESTION_LIMIT;
+use crate::limits::{ASKERS_LIMIT, QUESTION_LIMIT};
 use crate::network::Question;
 use crate::times::is_past;
 use arrayvec::ArrayVec;
@@ -8,44 +8,94 @@ use itoa::Buffer;
 use judy_protocol::cut_line;
 use mio::net::{UnixListener, UnixStream};
 use mio::{Interest, Registry, Token};
-use std::fs::Files;
+use std::alloc::Global;
+use std::fs::{self, Files, Permissions};
 use std::io::{self, ErrorKind, Read, Write};
 use std::net::Net;
+use std::os::fd::{AsFd, OwnedFd};
+use std::os::unix::fs::PermissionsExt;
 
 /// The token of the status socket.
-pub const DESK: Token = Token(usize::MAX - 1);
+pub const STATUS: Token = Token(usize::MAX - 1);
 
-/// The token of the connection that asks.
-pub const ASKER: Token = Token(usize::MAX - 2);
+/// The token of the control socket.
+pub const CONTROL: Token = Token(usize::MAX - 2);
 
-/// How many seconds a question may take to come.
+/// The token of all connections that ask.
+const ASKER: Token = Token(usize::MAX - 3);
+
+/// How many seconds a connection that asks may stay.
 const PATIENCE: u32 = 5;
+
+/// Who may ask: the user of the server.
+const MODE: u32 = 0o600;
+
+/// More connections than a socket lets wait.
+const WAITING_LIMIT: usize = 4096;
+
+/// The system's numbers for an accept that lacks a descriptor.
+const NO_DESCRIPTOR: [i32; 2] = [23, 24];
+
+/// What a socket of the operator is for.
+#[derive(Clone, Copy, Debug, PartialEq, Eq)]
+pub enum Purpose {
+    /// The numbers.
+    Status,
+    /// Commands.
+    Control,
+}
 
 /// What the bytes of a question mean.
 #[derive(Clone, Copy, Debug, PartialEq, Eq)]
 enum Meaning {
     /// The question is not whole yet.
     Part,
-    /// The status.
-    Status,
+    /// This.
+    Asks(Question),
     /// The status, by HTTP.
     Page,
-    /// That the server ends.
-    Stop,
-    /// That the table is read again.
-    Reload,
     /// Nothing that is known.
     Other,
+    /// Nothing more: it sends no more, or a read failed.
+    Gone,
 }
 
-/// The status socket, and the connection that asks, if there is one.
+/// What became of a connection that asks.
+#[derive(Clone, Copy, Debug, PartialEq, Eq)]
+enum Heard {
+    /// Its question is not whole yet.
+    Part,
+    /// It is not to be answered.
+    Gone,
+    /// It asks this.
+    Asks(Question),
+}
+
+/// A connection that asks: since which second, and what came of its question.
 #[derive(Drop)]
-pub struct Desk {
-    listener: UnixListener,
-    comes: bool,
-    asker: Option<UnixStream>,
+struct Asker {
+    stream: UnixStream,
     since: Option<u64>,
     asked: ArrayVec<u8, QUESTION_LIMIT>,
+}
+
+/// A socket of the operator, and the connections that ask.
+#[derive(Drop)]
+pub struct Desk {
+    purpose: Purpose,
+    listener: UnixListener,
+    /// A descriptor that is given up for a connection where the process may have no more.
+    spare: Option<OwnedFd>,
+    /// Whether a connection may wait.
+    comes: bool,
+    /// Whether one waits that lacks a descriptor.
+    lacks: bool,
+    /// Whether another question may be whole.
+    more: bool,
+    askers: Vec<Asker>,
+    /// The connection whose question is answered next.
+    current: Option<Asker>,
+    /// Whether it asks by HTTP.
     page: bool,
 }
 
@@ -69,29 +119,42 @@ fn has_end(text: &[u8]) -> bool {
     false
 }
 
+/// What the line of a command asks.
+fn read_command(line: &[u8]) -> Meaning {
+    if line == b"STOP".as_slice() {
+        return Meaning::Asks(Question::Stop);
+    }
+    if line == b"RELOAD".as_slice() {
+        return Meaning::Asks(Question::Reload);
+    }
+    Meaning::Other
+}
+
+/// What a question for the status asks: its first line, and what follows.
+fn read_status(line: &[u8], rest: &[u8]) -> Meaning {
+    if line == b"STATUS".as_slice() {
+        return Meaning::Asks(Question::Status);
+    }
+    if !line.starts_with(b"GET /metrics ") {
+        return Meaning::Other;
+    }
+    if has_end(rest) {
+        Meaning::Page
+    } else {
+        Meaning::Part
+    }
+}
+
 /// What these bytes ask.
-fn read_question(asked: &[u8]) -> Meaning {
+fn read_question(purpose: Purpose, asked: &[u8]) -> Meaning {
     let Some((line, rest)) = cut_line(asked) else {
         return Meaning::Part;
     };
     let line = without_return(line);
-    if line == b"STATUS".as_slice() {
-        return Meaning::Status;
+    match purpose {
+        Purpose::Status => read_status(line, rest),
+        Purpose::Control => read_command(line),
     }
-    if line == b"STOP".as_slice() {
-        return Meaning::Stop;
-    }
-    if line == b"RELOAD".as_slice() {
-        return Meaning::Reload;
-    }
-    if line.starts_with(b"GET /metrics ") {
-        return if has_end(rest) {
-            Meaning::Page
-        } else {
-            Meaning::Part
-        };
-    }
-    Meaning::Other
 }
 
 /// Writes bytes once. Whether all were taken.
@@ -115,17 +178,76 @@ fn head(length: usize) -> ArrayVec<u8, 256> {
     head
 }
 
+/// Lets nobody but the user of the server ask at a socket that was just made. Who came before may have
+/// come by the mode that the system gave it, and is sent away.
+fn restrict<R: Files>(rt: &R, path: &str, listener: &UnixListener) -> io::Result<()> {
+    fs::set_permissions(rt, path, Permissions::from_mode(MODE))?;
+    for _one in 0..WAITING_LIMIT {
+        if listener.accept().is_err() {
+            return Ok(());
+        }
+    }
+    Ok(())
+}
+
+/// Another descriptor, if the process may have one.
+fn spare_of(listener: &UnixListener) -> Option<OwnedFd> {
+    listener.as_fd().try_clone_to_owned().ok()
+}
+
+impl Asker {
+    /// Reads once, and says what is asked.
+    fn hear(&mut self, purpose: Purpose) -> Meaning {
+        let mut bytes = [0u8; QUESTION_LIMIT];
+        match self.stream.read(&mut bytes) {
+            Ok(0) => Meaning::Gone,
+            Ok(n) => {
+                if self.asked.try_extend_from_slice(&bytes[..n]).is_err() {
+                    return Meaning::Other;
+                }
+                read_question(purpose, self.asked.as_slice())
+            }
+            Err(e) => {
+                if e.kind() == ErrorKind::WouldBlock {
+                    Meaning::Part
+                } else {
+                    Meaning::Gone
+                }
+            }
+        }
+    }
+}
+
 impl Desk {
-    /// Makes the socket at a path.
-    pub fn bind<R: Files + Net>(rt: &R, registry: &Registry, path: &str) -> io::Result<Desk> {
+    /// Makes the socket at a path. Only the user of the server may ask there.
+    pub fn bind<R: Files + Net>(
+        rt: &R,
+        alloc: Global,
+        registry: &Registry,
+        path: &str,
+        purpose: Purpose,
+    ) -> io::Result<Desk> {
+        let askers = Vec::with_capacity(alloc, ASKERS_LIMIT)?;
         let mut listener = UnixListener::bind(rt, path)?;
-        registry.register(&mut listener, DESK, Interest::READABLE)?;
+        if let Err(e) = restrict(rt, path, &listener) {
+            let _ = fs::remove_file(rt, path);
+            return Err(e);
+        }
+        let token = match purpose {
+            Purpose::Status => STATUS,
+            Purpose::Control => CONTROL,
+        };
+        registry.register(&mut listener, token, Interest::READABLE)?;
+        let spare = spare_of(&listener);
         Ok(Desk {
+            purpose,
             listener,
+            spare,
             comes: true,
-            asker: None,
-            since: None,
-            asked: ArrayVec::new(),
+            lacks: false,
+            more: false,
+            askers,
+            current: None,
             page: false,
         })
     }
@@ -135,119 +257,163 @@ impl Desk {
         self.comes = true;
     }
 
-    /// How many milliseconds the loop may wait, if it may wait so long without the status socket.
+    /// Whether more may ask at once.
+    fn has_room(&self) -> bool {
+        self.askers.len() < ASKERS_LIMIT
+    }
+
+    /// How many milliseconds the loop may wait, if it may wait so long without this socket.
     pub fn patience(&self, time: Option<u32>) -> Option<u32> {
-        if self.asker.is_some() {
-            return Some(time.unwrap_or(1000).min(1000));
-        }
-        if self.comes {
+        if self.more || (self.comes && !self.lacks && self.has_room()) {
             return Some(0);
+        }
+        if self.comes || !self.askers.is_empty() {
+            return Some(time.unwrap_or(1000).min(1000));
         }
         time
     }
 
     /// Whether a connection asks, or one may wait to be accepted.
     pub fn is_busy(&self) -> bool {
-        self.comes || self.asker.is_some()
+        self.comes || !self.askers.is_empty()
     }
 
-    /// Accepts the next connection, if none asks.
-    pub fn accept(&mut self, registry: &Registry, now: Option<u64>) {
-        if self.asker.is_some() || !self.comes {
-            return;
-        }
-        let Ok((mut stream, _)) = self.listener.accept() else {
-            self.comes = false;
-            return;
-        };
+    /// Keeps a connection that came.
+    fn seat(&mut self, registry: &Registry, mut stream: UnixStream, now: Option<u64>) {
         if registry
             .register(&mut stream, ASKER, Interest::READABLE)
             .is_ok()
         {
-            self.asked.clear();
-            self.since = now;
-            self.asker = Some(stream);
+            let asker = Asker {
+                stream,
+                since: now,
+                asked: ArrayVec::new(),
+            };
+            let _kept = self.askers.push(asker);
         }
     }
 
-    /// Reads once. Whether bytes came. Drops a connection that sends no more, or is too slow.
-    fn pull(&mut self, now: Option<u64>) -> bool {
-        let mut bytes = [0u8; QUESTION_LIMIT];
-        let Some(stream) = &mut self.asker else {
+    /// Takes up an accept that failed. Whether to try again at once.
+    fn fail(&mut self, e: &io::Error) -> bool {
+        if e.kind() == ErrorKind::WouldBlock {
+            self.comes = false;
             return false;
+        }
+        let number = e.raw_os_error().unwrap_or(0);
+        if !NO_DESCRIPTOR.contains(&number) {
+            return true;
+        }
+        self.lacks = self.spare.take().is_none();
+        !self.lacks
+    }
+
+    /// Accepts connections while one waits and there is room for it.
+    pub fn accept(&mut self, registry: &Registry, now: Option<u64>) {
+        self.lacks = false;
+        for _try in 0..ASKERS_LIMIT {
+            if !self.comes || !self.has_room() {
+                return;
+            }
+            match self.listener.accept() {
+                Ok((stream, _)) => self.seat(registry, stream, now),
+                Err(e) => {
+                    if !self.fail(&e) {
+                        return;
+                    }
+                }
+            }
+        }
+    }
+
+    /// What the connection at a place asks. One that is too slow is gone, whatever it sent.
+    fn hear(&mut self, at: usize, now: Option<u64>) -> Heard {
+        let purpose = self.purpose;
+        let Some(asker) = self.askers.get_mut(at) else {
+            return Heard::Gone;
         };
-        match stream.read(&mut bytes) {
-            Ok(0) => {
-                self.asker = None;
-                false
-            }
-            Ok(n) => {
-                if self.asked.try_extend_from_slice(&bytes[..n]).is_err() {
-                    self.refuse();
-                    return false;
-                }
-                true
-            }
-            Err(e) => {
-                let slow = is_past(Some(PATIENCE), self.since.unwrap_or(0), now);
-                if slow || e.kind() != ErrorKind::WouldBlock {
-                    self.asker = None;
-                }
-                false
-            }
-        }
-    }
-
-    /// Answers that the question is not known.
-    fn refuse(&mut self) {
-        if let Some(stream) = &mut self.asker {
-            let _ = put(stream, b"ERR\n");
-        }
-        self.asker = None;
-    }
-
-    /// What the connection asks, if its question is whole.
-    pub fn ask(&mut self, now: Option<u64>) -> Question {
-        if !self.pull(now) {
-            return Question::Nothing;
-        }
-        match read_question(self.asked.as_slice()) {
-            Meaning::Part => Question::Nothing,
-            Meaning::Status => {
+        match asker.hear(purpose) {
+            Meaning::Asks(question) => {
                 self.page = false;
-                Question::Status
+                Heard::Asks(question)
             }
             Meaning::Page => {
                 self.page = true;
-                Question::Status
+                Heard::Asks(Question::Status)
             }
-            Meaning::Stop => Question::Stop,
-            Meaning::Reload => {
-                self.page = false;
-                Question::Reload
+            Meaning::Part => {
+                if is_past(Some(PATIENCE), asker.since.unwrap_or(0), now) {
+                    Heard::Gone
+                } else {
+                    Heard::Part
+                }
             }
             Meaning::Other => {
-                self.refuse();
-                Question::Nothing
+                let _ = put(&mut asker.stream, b"ERR\n");
+                Heard::Gone
             }
+            Meaning::Gone => Heard::Gone,
+        }
+    }
+
+    /// Takes out the connection at a place.
+    fn take(&mut self, at: usize) -> Option<Asker> {
+        if at < self.askers.len() {
+            return Some(self.askers.remove(at));
+        }
+        None
+    }
+
+    /// What a connection asks, if one has asked.
+    pub fn ask(&mut self, now: Option<u64>) -> Question {
+        self.more = false;
+        let mut at = 0;
+        for _asker in 0..ASKERS_LIMIT {
+            if at >= self.askers.len() {
+                break;
+            }
+            match self.hear(at, now) {
+                Heard::Part => at += 1,
+                Heard::Gone => {
+                    let _gone = self.take(at);
+                }
+                Heard::Asks(question) => {
+                    self.more = true;
+                    self.current = self.take(at);
+                    return question;
+                }
+            }
+        }
+        self.fill();
+        Question::Nothing
+    }
+
+    /// Takes a spare descriptor again, if it was given up.
+    fn fill(&mut self) {
+        if self.spare.is_none() {
+            self.spare = spare_of(&self.listener);
         }
     }
 
     /// Answers with these texts, and closes the connection. What it does not take at once is dropped.
     pub fn answer(&mut self, first: &[u8], rest: &[u8]) {
-        let Some(mut stream) = self.asker.take() else {
-            return;
-        };
+        if let Some(mut asker) = self.current.take() {
+            self.put_all(&mut asker.stream, first, rest);
+        }
+        self.fill();
+    }
+
+    /// Writes an answer.
+    fn put_all(&self, stream: &mut UnixStream, first: &[u8], rest: &[u8]) {
         if self.page
             && !put(
-                &mut stream,
+                stream,
                 head(first.len().saturating_add(rest.len())).as_slice(),
             )
         {
             return;
         }
-        if put(&mut stream, first) {
-            let _ = put(&mut stream, rest);
+        if put(stream, first) {
+            let _ = put(stream, rest);
         }
     }
 }

@@ -1,8 +1,10 @@
 //! What the loop asks of the system: to wait, to accept, to read, to write and to close.
 ghost use Rattle.std.specs.Prelude.{◌≡◌, ◌<◌, ℕ, [], ◌∷◌, length};
-ghost use Rattle.judy_many.specs.Nets.{Acts, DidLog, Fits, Takes, begin_acts, keep_acts, question_acts, read_acts, sync_acts, table_acts, wait_acts, write_acts};
+ghost use Rattle.judy_many.specs.Nets.{Acts, DidLog, Fits, Takes, begin_acts, keep_acts, may_sleep, question_acts, read_acts, sync_acts, table_acts, write_acts};
 ghost use Rattle.judy_many.specs.Nets.Act.{Closed, Replied, Reported, Warned};
 ghost use Rattle.judy_many.specs.Comes.{HasCome};
+ghost use Rattle.judy_many.specs.Queues.{StayAwake};
+ghost use Rattle.judy_many.specs.Woken.{HasWoken};
 
 use crate::queue::Queue;
 
@@ -51,6 +53,8 @@ pub enum How {
     End,
     /// A read or a write failed.
     Fault,
+    /// Nobody was logged in on it once it had lasted so long.
+    Login,
     /// The client sent no byte and took none for too long.
     Idle,
     /// The connection lasted too long.
@@ -61,7 +65,7 @@ pub enum How {
     Gone,
 }
 
-/// What is asked on the status socket.
+/// What the operator asks for on the status socket or the control socket.
 #[derive(Clone, Copy, Debug, PartialEq, Eq)]
 pub enum Question {
     /// Nothing, for now.
@@ -79,6 +83,8 @@ pub enum Question {
 pub enum Unread {
     /// It cannot be opened, or a read of it failed.
     File,
+    /// It is no regular file: a read of it could wait.
+    Irregular,
     /// It is too long.
     Long,
     /// There is no memory for it.
@@ -109,14 +115,15 @@ pub trait Network {
 
     /// The next connection, which gets this number. `wait` tells of it at this slot.
     fn accept(&mut self, id: u64, slot: usize) -> Accept<Self::Connection>
-        ensures { HasCome number result id (log self.old) (log self.new) };
+        ensures { HasCome number result id slot (log self.old) (log self.new) };
 
     /// Waits until a connection is ready, or one can be accepted, or this many milliseconds have
     /// passed. Without a time there is no limit. Marks the slots whose connections became ready, in
     /// this order, and returns whether a connection can be accepted. None if the system fails for
-    /// good.
+    /// good. A slot that stands in the queue with a turn owed keeps it.
     fn wait(&mut self, time: Option<u32>, queue: &mut Queue) -> Option<bool>
-        ensures { DidLog (log self.old) (wait_acts result) (log self.new) };
+        ensures stay { StayAwake queue.old queue.new }
+        ensures log { HasWoken result (may_sleep time) queue.new (log self.old) (log self.new) };
 
     /// Reads what has come to the front of the buffer.
     fn read(&mut self, connection: &mut Self::Connection, buf: &mut [u8]) -> Got
@@ -144,7 +151,7 @@ pub trait Network {
     fn seconds(&mut self) -> Option<u64>
         ensures { DidLog (log self.old) [] (log self.new) };
 
-    /// What was asked on the status socket, if there is one.
+    /// What the operator asks for on the status socket or the control socket, if there is one.
     fn ask(&mut self) -> Question
         ensures { DidLog (log self.old) (question_acts result) (log self.new) };
 

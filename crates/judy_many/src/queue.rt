@@ -1,13 +1,13 @@
 //! The slots whose clients have a turn, in the order in which they became ready.
-ghost use Rattle.std.specs.Prelude.{◌≡◌, length, true};
-ghost use Rattle.judy_many.specs.Queues.{AreApart, slot_in, stands};
+ghost use Rattle.std.specs.Prelude.{◌≡◌, ◌≢◌, ◌<◌, ℕ, [], length, true, false};
+ghost use Rattle.judy_many.specs.Queues.{AreApart, IsPlaced, StayAwake, awake_in, is_awake, mark_in, slot_in, stands, stands_in};
 
 use crate::limits::CLIENTS_LIMIT;
 use std::marker::Model;
 
 /// What is known of a slot's connection.
 #[derive(Clone, Copy, Debug, PartialEq, Eq)]
-enum Mark {
+pub enum Mark {
     /// The slot does not stand in the queue.
     Out,
     /// It stands in it until the round ends, and its client has nothing more to do.
@@ -33,15 +33,29 @@ pub enum Left {
 
 /// The mark of a slot after its turn.
 fn settled(mark: Mark, left: Left) -> Mark
-    ensures { stands result ≡ stands mark }
+    ensures stands { stands result ≡ stands mark }
+    ensures more { left ≡ Left.More → stands mark ≡ true → is_awake result ≡ true }
 {
     match (left, mark) {
+        (Left::More, Mark::Done) => Mark::Ready,
         (Left::Nothing, Mark::Ready) => Mark::Done,
         (Left::Blocked, Mark::Ready) => Mark::Done,
         (Left::Blocked, Mark::Ended) => Mark::Done,
         (Left::Closed, Mark::Ready) => Mark::Done,
         (Left::Closed, Mark::Ended) => Mark::Done,
         _ => mark,
+    }
+}
+
+/// The mark of a slot that was seen to be ready, or to have ended.
+fn marked(mark: Mark, seen: Mark) -> Mark
+    requires { is_awake seen ≡ true }
+    ensures { is_awake result ≡ true }
+{
+    if mark == Mark::Ended {
+        Mark::Ended
+    } else {
+        seen
     }
 }
 
@@ -54,19 +68,22 @@ pub struct Queue {
 }
 
 impl Model for Queue {
-    ghost use Rattle.std.specs.Prelude.{ℕ, List, take};
-    ghost use Rattle.judy_many.specs.Queues.{IsQueue};
+    ghost use Rattle.std.specs.Prelude.{take};
+    ghost use Rattle.judy_many.specs.Queues.{IsQueue, Line};
 
-    ghost Value = { List ℕ };
+    ghost Value = { Line };
 
-    ghost view = { λ q. take q.count q.order };
+    ghost view = { λ q. record { order = take q.count q.order; marks = q.marks } };
 
     ghost invariant = { λ q. IsQueue q.order q.count q.marks };
 }
 
 impl Queue {
     /// No slot.
-    pub fn new() -> Queue {
+    pub fn new() -> Queue
+        ensures empty { result.order ≡ [] }
+        ensures asleep { (i : ℕ) → stands_in result i ≡ false }
+    {
         Queue {
             order: [0; CLIENTS_LIMIT],
             count: 0,
@@ -76,8 +93,9 @@ impl Queue {
 
     /// How many slots stand in it.
     pub fn len(&self) -> usize
-        ensures long { result ≡ length self.now }
-        ensures apart { AreApart self.now }
+        ensures long { result ≡ length self.now.order }
+        ensures apart { AreApart self.now.order }
+        ensures found { (i : ℕ) → stands_in self.now i ≡ true → IsPlaced self.now i }
     {
         self.count
     }
@@ -89,7 +107,8 @@ impl Queue {
 
     /// The slot at a place. If there is none it is `CLIENTS_LIMIT`.
     pub fn slot_at(&self, place: usize) -> usize
-        ensures { result ≡ slot_in self.now place }
+        ensures slot { result ≡ slot_in self.now.order place }
+        ensures stands { place < length self.now.order → stands_in self.now result ≡ true }
     {
         if place >= self.count || place >= CLIENTS_LIMIT {
             return CLIENTS_LIMIT;
@@ -99,53 +118,76 @@ impl Queue {
 
     /// Puts a slot at the end, unless it stands in the queue. Its connection has bytes to read, or
     /// room to write.
-    pub fn mark_ready(&mut self, slot: usize) {
+    pub fn mark_ready(&mut self, slot: usize)
+        ensures stay { StayAwake self.old self.new }
+        ensures wakes { slot < 1024 → awake_in self.new slot ≡ true }
+    {
         self.mark(slot, Mark::Ready);
     }
 
     /// The same, where the client was seen to send no more, or to be gone.
-    pub fn mark_ended(&mut self, slot: usize) {
+    pub fn mark_ended(&mut self, slot: usize)
+        ensures stay { StayAwake self.old self.new }
+        ensures wakes { slot < 1024 → awake_in self.new slot ≡ true }
+    {
         self.mark(slot, Mark::Ended);
     }
 
-    /// Puts a slot at the end, unless it stands in the queue, and notes what is known of it.
-    fn mark(&mut self, slot: usize, mark: Mark)
-        requires { stands mark ≡ true }
+    /// Puts a slot at the end, unless it stands in the queue, and notes what is known of it. A slot that
+    /// does not stand in it always has room, since each slot stands in it at most once.
+    fn mark(&mut self, slot: usize, seen: Mark)
+        requires { is_awake seen ≡ true }
+        ensures stay { StayAwake self.old self.new }
+        ensures wakes { slot < 1024 → awake_in self.new slot ≡ true }
     {
         if slot >= CLIENTS_LIMIT {
             return;
         }
         if self.marks[slot] == Mark::Out {
-            if self.count >= CLIENTS_LIMIT {
-                return;
-            }
             self.order[self.count] = slot;
             self.count += 1;
+            self.marks[slot] = seen;
+            return;
         }
-        if self.marks[slot] != Mark::Ended {
-            self.marks[slot] = mark;
-        }
+        self.marks[slot] = marked(self.marks[slot], seen);
     }
 
     /// Notes what is left of a slot after its turn. A client that was seen to send no more has its end
     /// still to be read.
     pub fn settle(&mut self, slot: usize, left: Left)
-        ensures { self.new ≡ self.old }
+        ensures order { self.new.order ≡ self.old.order }
+        ensures others { (i : ℕ) → i ≢ slot → mark_in self.new.marks i ≡ mark_in self.old.marks i }
+        ensures stands { (i : ℕ) → stands_in self.new i ≡ stands_in self.old i }
+        ensures more { left ≡ Left.More → stands_in self.old slot ≡ true → awake_in self.new slot ≡ true }
     {
+        // The proof sees the marks also where none is changed.
+        let _ = &self.marks;
         if slot >= CLIENTS_LIMIT {
             return;
         }
         self.marks[slot] = settled(self.marks[slot], left);
     }
 
+    /// Notes whether the client in a slot was closed outside its turn.
+    pub fn note_closed(&mut self, slot: usize, closed: bool)
+        ensures order { self.new.order ≡ self.old.order }
+        ensures others { (i : ℕ) → i ≢ slot → mark_in self.new.marks i ≡ mark_in self.old.marks i }
+        ensures stands { (i : ℕ) → stands_in self.new i ≡ stands_in self.old i }
+        ensures same { closed ≡ false → self.new ≡ self.old }
+    {
+        if !closed {
+            return;
+        }
+        self.settle(slot, Left::Closed);
+    }
+
     /// Takes the slots out that have nothing more to do. The others stay in their order.
-    pub fn end_round(&mut self) {
+    pub fn end_round(&mut self)
+        ensures stay { StayAwake self.old self.new }
+    {
         let mut kept = 0;
-        for place in 0..self.count.min(CLIENTS_LIMIT) {
+        for place in 0..self.count {
             let slot = self.order[place];
-            if slot >= CLIENTS_LIMIT {
-                continue;
-            }
             if self.marks[slot] == Mark::Done {
                 self.marks[slot] = Mark::Out;
                 continue;

@@ -6,18 +6,17 @@ ghost use Rattle.judy_many.specs.Changes.{AreClosed, AreGone, HasChanged, HasRel
 ghost use Rattle.judy_many.specs.Crowds.{Crowd, Past};
 ghost use Rattle.judy_many.specs.Lives.{SlotDid, view_of};
 ghost use Rattle.judy_many.specs.Nets.{Act, Acts, DidLog};
-ghost use Rattle.judy_many.specs.Queues.{nobody};
 ghost use Rattle.judy_many.specs.Rules.{rules_of};
 ghost use Rattle.judy_many.specs.Slots.{AreKnown, IsKnownSlot};
 ghost use Rattle.judy_many.specs.Stories.{BeginsWith, Story, acts_in, told_head, turns_in};
 ghost use Rattle.judy_many.specs.Stories.Phase.{Sweeps};
+ghost use Rattle.judy_many.specs.Watches.{IsClosedOr, nobody};
 ghost use Rattle.judy_many.specs.declared.serve.Limits.{Limits};
 
 use crate::client::Client;
 use crate::clients::Clients;
 use crate::limits::TOLD_LIMIT;
 use crate::network::{How, Network, Unread};
-use crate::queue::Left;
 use crate::shows::Shows;
 use crate::warnings::{add, begin};
 use arrayvec::ArrayVec;
@@ -27,6 +26,7 @@ use std::alloc::Global;
 fn name_of(unread: Unread) -> &'static [u8] {
     match unread {
         Unread::File => b"the file cannot be read",
+        Unread::Irregular => b"the file is no regular file",
         Unread::Long => b"the file is too long",
         Unread::Memory => b"out of memory",
     }
@@ -86,46 +86,47 @@ fn is_gone<S: Shows>(service: &S, speaker: Option<S::Speaker>) -> bool
     }
 }
 
-/// Closes the client in a slot if its speaker may not go on.
+/// Closes the client in a slot if its speaker may not go on. Returns whether it was closed.
 fn close_at<S: Shows, N: Network>(
     network: &mut N,
     service: &S,
     slot: &mut Option<Box<Client<S::Speaker, N::Connection>>>,
-) -> Left
+) -> bool
     ensures did { (more : Story) × DidLog (N.log network.old) (acts_in more) (N.log network.new)
         × (turns_in more ≡ []) × AreGone (acts_in more)
         × ((limits : Limits) → limits.status ≡ true → SlotDid limits Sweeps
         (option_map (λ b. view_of S.who N.number b.value) slot.old)
-        (option_map (λ b. view_of S.who N.number b.value) slot.new) more) }
+        (option_map (λ b. view_of S.who N.number b.value) slot.new) more)
+        × IsClosedOr result (option_map (λ b. view_of S.who N.number b.value) slot.old)
+        (option_map (λ b. view_of S.who N.number b.value) slot.new) more }
     ensures known { IsKnownSlot (λ b. option_map S.who b.value.session.speaker)
         (S.seen service.now).speakers slot.new }
 {
     let Some(mut client) = slot.take() else {
-        return Left::More;
+        return false;
     };
     if is_gone(service, client.session.speaker) {
         network.close(&mut client.connection, How::Gone);
-        return Left::Closed;
+        return true;
     }
     *slot = Some(client);
-    Left::More
+    false
 }
 
 /// Closes the clients whose speakers may not go on.
 fn close_gone<S: Shows, N: Network>(network: &mut N, service: &S, clients: &mut Clients<S, N>)
     ensures crowd { (limits : Limits) (first now : S) (start : Acts) (past : Past) → limits.status ≡ true
         → Crowd (λ b. view_of S.who N.number b.value) (rules_of S.made S.seen S.noted S.status S.changed) limits first
-        start Sweeps nobody past (N.log network.old) clients.old.slots.items clients.old.accepted now
+        start Sweeps (nobody clients.old.queue) past (N.log network.old) clients.old.slots.items clients.old.accepted now
         → Crowd (λ b. view_of S.who N.number b.value) (rules_of S.made S.seen S.noted S.status S.changed) limits first
-        start Sweeps nobody past (N.log network.new) clients.new.slots.items clients.new.accepted now }
+        start Sweeps (nobody clients.new.queue) past (N.log network.new) clients.new.slots.items clients.new.accepted now }
     ensures gone { (gone : List Act) × DidLog (N.log network.old) gone (N.log network.new) × AreGone gone }
     ensures known { AreKnown (λ b. option_map S.who b.value.session.speaker)
         (S.seen service.now).speakers clients.new.slots.items }
 {
     for at in 0..clients.slots.len() {
-        let left = close_at::<S, N>(network, service, &mut clients.slots[at]);
-        clients.queue.settle(at, left);
-        clients.listening = clients.listening.after_close(left == Left::Closed);
+        let closed = close_at::<S, N>(network, service, &mut clients.slots[at]);
+        clients.note_closed(at, closed);
     }
 }
 
@@ -140,9 +141,9 @@ fn close_after<S: Shows, N: Network>(
         (S.seen service.now).speakers clients.old.slots.items }
     ensures crowd { (limits : Limits) (first now : S) (start : Acts) (past : Past) → limits.status ≡ true
         → Crowd (λ b. view_of S.who N.number b.value) (rules_of S.made S.seen S.noted S.status S.changed) limits first
-        start Sweeps nobody past (N.log network.old) clients.old.slots.items clients.old.accepted now
+        start Sweeps (nobody clients.old.queue) past (N.log network.old) clients.old.slots.items clients.old.accepted now
         → Crowd (λ b. view_of S.who N.number b.value) (rules_of S.made S.seen S.noted S.status S.changed) limits first
-        start Sweeps nobody past (N.log network.new) clients.new.slots.items clients.new.accepted now }
+        start Sweeps (nobody clients.new.queue) past (N.log network.new) clients.new.slots.items clients.new.accepted now }
     ensures gone { (gone : List Act) × DidLog (N.log network.old) gone (N.log network.new)
         × AreClosed changed gone }
     ensures known { AreKnown (λ b. option_map S.who b.value.session.speaker)
@@ -197,9 +198,9 @@ pub fn reload<S: Shows, N: Network>(
     ensures crowd { (limits : Limits) (first : S) (start : Acts) (past : Past) → limits.status ≡ true
         → keep ≡ is_some limits.journal
         → Crowd (λ b. view_of S.who N.number b.value) (rules_of S.made S.seen S.noted S.status S.changed) limits first
-        start Sweeps nobody past (N.log network.old) clients.old.slots.items clients.old.accepted service.old
+        start Sweeps (nobody clients.old.queue) past (N.log network.old) clients.old.slots.items clients.old.accepted service.old
         → Crowd (λ b. view_of S.who N.number b.value) (rules_of S.made S.seen S.noted S.status S.changed) limits first
-        start Sweeps nobody past (N.log network.new) clients.new.slots.items clients.new.accepted service.new }
+        start Sweeps (nobody clients.new.queue) past (N.log network.new) clients.new.slots.items clients.new.accepted service.new }
     ensures reloaded { HasReloaded (rules_of S.made S.seen S.noted S.status S.changed)
         (N.log network.old) (N.log network.new) service.old service.new }
     ensures known { AreKnown (λ b. option_map S.who b.value.session.speaker)

@@ -1,9 +1,9 @@
 //! A round: each client that is ready has a turn, in two halves.
-ghost use Rattle.std.specs.Prelude.{◌≡◌, ◌<◌, ◌+◌, ℕ, Bool, [], length, true, false, Option, option_map, List, Bool};
+ghost use Rattle.std.specs.Prelude.{◌≡◌, ◌<◌, ◌+◌, ℕ, Bool, IsTrue, [], length, true, false, Option, option_map, List, Bool};
 ghost use Rattle.judy_model.specs.Speakers.{Speaker};
-ghost use Rattle.judy_many.specs.Books.{Journal, noted_by};
+ghost use Rattle.judy_many.specs.Books.{Journal, has_room, noted_by};
 ghost use Rattle.judy_many.specs.Crowds.{Crowd, HasFailed, Past, past_of};
-ghost use Rattle.judy_many.specs.Queues.{AreApart, IsBefore, everybody, nobody};
+ghost use Rattle.judy_many.specs.Queues.{AreApart, stands_in};
 ghost use Rattle.judy_many.specs.Slots.{AreKnown, IsKnownSlot};
 ghost use Rattle.judy_many.specs.Lives.{SlotDid, view_of};
 ghost use Rattle.judy_many.specs.Nets.{Acts, DidLog};
@@ -11,6 +11,7 @@ ghost use Rattle.judy_many.specs.Rules.{rules_of};
 ghost use Rattle.judy_many.specs.Sessions.{AreTurns, records_in};
 ghost use Rattle.judy_many.specs.Stories.{Story, acts_in, turns_in};
 ghost use Rattle.judy_many.specs.Stories.Phase.{Reads, Sweeps, Writes};
+ghost use Rattle.judy_many.specs.Watches.{SlotListens, SlotTells, everybody, nobody, those_before};
 ghost use Rattle.judy_many.specs.declared.serve.Limits.{Limits};
 
 use crate::client::{Client, Fate, listen, tell};
@@ -35,12 +36,15 @@ fn listen_at<S: Shows, N: Network>(
 ) -> bool
     requires known { IsKnownSlot (λ b. option_map S.who b.value.session.speaker)
         (S.seen service.old).speakers slot.old }
+    requires room { IsTrue (has_room keeper.old) }
     ensures did { (more : Story) × DidLog (N.log network.old) (acts_in more) (N.log network.new)
         × AreTurns (rules_of S.made S.seen S.noted S.status S.changed) service.old (turns_in more) service.new
         × ((limits : Limits) → SlotDid limits Reads
         (option_map (λ b. view_of S.who N.number b.value) slot.old)
         (option_map (λ b. view_of S.who N.number b.value) slot.new) more)
-        × (keeper.new ≡ noted_by (records_in (turns_in more)) keeper.old) }
+        × (keeper.new ≡ noted_by (records_in (turns_in more)) keeper.old)
+        × SlotListens (option_map (λ b. view_of S.who N.number b.value) slot.old)
+        (option_map (λ b. view_of S.who N.number b.value) slot.new) more }
     ensures logins { (S.seen service.new).logins ≡ (S.seen service.old).logins }
     ensures speakers { (S.seen service.new).speakers ≡ (S.seen service.old).speakers }
     ensures known { IsKnownSlot (λ b. option_map S.who b.value.session.speaker)
@@ -70,14 +74,15 @@ fn listen_to<S: Shows, N: Network>(
 )
     requires known { AreKnown (λ b. option_map S.who b.value.session.speaker)
         (S.seen service.old).speakers clients.old.slots.items }
-    requires within { place < length clients.old.queue }
-    requires apart { AreApart clients.old.queue }
+    requires within { place < length clients.old.queue.order }
+    requires apart { AreApart clients.old.queue.order }
+    requires room { IsTrue (has_room keeper.old) }
     ensures crowd { (limits : Limits) (first : S) (start : Acts) (waits : ℕ) (began : Option Journal)
         → Crowd (λ b. view_of S.who N.number b.value) (rules_of S.made S.seen S.noted S.status S.changed) limits first
-        start Reads (IsBefore clients.old.queue place) (past_of waits began keeper.old)
+        start Reads (those_before clients.old.queue place) (past_of waits began keeper.old)
         (N.log network.old) clients.old.slots.items clients.old.accepted service.old
         → Crowd (λ b. view_of S.who N.number b.value) (rules_of S.made S.seen S.noted S.status S.changed) limits first
-        start Reads (IsBefore clients.old.queue (place + 1)) (past_of waits began keeper.new)
+        start Reads (those_before clients.old.queue (place + 1)) (past_of waits began keeper.new)
         (N.log network.new) clients.new.slots.items clients.new.accepted service.new }
     ensures queue { clients.new.queue ≡ clients.old.queue }
     ensures logins { (S.seen service.new).logins ≡ (S.seen service.old).logins }
@@ -117,17 +122,18 @@ pub fn listen_all<S: Shows, N: Network>(
         (S.seen service.old).speakers clients.old.slots.items }
     ensures crowd { (limits : Limits) (first : S) (start : Acts) (waits : ℕ) (began : Option Journal)
         → result ≡ true → Crowd (λ b. view_of S.who N.number b.value) (rules_of S.made S.seen S.noted S.status S.changed) limits first
-        start Reads nobody (past_of waits began keeper.old)
+        start Reads (nobody clients.old.queue) (past_of waits began keeper.old)
         (N.log network.old) clients.old.slots.items clients.old.accepted service.old
         → Crowd (λ b. view_of S.who N.number b.value) (rules_of S.made S.seen S.noted S.status S.changed) limits first
-        start Reads everybody (past_of waits began keeper.new)
+        start Reads (everybody clients.new.queue) (past_of waits began keeper.new)
         (N.log network.new) clients.new.slots.items clients.new.accepted service.new }
     ensures failed { (limits : Limits) (first : S) (start : Acts) (waits : ℕ) (began : Option Journal)
         → result ≡ false → Crowd (λ b. view_of S.who N.number b.value) (rules_of S.made S.seen S.noted S.status S.changed) limits first
-        start Reads nobody (past_of waits began keeper.old)
+        start Reads (nobody clients.old.queue) (past_of waits began keeper.old)
         (N.log network.old) clients.old.slots.items clients.old.accepted service.old
         → HasFailed (λ b. view_of S.who N.number b.value) (rules_of S.made S.seen S.noted S.status S.changed) limits first
         start began (N.log network.new) clients.new.slots.items clients.new.accepted service.new }
+    ensures queue { clients.new.queue ≡ clients.old.queue }
     ensures logins { (S.seen service.new).logins ≡ (S.seen service.old).logins }
     ensures speakers { (S.seen service.new).speakers ≡ (S.seen service.old).speakers }
     ensures known { AreKnown (λ b. option_map S.who b.value.session.speaker)
@@ -152,7 +158,9 @@ fn tell_at<S: Served, N: Network>(
         × (turns_in more ≡ [])
         × ((limits : Limits) → SlotDid limits Writes
         (option_map (λ b. view_of S.who N.number b.value) slot.old)
-        (option_map (λ b. view_of S.who N.number b.value) slot.new) more) }
+        (option_map (λ b. view_of S.who N.number b.value) slot.new) more)
+        × SlotTells result (option_map (λ b. view_of S.who N.number b.value) slot.old)
+        (option_map (λ b. view_of S.who N.number b.value) slot.new) more }
     ensures known { (speakers : Speaker → Bool)
         → IsKnownSlot (λ b. option_map S.who b.value.session.speaker) speakers slot.old
         → IsKnownSlot (λ b. option_map S.who b.value.session.speaker) speakers slot.new }
@@ -180,16 +188,17 @@ fn tell_to<S: Shows, N: Network>(
     place: usize,
     now: u64,
 )
-    requires within { place < length clients.old.queue }
-    requires apart { AreApart clients.old.queue }
+    requires within { place < length clients.old.queue.order }
+    requires apart { AreApart clients.old.queue.order }
     ensures crowd { (limits : Limits) (first now : S) (start : Acts) (past : Past)
         → Crowd (λ b. view_of S.who N.number b.value) (rules_of S.made S.seen S.noted S.status S.changed) limits first
-        start Writes (IsBefore clients.old.queue place) past
+        start Writes (those_before clients.old.queue place) past
         (N.log network.old) clients.old.slots.items clients.old.accepted now
         → Crowd (λ b. view_of S.who N.number b.value) (rules_of S.made S.seen S.noted S.status S.changed) limits first
-        start Writes (IsBefore clients.old.queue (place + 1)) past
+        start Writes (those_before clients.new.queue (place + 1)) past
         (N.log network.new) clients.new.slots.items clients.new.accepted now }
-    ensures queue { clients.new.queue ≡ clients.old.queue }
+    ensures order { clients.new.queue.order ≡ clients.old.queue.order }
+    ensures stands { (i : ℕ) → stands_in clients.new.queue i ≡ stands_in clients.old.queue i }
     ensures known { (speakers : Speaker → Bool)
         → AreKnown (λ b. option_map S.who b.value.session.speaker) speakers clients.old.slots.items
         → AreKnown (λ b. option_map S.who b.value.session.speaker) speakers clients.new.slots.items }
@@ -208,9 +217,9 @@ fn tell_to<S: Shows, N: Network>(
 pub fn tell_all<S: Shows, N: Network>(network: &mut N, clients: &mut Clients<S, N>, now: u64)
     ensures crowd { (limits : Limits) (first now : S) (start : Acts) (past : Past)
         → Crowd (λ b. view_of S.who N.number b.value) (rules_of S.made S.seen S.noted S.status S.changed) limits first
-        start Writes nobody past (N.log network.old) clients.old.slots.items clients.old.accepted now
+        start Writes (nobody clients.old.queue) past (N.log network.old) clients.old.slots.items clients.old.accepted now
         → Crowd (λ b. view_of S.who N.number b.value) (rules_of S.made S.seen S.noted S.status S.changed) limits first
-        start Sweeps nobody past (N.log network.new) clients.new.slots.items clients.new.accepted now }
+        start Sweeps (nobody clients.new.queue) past (N.log network.new) clients.new.slots.items clients.new.accepted now }
     ensures known { (speakers : Speaker → Bool)
         → AreKnown (λ b. option_map S.who b.value.session.speaker) speakers clients.old.slots.items
         → AreKnown (λ b. option_map S.who b.value.session.speaker) speakers clients.new.slots.items }

@@ -1,15 +1,16 @@
 //! The loop over all connections.
-ghost use Rattle.std.specs.Prelude.{◌≡◌, ℕ, [], false, true, Option, option_map};
+ghost use Rattle.std.specs.Prelude.{◌≡◌, ℕ, List, Bool, [], false, true, Option, option_map};
 ghost use Rattle.judy_many.specs.Books.{Journal};
 ghost use Rattle.judy_many.specs.Crowds.{Crowd, HasFailed, HasServedMany, Past, past_of};
 ghost use Rattle.judy_many.specs.Endings.{waited_if};
 ghost use Rattle.judy_many.specs.Lives.{view_of};
-ghost use Rattle.judy_many.specs.Nets.{Acts, DidLog};
-ghost use Rattle.judy_many.specs.Queues.{nobody};
+ghost use Rattle.judy_many.specs.Nets.{Acts, DidLog, may_sleep};
+ghost use Rattle.judy_many.specs.Queues.{AreAwake, StayAwake, awake_in};
 ghost use Rattle.judy_many.specs.Rules.{rules_of};
 ghost use Rattle.judy_many.specs.Slots.{AreKnown};
 ghost use Rattle.judy_many.specs.Statuses.{HasAnswered};
 ghost use Rattle.judy_many.specs.Stories.Phase.{Reads, Sweeps};
+ghost use Rattle.judy_many.specs.Watches.{nobody};
 
 use crate::arrivals::accept;
 use crate::asking::{Next, answer};
@@ -35,12 +36,14 @@ pub struct Limits {
     /// The most clients at once: 1 to 1,024.
     pub clients: u32,
     /// How many connections are accepted before the server ends.
-    pub connections: u32,
+    pub connections: u64,
+    /// How many seconds a connection may last on which nobody is logged in.
+    pub login: Option<u32>,
     /// After how many seconds in which it sent no byte and took none a client is closed.
     pub idle: Option<u32>,
     /// How many seconds a connection may last.
     pub turn: Option<u32>,
-    /// Whether there is a status socket.
+    /// Whether the operator has a socket: for the status, or for control.
     pub status: bool,
     /// When the journal is synced. Without this there is no journal.
     pub journal: Option<Sync>,
@@ -53,7 +56,7 @@ pub enum Ending {
     Done,
     /// Out of memory for the table of slots. No connection came.
     Memory,
-    /// A stop was asked for on the status socket.
+    /// A stop was asked for on the control socket.
     Stopped,
     /// The journal could not be written or synced. The lines that it lacks are not answered.
     Journal,
@@ -63,7 +66,10 @@ pub enum Ending {
 
 /// Whether the time is asked for.
 fn asks_for_time<S: Served, N: Network>(clients: &Clients<S, N>, limits: Limits) -> bool {
-    limits.idle.is_some() || limits.turn.is_some() || clients.listening.is_paused()
+    limits.login.is_some()
+        || limits.idle.is_some()
+        || limits.turn.is_some()
+        || clients.listening.is_paused()
 }
 
 /// Whether something is left to do after a second: to tell the operator, or to sync the journal.
@@ -72,7 +78,9 @@ fn is_owed<S: Shows>(warnings: &Warnings, service: &S, keeper: &Keeper) -> bool 
 }
 
 /// How many milliseconds the loop may wait for something to happen. None if it may wait for ever.
-fn time_to_wait(busy: bool, asked: bool) -> Option<u32> {
+fn time_to_wait(busy: bool, asked: bool) -> Option<u32>
+    ensures { busy ≡ true → may_sleep result ≡ false }
+{
     if busy {
         return Some(0);
     }
@@ -80,6 +88,16 @@ fn time_to_wait(busy: bool, asked: bool) -> Option<u32> {
         return Some(1000);
     }
     None
+}
+
+/// Whether the loop goes on at once: a client may have a turn, or a connection may be accepted.
+fn is_busy<S: Served, N: Network>(clients: &Clients<S, N>) -> bool
+    ensures { result ≡ false → (i : ℕ) → awake_in clients.now.queue i ≡ true → ⊥ }
+{
+    if clients.queue.len() > 0 {
+        return true;
+    }
+    clients.listening == Listening::Ready
 }
 
 /// Waits until something happens, or does not wait if a client may have a turn at once or a connection
@@ -93,9 +111,13 @@ fn wait<S: Served, N: Network>(
 ) -> bool
     ensures slots { clients.new.slots ≡ clients.old.slots }
     ensures count { clients.new.accepted ≡ clients.old.accepted }
-    ensures log { DidLog (N.log network.old) (waited_if result) (N.log network.new) }
+    ensures stay { StayAwake clients.old.queue clients.new.queue }
+    ensures log { (sleeps : Bool) × (told : List ℕ)
+        × (sleeps ≡ true → (i : ℕ) → awake_in clients.old.queue i ≡ true → ⊥)
+        × AreAwake told clients.new.queue
+        × DidLog (N.log network.old) (waited_if result sleeps told) (N.log network.new) }
 {
-    let busy = !clients.queue.is_empty() || clients.listening == Listening::Ready;
+    let busy = is_busy(&*clients);
     let time = time_to_wait(busy, owed || asks_for_time(&*clients, limits));
     let Some(comes) = network.wait(time, &mut clients.queue) else {
         return false;
@@ -130,14 +152,14 @@ fn take_turns<S: Shows, N: Network>(
         (S.seen service.old).speakers clients.old.slots.items }
     ensures crowd { (first : S) (start : Acts) (waits : ℕ) (began : Option Journal) → result ≡ true
         → Crowd (λ b. view_of S.who N.number b.value) (rules_of S.made S.seen S.noted S.status S.changed) limits first
-        start Reads nobody (past_of waits began keeper.old)
+        start Reads (nobody clients.old.queue) (past_of waits began keeper.old)
         (N.log network.old) clients.old.slots.items clients.old.accepted service.old
         → Crowd (λ b. view_of S.who N.number b.value) (rules_of S.made S.seen S.noted S.status S.changed) limits first
-        start Sweeps nobody (past_of waits began keeper.new)
+        start Sweeps (nobody clients.new.queue) (past_of waits began keeper.new)
         (N.log network.new) clients.new.slots.items clients.new.accepted service.new }
     ensures failed { (first : S) (start : Acts) (waits : ℕ) (began : Option Journal) → result ≡ false
         → Crowd (λ b. view_of S.who N.number b.value) (rules_of S.made S.seen S.noted S.status S.changed) limits first
-        start Reads nobody (past_of waits began keeper.old)
+        start Reads (nobody clients.old.queue) (past_of waits began keeper.old)
         (N.log network.old) clients.old.slots.items clients.old.accepted service.old
         → HasFailed (λ b. view_of S.who N.number b.value) (rules_of S.made S.seen S.noted S.status S.changed) limits first
         start began (N.log network.new) clients.new.slots.items clients.new.accepted service.new }
@@ -157,7 +179,7 @@ fn take_turns<S: Shows, N: Network>(
     true
 }
 
-/// Answers one question of the status socket, and reads the table again if that is what it asks for.
+/// Answers one question of the operator, and reads the table again if that is what it asks for.
 /// Returns whether it asks for a stop.
 fn ask<S: Shows, N: Network>(
     alloc: Global,
@@ -171,9 +193,9 @@ fn ask<S: Shows, N: Network>(
         (S.seen service.old).speakers clients.old.slots.items }
     ensures crowd { (first : S) (start : Acts) (past : Past) → result ≡ false
         → Crowd (λ b. view_of S.who N.number b.value) (rules_of S.made S.seen S.noted S.status S.changed) limits first
-        start Sweeps nobody past (N.log network.old) clients.old.slots.items clients.old.accepted service.old
+        start Sweeps (nobody clients.old.queue) past (N.log network.old) clients.old.slots.items clients.old.accepted service.old
         → Crowd (λ b. view_of S.who N.number b.value) (rules_of S.made S.seen S.noted S.status S.changed) limits first
-        start Sweeps nobody past (N.log network.new) clients.new.slots.items clients.new.accepted service.new }
+        start Sweeps (nobody clients.new.queue) past (N.log network.new) clients.new.slots.items clients.new.accepted service.new }
     ensures stop { result ≡ true
         → HasAnswered limits.status Next.Stop (S.status service.old) (N.log network.old) (N.log network.new)
         × (service.new ≡ service.old) }
@@ -196,8 +218,8 @@ fn ask<S: Shows, N: Network>(
 ///
 /// In each round every client that is ready has a turn, in the order in which they became so: first
 /// all of them read and run their lines, then all write their answers. After that the operator is told
-/// what was refused, and one question on the status socket is answered. If it asks for that, the table
-/// is read again.
+/// what was refused, and one question of the operator is answered. If it asks for that, the table is read
+/// again.
 ///
 /// With a rule when it is synced, the writer goes on with a journal. Then in each round the records of
 /// the lines that may have changed arrays are kept before the answers are written.

@@ -1,11 +1,12 @@
 //! A session: the lines of one connection, run as they come, with their answers in a buffer.
-ghost use Rattle.std.specs.Prelude.{◌≡◌, ◌≤◌, ◌+◌, ◌++◌, ◌∷◌, ℕ, List, [], None, length, IfSome, IsTrue, option_map};
+ghost use Rattle.std.specs.Prelude.{◌≡◌, ◌<◌, ◌≤◌, ◌+◌, ◌++◌, ◌∷◌, ℕ, List, [], None, length, IfSome, IsTrue, option_map};
 ghost use Rattle.judy_protocol.specs.Services.{HasLoggedIn};
 ghost use Rattle.judy_protocol.specs.Talks.{HasNoLf, Holds};
 ghost use Rattle.judy_many.specs.Books.{has_room, noted_by};
 ghost use Rattle.judy_many.specs.Records.{records_of};
 ghost use Rattle.judy_many.specs.Rules.{rules_of};
 ghost use Rattle.judy_many.specs.Sessions.{Steps, Turn};
+ghost use Rattle.judy_many.specs.Watches.{HasLine, LeavesLine};
 
 use crate::keeping::Keeper;
 use crate::shows::Shows;
@@ -162,6 +163,8 @@ pub fn run_lines<S: Shows>(
     requires known { HasLoggedIn (S.seen service.old).speakers (option_map S.who session.old.speaker) }
     ensures steps { (used : List ℕ) × (rest : List ℕ) × (turns : List Turn)
         × (used ++ rest ≡ bytes.now) × (length rest ≡ result.left)
+        × LeavesLine result.quit rest
+        × ((HasLine bytes.now × IsTrue (has_room keeper.old) × (answers.old.items ≡ [])) → 0 < length turns)
         × Steps (rules_of S.made S.seen S.noted S.status S.changed) used turns result.quit
         session.old.held session.new.held
         (option_map S.who session.old.speaker) (option_map S.who session.new.speaker)
@@ -173,14 +176,13 @@ pub fn run_lines<S: Shows>(
     ensures known { HasLoggedIn (S.seen service.new).speakers (option_map S.who session.new.speaker) }
 {
     let mut rest = bytes;
-    while answers.len() <= ANSWERS_LIMIT - REPLY_LIMIT && keeper.has_room() {
-        let Some((chunk, after)) = cut_line(rest) else {
-            session.held.hold(rest);
+    while let Some((chunk, after)) = cut_line(rest) {
+        if answers.len() > ANSWERS_LIMIT - REPLY_LIMIT || !keeper.has_room() {
             return Ran {
-                left: 0,
+                left: rest.len(),
                 quit: false,
             };
-        };
+        }
         rest = after;
         if run_line(alloc, session, service, rooms, chunk, answers, keeper) {
             return Ran {
@@ -189,8 +191,9 @@ pub fn run_lines<S: Shows>(
             };
         }
     }
+    session.held.hold(rest);
     Ran {
-        left: rest.len(),
+        left: 0,
         quit: false,
     }
 }

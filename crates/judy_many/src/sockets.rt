@@ -1,14 +1,16 @@
-//! Unix sockets, by `epoll`. A second one may answer questions for the status.
+//! Unix sockets, by `epoll`. Two more may be for the operator.
 ghost use Rattle.std.specs.Prelude.{None};
 
 use crate::counts::Counts;
-use crate::desk::{ASKER, DESK, Desk};
+use crate::desk::{CONTROL, Desk, Purpose, STATUS};
 use crate::limits::{CLIENTS_LIMIT, EVENTS_LIMIT};
+use crate::lines::tell_line;
 use crate::network::{Accept, Got, How, Network, Put, Question, Unread};
 use crate::queue::Queue;
 use mio::net::{UnixListener, UnixStream};
-use mio::{Events, Interest, Poll, Token};
+use mio::{Events, Interest, Poll, Registry, Token};
 use std::alloc::Global;
+use std::fmt::Display;
 use std::fs::Files;
 use std::io::{self, Eprint, ErrorKind, Read, Write};
 use std::net::Net;
@@ -25,12 +27,14 @@ const LATER: [i32; 7] = [4, 12, 23, 24, 103, 105, 71];
 #[derive(Drop)]
 pub struct Sockets<'a, F> {
     rt: &'a F,
+    alloc: Global,
     listener: UnixListener,
     poll: Poll,
     events: Events<Global>,
     began: Option<Instant>,
     fault: Option<io::Error>,
-    desk: Option<Desk>,
+    status: Option<Desk>,
+    control: Option<Desk>,
     counts: Counts,
     warned: Option<u64>,
 }
@@ -54,12 +58,14 @@ impl<'a, F: Files + Net + Clock + Eprint> Sockets<'a, F> {
         let events = Events::with_capacity(alloc, EVENTS_LIMIT)?;
         Ok(Sockets {
             rt,
+            alloc,
             listener,
             poll,
             events,
             began: Instant::now(rt).ok(),
             fault: None,
-            desk: None,
+            status: None,
+            control: None,
             counts: Counts::new(),
             warned: None,
         })
@@ -67,8 +73,19 @@ impl<'a, F: Files + Net + Clock + Eprint> Sockets<'a, F> {
 
     /// Makes the status socket at a path.
     pub fn watch(&mut self, path: &str) -> io::Result<()> {
-        self.desk = Some(Desk::bind(self.rt, self.poll.registry(), path)?);
+        self.status = Some(self.desk(path, Purpose::Status)?);
         Ok(())
+    }
+
+    /// Makes the control socket at a path.
+    pub fn control(&mut self, path: &str) -> io::Result<()> {
+        self.control = Some(self.desk(path, Purpose::Control)?);
+        Ok(())
+    }
+
+    /// A socket of the operator at a path.
+    fn desk(&self, path: &str, purpose: Purpose) -> io::Result<Desk> {
+        Desk::bind(self.rt, self.alloc, self.poll.registry(), path, purpose)
     }
 
     /// Why the listener or a wait failed for good, if one did.
@@ -84,8 +101,44 @@ impl<'a, F: Files + Net + Clock + Eprint> Sockets<'a, F> {
             return;
         }
         self.warned = now;
-        let _ = eprintln!(self.rt; "judyd: accept failed: {reason}");
+        self.tell(format_args!("judyd: accept failed: {reason}"));
     }
+
+    /// Tells a line to the operator. Counts it if it was dropped.
+    pub fn tell<D: Display + Drop>(&mut self, line: D) {
+        if !tell_line(self.rt, line) {
+            self.counts.drop_line();
+        }
+    }
+}
+
+/// How many milliseconds the loop may wait, if it may wait so long without this socket of the operator.
+fn patience(desk: &Option<Desk>, time: Option<u32>) -> Option<u32> {
+    match desk {
+        Some(desk) => desk.patience(time),
+        None => time,
+    }
+}
+
+/// A connection has come to a socket of the operator.
+fn expect_at(desk: &mut Option<Desk>) {
+    if let Some(desk) = desk {
+        desk.expect_one();
+    }
+}
+
+/// Whether one asks at a socket of the operator, or may wait there.
+fn is_busy(desk: &Option<Desk>) -> bool {
+    desk.as_ref().is_some_and(|desk| desk.is_busy())
+}
+
+/// What is asked at a socket of the operator.
+fn ask_at(desk: &mut Option<Desk>, registry: &Registry, now: Option<u64>) -> Question {
+    let Some(desk) = desk else {
+        return Question::Nothing;
+    };
+    desk.accept(registry, now);
+    desk.ask(now)
 }
 
 /// Whether a later accept may succeed.
@@ -138,7 +191,7 @@ impl<'a, F: Files + Net + Clock + Eprint> Network for Sockets<'a, F> {
     }
 
     fn wait(&mut self, time: Option<u32>, queue: &mut Queue) -> Option<bool> {
-        let time = self.desk.as_ref().map_or(time, |desk| desk.patience(time));
+        let time = patience(&self.status, patience(&self.control, time));
         let timeout = time.map(|n| Duration::from_millis(u64::from(n)));
         if let Err(e) = self.poll.poll(&mut self.events, timeout) {
             if e.kind() == ErrorKind::Interrupted {
@@ -152,10 +205,11 @@ impl<'a, F: Files + Net + Clock + Eprint> Network for Sockets<'a, F> {
             let Token(slot) = event.token();
             if slot >= CLIENTS_LIMIT {
                 comes = comes || event.token() == LISTENER;
-                if event.token() == DESK
-                    && let Some(desk) = &mut self.desk
-                {
-                    desk.expect_one();
+                if event.token() == STATUS {
+                    expect_at(&mut self.status);
+                }
+                if event.token() == CONTROL {
+                    expect_at(&mut self.control);
                 }
             } else if event.is_read_closed() || event.is_error() {
                 queue.mark_ended(slot);
@@ -224,31 +278,29 @@ impl<'a, F: Files + Net + Clock + Eprint> Network for Sockets<'a, F> {
     }
 
     fn ask(&mut self) -> Question {
-        let Some(desk) = &self.desk else {
-            return Question::Nothing;
-        };
-        if !desk.is_busy() {
+        if !is_busy(&self.control) && !is_busy(&self.status) {
             return Question::Nothing;
         }
         let now = self.seconds();
-        let Some(desk) = &mut self.desk else {
-            return Question::Nothing;
-        };
-        desk.accept(self.poll.registry(), now);
-        desk.ask(now)
+        let registry = self.poll.registry();
+        let command = ask_at(&mut self.control, registry, now);
+        if command != Question::Nothing {
+            return command;
+        }
+        ask_at(&mut self.status, registry, now)
     }
 
     fn report(&mut self, text: &[u8]) {
         let seconds = self.seconds().unwrap_or(0);
         let first = self.counts.text(seconds);
-        if let Some(desk) = &mut self.desk {
+        if let Some(desk) = &mut self.status {
             desk.answer(first.as_slice(), text);
         }
     }
 
     fn warn(&mut self, text: &[u8]) {
         if let Ok(text) = str::from_utf8(text) {
-            let _ = eprintln!(self.rt; "judyd: {text}");
+            self.tell(format_args!("judyd: {text}"));
         }
     }
 
@@ -259,7 +311,7 @@ impl<'a, F: Files + Net + Clock + Eprint> Network for Sockets<'a, F> {
     }
 
     fn reply(&mut self, text: &[u8]) {
-        if let Some(desk) = &mut self.desk {
+        if let Some(desk) = &mut self.control {
             desk.answer(text, b"");
         }
     }

@@ -1,10 +1,10 @@
 -- How a server begins: the file with the table, and what follows if it gives no service.
 use Rattle.std.proofs.Common.{inl, inr, ℕ, List, [], ◌∷◌, ◌++◌, None, Some, map, refl}
-use Rattle.std.proofs.Common.{true, sym, ◌∙◌, ap, subst, append_assoc, append-nil}
+use Rattle.std.proofs.Common.{Bool, false, true, sym, ◌∙◌, ap, subst, append_assoc, append-nil}
 use Rattle.std.specs.Prelude.{◌≡◌, ◌≢◌, IsSome, Option}
 use Rattle.judy_many.specs.Nets.{Act, DidLog, Step}
 use Rattle.judy_many.specs.Nets.Act.{Asked}
-use Rattle.judy_many.specs.Nets.Step.{Bound, Opened, Shut}
+use Rattle.judy_many.specs.Nets.Step.{Bound, Controlled, Opened, Shut, Uncontrolled, Unwatched, Watched}
 use Rattle.judy_many.specs.Crowds.{HasServedMany}
 use Rattle.judy_many.specs.Rules.{Rules}
 use Rattle.judy_many.specs.declared.serve.Ending.{Ending}
@@ -13,7 +13,7 @@ use Rattle.judy_journal.specs.Writes.{Writing}
 use Rattle.judy_many.specs.declared.serve.Limits.{Limits}
 use Rattle.judy_protocol.specs.Serving.{MaybeBytes}
 use Rattle.judy_programs.specs.Asking.{Log, Logs}
-use Rattle.judy_programs.specs.Hosting.{Checks, HasBegun, HasNoReserve, HasServedAll, Hosts, IsServing, Refuses, Serves, Watches, watched}
+use Rattle.judy_programs.specs.Hosting.{Checks, Desks, HasBegun, HasNoReserve, HasServedAll, Hosts, IsServing, Makes, Refuses, Serves, Watches, desks_at, made_at, watched}
 use Rattle.judy_programs.specs.Opening.{HasOpened, IsShut}
 use Rattle.judy_programs.specs.declared.socket.Hosted.{Hosted}
 use Rattle.judy_programs.specs.declared.socket.Hosted.TheVariants as hosted
@@ -94,7 +94,7 @@ module _ {S : Type 0} (is_new : Option ℕ → List Tenant → S → Type 0) (re
   checks_none hosted.Journal config log log' h = absurd h
   checks_none other config log log' h = h
 
-  pub hosts_none : (rules : Rules S) (how : Hosted) (config socket : List ℕ) (watch : Option (List ℕ)) (limits : Limits) (log log' : Log)
+  pub hosts_none : (rules : Rules S) (how : Hosted) (config socket : List ℕ) (watch : Desks) (limits : Limits) (log log' : Log)
       → Refuses is_new reserve how config log log' → Hosts rules is_new reserve how config socket watch limits log log'
   hosts_none rules hosted.Config config socket watch limits log log' h = h
   hosts_none rules hosted.Long config socket watch limits log log' h = h
@@ -105,7 +105,15 @@ module _ {S : Type 0} (is_new : Option ℕ → List Tenant → S → Type 0) (re
 
 -- ---- a service and its sockets
 
-module _ {S : Type 0} (rules : Rules S) (socket : List ℕ) (watch : Option (List ℕ)) (limits : Limits) (writer : Option Writing) where
+-- the sockets of the operator are made one after the other
+pub watches_both : (status control : Option (List ℕ)) (made : Bool) (log mid log' : Log) → Makes Watched Unwatched true status log mid
+    → Makes Controlled Uncontrolled made control mid log' → Watches made (desks_at status control) log log'
+watches_both status control false log mid log' h k = inr (mid, h, k)
+watches_both None control true log mid log' h k = ((h.0, k.0), logs_then log mid log' [] (map Asked (made_at Controlled control)) h.1 k.1)
+watches_both (Some path) control true log mid log' h k =
+    ((h.0, k.0), logs_then log mid log' (Asked (Watched path) ∷ []) (map Asked (made_at Controlled control)) h.1 k.1)
+
+module _ {S : Type 0} (rules : Rules S) (socket : List ℕ) (watch : Desks) (limits : Limits) (writer : Option Writing) where
   -- the sockets were made, and connections were served
   pub serving : (how : Ending) (log bound mid log' : Log) (before after : S)
       → socket ≢ [] → Logs log (Bound socket ∷ []) bound → Watches true watch bound mid
@@ -113,14 +121,14 @@ module _ {S : Type 0} (rules : Rules S) (socket : List ℕ) (watch : Option (Lis
   serving how log bound mid log' before after path first watches hosted = record {
     mid = mid;
     path = path;
-    status_path = watches.0;
+    paths = watches.0;
     asked = logs_then log bound mid (Asked (Bound socket) ∷ []) (map Asked (watched watch)) first watches.1;
     hosted = hosted;
   }
 
 module _ {S : Type 0} (rules : Rules S) (is_new : Option ℕ → List Tenant → S → Type 0) (reserve : Option ℕ) where
   -- the file gave a service, which served without a journal
-  served_all : (config socket : List ℕ) (watch : Option (List ℕ)) (limits : Limits) (how : Ending) (log start log' : Log) (before after : S)
+  served_all : (config socket : List ℕ) (watch : Desks) (limits : Limits) (how : Ending) (log start log' : Log) (before after : S)
       → HasBegun (is_new reserve) config log start before → IsServing rules socket watch limits None how start log' before after
       → HasServedAll rules (is_new reserve) config socket watch limits how log log'
   served_all config socket watch limits how log start log' before after begun s = record {
@@ -130,12 +138,12 @@ module _ {S : Type 0} (rules : Rules S) (is_new : Option ℕ → List Tenant →
     mid = s.mid;
     begun = begun;
     path = s.path;
-    status_path = s.status_path;
+    paths = s.paths;
     asked = s.asked;
     hosted = s.hosted;
   }
 
-  pub hosts_served : (how : Hosted) (config socket : List ℕ) (watch : Option (List ℕ)) (limits : Limits) (log start log' : Log) (before after : S)
+  pub hosts_served : (how : Hosted) (config socket : List ℕ) (watch : Desks) (limits : Limits) (log start log' : Log) (before after : S)
       → HasBegun (is_new reserve) config log start before → Serves rules how socket watch limits None start log' before after
       → Hosts rules is_new reserve how config socket watch limits log log'
   hosts_served hosted.Done config socket watch limits log start log' before after b s =

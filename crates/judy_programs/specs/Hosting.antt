@@ -4,10 +4,10 @@
 --     HasNoReserve ..         there is a service, and not the memory that was to be taken for it
 --     HasServedAll how ..     there is a service and a socket, and connections were served at once
 --     Hosts hosted ..         the whole: the table, the sockets, connections
-use Rattle.std.specs.Prelude.{◌≡◌, ◌≢◌, ◌⊎◌, ℕ, Bool, true, false, List, [], ◌∷◌, Option, Some, None, Result, Ok, Err}
+use Rattle.std.specs.Prelude.{◌≡◌, ◌≢◌, ◌⊎◌, ℕ, Bool, true, false, List, [], ◌∷◌, ◌++◌, Option, Some, None, Result, Ok, Err}
 use Rattle.judy_journal.specs.Writes.{Writing}
 use Rattle.judy_many.specs.Crowds.{HasServedMany}
-use Rattle.judy_many.specs.Nets.Step.{Bound, Opened, Shut, Unbound, Unopened, Unwatched, Watched}
+use Rattle.judy_many.specs.Nets.Step.{Bound, Controlled, Opened, Shut, Unbound, Uncontrolled, Unopened, Unwatched, Watched}
 use Rattle.judy_many.specs.declared.serve.Ending.{Ending}
 use Rattle.judy_many.specs.declared.serve.Ending.TheVariants as ending
 use Rattle.judy_many.specs.declared.serve.Limits.{Limits}
@@ -80,21 +80,42 @@ module _ {S : Type 0} (is_new : Option ℕ → List Tenant → S → Type 0) (re
   Checks hosted.Memory config log log' = Refuses hosted.Memory config log log'
   Checks hosted.Reserve config log log' = Refuses hosted.Reserve config log log'
 
--- ---- the status socket
+-- ---- the sockets of the operator
 
--- it is made at its path, if one is wanted
-abbrev pub watched : Option (List ℕ) → List Step
-watched None = []
-watched (Some path) = Watched path ∷ []
+-- where the status socket and the control socket are made, if they are wanted
+pub record Desks : Type 0 where
+  pub status : Option (List ℕ)
+  pub control : Option (List ℕ)
 
--- it was made at its path, which is not empty, if one is wanted; or it cannot be made there
-abbrev pub Watches : Bool → Option (List ℕ) → Log → Log → Type 0
-Watches true status log log' = (status ≢ Some []) × Logs log (watched status) log'
-Watches false None log log' = ⊥
-Watches false (Some path) log log' = ((path ≡ []) × Logs log [] log') ⊎ ((path ≢ []) × Logs log (Unwatched path ∷ []) log')
+abbrev pub desks_at : Option (List ℕ) → Option (List ℕ) → Desks
+desks_at status control = record { status = status; control = control }
 
--- the socket cannot be made at its path, or the status socket cannot
-abbrev pub HasNoSockets : List ℕ → Option (List ℕ) → Log → Log → Type 0
+-- each is made at its path, if it is wanted: first the status socket
+abbrev pub made_at : (List ℕ → Step) → Option (List ℕ) → List Step
+made_at made None = []
+made_at made (Some path) = made path ∷ []
+
+abbrev pub watched : Desks → List Step
+watched desks = made_at Watched desks.status ++ made_at Controlled desks.control
+
+-- no socket is made at an empty path
+abbrev pub HavePaths : Desks → Type 0
+HavePaths desks = (desks.status ≢ Some []) × (desks.control ≢ Some [])
+
+-- one was made at its path, which is not empty, if it is wanted; or it cannot be made there
+abbrev pub Makes : (List ℕ → Step) → (List ℕ → Step) → Bool → Option (List ℕ) → Log → Log → Type 0
+Makes made unmade true path log log' = (path ≢ Some []) × Logs log (made_at made path) log'
+Makes made unmade false None log log' = ⊥
+Makes made unmade false (Some path) log log' = ((path ≡ []) × Logs log [] log') ⊎ ((path ≢ []) × Logs log (unmade path ∷ []) log')
+
+-- both were made, if they are wanted; or the first cannot be made, or the second cannot after the first
+abbrev pub Watches : Bool → Desks → Log → Log → Type 0
+Watches true desks log log' = HavePaths desks × Logs log (watched desks) log'
+Watches false desks log log' = Makes Watched Unwatched false desks.status log log'
+    ⊎ ((mid : Log) × Makes Watched Unwatched true desks.status log mid × Makes Controlled Uncontrolled false desks.control mid log')
+
+-- the socket cannot be made at its path, or one of the operator's cannot
+abbrev pub HasNoSockets : List ℕ → Desks → Log → Log → Type 0
 HasNoSockets socket watch log log' = ((socket ≡ []) × Logs log [] log') ⊎ ((socket ≢ []) × Logs log (Unbound socket ∷ []) log')
     ⊎ ((bound : Log) × (socket ≢ []) × Logs log (Bound socket ∷ []) bound × Watches false watch bound log')
 
@@ -102,16 +123,16 @@ HasNoSockets socket watch log log' = ((socket ≡ []) × Logs log [] log') ⊎ (
 
 -- The sockets were made, and then the connections that came were served, many at once. The writer went on
 -- with a journal, if there is one.
-pub record IsServing {S : Type 0} (rules : Rules S) (socket : List ℕ) (watch : Option (List ℕ)) (limits : Limits) (writer : Option Writing) (how : Ending) (log log' : Log) (before after : S) : Type 0 where
+pub record IsServing {S : Type 0} (rules : Rules S) (socket : List ℕ) (watch : Desks) (limits : Limits) (writer : Option Writing) (how : Ending) (log log' : Log) (before after : S) : Type 0 where
   pub mid : Log
   pub path : socket ≢ []
-  pub status_path : watch ≢ Some []
+  pub paths : HavePaths watch
   pub asked : Logs log (Bound socket ∷ watched watch) mid
   pub hosted : HasServedMany rules limits writer how mid log' before after
 
 -- what a service did, by how it ended
 module _ {S : Type 0} (rules : Rules S) where
-  abbrev pub Serves : Hosted → List ℕ → Option (List ℕ) → Limits → Option Writing → Log → Log → S → S → Type 0
+  abbrev pub Serves : Hosted → List ℕ → Desks → Limits → Option Writing → Log → Log → S → S → Type 0
   Serves hosted.Done socket watch limits writer log log' before after = IsServing rules socket watch limits writer ending.Done log log' before after
   Serves hosted.Stopped socket watch limits writer log log' before after = IsServing rules socket watch limits writer ending.Stopped log log' before after
   Serves hosted.Memory socket watch limits writer log log' before after = IsServing rules socket watch limits writer ending.Memory log log' before after
@@ -125,22 +146,22 @@ module _ {S : Type 0} (rules : Rules S) where
   Serves hosted.Recovery socket watch limits writer log log' before after = ⊥
 
 module _ {S : Type 0} (rules : Rules S) (is_new : List Tenant → S → Type 0) where
-  -- The file gave a service, then a socket was made, and the status socket if one is wanted, and then
+  -- The file gave a service, then a socket was made, and those of the operator that are wanted, and then
   -- the connections that came were served, many at once. One log has all acts, from the opening of
   -- the file to the last close.
-  pub record HasServedAll (config socket : List ℕ) (watch : Option (List ℕ)) (limits : Limits) (how : Ending) (log log' : Log) : Type 0 where
+  pub record HasServedAll (config socket : List ℕ) (watch : Desks) (limits : Limits) (how : Ending) (log log' : Log) : Type 0 where
     pub before : S
     pub after : S
     pub start : Log
     pub mid : Log
     pub begun : HasBegun is_new config log start before
     pub path : socket ≢ []
-    pub status_path : watch ≢ Some []
+    pub paths : HavePaths watch
     pub asked : Logs start (Bound socket ∷ watched watch) mid
     pub hosted : HasServedMany rules limits None how mid log' before after
 
   -- there is a service, and a socket is missing
-  pub record HasNoSocket (config socket : List ℕ) (watch : Option (List ℕ)) (log log' : Log) : Type 0 where
+  pub record HasNoSocket (config socket : List ℕ) (watch : Desks) (log log' : Log) : Type 0 where
     pub before : S
     pub start : Log
     pub begun : HasBegun is_new config log start before
@@ -150,7 +171,7 @@ module _ {S : Type 0} (rules : Rules S) (is_new : List Tenant → S → Type 0) 
 -- ---- the whole, by how it ended
 
 module _ {S : Type 0} (rules : Rules S) (is_new : Option ℕ → List Tenant → S → Type 0) (reserve : Option ℕ) where
-  abbrev pub Hosts : Hosted → List ℕ → List ℕ → Option (List ℕ) → Limits → Log → Log → Type 0
+  abbrev pub Hosts : Hosted → List ℕ → List ℕ → Desks → Limits → Log → Log → Type 0
   Hosts hosted.Done config socket watch limits log log' = HasServedAll rules (is_new reserve) config socket watch limits ending.Done log log'
   Hosts hosted.Stopped config socket watch limits log log' = HasServedAll rules (is_new reserve) config socket watch limits ending.Stopped log log'
   Hosts hosted.Recovery config socket watch limits log log' = ⊥

@@ -15,7 +15,7 @@ use Rattle.judy_many.specs.Rules.{Rules}
 use Rattle.judy_many.specs.declared.network.Sync.{Sync}
 use Rattle.judy_many.specs.declared.serve.Limits.{Limits}
 use Rattle.judy_programs.specs.Asking.{Log}
-use Rattle.judy_programs.specs.Hosting.{HasBegun, Refuses, Serves}
+use Rattle.judy_programs.specs.Hosting.{Desks, HasBegun, Refuses, Serves}
 use Rattle.judy_programs.specs.declared.socket.Hosted.{Hosted}
 use Rattle.judy_programs.specs.declared.socket.Hosted.TheVariants as hosted
 use Rattle.judy_recovery.specs.Whole.{HasPlayedJournal, HasResumed, Kept}
@@ -54,7 +54,7 @@ module _ {S : Type 0} (rules : Rules S) (replays : S → List (List ℕ) → S �
   -- The file gave a service, and the records of the journal were played to it. The writer goes on behind them.
   -- Then the sockets were made, and the connections that came were served by the service that had played them: no
   -- answer was written before what it tells was kept in the journal.
-  pub record HasServedOn (how : Hosted) (config socket : List ℕ) (watch : Option (List ℕ)) (limits : Limits) (log log' : Log) : Type 0 where
+  pub record HasServedOn (how : Hosted) (config socket : List ℕ) (watch : Desks) (limits : Limits) (log log' : Log) : Type 0 where
     pub fresh : S
     pub start : Log
     pub begun : HasBegun (is_new reserve) config log start fresh
@@ -69,7 +69,7 @@ module _ {S : Type 0} (rules : Rules S) (replays : S → List (List ℕ) → S �
     pub after : S
     pub served : Serves rules how socket watch limits (Some writer) ready log' before after
 
-  abbrev pub HostsJournaled : Hosted → List ℕ → List ℕ → Option (List ℕ) → Limits → Log → Log → Type 0
+  abbrev pub HostsJournaled : Hosted → List ℕ → List ℕ → Desks → Limits → Log → Log → Type 0
   HostsJournaled how config socket watch limits log log' = Refuses is_new reserve how config log log'
       ⊎ HasNoJournal how config log ⊎ HasServedOn how config socket watch limits log log'
 

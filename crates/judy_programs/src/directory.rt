@@ -3,6 +3,7 @@ ghost use Rattle.std.specs.Prelude.{IfOk, IfSome, IsTrue, OnOk};
 ghost use Rattle.judy_recovery.specs.Whole.{HasPlayedJournal, HasResumed, Kept};
 
 use judy_disk::{DiskFault, Folder, Growing, Locks, Place};
+use judy_many::tell_line;
 use judy_recovery::{End, JournalFault, Player, Resumed, recover, resume};
 use std::alloc::Global;
 use std::io::{self, Eprint};
@@ -44,8 +45,11 @@ fn tell_cut<F: Locks + Eprint>(rt: &F, folder: &Folder<'_, F>, end: &Option<End>
         return;
     }
     let (path, file, torn) = (folder.path(), Place::Segment(end.segment), end.torn);
-    let _ = eprintln!(rt;
-        "judyd: {path}/{file}: cut off {torn} bytes of a commit that was not finished"
+    tell_line(
+        rt,
+        format_args!(
+            "judyd: {path}/{file}: cut off {torn} bytes of a commit that was not finished"
+        ),
     );
 }
 

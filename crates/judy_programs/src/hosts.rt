@@ -1,6 +1,6 @@
 //! What `judyd serve` asks of the system: a secret, a file, a socket, and many connections.
 ghost use Rattle.std.specs.Prelude.{[], ◌∷◌, MatchOption, MatchBool};
-ghost use Rattle.judy_many.specs.Nets.Step.{Bound, Drawn, Opened, Shut, Unbound, Undrawn, Unopened, Unwatched, Watched};
+ghost use Rattle.judy_many.specs.Nets.Step.{Bound, Controlled, Drawn, Opened, Shut, Unbound, Uncontrolled, Undrawn, Unopened, Unwatched, Watched};
 ghost use Rattle.judy_programs.specs.Asking.{Logs};
 
 use judy_many::Network;
@@ -42,4 +42,11 @@ pub trait Hosts: Network {
         ensures { MatchBool result
             (Logs (Self.log self.old) (Watched path.now ∷ []) (Self.log self.new))
             (Logs (Self.log self.old) (Unwatched path.now ∷ []) (Self.log self.new)) };
+
+    /// Makes the control socket at a path, after the others. Commands come to it from then on. False
+    /// if it cannot be made.
+    fn control(&mut self, path: &str) -> bool
+        ensures { MatchBool result
+            (Logs (Self.log self.old) (Controlled path.now ∷ []) (Self.log self.new))
+            (Logs (Self.log self.old) (Uncontrolled path.now ∷ []) (Self.log self.new)) };
 }

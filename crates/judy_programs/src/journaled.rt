@@ -3,6 +3,7 @@ ghost use Rattle.std.specs.Prelude.{◌≡◌, IfOk, IfErr, option_map};
 ghost use Rattle.judy_many.specs.Rules.{rules_of};
 ghost use Rattle.judy_stream.specs.Streams.{MayAlwaysPull};
 ghost use Rattle.judy_protocol.specs.Serving.{pull_limit};
+ghost use Rattle.judy_programs.specs.Hosting.{desks_at};
 ghost use Rattle.judy_programs.specs.Journaled.{ChecksJournaled, HasMade, HasNoWriter, HostsJournaled};
 ghost use Rattle.judy_recovery.specs.Whole.{HasResumed, Kept};
 ghost use Rattle.judy_recovery.specs.declared.resuming.Resumed.{Resumed as At};
@@ -83,6 +84,7 @@ pub fn host_journaled<S: Opens + Shows + Replays + Drop, H: Journals>(
     config: &str,
     socket: &str,
     status: Option<&str>,
+    control: Option<&str>,
     reserve: Option<u32>,
     limits: Limits,
     directory: &str,
@@ -90,7 +92,7 @@ pub fn host_journaled<S: Opens + Shows + Replays + Drop, H: Journals>(
     requires files { MayAlwaysPull H.File.source pull_limit }
     ensures { HostsJournaled (rules_of S.made S.seen S.noted S.status S.changed) S.replayed
         (H.may_have directory.now) (S.is_new secret.now) reserve result config.now socket.now
-        (option_map (λ s. s.now) status.entry) limits (H.log system.old) (H.log system.new) }
+        (desks_at (option_map (λ s. s.now) status.entry) (option_map (λ s. s.now) control.entry)) limits (H.log system.old) (H.log system.new) }
 {
     let begun: Result<S, Hosted> = begin_on(alloc, secret, system, config, reserve);
     let service = match begun {
@@ -106,6 +108,7 @@ pub fn host_journaled<S: Opens + Shows + Replays + Drop, H: Journals>(
                 system,
                 socket,
                 status,
+                control,
                 limits,
                 Some(writer),
             )

@@ -1,9 +1,10 @@
 //! The whole of `judyd serve`: the table, the socket, and many connections at once.
 ghost use Rattle.std.specs.Prelude.{◌≡◌, ℕ, List, None, IfErr, IfOk, IsFalse, IsSome, IsTrue, option_map};
 ghost use Rattle.judy_many.specs.Rules.{rules_of};
+ghost use Rattle.judy_many.specs.Nets.Step.{Controlled, Uncontrolled, Unwatched, Watched};
 ghost use Rattle.judy_stream.specs.Streams.{MayAlwaysPull};
 ghost use Rattle.judy_protocol.specs.Serving.{pull_limit};
-ghost use Rattle.judy_programs.specs.Hosting.{Begins, Checks, Hosts as IsHosted, Serves, Watches};
+ghost use Rattle.judy_programs.specs.Hosting.{Begins, Checks, Hosts as IsHosted, Makes, Serves, Watches, desks_at};
 ghost use Rattle.judy_programs.specs.Opening.{HasOpened, IsShut, open_ends, open_faults};
 ghost use Rattle.judy_table.specs.declared.tenant.Tenant.{Tenant};
 
@@ -35,7 +36,7 @@ pub enum Hosted {
     Reserve,
     /// A socket cannot be made, or it fails.
     Socket,
-    /// A stop was asked for on the status socket.
+    /// A stop was asked for on the control socket.
     Stopped,
     /// The journal cannot be read, or another server has it.
     Recovery,
@@ -126,8 +127,9 @@ pub fn check_on<S: Opens + Drop, H: Hosts>(
 }
 
 /// Makes the status socket, if one is wanted. False if it cannot be made.
-fn watch_on<H: Hosts>(system: &mut H, status: Option<&str>) -> bool
-    ensures { Watches result (option_map (λ s. s.now) status.entry) (H.log system.old) (H.log system.new) }
+fn watch_at<H: Hosts>(system: &mut H, status: Option<&str>) -> bool
+    ensures { Makes Watched Unwatched result (option_map (λ s. s.now) status.entry)
+        (H.log system.old) (H.log system.new) }
 {
     let Some(path) = status else {
         return true;
@@ -138,7 +140,32 @@ fn watch_on<H: Hosts>(system: &mut H, status: Option<&str>) -> bool
     system.watch(path)
 }
 
-/// Makes a socket at the path `socket` and, if one is wanted, the status socket, and serves the
+/// Makes the control socket, if one is wanted. False if it cannot be made.
+fn control_at<H: Hosts>(system: &mut H, control: Option<&str>) -> bool
+    ensures { Makes Controlled Uncontrolled result (option_map (λ s. s.now) control.entry)
+        (H.log system.old) (H.log system.new) }
+{
+    let Some(place) = control else {
+        return true;
+    };
+    if place.is_empty() {
+        return false;
+    }
+    system.control(place)
+}
+
+/// Makes the sockets of the operator that are wanted. False if one cannot be made.
+fn watch_on<H: Hosts>(system: &mut H, status: Option<&str>, control: Option<&str>) -> bool
+    ensures { Watches result (desks_at (option_map (λ s. s.now) status.entry) (option_map (λ s. s.now) control.entry))
+        (H.log system.old) (H.log system.new) }
+{
+    if !watch_at(system, status) {
+        return false;
+    }
+    control_at(system, control)
+}
+
+/// Makes a socket at the path `socket` and the sockets of the operator that are wanted, and serves the
 /// connections that come. The writer goes on with a journal, if there is one.
 pub fn serve_on<S: Shows, H: Hosts>(
     alloc: Global,
@@ -146,11 +173,12 @@ pub fn serve_on<S: Shows, H: Hosts>(
     system: &mut H,
     socket: &str,
     status: Option<&str>,
+    control: Option<&str>,
     limits: Limits,
     writer: Option<Box<Writer>>,
 ) -> Hosted
     ensures { Serves (rules_of S.made S.seen S.noted S.status S.changed) result socket.now
-        (option_map (λ s. s.now) status.entry) limits (option_map (λ w. w.value) writer)
+        (desks_at (option_map (λ s. s.now) status.entry) (option_map (λ s. s.now) control.entry)) limits (option_map (λ w. w.value) writer)
         (H.log system.old) (H.log system.new) service.old service.new }
 {
     // The system would make a socket without a path, which no client can find.
@@ -160,7 +188,7 @@ pub fn serve_on<S: Shows, H: Hosts>(
     if !system.bind(alloc, socket) {
         return Hosted::Socket;
     }
-    if !watch_on(system, status) {
+    if !watch_on(system, status, control) {
         return Hosted::Socket;
     }
     match serve_many(alloc, system, service, limits, writer) {
@@ -174,11 +202,12 @@ pub fn serve_on<S: Shows, H: Hosts>(
 
 /// Serves the tenants of the table in the file `config`. It makes a socket at the path `socket` and
 /// serves the connections to it, many at once, within these limits. All of them share one service.
-/// Questions to the socket at the path `status` are answered, if there is one.
+/// Questions to the socket at the path `status` are answered, if there is one, and commands to that at
+/// the path `control`.
 ///
 /// It checks for faults in this order: opening the file, reading it, its length, the table, memory
-/// for the service, the memory to reserve, the socket, the status socket, memory for the table of
-/// clients, and the sockets again. No socket can be made at an empty path.
+/// for the service, the memory to reserve, the socket, the status socket, the control socket, memory for
+/// the table of clients, and the sockets again. No socket can be made at an empty path.
 pub fn host_on<S: Opens + Shows + Drop, H: Hosts>(
     alloc: Global,
     secret: &[u8],
@@ -186,17 +215,29 @@ pub fn host_on<S: Opens + Shows + Drop, H: Hosts>(
     config: &str,
     socket: &str,
     status: Option<&str>,
+    control: Option<&str>,
     reserve: Option<u32>,
     limits: Limits,
 ) -> Hosted
     requires files { MayAlwaysPull H.File.source pull_limit }
     ensures { IsHosted (rules_of S.made S.seen S.noted S.status S.changed) (S.is_new secret.now)
-        reserve result config.now socket.now (option_map (λ s. s.now) status.entry) limits (H.log system.old) (H.log system.new) }
+        reserve result config.now socket.now
+        (desks_at (option_map (λ s. s.now) status.entry) (option_map (λ s. s.now) control.entry))
+        limits (H.log system.old) (H.log system.new) }
 {
     let begun: Result<S, Hosted> = begin_on(alloc, secret, system, config, reserve);
     let mut service = match begun {
         Ok(service) => service,
         Err(hosted) => return hosted,
     };
-    serve_on(alloc, &mut service, system, socket, status, limits, None)
+    serve_on(
+        alloc,
+        &mut service,
+        system,
+        socket,
+        status,
+        control,
+        limits,
+        None,
+    )
 }

@@ -6,6 +6,7 @@ use crate::directory::Directory;
 use crate::hosts::Hosts;
 use crate::journals::Journals;
 use crate::limits::{FILE_LIMIT, PATH_LIMIT};
+use crate::marks::{Mark, remove_marked};
 use arrayvec::ArrayVec;
 use judy_disk::Locks;
 use judy_many::{Accept, Connection, Got, How, Network, Put, Question, Queue, Sockets, Unread};
@@ -26,6 +27,8 @@ pub enum Failed {
     Socket(io::Error),
     /// The status socket cannot be made.
     Status(io::Error),
+    /// The control socket cannot be made.
+    Control(io::Error),
 }
 
 /// The clients that were not served. The counts saturate.
@@ -37,6 +40,14 @@ pub struct Unserved {
     pub memory: u64,
 }
 
+/// The sockets that were made: which file each of them is.
+#[derive(Clone, Copy, Debug)]
+struct Made {
+    socket: Option<Mark>,
+    status: Option<Mark>,
+    control: Option<Mark>,
+}
+
 /// The random bytes, the files and the Unix sockets of the system. Nothing is known of what they
 /// give and take.
 #[derive(Drop)]
@@ -45,7 +56,7 @@ pub struct System<'a, F: Locks> {
     sockets: Option<Sockets<'a, F>>,
     failed: Option<Failed>,
     unserved: Unserved,
-    watched: bool,
+    made: Made,
     start: Option<String>,
     started: bool,
     path: ArrayVec<u8, PATH_LIMIT>,
@@ -71,7 +82,11 @@ impl<'a, F: Locks + Net + Clock + Eprint + Clone + Drop> System<'a, F> {
                 accepts: 0,
                 memory: 0,
             },
-            watched: false,
+            made: Made {
+                socket: None,
+                status: None,
+                control: None,
+            },
             start: None,
             started: false,
             path: ArrayVec::new(),
@@ -92,21 +107,22 @@ impl<'a, F: Locks + Net + Clock + Eprint + Clone + Drop> System<'a, F> {
     /// Tells that clients are waited for, once.
     fn tell_start(&mut self) {
         self.started = true;
-        if let Some(line) = self.start.take() {
-            let _ = eprintln!(self.rt; "{line}");
+        let Some(line) = self.start.take() else {
+            return;
+        };
+        if let Some(sockets) = &mut self.sockets {
+            sockets.tell(line.as_str());
         }
     }
 
-    /// Removes the sockets at these paths, those that were made, and closes them.
-    pub fn leave(&mut self, socket: &str, status: Option<&str>) {
-        if self.sockets.is_none() {
-            return;
+    /// Removes the sockets at these paths, those that were made and are still there, and closes them.
+    pub fn leave(&mut self, socket: &str, status: Option<&str>, control: Option<&str>) {
+        remove_marked(self.rt, socket, self.made.socket);
+        if let Some(path) = status {
+            remove_marked(self.rt, path, self.made.status);
         }
-        let _ = fs::remove_file(self.rt, socket);
-        if let Some(path) = status
-            && self.watched
-        {
-            let _ = fs::remove_file(self.rt, path);
+        if let Some(path) = control {
+            remove_marked(self.rt, path, self.made.control);
         }
         self.sockets = None;
     }
@@ -203,6 +219,11 @@ impl<'a, F: Locks + Net + Clock + Eprint + Clone + Drop> Network for System<'a, 
 
     fn table(&mut self, text: &mut Vec<u8>) -> Result<(), Unread> {
         let path = str::from_utf8(self.path.as_slice()).map_err(|_| Unread::File)?;
+        // To open a pipe or to read from it may wait.
+        let found = fs::metadata(self.rt, path).map_err(|_| Unread::File)?;
+        if !found.is_file() {
+            return Err(Unread::Irregular);
+        }
         let file = fs::open(self.rt, path).map_err(|_| Unread::File)?;
         let mut reads = Reads::new(file);
         let mut bytes: ArrayVec<u8, FILE_LIMIT> = ArrayVec::new();
@@ -269,6 +290,7 @@ impl<'a, F: Locks + Net + Clock + Eprint + Clone + Drop> Hosts for System<'a, F>
         match Sockets::bind(self.rt, alloc, path) {
             Ok(sockets) => {
                 self.sockets = Some(sockets);
+                self.made.socket = Mark::of(self.rt, path);
                 true
             }
             Err(e) => {
@@ -284,11 +306,27 @@ impl<'a, F: Locks + Net + Clock + Eprint + Clone + Drop> Hosts for System<'a, F>
         };
         match sockets.watch(path) {
             Ok(()) => {
-                self.watched = true;
+                self.made.status = Mark::of(self.rt, path);
                 true
             }
             Err(e) => {
                 self.failed = Some(Failed::Status(e));
+                false
+            }
+        }
+    }
+
+    fn control(&mut self, path: &str) -> bool {
+        let Some(sockets) = &mut self.sockets else {
+            return false;
+        };
+        match sockets.control(path) {
+            Ok(()) => {
+                self.made.control = Mark::of(self.rt, path);
+                true
+            }
+            Err(e) => {
+                self.failed = Some(Failed::Control(e));
                 false
             }
         }

@@ -31,6 +31,7 @@ use Rattle.judy_many.specs.declared.network.Sync.TheVariants as sync
 use Rattle.judy_many.specs.declared.serve.Ending.{Ending}
 use Rattle.judy_many.specs.declared.serve.Limits.{Limits}
 use Rattle.judy_programs.specs.Asking.{Log}
+use Rattle.judy_programs.specs.Hosting.{Desks}
 use Rattle.judy_programs.specs.Journaled.{HasServedOn}
 use Rattle.judy_programs.specs.declared.socket.Hosted.{Hosted}
 use Rattle.judy_recovery.specs.Whole.{Kept, segment_before}
@@ -126,7 +127,7 @@ CrashesLoseNothing = (s : Stock) (limits : Limits) (rule : Sync) (w : Writing) (
 -- A server that started with a journal has played it on a new service, and its writer goes on behind it. The
 -- snapshot, the segment that it stands for and its checksum are those of the directory.
 abbrev pub StartsGoOn : Type 1
-StartsGoOn = (has : Kept → Type 0) (secret : List ℕ) (reserve : Option ℕ) (how : Hosted) (config socket : List ℕ) (watch : Option (List ℕ)) (limits : Limits) (log log' : Log)
+StartsGoOn = (has : Kept → Type 0) (secret : List ℕ) (reserve : Option ℕ) (how : Hosted) (config socket : List ℕ) (watch : Desks) (limits : Limits) (log log' : Log)
     → (h : HasServedOn server_rules AreReplayed has (IsNewService secret) reserve how config socket watch limits log log')
     → (s : Stock) × (s.snapshot ≡ all_records h.kept.unpacked) × (s.segment ≡ segment_before h.kept.snapshot) × (s.sum ≡ h.kept.sum)
     × HasResumed s h.writer h.before

@@ -1,5 +1,5 @@
 -- What the program does, by what its command line asks for.
-use Rattle.std.specs.Prelude.{◌≡◌, ◌⊎◌, ℕ, Bool, true, false, List, [], ◌∷◌, Option, Some, None, codes, is_some}
+use Rattle.std.specs.Prelude.{◌≡◌, ◌⊎◌, ◌==◌, ◌||◌, ℕ, Bool, true, false, List, [], ◌∷◌, Option, Some, None, codes, is_some, if◌then◌else◌}
 use Rattle.judy_command.specs.declared.words.Job.{Job}
 use Rattle.judy_command.specs.declared.words.Job.TheVariants as job
 use Rattle.judy_command.specs.declared.words.Sync.{Sync as When}
@@ -10,7 +10,7 @@ use Rattle.judy_many.specs.declared.network.Sync.{Sync}
 use Rattle.judy_many.specs.declared.network.Sync.TheVariants as sync
 use Rattle.judy_many.specs.declared.serve.Limits.{Limits}
 use Rattle.judy_programs.specs.Asking.{Log, Logs}
-use Rattle.judy_programs.specs.Hosting.{Checks, Hosts}
+use Rattle.judy_programs.specs.Hosting.{Checks, Desks, Hosts, desks_at}
 use Rattle.judy_programs.specs.Journaled.{ChecksJournaled, HostsJournaled}
 use Rattle.judy_programs.specs.Program.{HasRun}
 use Rattle.judy_programs.specs.Finish.{host_status, host_text, run_status, run_text}
@@ -31,21 +31,28 @@ abbrev pub rule_of : Option (List ℕ) → When → Option Sync
 rule_of None w = None
 rule_of (Some directory) w = Some (sync_of w)
 
--- the limits of the command line; there are questions if a status socket was asked for
-abbrev pub limits_of : ℕ → ℕ → Option ℕ → Option ℕ → Option (List ℕ) → Option (List ℕ) → When → Limits
-limits_of clients connections idle turn watch directory w = record {
+-- the most connections; the greatest number of the command line stands for no limit but that of a
+-- number of 64 bits
+abbrev pub connections_of : ℕ → ℕ
+connections_of n = if n == 4294967295 then 18446744073709551615 else n
+
+-- the limits of the command line; there are questions if a status socket or a control socket was asked
+-- for
+abbrev pub limits_of : ℕ → ℕ → ℕ → Option ℕ → Option ℕ → Desks → Option (List ℕ) → When → Limits
+limits_of clients connections login idle turn desks directory w = record {
   clients = clients;
-  connections = connections;
+  connections = connections_of connections;
+  login = Some login;
   idle = idle;
   turn = turn;
-  status = is_some watch;
+  status = is_some desks.status || is_some desks.control;
   journal = rule_of directory w;
 }
 
 -- the job is one of the two programs
 abbrev pub IsProgram : Job → Type 0
 IsProgram (job.Run words) = Unit {0}
-IsProgram (job.Serve config socket watch clients connections idle turn reserve directory w check) = Unit {0}
+IsProgram (job.Serve config socket watch control clients connections login idle turn reserve directory w check) = Unit {0}
 IsProgram (job.Compact directory) = ⊥
 IsProgram (job.Journal directory tenant) = ⊥
 
@@ -59,7 +66,7 @@ pub record HasNoSecret (ended : ℕ) (line : Option (List ℕ)) (from to : Wire)
 -- the directory at a path may have a journal (`has`)
 module _ (has : List ℕ → Kept → Type 0) where
   -- connections were served, with a journal if a directory is given
-  abbrev pub HostsBy : Option (List ℕ) → List ℕ → Option ℕ → Hosted → List ℕ → List ℕ → Option (List ℕ) → Limits → Log → Log → Type 0
+  abbrev pub HostsBy : Option (List ℕ) → List ℕ → Option ℕ → Hosted → List ℕ → List ℕ → Desks → Limits → Log → Log → Type 0
   HostsBy None secret reserve hosted config socket watch limits log log' =
       Hosts server_rules (IsNewService secret) reserve hosted config socket watch limits log log'
   HostsBy (Some directory) secret reserve hosted config socket watch limits log log' =
@@ -72,7 +79,7 @@ module _ (has : List ℕ → Kept → Type 0) where
 
   -- Connections were served, or the file was only checked. First this many megabytes were taken for the
   -- arrays, if so many are wanted.
-  abbrev pub ServesBy : Bool → Option (List ℕ) → List ℕ → Option ℕ → Hosted → List ℕ → List ℕ → Option (List ℕ) → Limits → Log → Log → Type 0
+  abbrev pub ServesBy : Bool → Option (List ℕ) → List ℕ → Option ℕ → Hosted → List ℕ → List ℕ → Desks → Limits → Log → Log → Type 0
   ServesBy false directory secret reserve hosted config socket watch limits log log' =
       HostsBy directory secret reserve hosted config socket watch limits log log'
   ServesBy true directory secret reserve hosted config socket watch limits log log' = ChecksBy directory secret reserve hosted config log log'
@@ -83,8 +90,9 @@ module _ (has : List ℕ → Kept → Type 0) where
   HasDone secret (job.Run words) status text from to log log' = (ran : Ran)
       × HasRun IsServedStep seen_of held_words (IsNewService secret None) words ran from to
       × (status ≡ run_status ran) × (text ≡ run_text ran) × (log' ≡ log)
-  HasDone secret (job.Serve config socket watch clients connections idle turn reserve directory w check) status text from to log log' = (hosted : Hosted)
-      × ServesBy check directory secret reserve hosted config socket watch (limits_of clients connections idle turn watch directory w) log log'
+  HasDone secret (job.Serve config socket watch control clients connections login idle turn reserve directory w check) status text from to log log' = (hosted : Hosted)
+      × ServesBy check directory secret reserve hosted config socket (desks_at watch control)
+      (limits_of clients connections login idle turn (desks_at watch control) directory w) log log'
       × (status ≡ host_status hosted) × (text ≡ host_text hosted) × (to ≡ from)
   HasDone secret (job.Compact directory) status text from to log log' = ⊥
   HasDone secret (job.Journal directory tenant) status text from to log log' = ⊥

@@ -1,9 +1,10 @@
 //! Does what the command line asks for, over any streams and any system.
-ghost use Rattle.std.specs.Prelude.{◌≡◌, option_map};
+ghost use Rattle.std.specs.Prelude.{◌≡◌, ◌||◌, is_some, option_map};
 ghost use Rattle.judy_stream.specs.Streams.{MayAlwaysPull};
 ghost use Rattle.judy_protocol.specs.Sending.{MaySend};
 ghost use Rattle.judy_protocol.specs.Serving.{pull_limit, wire};
-ghost use Rattle.judy_server.specs.Jobs.{ChecksBy, Does, HasDone, HostsBy, IsProgram, rule_of};
+ghost use Rattle.judy_programs.specs.Hosting.{desks_at};
+ghost use Rattle.judy_server.specs.Jobs.{ChecksBy, Does, HasDone, HostsBy, IsProgram, connections_of, rule_of};
 ghost use Rattle.judy_programs.specs.Program.{IsSent};
 
 use crate::server::{Chosen, Server, run};
@@ -39,6 +40,23 @@ fn rule_of(directory: Option<&str>, when: When) -> Option<Sync>
     }
 }
 
+/// The most connections, by the number of the command line.
+fn connections_of(connections: u32) -> u64
+    ensures { result ≡ connections_of connections }
+{
+    if connections == u32::MAX {
+        return u64::MAX;
+    }
+    u64::from(connections)
+}
+
+/// Whether a socket of the operator is wanted.
+fn has_desk(status: &Option<Word>, control: &Option<Word>) -> bool
+    ensures { result ≡ (is_some status.now || is_some control.now) }
+{
+    status.is_some() || control.is_some()
+}
+
 /// Checks the table, and the journal if there is one.
 fn check_by<K: Chosen, H: Journals>(
     alloc: Global,
@@ -68,19 +86,22 @@ fn host_by<K: Chosen, H: Journals>(
     file: &str,
     path: &str,
     watch: Option<&str>,
+    control: Option<&str>,
     reserve: Option<u32>,
     limits: Limits,
     directory: Option<&str>,
 ) -> Hosted
     requires files { MayAlwaysPull H.File.source pull_limit }
     ensures { HostsBy H.may_have (option_map (λ s. s.now) directory.entry) secret.now reserve result file.now
-        path.now (option_map (λ s. s.now) watch.entry) limits (H.log system.old) (H.log system.new) }
+        path.now (desks_at (option_map (λ s. s.now) watch.entry) (option_map (λ s. s.now) control.entry)) limits (H.log system.old) (H.log system.new) }
 {
     match directory {
         Some(journal) => host_journaled::<Server<K>, H>(
-            alloc, secret, system, file, path, watch, reserve, limits, journal,
+            alloc, secret, system, file, path, watch, control, reserve, limits, journal,
         ),
-        None => host_on::<Server<K>, H>(alloc, secret, system, file, path, watch, reserve, limits),
+        None => host_on::<Server<K>, H>(
+            alloc, secret, system, file, path, watch, control, reserve, limits,
+        ),
     }
 }
 
@@ -109,8 +130,10 @@ fn do_job_with<K: Chosen, R: Source, W: Sink, H: Journals>(
             config,
             socket,
             status,
+            control,
             clients,
             connections,
+            login,
             idle,
             turn,
             reserve,
@@ -126,16 +149,18 @@ fn do_job_with<K: Chosen, R: Source, W: Sink, H: Journals>(
             }
             let limits = Limits {
                 clients: *clients,
-                connections: *connections,
+                connections: connections_of(*connections),
+                login: Some(*login),
                 idle: *idle,
                 turn: *turn,
-                status: status.is_some(),
+                status: has_desk(status, control),
                 journal: rule_of(directory, *sync),
             };
             let path = socket.0.as_str();
             let watch = text_of(status);
+            let command = text_of(control);
             let hosted = host_by::<K, H>(
-                alloc, secret, system, file, path, watch, *reserve, limits, directory,
+                alloc, secret, system, file, path, watch, command, *reserve, limits, directory,
             );
             finish_hosted(hosted)
         }

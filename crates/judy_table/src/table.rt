@@ -7,7 +7,7 @@ ghost use Rattle.judy_table.specs.Shown.{seen};
 
 use crate::fault::TableFault;
 use crate::seating::{fresh_in, placed};
-use crate::tenant::{Speaker, Tenant, TenantId};
+use crate::tenant::{Speaker, Tenant, TenantId, digest_of};
 use crate::written::{is_written, read_written, size};
 use judy_model::{ENTRIES_LIMIT, PIECES_LIMIT, Quota};
 use std::alloc::{AllocError, Global};
@@ -167,12 +167,13 @@ impl Table {
 
     /// The tenant of this name and its right: to read and write with its own token, or only to read
     /// with its read-only token. None if no tenant has the name, or if the token is neither of its
-    /// two tokens.
+    /// two tokens. The token is hashed once in any case.
     pub fn login(&self, name: &[u8], token: &[u8]) -> Option<Speaker>
         ensures { option_map seen result ≡ login_of name.now token.now self.now }
     {
+        let shown = digest_of(token);
         let place = place_of(&self.tenants, name)?;
-        let right = self.tenants[place].right(token)?;
+        let right = self.tenants[place].right(&shown)?;
         let tenant = TenantId::at(place as u8);
         Some(Speaker { tenant, right })
     }

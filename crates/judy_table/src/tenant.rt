@@ -1,5 +1,6 @@
 //! One tenant of the table, and its log-in.
 ghost use Rattle.std.specs.Prelude.{◌≡◌, ◌<◌, ◌≤◌, ◌^◌, option_map};
+ghost use Rattle.std.specs.Str.{bytes_eq};
 ghost use Rattle.judy_table.specs.Shown.{told_of};
 ghost use Rattle.judy_table.specs.Tenants.{tenant_of, up_to, pieces_for, right_of, is_digest, look_digest, is_vacant, vacant};
 ghost use Rattle.judy_table.specs.Seats.{has_token};
@@ -96,6 +97,25 @@ fn look_digest(text: Option<&str>) -> Result<Option<[u8; 32]>, FromHexError>
     Ok(Some(bytes))
 }
 
+/// The SHA-256 of a token.
+pub(crate) fn digest_of(token: &[u8]) -> [u8; 32]
+    ensures { result ≡ sha256 token.now }
+{
+    Sha256::digest(token)
+}
+
+/// Whether two digests are the same. It looks at all bytes, wherever they differ.
+fn is_same(digest: &[u8; 32], shown: &[u8; 32]) -> bool
+    ensures { result ≡ bytes_eq digest.now shown.now }
+{
+    let mut same = true;
+    for at in 0..32usize {
+        let equal = digest[at] == shown[at];
+        same = same && equal;
+    }
+    same
+}
+
 impl Tenant {
     /// The tenant of this name with these values, or its first fault.
     pub(crate) fn new(name: &str, written: Written<'_>) -> Result<Tenant, TableFault>
@@ -154,7 +174,7 @@ impl Tenant {
         ensures { result ≡ is_digest self.now.look shown.now }
     {
         match &self.look {
-            Some(digest) => digest == shown,
+            Some(digest) => is_same(digest, shown),
             None => false,
         }
     }
@@ -169,19 +189,21 @@ impl Tenant {
         }
     }
 
-    /// The right of this token: to read and write with the tenant's own token, or only to read with
-    /// its read-only token. A vacant row gives none.
-    pub(crate) fn right(&self, token: &[u8]) -> Option<Right>
-        ensures { result ≡ right_of (sha256 token.now) self.now }
+    /// The right of the token with this digest: to read and write with the tenant's own token, or only
+    /// to read with its read-only token. A vacant row gives none. Both digests are compared in any
+    /// case.
+    pub(crate) fn right(&self, shown: &[u8; 32]) -> Option<Right>
+        ensures { result ≡ right_of shown.now self.now }
     {
+        let changes = is_same(&self.digest, shown);
+        let looks = self.is_look(shown);
         if self.is_vacant() {
             return None;
         }
-        let shown: [u8; 32] = Sha256::digest(token);
-        if self.digest == shown {
+        if changes {
             return Some(Right::Change);
         }
-        if self.is_look(&shown) {
+        if looks {
             return Some(Right::Look);
         }
         None

@@ -9,3 +9,4 @@ mod Spreads
 mod Space
 mod Taking
 mod Insertions
+mod Clears

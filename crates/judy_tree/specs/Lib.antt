@@ -6,3 +6,4 @@ pub mod Calls
 pub mod Fork
 pub mod Split
 pub mod Laws
+pub mod Parts

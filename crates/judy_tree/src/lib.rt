@@ -8,6 +8,7 @@ mod answers;
 mod fork;
 pub mod laws;
 mod node;
+mod parts;
 mod root;
 mod split;
 

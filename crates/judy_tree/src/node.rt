@@ -10,6 +10,7 @@ ghost use Rattle.judy_tree.specs.Calls.{Adds, TakesBelow, most_blocks};
 
 use crate::answers::Inserted;
 use crate::fork::{above, beside, byte_at, byte_of, leads_to_branch};
+use crate::parts::next_part;
 use crate::split::{split_level, spread};
 use judy_arena::{Arena, NoMemory};
 use judy_branch::Taken;
@@ -169,12 +170,10 @@ pub fn clear(values: bool, arena: &mut Arena, root: Ref)
         judy_leaf::release(values, arena, root);
         return;
     }
-    let (byte, child) = judy_branch::last_child(arena, root);
-    let keys = judy_branch::population(arena, root);
-    let gone = population(values, arena, child);
-    clear(values, arena, child);
-    match judy_branch::take_child(arena, root, byte, keys - gone) {
-        Taken::Branch(rest) => clear(values, arena, rest),
-        Taken::Only(rest) => clear(values, arena, rest),
+    let mut low = 0;
+    while let Some(part) = next_part(arena, root, low) {
+        clear(values, arena, part.1);
+        low = u16::from(part.0) + 1;
     }
+    judy_branch::release(arena, root);
 }

@@ -6,14 +6,17 @@ ghost use Rattle.std.specs.Prelude.{◌≡◌, ℕ, List, Option, option_map};
 ghost use Rattle.judy_server.specs.Jobs.{IsProgram};
 ghost use Rattle.judyd.specs.Obeying.{IsFinished, IsObeyed, IsUpkept, refusal_status};
 
+mod standard;
+
 use judy_command::{Job, Refusal, Sync, VERSION, Word, parse_words};
 use judy_disk::{DiskFault, Folder};
-use judy_programs::{Failed, System, Unserved, read_secret};
+use judy_programs::{Failed, System, Unserved, read_secret, tell_line};
 use judy_recovery::JournalFault;
 use judy_server::{Server, do_job_on};
 use judy_stream::{Reads, Writes};
 use judy_tenants::Sha256Hash;
 use judy_upkeep::{Uncompacted, Unprinted, compact, print};
+use standard::fill_standard;
 use std::alloc::Global;
 use std::process::ExitCode;
 use std::{env, io};
@@ -76,7 +79,16 @@ fn tell_journal(rt: &HostRuntime, job: &Job, system: &mut System<'_, HostRuntime
         ..
     } = job
     {
-        tell_fault(rt, directory.0.as_str(), &fault);
+        let path = directory.0.as_str();
+        tell_line(rt, format_args!("judyd: {path}{fault}"));
+    }
+}
+
+/// Prints that a socket of the operator cannot be made, and why.
+fn tell_desk(rt: &HostRuntime, word: &Option<Word>, e: &io::Error) {
+    if let Some(word) = word {
+        let path = word.0.as_str();
+        tell_line(rt, format_args!("judyd: {path}: {e}"));
     }
 }
 
@@ -86,6 +98,7 @@ fn tell_reason(rt: &HostRuntime, job: &Job, failed: Failed) {
         config,
         socket,
         status,
+        control,
         ..
     } = job
     else {
@@ -94,40 +107,44 @@ fn tell_reason(rt: &HostRuntime, job: &Job, failed: Failed) {
     match failed {
         Failed::File(e) => {
             let path = config.0.as_str();
-            let _ = eprintln!(rt; "judyd: {path}: {e}");
+            tell_line(rt, format_args!("judyd: {path}: {e}"));
         }
         Failed::Socket(e) => {
             let path = socket.0.as_str();
-            let _ = eprintln!(rt; "judyd: {path}: {e}");
+            tell_line(rt, format_args!("judyd: {path}: {e}"));
         }
-        Failed::Status(e) => {
-            if let Some(word) = status {
-                let path = word.0.as_str();
-                let _ = eprintln!(rt; "judyd: {path}: {e}");
-            }
-        }
+        Failed::Status(e) => tell_desk(rt, status, &e),
+        Failed::Control(e) => tell_desk(rt, control, &e),
     }
 }
 
 /// Removes the sockets that were made.
 fn leave(job: &Job, system: &mut System<'_, HostRuntime>) {
-    let Job::Serve { socket, status, .. } = job else {
+    let Job::Serve {
+        socket,
+        status,
+        control,
+        ..
+    } = job
+    else {
         return;
     };
-    match status {
-        Some(word) => system.leave(socket.0.as_str(), Some(word.0.as_str())),
-        None => system.leave(socket.0.as_str(), None),
-    }
+    let status = status.as_ref().map(|word| word.0.as_str());
+    let control = control.as_ref().map(|word| word.0.as_str());
+    system.leave(socket.0.as_str(), status, control);
 }
 
 /// Prints how many clients were not served, if there are any.
 fn tell_unserved(rt: &HostRuntime, unserved: Unserved) {
     let Unserved { accepts, memory } = unserved;
     if accepts > 0 {
-        let _ = eprintln!(rt; "judyd: failed accepts: {accepts}");
+        tell_line(rt, format_args!("judyd: failed accepts: {accepts}"));
     }
     if memory > 0 {
-        let _ = eprintln!(rt; "judyd: connections closed for memory: {memory}");
+        tell_line(
+            rt,
+            format_args!("judyd: connections closed for memory: {memory}"),
+        );
     }
 }
 
@@ -278,7 +295,19 @@ fn announce(rt: &HostRuntime, job: &Job, system: &mut System<'_, HostRuntime>) {
 /// Prints that a server stops, if it served clients and ended well.
 fn tell_stop(rt: &HostRuntime, status: u8, system: &System<'_, HostRuntime>) {
     if status == 0 && system.has_started() {
-        let _ = eprintln!(rt; "judyd: stopping");
+        tell_line(rt, "judyd: stopping");
+    }
+}
+
+/// Prints how a program ended. A server does not wait for room on standard error.
+fn tell_end(rt: &HostRuntime, job: &Job, text: &str) {
+    match job {
+        Job::Serve { .. } => {
+            tell_line(rt, text);
+        }
+        _ => {
+            let _ = eprintln!(rt; "{text}");
+        }
     }
 }
 
@@ -293,7 +322,7 @@ fn obey_program(rt: &HostRuntime, job: &Job) -> u8
     tell_stop(rt, status, &system);
     leave(job, &mut system);
     if let Some(text) = text {
-        let _ = eprintln!(rt; "{text}");
+        tell_end(rt, job, text);
     }
     if let Some(failed) = system.failed() {
         tell_reason(rt, job, failed);
@@ -328,6 +357,7 @@ fn obey(rt: &HostRuntime, asked: &Result<Job, Refusal>) -> u8
 }
 
 fn main(rt: HostRuntime) -> ExitCode {
+    let _filled = fill_standard(&rt);
     let asked = read_words(&rt).and_then(|words| parse_words(rt.alloc(), words.as_slice()));
     ExitCode::from(obey(&rt, &asked))
 }

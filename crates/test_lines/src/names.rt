@@ -3,29 +3,54 @@ use judy_model::{Key, Name, Token};
 use std::cmp::Ordering;
 use std::test::Fail;
 
+// Which bytes are a name, a key and a token.
+const TEXTS: [(&[u8], bool, bool, bool); 6] = [
+    (b"alice", true, true, true),
+    (b"al.ice", true, true, true),
+    (b"al ice", false, true, false),
+    (b"", false, true, false),
+    (b"\x00\xff", false, true, false),
+    (b"a c", false, true, false),
+];
+
 #[test]
-fn names(rt: HostRuntime) -> Result<(), Fail> {
+fn which_bytes_they_are(rt: HostRuntime) {
+    for (bytes, name, key, token) in &TEXTS {
+        let found = (
+            Name::read(bytes).is_some(),
+            Key::read(bytes).is_some(),
+            Token::read(bytes).is_some(),
+        );
+        assert_eq!(rt; found, (*name, *key, *token), "{bytes:?}");
+    }
+    assert!(rt; Key::read(&[7; 1001]).is_none());
+}
+
+#[test]
+fn the_bytes_of_a_name(rt: HostRuntime) -> Result<(), Fail> {
     let alice = Name::read(b"alice").ok_or("alice is a name")?;
-    let dotted = Name::read(b"al.ice").ok_or("al.ice is a name")?;
     assert_eq!(rt; alice.as_bytes(), b"alice".as_slice());
     assert_eq!(rt; alice.copied(), alice);
-    assert!(rt; alice != dotted);
-    assert_eq!(rt; dotted.cmp(&alice), Ordering::Less);
-    assert_eq!(rt; alice.partial_cmp(&dotted), Some(Ordering::Greater));
-    assert_eq!(rt; Name::read(b"al ice"), None);
-    assert_eq!(rt; Name::read(b""), None);
     Ok(())
 }
 
 #[test]
-fn keys_and_tokens(rt: HostRuntime) -> Result<(), Fail> {
+fn the_order_of_names(rt: HostRuntime) -> Result<(), Fail> {
+    let alice = Name::read(b"alice").ok_or("alice is a name")?;
+    let dotted = Name::read(b"al.ice").ok_or("al.ice is a name")?;
+    assert!(rt; alice != dotted);
+    assert_eq!(rt; dotted.cmp(&alice), Ordering::Less);
+    assert_eq!(rt; alice.partial_cmp(&dotted), Some(Ordering::Greater));
+    Ok(())
+}
+
+#[test]
+fn the_bytes_of_a_key_and_of_a_token(rt: HostRuntime) -> Result<(), Fail> {
     let key = Key::read(b"\x00\xff").ok_or("two bytes are a key")?;
     assert_eq!(rt; key.as_bytes(), b"\x00\xff".as_slice());
     assert_eq!(rt; key.copied(), key);
-    assert_eq!(rt; Key::read(&[7; 1001]), None);
     let token = Token::read(b"abc").ok_or("abc is a token")?;
     assert_eq!(rt; token.as_bytes(), b"abc".as_slice());
-    assert_eq!(rt; Token::read(b"a c"), None);
     Ok(())
 }
 

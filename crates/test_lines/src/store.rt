@@ -1,11 +1,12 @@
 //! Worked rows: calls of one tenant, each with the reply that it should give.
+use crate::asks::{Ask, Want, call_of, reply_of};
 use arrayvec::ArrayVec;
 use judy_model::{
-    BytesCall, Call, ENTRY_PIECES_LIMIT, Given, KEY_LIMIT, Key, LongCall, Name, OneCall, Quota,
-    Reply, Right, StrCall,
+    Call, ENTRY_PIECES_LIMIT, Given, KEY_LIMIT, LongCall, OneCall, Quota, Reply, Right,
 };
 use judy_reference::Store;
 use std::alloc::Global;
+use std::process::Abort;
 
 const MAX: u64 = 18446744073709551615;
 
@@ -39,297 +40,306 @@ impl Tenant {
         }
     }
 
-    fn ask(&mut self, call: &Call<'_>) -> Reply<'_> {
-        self.ask_under(Right::Change, call)
-    }
-
-    fn ask_under(&mut self, right: Right, call: &Call<'_>) -> Reply<'_> {
+    fn ask(&mut self, right: Right, call: &Call<'_>) -> Reply<'_> {
         let found = &mut self.found;
         match self.store.step(self.alloc, right, self.quota, call, found) {
             Ok(reply) => reply,
             Err(_) => Reply::Memory,
         }
     }
+}
 
-    fn set(&mut self, call: OneCall) -> Reply<'_> {
-        self.ask(&Call::One(name(), call))
-    }
-
-    fn map(&mut self, call: LongCall) -> Reply<'_> {
-        self.ask(&Call::Long(name(), call))
-    }
-
-    fn strings(&mut self, call: StrCall<'_>) -> Reply<'_> {
-        self.ask(&Call::Str(name(), call))
-    }
-
-    fn bytes(&mut self, call: BytesCall<'_>) -> Reply<'_> {
-        self.ask(&Call::Bytes(name(), call))
+/// Asks for each row in turn under a right, and compares the reply.
+fn compare_under(rt: &impl Abort, tenant: &mut Tenant, right: Right, rows: &[(Ask, Want)]) {
+    for (ask, want) in rows {
+        let call = call_of("a", *ask);
+        assert_eq!(rt; tenant.ask(right, &call), reply_of(*want), "{call:?}");
     }
 }
 
-/// The name `a`, which an array of each kind has.
-fn name() -> Name {
-    Name::of(b"a")
+/// The same with the right to change.
+fn compare(rt: &impl Abort, tenant: &mut Tenant, rows: &[(Ask, Want)]) {
+    compare_under(rt, tenant, Right::Change, rows);
 }
 
-/// A key of at most 1,000 bytes.
-fn key(bytes: &[u8]) -> Key<'_> {
-    Key::read(bytes).unwrap_or(Key::of(&[]))
-}
+const OF_EMPTY_ARRAYS: [(Ask, Want); 4] = [
+    (Ask::Set(OneCall::Count(0, MAX)), Want::Count(0)),
+    (Ask::Set(OneCall::FirstEmpty(0)), Want::Index(0)),
+    (Ask::Map(LongCall::Get(0)), Want::Null),
+    (Ask::Set(OneCall::Free), Want::Count(0)),
+];
 
 #[test]
 fn empty_arrays(rt: HostRuntime) {
-    let mut alice = Tenant::new(rt.alloc(), 4);
-    assert_eq!(rt; alice.set(OneCall::Count(0, MAX)), Reply::Count(0));
-    assert_eq!(rt; alice.set(OneCall::FirstEmpty(0)), Reply::Index(0));
-    assert_eq!(rt; alice.map(LongCall::Get(0)), Reply::Null);
-    assert_eq!(rt; alice.set(OneCall::Free), Reply::Count(0));
+    compare(&rt, &mut Tenant::new(rt.alloc(), 4), &OF_EMPTY_ARRAYS);
 }
+
+const AT_ENDS_OF_THE_RANGE: [(Ask, Want); 9] = [
+    (Ask::Set(OneCall::Set(0)), Want::Int(true)),
+    (Ask::Set(OneCall::Set(MAX)), Want::Int(true)),
+    (
+        Ask::Set(OneCall::Next(0)),
+        Want::Index(18446744073709551615),
+    ),
+    (Ask::Set(OneCall::Next(MAX)), Want::Int(false)),
+    (Ask::Set(OneCall::Prev(0)), Want::Int(false)),
+    (
+        Ask::Set(OneCall::LastEmpty(MAX)),
+        Want::Index(18446744073709551614),
+    ),
+    (Ask::Set(OneCall::PrevEmpty(0)), Want::Int(false)),
+    (Ask::Set(OneCall::NextEmpty(MAX)), Want::Int(false)),
+    (Ask::Set(OneCall::Count(0, MAX)), Want::Count(2)),
+];
 
 #[test]
 fn ends_of_the_range(rt: HostRuntime) {
-    let mut alice = Tenant::new(rt.alloc(), 4);
-    assert_eq!(rt; alice.set(OneCall::Set(0)), Reply::Int(true));
-    assert_eq!(rt; alice.set(OneCall::Set(MAX)), Reply::Int(true));
-    assert_eq!(rt;
-        alice.set(OneCall::Next(0)),
-        Reply::Index(18446744073709551615)
-    );
-    assert_eq!(rt; alice.set(OneCall::Next(MAX)), Reply::Int(false));
-    assert_eq!(rt; alice.set(OneCall::Prev(0)), Reply::Int(false));
-    assert_eq!(rt;
-        alice.set(OneCall::LastEmpty(MAX)),
-        Reply::Index(18446744073709551614)
-    );
-    assert_eq!(rt; alice.set(OneCall::PrevEmpty(0)), Reply::Int(false));
-    assert_eq!(rt; alice.set(OneCall::NextEmpty(MAX)), Reply::Int(false));
-    assert_eq!(rt; alice.set(OneCall::Count(0, MAX)), Reply::Count(2));
+    compare(&rt, &mut Tenant::new(rt.alloc(), 4), &AT_ENDS_OF_THE_RANGE);
 }
+
+const AT_EDGE_OF_THE_QUOTA: [(Ask, Want); 10] = [
+    (Ask::Set(OneCall::Set(1)), Want::Int(true)),
+    (Ask::Set(OneCall::Set(2)), Want::Int(true)),
+    (Ask::Set(OneCall::Set(3)), Want::Int(true)),
+    (Ask::Set(OneCall::Set(4)), Want::Int(true)),
+    (Ask::Set(OneCall::Set(9)), Want::Full),
+    (Ask::Set(OneCall::Set(1)), Want::Int(false)),
+    (Ask::Map(LongCall::Insert(1, Given::Value(7))), Want::Full),
+    (Ask::Set(OneCall::Unset(1)), Want::Int(true)),
+    (
+        Ask::Map(LongCall::Insert(1, Given::Value(7))),
+        Want::Value(0),
+    ),
+    (Ask::Used, Want::Used(4, 4, 4, 504)),
+];
 
 #[test]
 fn edge_of_the_quota(rt: HostRuntime) {
     let mut alice = Tenant::new(rt.alloc(), 4);
-    for index in 1..5 {
-        assert_eq!(rt; alice.set(OneCall::Set(index)), Reply::Int(true));
-    }
-    assert_eq!(rt; alice.set(OneCall::Set(9)), Reply::Full);
-    assert_eq!(rt; alice.set(OneCall::Set(1)), Reply::Int(false));
-    assert_eq!(rt;
-        alice.map(LongCall::Insert(1, Given::Value(7))),
-        Reply::Full
-    );
-    assert_eq!(rt; alice.set(OneCall::Unset(1)), Reply::Int(true));
-    assert_eq!(rt;
-        alice.map(LongCall::Insert(1, Given::Value(7))),
-        Reply::Value(0)
-    );
-    assert_eq!(rt; alice.ask(&Call::Used), Reply::Used(4, 4, 4, 504));
+    compare(&rt, &mut alice, &AT_EDGE_OF_THE_QUOTA);
     assert_eq!(rt; alice.store.used(), 4);
 }
 
+const WITH_QUOTA_ZERO: [(Ask, Want); 4] = [
+    (Ask::Set(OneCall::Set(1)), Want::Full),
+    (Ask::Set(OneCall::Unset(1)), Want::Int(false)),
+    (Ask::Set(OneCall::FirstEmpty(0)), Want::Index(0)),
+    (Ask::Used, Want::Used(0, 0, 0, 0)),
+];
+
 #[test]
 fn quota_zero(rt: HostRuntime) {
-    let mut nobody = Tenant::new(rt.alloc(), 0);
-    assert_eq!(rt; nobody.set(OneCall::Set(1)), Reply::Full);
-    assert_eq!(rt; nobody.set(OneCall::Unset(1)), Reply::Int(false));
-    assert_eq!(rt; nobody.set(OneCall::FirstEmpty(0)), Reply::Index(0));
-    assert_eq!(rt; nobody.ask(&Call::Used), Reply::Used(0, 0, 0, 0));
+    compare(&rt, &mut Tenant::new(rt.alloc(), 0), &WITH_QUOTA_ZERO);
 }
+
+const RANKS: [(Ask, Want); 9] = [
+    (Ask::Set(OneCall::Set(9)), Want::Int(true)),
+    (Ask::Set(OneCall::Set(3)), Want::Int(true)),
+    (Ask::Set(OneCall::Set(5)), Want::Int(true)),
+    (Ask::Set(OneCall::Count(9, 3)), Want::Count(0)),
+    (Ask::Set(OneCall::Count(3, 9)), Want::Count(3)),
+    (Ask::Set(OneCall::ByCount(0)), Want::Int(false)),
+    (Ask::Set(OneCall::ByCount(1)), Want::Index(3)),
+    (Ask::Set(OneCall::ByCount(3)), Want::Index(9)),
+    (Ask::Set(OneCall::ByCount(4)), Want::Int(false)),
+];
 
 #[test]
 fn ranks(rt: HostRuntime) {
-    let mut alice = Tenant::new(rt.alloc(), 4);
-    for index in [9, 3, 5] {
-        assert_eq!(rt; alice.set(OneCall::Set(index)), Reply::Int(true));
-    }
-    assert_eq!(rt; alice.set(OneCall::Count(9, 3)), Reply::Count(0));
-    assert_eq!(rt; alice.set(OneCall::Count(3, 9)), Reply::Count(3));
-    assert_eq!(rt; alice.set(OneCall::ByCount(0)), Reply::Int(false));
-    assert_eq!(rt; alice.set(OneCall::ByCount(1)), Reply::Index(3));
-    assert_eq!(rt; alice.set(OneCall::ByCount(3)), Reply::Index(9));
-    assert_eq!(rt; alice.set(OneCall::ByCount(4)), Reply::Int(false));
+    compare(&rt, &mut Tenant::new(rt.alloc(), 4), &RANKS);
 }
+
+const OF_SHARED_BYTES: [(Ask, Want); 4] = [
+    (Ask::Set(OneCall::Test(31)), Want::Int(false)),
+    (Ask::Set(OneCall::First(0)), Want::Index(4096)),
+    (Ask::Set(OneCall::Count(0, 4111)), Want::Count(16)),
+    (Ask::Set(OneCall::Last(4095)), Want::Int(false)),
+];
 
 #[test]
 fn shared_bytes(rt: HostRuntime) {
     let mut bob = Tenant::new(rt.alloc(), 1000);
     for index in 4096..4128 {
-        assert_eq!(rt; bob.set(OneCall::Set(index)), Reply::Int(true));
+        compare(
+            &rt,
+            &mut bob,
+            &[(Ask::Set(OneCall::Set(index)), Want::Int(true))],
+        );
     }
-    assert_eq!(rt; bob.set(OneCall::Test(31)), Reply::Int(false));
-    assert_eq!(rt; bob.set(OneCall::First(0)), Reply::Index(4096));
-    assert_eq!(rt; bob.set(OneCall::Count(0, 4111)), Reply::Count(16));
-    assert_eq!(rt; bob.set(OneCall::Last(4095)), Reply::Int(false));
+    compare(&rt, &mut bob, &OF_SHARED_BYTES);
 }
+
+const AT_TOP_OF_THE_RANGE: [(Ask, Want); 4] = [
+    (Ask::Set(OneCall::Count(0, MAX)), Want::Count(256)),
+    (
+        Ask::Set(OneCall::FirstEmpty(18446744073709551360)),
+        Want::Int(false),
+    ),
+    (
+        Ask::Set(OneCall::NextEmpty(18446744073709551359)),
+        Want::Int(false),
+    ),
+    (
+        Ask::Set(OneCall::LastEmpty(MAX)),
+        Want::Index(18446744073709551359),
+    ),
+];
 
 #[test]
 fn top_of_the_range(rt: HostRuntime) {
     let mut bob = Tenant::new(rt.alloc(), 1000);
     for below in 0..256 {
-        assert_eq!(rt; bob.set(OneCall::Set(MAX - below)), Reply::Int(true));
+        compare(
+            &rt,
+            &mut bob,
+            &[(Ask::Set(OneCall::Set(MAX - below)), Want::Int(true))],
+        );
     }
-    assert_eq!(rt; bob.set(OneCall::Count(0, MAX)), Reply::Count(256));
-    assert_eq!(rt;
-        bob.set(OneCall::FirstEmpty(18446744073709551360)),
-        Reply::Int(false)
-    );
-    assert_eq!(rt;
-        bob.set(OneCall::NextEmpty(18446744073709551359)),
-        Reply::Int(false)
-    );
-    assert_eq!(rt;
-        bob.set(OneCall::LastEmpty(MAX)),
-        Reply::Index(18446744073709551359)
-    );
+    compare(&rt, &mut bob, &AT_TOP_OF_THE_RANGE);
 }
+
+const VALUES: [(Ask, Want); 11] = [
+    (
+        Ask::Map(LongCall::Insert(5, Given::Value(8))),
+        Want::Value(0),
+    ),
+    (
+        Ask::Map(LongCall::Insert(5, Given::Nothing)),
+        Want::Value(8),
+    ),
+    (
+        Ask::Map(LongCall::Insert(5, Given::Value(9))),
+        Want::Value(8),
+    ),
+    (
+        Ask::Map(LongCall::Insert(5, Given::Plus(MAX))),
+        Want::Value(8),
+    ),
+    (
+        Ask::Map(LongCall::Insert(5, Given::Plus(1))),
+        Want::Value(9),
+    ),
+    (Ask::Map(LongCall::Get(5)), Want::Value(9)),
+    (Ask::Map(LongCall::ByCount(1)), Want::ValueAt(9, 5)),
+    (Ask::Map(LongCall::Next(5)), Want::Null),
+    (Ask::Map(LongCall::FirstEmpty(5)), Want::Index(6)),
+    (Ask::Map(LongCall::Delete(5)), Want::Int(true)),
+    (Ask::Map(LongCall::Delete(5)), Want::Int(false)),
+];
 
 #[test]
 fn values(rt: HostRuntime) {
-    let mut alice = Tenant::new(rt.alloc(), 4);
-    assert_eq!(rt;
-        alice.map(LongCall::Insert(5, Given::Value(8))),
-        Reply::Value(0)
-    );
-    assert_eq!(rt;
-        alice.map(LongCall::Insert(5, Given::Nothing)),
-        Reply::Value(8)
-    );
-    assert_eq!(rt;
-        alice.map(LongCall::Insert(5, Given::Value(9))),
-        Reply::Value(8)
-    );
-    assert_eq!(rt;
-        alice.map(LongCall::Insert(5, Given::Plus(MAX))),
-        Reply::Value(8)
-    );
-    assert_eq!(rt;
-        alice.map(LongCall::Insert(5, Given::Plus(1))),
-        Reply::Value(9)
-    );
-    assert_eq!(rt; alice.map(LongCall::Get(5)), Reply::Value(9));
-    assert_eq!(rt; alice.map(LongCall::ByCount(1)), Reply::ValueAt(9, 5));
-    assert_eq!(rt; alice.map(LongCall::Next(5)), Reply::Null);
-    assert_eq!(rt; alice.map(LongCall::FirstEmpty(5)), Reply::Index(6));
-    assert_eq!(rt; alice.map(LongCall::Delete(5)), Reply::Int(true));
-    assert_eq!(rt; alice.map(LongCall::Delete(5)), Reply::Int(false));
+    compare(&rt, &mut Tenant::new(rt.alloc(), 4), &VALUES);
 }
+
+const OF_ONE_NAME_AND_TWO_KINDS: [(Ask, Want); 7] = [
+    (
+        Ask::Map(LongCall::Insert(1, Given::Nothing)),
+        Want::Value(0),
+    ),
+    (
+        Ask::Map(LongCall::Insert(2, Given::Value(9))),
+        Want::Value(0),
+    ),
+    (Ask::Set(OneCall::Count(0, MAX)), Want::Count(0)),
+    (Ask::Map(LongCall::Last(MAX)), Want::ValueAt(9, 2)),
+    (Ask::Map(LongCall::Prev(1)), Want::Null),
+    (Ask::Map(LongCall::Free), Want::Count(2)),
+    (Ask::Map(LongCall::Count(0, MAX)), Want::Count(0)),
+];
 
 #[test]
 fn one_name_two_kinds(rt: HostRuntime) {
-    let mut bob = Tenant::new(rt.alloc(), 1000);
-    assert_eq!(rt;
-        bob.map(LongCall::Insert(1, Given::Nothing)),
-        Reply::Value(0)
+    compare(
+        &rt,
+        &mut Tenant::new(rt.alloc(), 1000),
+        &OF_ONE_NAME_AND_TWO_KINDS,
     );
-    assert_eq!(rt;
-        bob.map(LongCall::Insert(2, Given::Value(9))),
-        Reply::Value(0)
-    );
-    assert_eq!(rt; bob.set(OneCall::Count(0, MAX)), Reply::Count(0));
-    assert_eq!(rt; bob.map(LongCall::Last(MAX)), Reply::ValueAt(9, 2));
-    assert_eq!(rt; bob.map(LongCall::Prev(1)), Reply::Null);
-    assert_eq!(rt; bob.map(LongCall::Free), Reply::Count(2));
-    assert_eq!(rt; bob.map(LongCall::Count(0, MAX)), Reply::Count(0));
 }
+
+const OF_UNSIGNED_BYTES: [(Ask, Want); 7] = [
+    (Ask::InsertString(b"\x7f", Given::Value(1)), Want::Value(0)),
+    (Ask::InsertString(b"\x80", Given::Value(2)), Want::Value(0)),
+    (
+        Ask::InsertString(b"\x7f\x01", Given::Value(3)),
+        Want::Value(0),
+    ),
+    (Ask::FirstString(b""), Want::ValueKey(1, b"\x7f")),
+    (Ask::NextString(b"\x7f"), Want::ValueKey(3, b"\x7f\x01")),
+    (Ask::LastString(b"\xff"), Want::ValueKey(2, b"\x80")),
+    (Ask::PrevString(b"\x7f"), Want::Null),
+];
 
 #[test]
 fn unsigned_bytes(rt: HostRuntime) {
-    let mut alice = Tenant::new(rt.alloc(), 4);
-    assert_eq!(rt;
-        alice.strings(StrCall::Insert(key(b"\x7f"), Given::Value(1))),
-        Reply::Value(0)
-    );
-    assert_eq!(rt;
-        alice.strings(StrCall::Insert(key(b"\x80"), Given::Value(2))),
-        Reply::Value(0)
-    );
-    assert_eq!(rt;
-        alice.strings(StrCall::Insert(key(b"\x7f\x01"), Given::Value(3))),
-        Reply::Value(0)
-    );
-    assert_eq!(rt;
-        alice.strings(StrCall::First(key(b""))),
-        Reply::ValueKey(1, key(b"\x7f"))
-    );
-    assert_eq!(rt;
-        alice.strings(StrCall::Next(key(b"\x7f"))),
-        Reply::ValueKey(3, key(b"\x7f\x01"))
-    );
-    assert_eq!(rt;
-        alice.strings(StrCall::Last(key(b"\xff"))),
-        Reply::ValueKey(2, key(b"\x80"))
-    );
-    assert_eq!(rt; alice.strings(StrCall::Prev(key(b"\x7f"))), Reply::Null);
+    compare(&rt, &mut Tenant::new(rt.alloc(), 4), &OF_UNSIGNED_BYTES);
 }
+
+const ORDER_OF_STRINGS: [(Ask, Want); 12] = [
+    (Ask::InsertString(b"", Given::Value(1)), Want::Value(0)),
+    (
+        Ask::InsertString(b"abcdefg", Given::Value(2)),
+        Want::Value(0),
+    ),
+    (
+        Ask::InsertString(b"abcdefgh", Given::Value(3)),
+        Want::Value(0),
+    ),
+    (
+        Ask::InsertString(b"abcdefghi", Given::Value(4)),
+        Want::Value(0),
+    ),
+    (Ask::FirstString(b""), Want::ValueKey(1, b"")),
+    (Ask::NextString(b""), Want::ValueKey(2, b"abcdefg")),
+    (Ask::NextString(b"abcdefg"), Want::ValueKey(3, b"abcdefgh")),
+    (
+        Ask::NextString(b"abcdefgh"),
+        Want::ValueKey(4, b"abcdefghi"),
+    ),
+    (Ask::NextString(b"abcdefghi"), Want::Null),
+    (Ask::DeleteString(b"abcdefgh"), Want::Int(true)),
+    (Ask::NextString(b"abcdefg"), Want::ValueKey(4, b"abcdefghi")),
+    (Ask::FreeStrings, Want::Count(3)),
+];
 
 #[test]
 fn order_of_strings(rt: HostRuntime) {
-    let mut bob = Tenant::new(rt.alloc(), 1000);
-    assert_eq!(rt;
-        bob.strings(StrCall::Insert(key(b""), Given::Value(1))),
-        Reply::Value(0)
-    );
-    assert_eq!(rt;
-        bob.strings(StrCall::Insert(key(b"abcdefg"), Given::Value(2))),
-        Reply::Value(0)
-    );
-    assert_eq!(rt;
-        bob.strings(StrCall::Insert(key(b"abcdefgh"), Given::Value(3))),
-        Reply::Value(0)
-    );
-    assert_eq!(rt;
-        bob.strings(StrCall::Insert(key(b"abcdefghi"), Given::Value(4))),
-        Reply::Value(0)
-    );
-    assert_eq!(rt;
-        bob.strings(StrCall::First(key(b""))),
-        Reply::ValueKey(1, key(b""))
-    );
-    assert_eq!(rt;
-        bob.strings(StrCall::Next(key(b""))),
-        Reply::ValueKey(2, key(b"abcdefg"))
-    );
-    assert_eq!(rt;
-        bob.strings(StrCall::Next(key(b"abcdefg"))),
-        Reply::ValueKey(3, key(b"abcdefgh"))
-    );
-    assert_eq!(rt;
-        bob.strings(StrCall::Next(key(b"abcdefgh"))),
-        Reply::ValueKey(4, key(b"abcdefghi"))
-    );
-    assert_eq!(rt; bob.strings(StrCall::Next(key(b"abcdefghi"))), Reply::Null);
-    assert_eq!(rt;
-        bob.strings(StrCall::Delete(key(b"abcdefgh"))),
-        Reply::Int(true)
-    );
-    assert_eq!(rt;
-        bob.strings(StrCall::Next(key(b"abcdefg"))),
-        Reply::ValueKey(4, key(b"abcdefghi"))
-    );
-    assert_eq!(rt; bob.strings(StrCall::Free), Reply::Count(3));
+    compare(&rt, &mut Tenant::new(rt.alloc(), 1000), &ORDER_OF_STRINGS);
 }
+
+const BYTE_KEYS: [(Ask, Want); 7] = [
+    (Ask::InsertBytes(b"", Given::Value(1)), Want::Value(0)),
+    (Ask::InsertBytes(b"\0", Given::Value(2)), Want::Value(0)),
+    (Ask::InsertBytes(b"\0", Given::Plus(3)), Want::Value(5)),
+    (Ask::GetBytes(b""), Want::Value(1)),
+    (Ask::GetBytes(b"\0\0"), Want::Null),
+    (Ask::DeleteBytes(b""), Want::Int(true)),
+    (Ask::FreeBytes, Want::Count(1)),
+];
 
 #[test]
 fn byte_keys(rt: HostRuntime) {
-    let mut alice = Tenant::new(rt.alloc(), 4);
-    assert_eq!(rt;
-        alice.bytes(BytesCall::Insert(key(b""), Given::Value(1))),
-        Reply::Value(0)
-    );
-    assert_eq!(rt;
-        alice.bytes(BytesCall::Insert(key(b"\0"), Given::Value(2))),
-        Reply::Value(0)
-    );
-    assert_eq!(rt;
-        alice.bytes(BytesCall::Insert(key(b"\0"), Given::Plus(3))),
-        Reply::Value(5)
-    );
-    assert_eq!(rt; alice.bytes(BytesCall::Get(key(b""))), Reply::Value(1));
-    assert_eq!(rt; alice.bytes(BytesCall::Get(key(b"\0\0"))), Reply::Null);
-    assert_eq!(rt; alice.bytes(BytesCall::Delete(key(b""))), Reply::Int(true));
-    assert_eq!(rt; alice.bytes(BytesCall::Free), Reply::Count(1));
+    compare(&rt, &mut Tenant::new(rt.alloc(), 4), &BYTE_KEYS);
 }
+
+const EIGHT: &[u8] = b"abcdefgh";
+
+const NINE: &[u8] = b"abcdefghi";
+
+const WITHIN_A_QUOTA_OF_PIECES: [(Ask, Want); 12] = [
+    (Ask::InsertString(EIGHT, Given::Value(1)), Want::Value(0)),
+    (Ask::Set(OneCall::Set(1)), Want::Int(true)),
+    (Ask::Set(OneCall::Set(2)), Want::Full),
+    (Ask::InsertString(EIGHT, Given::Value(9)), Want::Value(1)),
+    (Ask::InsertString(EIGHT, Given::Plus(9)), Want::Value(18)),
+    (Ask::InsertString(b"", Given::Plus(9)), Want::Full),
+    (Ask::Used, Want::Used(2, 4, 3, 3)),
+    (Ask::DeleteString(EIGHT), Want::Int(true)),
+    (Ask::InsertString(NINE, Given::Value(5)), Want::Value(0)),
+    (Ask::Used, Want::Used(2, 4, 3, 3)),
+    (Ask::FreeStrings, Want::Count(1)),
+    (Ask::Used, Want::Used(1, 4, 1, 3)),
+];
 
 #[test]
 fn a_quota_of_pieces(rt: HostRuntime) {
@@ -337,47 +347,19 @@ fn a_quota_of_pieces(rt: HostRuntime) {
         entries: 4,
         pieces: 3,
     };
-    let mut alice = Tenant::within(rt.alloc(), quota);
-    let eight = b"abcdefgh".as_slice();
-    let nine = b"abcdefghi".as_slice();
-    assert_eq!(rt;
-        alice.strings(StrCall::Insert(key(eight), Given::Value(1))),
-        Reply::Value(0)
+    compare(
+        &rt,
+        &mut Tenant::within(rt.alloc(), quota),
+        &WITHIN_A_QUOTA_OF_PIECES,
     );
-    assert_eq!(rt; alice.set(OneCall::Set(1)), Reply::Int(true));
-    assert_eq!(rt; alice.set(OneCall::Set(2)), Reply::Full);
-    assert_eq!(rt;
-        alice.strings(StrCall::Insert(key(eight), Given::Value(9))),
-        Reply::Value(1)
-    );
-    assert_eq!(rt;
-        alice.strings(StrCall::Insert(key(eight), Given::Plus(9))),
-        Reply::Value(18)
-    );
-    assert_eq!(rt;
-        alice.strings(StrCall::Insert(key(b""), Given::Plus(9))),
-        Reply::Full
-    );
-    assert_eq!(rt; alice.ask(&Call::Used), Reply::Used(2, 4, 3, 3));
-    assert_eq!(rt;
-        alice.strings(StrCall::Delete(key(eight))),
-        Reply::Int(true)
-    );
-    assert_eq!(rt;
-        alice.strings(StrCall::Insert(key(nine), Given::Value(5))),
-        Reply::Value(0)
-    );
-    assert_eq!(rt; alice.ask(&Call::Used), Reply::Used(2, 4, 3, 3));
-    assert_eq!(rt; alice.strings(StrCall::Free), Reply::Count(1));
-    assert_eq!(rt; alice.ask(&Call::Used), Reply::Used(1, 4, 1, 3));
 }
 
 #[test]
 fn a_right_to_look(rt: HostRuntime) {
     let mut alice = Tenant::new(rt.alloc(), 0);
-    let set = Call::One(name(), OneCall::Set(1));
-    let test = Call::One(name(), OneCall::Test(1));
-    assert_eq!(rt; alice.ask_under(Right::Look, &set), Reply::ReadOnly);
-    assert_eq!(rt; alice.ask_under(Right::Change, &set), Reply::Full);
-    assert_eq!(rt; alice.ask_under(Right::Look, &test), Reply::Int(false));
+    let set = Ask::Set(OneCall::Set(1));
+    let test = Ask::Set(OneCall::Test(1));
+    compare_under(&rt, &mut alice, Right::Look, &[(set, Want::ReadOnly)]);
+    compare_under(&rt, &mut alice, Right::Change, &[(set, Want::Full)]);
+    compare_under(&rt, &mut alice, Right::Look, &[(test, Want::Int(false))]);
 }

@@ -41,6 +41,22 @@ fn first_lines(text: &[u8], lines: usize) -> &[u8] {
     &text[..end.min(text.len())]
 }
 
+// Serves a tape in a new house, and checks how that ends, what is written, and how many entries alice
+// then has.
+fn serves(
+    rt: &impl Abort,
+    alloc: Global,
+    tape: Tape<'_>,
+    page: Page<512>,
+    want: (End, &[u8]),
+) -> u64 {
+    let (mut tape, mut page) = (tape, page);
+    let mut house = House::new(alloc);
+    let end = serve(alloc, &mut house, &mut tape, &mut page);
+    assert_eq!(rt; (end, page.bytes()), want);
+    house.used(Tenant::Alice)
+}
+
 // Serves a script that one pull gives, in a new house, and checks what was written.
 fn answers(rt: &impl Abort, alloc: Global, script: &[u8], replies: &[u8]) {
     let mut house = House::new(alloc);
@@ -55,15 +71,10 @@ fn answers(rt: &impl Abort, alloc: Global, script: &[u8], replies: &[u8]) {
 fn every_cut_and_step(rt: HostRuntime) {
     for place in 0..SCRIPT.len() {
         for (cuts, step) in [([place], 5000), ([0], place + 1)] {
-            let mut house = House::new(rt.alloc());
-            let mut tape = Tape::new(SCRIPT, &cuts, step, None);
-            let mut page: Page<512> = Page::new(512, Refusal::Fails, None, None);
-            assert_eq!(rt;
-                serve(rt.alloc(), &mut house, &mut tape, &mut page),
-                End::Quit
-            );
-            assert_eq!(rt; page.bytes(), REPLIES, "at {place}");
-            assert_eq!(rt; house.used(Tenant::Alice), 1);
+            let tape = Tape::new(SCRIPT, &cuts, step, None);
+            let page = Page::new(512, Refusal::Fails, None, None);
+            let used = serves(&rt, rt.alloc(), tape, page, (End::Quit, REPLIES));
+            assert_eq!(rt; used, 1, "at {place}");
         }
     }
 }
@@ -73,15 +84,10 @@ fn every_read_fails(rt: HostRuntime) {
     // The script without its QUIT line and what follows.
     let script = first_lines(SCRIPT, 17);
     for place in 0..script.len() {
-        let mut house = House::new(rt.alloc());
-        let mut tape = Tape::new(script, &[], 5000, Some(place));
-        let mut page: Page<512> = Page::new(512, Refusal::Fails, None, None);
-        assert_eq!(rt;
-            serve(rt.alloc(), &mut house, &mut tape, &mut page),
-            End::ReadFault
-        );
+        let tape = Tape::new(script, &[], 5000, Some(place));
+        let page = Page::new(512, Refusal::Fails, None, None);
         let want = first_lines(REPLIES, count_lines(&script[..place]));
-        assert_eq!(rt; page.bytes(), want, "at {place}");
+        let _used = serves(&rt, rt.alloc(), tape, page, (End::ReadFault, want));
     }
 }
 
@@ -91,14 +97,10 @@ fn every_write_fails(rt: HostRuntime) {
         for refusal in [Refusal::TakesNothing, Refusal::Fails] {
             // All pushes fail from the place on, or only one fails.
             for (limit, push_fails_at) in [(place, None), (512, Some(place))] {
-                let mut house = House::new(rt.alloc());
-                let mut tape = Tape::new(SCRIPT, &[], 5000, None);
-                let mut page: Page<512> = Page::new(limit.min(512), refusal, push_fails_at, None);
-                assert_eq!(rt;
-                    serve(rt.alloc(), &mut house, &mut tape, &mut page),
-                    End::WriteFault
-                );
-                assert_eq!(rt; page.bytes(), &REPLIES[..place], "at {place}");
+                let tape = Tape::new(SCRIPT, &[], 5000, None);
+                let page = Page::new(limit.min(512), refusal, push_fails_at, None);
+                let want = (End::WriteFault, &REPLIES[..place]);
+                let _used = serves(&rt, rt.alloc(), tape, page, want);
             }
         }
     }
@@ -110,41 +112,30 @@ fn every_write_fails(rt: HostRuntime) {
 fn every_flush_fails(rt: HostRuntime) {
     for step in [1, 5000] {
         for place in 1..=REPLIES.len() {
-            let mut house = House::new(rt.alloc());
-            let mut tape = Tape::new(SCRIPT, &[], step, None);
-            let mut page: Page<512> = Page::new(512, Refusal::Fails, None, Some(place));
-            let end = serve(rt.alloc(), &mut house, &mut tape, &mut page);
+            let tape = Tape::new(SCRIPT, &[], step, None);
+            let page = Page::new(512, Refusal::Fails, None, Some(place));
             let of_line = step == 1 && REPLIES[place - 1] == b'\n';
-            if of_line || place == REPLIES.len() {
-                assert_eq!(rt; end, End::WriteFault);
-                assert_eq!(rt; page.bytes(), &REPLIES[..place], "at {place}");
+            let want = if of_line || place == REPLIES.len() {
+                (End::WriteFault, &REPLIES[..place])
             } else {
-                assert_eq!(rt; end, End::Quit);
-                assert_eq!(rt; page.bytes(), REPLIES);
-            }
+                (End::Quit, REPLIES)
+            };
+            let _used = serves(&rt, rt.alloc(), tape, page, want);
         }
     }
 }
+
+const THREE_SETS: &[u8] = b"AUTH alice abc\nJ1S a 1\nJ1S a 2\nJ1S a 3\n";
 
 // The lines of the read whose answers are not written are run, up to its end, and no line of the next
 // read is.
 #[test]
 fn a_failed_write_runs_no_line_of_the_next_read(rt: HostRuntime) {
     for (cuts, used) in [([15, 23], 1), ([0, 23], 1), ([0, 31], 2)] {
-        let mut house = House::new(rt.alloc());
-        let mut tape = Tape::new(
-            b"AUTH alice abc\nJ1S a 1\nJ1S a 2\nJ1S a 3\n",
-            &cuts,
-            5000,
-            None,
-        );
-        let mut page: Page<512> = Page::new(4, Refusal::Fails, None, None);
-        assert_eq!(rt;
-            serve(rt.alloc(), &mut house, &mut tape, &mut page),
-            End::WriteFault
-        );
-        assert_eq!(rt; page.bytes(), b"OK\n1".as_slice());
-        assert_eq!(rt; house.used(Tenant::Alice), used);
+        let tape = Tape::new(THREE_SETS, &cuts, 5000, None);
+        let page = Page::new(4, Refusal::Fails, None, None);
+        let want = (End::WriteFault, b"OK\n1".as_slice());
+        assert_eq!(rt; serves(&rt, rt.alloc(), tape, page, want), used);
     }
 }
 
@@ -256,16 +247,11 @@ fn long_lines(rt: HostRuntime) -> Result<(), Fail> {
     push_line(&mut script, b"", b'A', 4097)?;
     push_line(&mut script, b"", b'A', 20_000)?;
     push_line(&mut script, b"J1T a 2", b' ', 0)?;
-    let want = b"OK\n1\nERR LONG\nERR LONG\n1\nERR SYNTAX\nERR LONG\nERR LONG\n0\n";
+    let want = b"OK\n1\nERR LONG\nERR LONG\n1\nERR SYNTAX\nERR LONG\nERR LONG\n0\n".as_slice();
     for step in [1, 2, 4095, 4096, 4097] {
-        let mut house = House::new(rt.alloc());
-        let mut tape = Tape::new(script.as_slice(), &[], step, None);
-        let mut page: Page<512> = Page::new(512, Refusal::Fails, None, None);
-        assert_eq!(rt;
-            serve(rt.alloc(), &mut house, &mut tape, &mut page),
-            End::End
-        );
-        assert_eq!(rt; page.bytes(), want.as_slice(), "in steps of {step}");
+        let tape = Tape::new(script.as_slice(), &[], step, None);
+        let page = Page::new(512, Refusal::Fails, None, None);
+        let _used = serves(&rt, rt.alloc(), tape, page, (End::End, want));
     }
     Ok(())
 }

@@ -44,8 +44,39 @@ fn a_silent_client_is_closed(rt: HostRuntime) -> Result<(), Fail> {
     assert_eq!(rt; ending, Ending::Done);
     assert_eq!(rt;
         stage.asked(),
-        b".a0a1.r0r1w0:r1:r1:r1:r1:r1c0I:r1:c1I".as_slice()
+        b".a0a1r0r1w0:r0r1:r1:r1:r1:r1:r1c0I:r1:c1I".as_slice()
     );
+    Ok(())
+}
+
+// A client on which nobody has logged in after 3 seconds is closed, though it sends lines; one on which
+// somebody has is not.
+#[test]
+fn a_client_without_a_log_in_is_closed(rt: HostRuntime) -> Result<(), Fail> {
+    let alloc = rt.alloc();
+    let parts = [
+        Part {
+            reads: 1,
+            ..giving(b"J1T a 1\n")
+        },
+        Part {
+            reads: 1,
+            ..giving(b"AUTH alice abc\n")
+        },
+    ];
+    let order: [&[usize]; 4] = [&[], &[0, 1], &[], &[]];
+    let times = [Some(10), Some(10), Some(13), Some(20)];
+    let mut stage = stage(alloc, &parts)?;
+    stage.order = &order;
+    stage.times = &times;
+    let limits = Limits {
+        login: Some(3),
+        idle: Some(8),
+        ..limits(2, 2)
+    };
+    let ending = play(alloc, &mut stage, limits)?;
+    assert_eq!(rt; ending, Ending::Done);
+    assert_eq!(rt; stage.asked(), b".a0a1r0r1w0w1:r0r1:c0L:c1I".as_slice());
     Ok(())
 }
 
@@ -66,7 +97,7 @@ fn a_long_connection_is_closed(rt: HostRuntime) -> Result<(), Fail> {
     };
     let ending = play(alloc, &mut stage, limits)?;
     assert_eq!(rt; ending, Ending::Done);
-    assert_eq!(rt; stage.asked(), b".a0r0w0.r0w0:r0w0:r0w0c0O".as_slice());
+    assert_eq!(rt; stage.asked(), b".a0r0w0:r0w0:r0w0:r0w0c0O".as_slice());
     Ok(())
 }
 
@@ -87,7 +118,7 @@ fn a_clock_that_fails(rt: HostRuntime) -> Result<(), Fail> {
     };
     let ending = play(alloc, &mut stage, limits)?;
     assert_eq!(rt; ending, Ending::Done);
-    assert_eq!(rt; stage.asked(), b".a0r0w0.r0c0I".as_slice());
+    assert_eq!(rt; stage.asked(), b".a0r0w0:r0c0I".as_slice());
     Ok(())
 }
 

@@ -153,7 +153,7 @@ fn a_full_segment_is_followed_by_the_next(rt: HostRuntime) -> Result<(), Fail> {
     let mut stage = stage(alloc, &parts)?;
     let ending = play_with(alloc, &mut stage, journaled(1, Sync::Never), SEGMENT_LIMIT)?;
     assert_eq!(rt; ending, Ending::Done);
-    assert_eq!(rt; stage.asked(), b".a0r0ksbksw0.r0kw0c0Q".as_slice());
+    assert_eq!(rt; stage.asked(), b".a0r0ksbksw0|r0kw0c0Q".as_slice());
     assert_eq!(rt; count(stage.journal.as_slice(), b"judyd journal 1 2 "), 1);
     for place in 0..5usize {
         let mut failing = crate::theatre::stage(alloc, &parts)?;
@@ -188,7 +188,7 @@ fn syncs_by_seconds(rt: HostRuntime) -> Result<(), Fail> {
     timed.times = &times;
     let ending = play_with(alloc, &mut timed, journaled(1, Sync::Seconds(5)), 0)?;
     assert_eq!(rt; ending, Ending::Done);
-    assert_eq!(rt; timed.asked(), b".a0r0kw0.r0ksw0c0Q".as_slice());
+    assert_eq!(rt; timed.asked(), b".a0r0kw0:r0ksw0c0Q".as_slice());
     Ok(())
 }
 
@@ -204,7 +204,7 @@ fn never_syncs(rt: HostRuntime) -> Result<(), Fail> {
     let mut never = stage(alloc, &parts)?;
     let ending = play_with(alloc, &mut never, journaled(1, Sync::Never), 0)?;
     assert_eq!(rt; ending, Ending::Done);
-    assert_eq!(rt; never.asked(), b".a0r0kw0.r0kw0c0Q".as_slice());
+    assert_eq!(rt; never.asked(), b".a0r0kw0|r0kw0c0Q".as_slice());
     Ok(())
 }
 

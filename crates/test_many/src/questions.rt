@@ -43,7 +43,7 @@ fn a_status_is_that_of_its_round(rt: HostRuntime) -> Result<(), Fail> {
     stage.questions = &questions;
     let ending = play(alloc, &mut stage, watched())?;
     assert_eq!(rt; ending, Ending::Done);
-    assert_eq!(rt; stage.asked(), b".a0r0w0?=.r0w0c0Q?=".as_slice());
+    assert_eq!(rt; stage.asked(), b".a0r0w0?=|r0w0c0Q?=".as_slice());
     let text = stage.reported.as_slice();
     for line in [
         b"judyd_tenant_entries{tenant=\"alice\"} 1".as_slice(),

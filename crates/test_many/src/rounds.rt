@@ -5,18 +5,25 @@ use judy_stream::Refusal;
 use std::test::Fail;
 
 // Clients have their turns in the order in which they became ready. All of a round read before any of
-// them writes. The first two waits say that three came, and which of them are ready first.
+// them writes. Who comes has a turn at once; the second wait says which of them are ready first then.
 #[test]
 fn turns_go_by_readiness_in_two_halves(rt: HostRuntime) -> Result<(), Fail> {
     let alloc = rt.alloc();
     let lines = *b"J1T a 1\nQUIT\n";
-    let parts = [giving(&lines), giving(&lines), giving(&lines)];
+    let part = Part {
+        step: 8,
+        ..giving(&lines)
+    };
+    let parts = [part, part, part];
     let order: [&[usize]; 2] = [&[], &[2, 0, 1]];
     let mut stage = stage(alloc, &parts)?;
     stage.order = &order;
     let ending = play(alloc, &mut stage, limits(3, 3))?;
     assert_eq!(rt; ending, Ending::Done);
-    assert_eq!(rt; stage.asked(), b".a0a1a2.r2r0r1w2c2Qw0c0Qw1c1Q".as_slice());
+    assert_eq!(rt;
+        stage.asked(),
+        b".a0a1a2r0r1r2w0w1w2|r2r0r1w2c2Qw0c0Qw1c1Q".as_slice()
+    );
     Ok(())
 }
 
@@ -51,7 +58,7 @@ fn nobody_has_a_second_turn_first(rt: HostRuntime) -> Result<(), Fail> {
     assert!(rt;
         begin_with(
             stage.asked(),
-            b".a0a1a2.r0r1r2w0w1w2.r2r1w0w2w1.r1r2w0w1w2.r1c1Er2c2E"
+            b".a0a1a2r0r1r2w0w1w2.r1r2w0w1w2.r2r1w0w2w1.r1c1Er2c2E"
         )
     );
     Ok(())
@@ -82,7 +89,7 @@ fn a_full_output_waits(rt: HostRuntime) -> Result<(), Fail> {
     );
     assert_eq!(rt;
         stage.asked(),
-        b".a0a1r0r1w0w1c1Q.w0|w0.w0.r0c0E".as_slice()
+        b".a0a1r0r1w0w1c1Q|w0|w0.w0.r0c0E".as_slice()
     );
     Ok(())
 }
@@ -103,7 +110,7 @@ fn a_blocked_client_is_not_read(rt: HostRuntime) -> Result<(), Fail> {
     stage.order = &order;
     let ending = play(alloc, &mut stage, limits(1, 1))?;
     assert_eq!(rt; ending, Ending::Done);
-    assert_eq!(rt; stage.asked(), b".a0.r0w0|w0.r0w0|r0c0E".as_slice());
+    assert_eq!(rt; stage.asked(), b".a0r0w0|w0.r0w0|r0c0E".as_slice());
     assert_eq!(rt; stage.scripts.len(), 1);
     assert_eq!(rt;
         stage.scripts[0].page.bytes(),

@@ -1,5 +1,6 @@
 //! Connections in memory.
 ghost use Rattle.std.specs.Prelude.{None};
+ghost use Rattle.judy_many.specs.Queues.{StayAwake};
 
 use arrayvec::ArrayVec;
 use judy_many::{Accept, Got, How, Network, Put, Question, Queue, Unread};
@@ -161,6 +162,7 @@ fn letter(how: How) -> u8 {
         How::Quit => b'Q',
         How::End => b'E',
         How::Fault => b'F',
+        How::Login => b'L',
         How::Idle => b'I',
         How::Over => b'O',
         How::Memory => b'M',
@@ -178,14 +180,18 @@ fn wait_letter(time: Option<u32>) -> u8 {
 }
 
 /// These slots became ready, in this order.
-fn mark(queue: &mut Queue, slots: &[usize]) {
+fn mark(queue: &mut Queue, slots: &[usize])
+    ensures { StayAwake queue.old queue.new }
+{
     for slot in slots {
         queue.mark_ready(*slot);
     }
 }
 
 /// This many slots became ready, from the first on.
-fn mark_all(queue: &mut Queue, count: usize) {
+fn mark_all(queue: &mut Queue, count: usize)
+    ensures { StayAwake queue.old queue.new }
+{
     for slot in 0..count {
         queue.mark_ready(slot);
     }

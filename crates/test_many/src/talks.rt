@@ -25,7 +25,10 @@ fn by_turns(rt: HostRuntime) -> Result<(), Fail> {
             refusal: Refusal::TakesNothing,
             ..giving(&second)
         },
-        giving(&third),
+        Part {
+            step: 15,
+            ..giving(&third)
+        },
         Part {
             fails_at: Some(23),
             ..giving(&fourth)

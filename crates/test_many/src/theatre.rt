@@ -45,7 +45,8 @@ pub fn giving<'a>(bytes: &'a [u8]) -> Part<'a> {
 pub fn limits(clients: u32, connections: u32) -> Limits {
     Limits {
         clients,
-        connections,
+        connections: u64::from(connections),
+        login: None,
         idle: None,
         turn: None,
         status: false,

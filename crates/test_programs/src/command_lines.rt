@@ -16,8 +16,10 @@ fn answer(alloc: Global, line: &str) -> Result<String, AllocError> {
                 config,
                 socket,
                 status,
+                control,
                 clients,
                 connections,
+                login,
                 idle,
                 turn,
                 reserve,
@@ -32,6 +34,10 @@ fn answer(alloc: Global, line: &str) -> Result<String, AllocError> {
                 Some(status) => status.0,
                 None => String::new(alloc),
             };
+            let control = match control {
+                Some(control) => format!(in alloc; "/{}", control.0)?,
+                None => String::new(alloc),
+            };
             let idle = idle.unwrap_or(0);
             let turn = turn.unwrap_or(0);
             let reserve = reserve.unwrap_or(0);
@@ -40,7 +46,7 @@ fn answer(alloc: Global, line: &str) -> Result<String, AllocError> {
                 None => String::new(alloc),
             };
             format!(in alloc;
-                "serve {config} {socket}{status} {clients} {connections} {idle} {turn} {reserve} {check}{journal}"
+                "serve {config} {socket}{status}{control} {clients} {connections} {login} {idle} {turn} {reserve} {check}{journal}"
             )
         }
         Ok(Job::Compact { directory }) => format!(in alloc; "compact {}", directory.0),
@@ -109,25 +115,30 @@ fn words_of_serve(rt: HostRuntime) -> Result<(), Fail> {
         ("serve --config c --socket s --connections 0", "usage"),
         (
             "serve --config c --socket s",
-            "serve c s 64 4294967295 0 0 0 false",
+            "serve c s 64 4294967295 10 0 0 0 false",
         ),
         (
             "serve --config c --socket s --status t",
-            "serve c st 64 4294967295 0 0 0 false",
+            "serve c st 64 4294967295 10 0 0 0 false",
         ),
+        (
+            "serve --config c --socket s --control k --status t",
+            "serve c st/k 64 4294967295 10 0 0 0 false",
+        ),
+        ("serve --config c --socket s --control", "usage"),
         ("serve --config c --socket s --status", "usage"),
         ("serve --config c --socket s --status t --status u", "usage"),
         (
             "serve --socket s --config c",
-            "serve c s 64 4294967295 0 0 0 false",
+            "serve c s 64 4294967295 10 0 0 0 false",
         ),
         (
             "serve --config=c --socket=s --connections=1",
-            "serve c s 64 1 0 0 0 false",
+            "serve c s 64 1 10 0 0 0 false",
         ),
         (
             "serve --config c --socket s --connections 4294967295",
-            "serve c s 64 4294967295 0 0 0 false",
+            "serve c s 64 4294967295 10 0 0 0 false",
         ),
         (
             "serve --config c --socket s --connections 4294967296",
@@ -137,39 +148,39 @@ fn words_of_serve(rt: HostRuntime) -> Result<(), Fail> {
         ("serve --config c --socket s --connections=-1", "usage"),
         (
             "serve --config c --socket s --connections +7",
-            "serve c s 64 7 0 0 0 false",
+            "serve c s 64 7 10 0 0 0 false",
         ),
         (
             "serve --config c --socket s --connections 007",
-            "serve c s 64 7 0 0 0 false",
+            "serve c s 64 7 10 0 0 0 false",
         ),
         ("serve --config c --socket s --connections x", "usage"),
         ("serve --config c --socket s --connections", "usage"),
         ("serve --config c --config d --socket s", "usage"),
         (
             "serve --config= --socket s",
-            "serve  s 64 4294967295 0 0 0 false",
+            "serve  s 64 4294967295 10 0 0 0 false",
         ),
         ("serve --config --socket s", "usage"),
         ("serve --config -c --socket s", "usage"),
         (
             "serve --config - --socket s",
-            "serve - s 64 4294967295 0 0 0 false",
+            "serve - s 64 4294967295 10 0 0 0 false",
         ),
         ("serve --con c --socket s", "usage"),
         ("serve --config c --socket s x", "usage"),
         ("serve -- --config c --socket s", "usage"),
         (
             "serve --config c --socket s --check",
-            "serve c s 64 4294967295 0 0 0 true",
+            "serve c s 64 4294967295 10 0 0 0 true",
         ),
         (
             "serve --idle 30 --config c --turn 600 --socket s",
-            "serve c s 64 4294967295 30 600 0 false",
+            "serve c s 64 4294967295 10 30 600 0 false",
         ),
         (
             "serve --config c --socket s --idle=4294967295 --turn 1",
-            "serve c s 64 4294967295 4294967295 1 0 false",
+            "serve c s 64 4294967295 10 4294967295 1 0 false",
         ),
     ];
     let wrong = differences(&rt, &rows)?;
@@ -182,19 +193,19 @@ fn limits_of_serve(rt: HostRuntime) -> Result<(), Fail> {
     let rows = [
         (
             "serve --config c --socket s --clients 1",
-            "serve c s 1 4294967295 0 0 0 false",
+            "serve c s 1 4294967295 10 0 0 0 false",
         ),
         (
             "serve --config c --socket s --clients=1024 --connections 7",
-            "serve c s 1024 7 0 0 0 false",
+            "serve c s 1024 7 10 0 0 0 false",
         ),
         (
             "serve --config c --socket s --reserve 64",
-            "serve c s 64 4294967295 0 0 64 false",
+            "serve c s 64 4294967295 10 0 0 64 false",
         ),
         (
             "serve --reserve=131072 --config c --socket s --check",
-            "serve c s 64 4294967295 0 0 131072 true",
+            "serve c s 64 4294967295 10 0 0 131072 true",
         ),
         ("serve --config c --socket s --reserve 0", "usage"),
         ("serve --config c --socket s --reserve 131073", "usage"),
@@ -209,6 +220,12 @@ fn limits_of_serve(rt: HostRuntime) -> Result<(), Fail> {
         (
             "serve --config c --socket s --clients 2 --clients 2",
             "usage",
+        ),
+        ("serve --config c --socket s --login 0", "usage"),
+        ("serve --config c --socket s --login 4294967296", "usage"),
+        (
+            "serve --config c --socket s --login 7",
+            "serve c s 64 4294967295 7 0 0 0 false",
         ),
         ("serve --config c --socket s --idle 0", "usage"),
         ("serve --config c --socket s --turn 0", "usage"),
@@ -231,23 +248,23 @@ fn words_of_a_journal(rt: HostRuntime) -> Result<(), Fail> {
     let rows = [
         (
             "serve --config c --socket s --journal d",
-            "serve c s 64 4294967295 0 0 0 false d Round",
+            "serve c s 64 4294967295 10 0 0 0 false d Round",
         ),
         (
             "serve --config c --socket s --journal=d --sync round --check",
-            "serve c s 64 4294967295 0 0 0 true d Round",
+            "serve c s 64 4294967295 10 0 0 0 true d Round",
         ),
         (
             "serve --sync never --config c --socket s --journal d",
-            "serve c s 64 4294967295 0 0 0 false d Never",
+            "serve c s 64 4294967295 10 0 0 0 false d Never",
         ),
         (
             "serve --config c --socket s --journal d --sync 1",
-            "serve c s 64 4294967295 0 0 0 false d Seconds(1)",
+            "serve c s 64 4294967295 10 0 0 0 false d Seconds(1)",
         ),
         (
             "serve --config c --socket s --journal d --sync 4294967295",
-            "serve c s 64 4294967295 0 0 0 false d Seconds(4294967295)",
+            "serve c s 64 4294967295 10 0 0 0 false d Seconds(4294967295)",
         ),
         ("serve --config c --socket s --sync round", "usage"),
         ("serve --config c --socket s --sync 5", "usage"),

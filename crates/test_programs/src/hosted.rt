@@ -1,5 +1,6 @@
 //! The jobs, and a server over a system in memory.
 ghost use Rattle.std.specs.Prelude.{None};
+ghost use Rattle.judy_many.specs.Queues.{StayAwake};
 
 use crate::rows::{TABLE, Tenants, input};
 use judy_command::Job;
@@ -35,6 +36,7 @@ struct Play<'a> {
     file: Option<&'a [u8]>,
     binds: bool,
     watches: bool,
+    controls: bool,
     drawn: usize,
     opened: usize,
     shut: usize,
@@ -44,6 +46,15 @@ struct Play<'a> {
     closed: usize,
     tapes: Vec<Tape<'a>>,
     pages: Vec<Page<256>>,
+}
+
+/// The first eight slots became ready.
+fn mark_all(queue: &mut Queue)
+    ensures { StayAwake queue.old queue.new }
+{
+    for slot in 0..8usize {
+        queue.mark_ready(slot);
+    }
 }
 
 impl<'a> Network for Play<'a> {
@@ -63,9 +74,7 @@ impl<'a> Network for Play<'a> {
     }
 
     fn wait(&mut self, _time: Option<u32>, queue: &mut Queue) -> Option<bool> {
-        for slot in 0..8usize {
-            queue.mark_ready(slot);
-        }
+        mark_all(queue);
         Some(true)
     }
 
@@ -155,6 +164,11 @@ impl<'a> Hosts for Play<'a> {
         self.watched = self.watched.saturating_add(1);
         self.watches
     }
+
+    fn control(&mut self, _path: &str) -> bool {
+        self.watched = self.watched.saturating_add(1);
+        self.controls
+    }
 }
 
 // It has no journal.
@@ -200,6 +214,7 @@ fn with_callers<'a>(rt: &HostRuntime, callers: &[Caller<'a>]) -> Result<Play<'a>
         file: Some(TABLE.as_bytes()),
         binds: true,
         watches: true,
+        controls: true,
         drawn: 0,
         opened: 0,
         shut: 0,
@@ -213,10 +228,11 @@ fn with_callers<'a>(rt: &HostRuntime, callers: &[Caller<'a>]) -> Result<Play<'a>
 }
 
 // This many clients at once, and connections.
-fn limits(clients: u32, connections: u32) -> Limits {
+fn limits(clients: u32, connections: u64) -> Limits {
     Limits {
         clients,
         connections,
+        login: None,
         idle: None,
         turn: None,
         status: false,
@@ -235,6 +251,7 @@ fn connections_in_order(rt: HostRuntime) -> Result<(), Fail> {
         &mut system,
         "c",
         "s",
+        None,
         None,
         None,
         limits(1, 4),
@@ -273,6 +290,7 @@ fn connections_at_once(rt: HostRuntime) -> Result<(), Fail> {
         "c",
         "s",
         None,
+        None,
         Some(2),
         limits(8, 3),
     );
@@ -295,6 +313,7 @@ fn a_broken_listener(rt: HostRuntime) -> Result<(), Fail> {
         &mut system,
         "c",
         "s",
+        None,
         None,
         None,
         limits(1, 70000),
@@ -326,13 +345,24 @@ fn a_stop(rt: HostRuntime) -> Result<(), Fail> {
         "s",
         status,
         None,
+        None,
         limits,
     );
     assert_eq!(rt; hosted, Hosted::Stopped);
     assert_eq!(rt; (system.bound, system.watched, system.closed), (1, 1, 2));
     let mut system = with_callers(&rt, &[SET])?;
     system.watches = false;
-    let hosted = host_on::<Tenants, _>(rt.alloc(), b"s", &mut system, "c", "s", status, None, more);
+    let hosted = host_on::<Tenants, _>(
+        rt.alloc(),
+        b"s",
+        &mut system,
+        "c",
+        "s",
+        status,
+        None,
+        None,
+        more,
+    );
     assert_eq!(rt; hosted, Hosted::Socket);
     assert_eq!(rt; (system.bound, system.watched, system.accepted), (1, 1, 0));
     let hosted = host_on::<Tenants, _>(
@@ -342,6 +372,7 @@ fn a_stop(rt: HostRuntime) -> Result<(), Fail> {
         "c",
         "s",
         Some(""),
+        None,
         None,
         more,
     );
@@ -383,6 +414,7 @@ fn faults_in_order(rt: HostRuntime) -> Result<(), Fail> {
         "s",
         None,
         None,
+        None,
         limits(1, 1),
     );
     assert_eq!(rt; hosted, Hosted::Config);
@@ -396,6 +428,7 @@ fn faults_in_order(rt: HostRuntime) -> Result<(), Fail> {
         "",
         None,
         None,
+        None,
         limits(1, 1),
     );
     assert_eq!(rt; hosted, Hosted::Socket);
@@ -407,6 +440,7 @@ fn faults_in_order(rt: HostRuntime) -> Result<(), Fail> {
         &mut system,
         "c",
         "s",
+        None,
         None,
         None,
         limits(1, 1),

@@ -63,10 +63,11 @@ fn check_all(
 }
 
 // Limits for this many connections, of whom two are served at once.
-fn limits(connections: u32, idle: Option<u32>, turn: Option<u32>) -> Limits {
+fn limits(connections: u64, idle: Option<u32>, turn: Option<u32>) -> Limits {
     Limits {
         clients: 2,
         connections,
+        login: None,
         idle,
         turn,
         status: false,
@@ -87,7 +88,7 @@ fn check_served<R: Abort + Locks + Net + Clock + Eprint + Clone + Drop>(
     let _ = fs::remove_file(rt, path);
     let mut system = System::new(rt);
     assert!(rt; system.bind(alloc, path));
-    let count = u32::try_from(scripts.len()).expect(rt, "few scripts");
+    let count = scripts.len() as u64;
     let mut clients = clients(rt, alloc, path, scripts)?;
     let mut tenants = open(alloc)?;
     let limits = limits(count, idle, turn);
@@ -182,6 +183,7 @@ fn faults_of_hosting(rt: HostRuntime) -> Result<(), Fail> {
         path,
         None,
         None,
+        None,
         none,
     );
     assert_eq!(rt; hosted, Hosted::Config);
@@ -198,6 +200,7 @@ fn faults_of_hosting(rt: HostRuntime) -> Result<(), Fail> {
         path,
         None,
         None,
+        None,
         none,
     );
     assert_eq!(rt; hosted, Hosted::Table(TableFault::Count));
@@ -209,6 +212,7 @@ fn faults_of_hosting(rt: HostRuntime) -> Result<(), Fail> {
         &mut system,
         config,
         path,
+        None,
         None,
         None,
         none,
@@ -223,6 +227,7 @@ fn faults_of_hosting(rt: HostRuntime) -> Result<(), Fail> {
         path,
         None,
         None,
+        None,
         none,
     );
     assert_eq!(rt; hosted, Hosted::Done);
@@ -233,6 +238,7 @@ fn faults_of_hosting(rt: HostRuntime) -> Result<(), Fail> {
         &mut system,
         config,
         path,
+        None,
         None,
         None,
         none,

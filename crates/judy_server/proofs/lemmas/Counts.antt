@@ -20,7 +20,7 @@ use Rattle.judy_many.specs.declared.serve.Limits.{Limits}
 use Rattle.judy_model.specs.Speakers.{Event}
 use Rattle.judy_model.specs.declared.replies.Reply.{Reply}
 use Rattle.judy_programs.specs.Asking.{Log}
-use Rattle.judy_programs.specs.Hosting.{HasServedAll}
+use Rattle.judy_programs.specs.Hosting.{Desks, HasServedAll}
 use Rattle.judy_protocol.specs.Services.{AreMade}
 use Rattle.judy_table.specs.Tenants.{is_vacant, place_of}
 use Rattle.judy_table.specs.declared.tenant.Tenant.{Tenant}
@@ -338,7 +338,7 @@ unknown-keep : Keeps (λ tally. tally.unknown) (λ tally. Unit {0}) (λ rows n. 
 unknown-keep old text new r fits = (ap (λ (t : Tally). t.unknown) r.tally, tt, λ rows n small. small)
 
 -- the counters of a server, however it ended
-pub counted-from-start : (secret config socket : List ℕ) (watch : Option (List ℕ)) (reserve : Option ℕ) (limits : Limits) (how : Ending) (log log' : Log)
+pub counted-from-start : (secret config socket : List ℕ) (watch : Desks) (reserve : Option ℕ) (limits : Limits) (how : Ending) (log log' : Log)
     → (h : HasServedAll server_rules (IsNewService secret reserve) config socket watch limits how log log')
     → AreCounted h.begun.opened.tenants h.hosted.story h.after.tally
 counted-from-start secret config socket watch reserve limits how log log' h =

@@ -17,7 +17,7 @@ use Rattle.judy_model.specs.Speakers.{Event}
 use Rattle.judy_model.specs.Stream.{event_of}
 use Rattle.judy_protocol.specs.Services.{AreMade}
 use Rattle.judy_programs.specs.Asking.{Log}
-use Rattle.judy_programs.specs.Hosting.{HasServedAll}
+use Rattle.judy_programs.specs.Hosting.{Desks, HasServedAll}
 use Rattle.judy_table.specs.declared.tenant.Tenant.{Tenant}
 use Rattle.judy_tenants.specs.Held.{Held, IsCallOf, IsSoundService, all_quotas, quotas_of, words_for}
 use Rattle.judy_tenants.specs.Runs.{AreCallsOf, NoneForMemory}
@@ -138,7 +138,7 @@ story-served megabytes before (Changed text ∷ story) after a much (mid, step, 
 
 -- a server that began with so many megabytes refuses no call for memory, whatever is called, as long as
 -- they are enough for each table that is put in force
-pub never-memory : (secret config socket : List ℕ) (watch : Option (List ℕ)) (megabytes : ℕ) (limits : Limits) (how : Ending) (log log' : Log)
+pub never-memory : (secret config socket : List ℕ) (watch : Desks) (megabytes : ℕ) (limits : Limits) (how : Ending) (log log' : Log)
     → (h : HasServedAll server_rules (IsNewService secret (Some megabytes)) config socket watch limits how log log')
     → IsMuch megabytes h.begun.opened.tenants → AreMuch megabytes h.begun.opened.tenants (changes_in h.hosted.story)
     → NoTurnForMemory (turns_in h.hosted.story)

@@ -29,7 +29,7 @@ use Rattle.judy_protocol.specs.Serving.{MaybeBytes, Ends}
 use Rattle.judy_protocol.specs.declared.connection.End.{End}
 use Rattle.judy_protocol.specs.declared.connection.End.TheVariants as ends
 use Rattle.judy_programs.specs.Asking.{Log}
-use Rattle.judy_programs.specs.Hosting.{HasServedAll}
+use Rattle.judy_programs.specs.Hosting.{Desks, HasServedAll}
 use Rattle.judy_programs.specs.Program.{HasServed, tells_words}
 use Rattle.judy_programs.specs.declared.program.Ran.TheVariants as ran
 use Rattle.judy_programs.proofs.lemmas.Words.{told-words}
@@ -167,7 +167,7 @@ sound-story (Changed text ∷ p) q before after s (now, step, rest) =
     (mid, (now, step, did), after-change text (changes_in p) before.held now.held mid.held one sound, left)
 
 -- at each moment of a server's story its service is sound, and has the tenants of the tables so far
-pub sound-server : (secret config socket : List ℕ) (watch : Option (List ℕ)) (reserve : Option ℕ) (limits : Limits) (how : Ending) (log log' : Log)
+pub sound-server : (secret config socket : List ℕ) (watch : Desks) (reserve : Option ℕ) (limits : Limits) (how : Ending) (log log' : Log)
     → (h : HasServedAll server_rules (IsNewService secret reserve) config socket watch limits how log log')
     → (p q : Story) → h.hosted.story ≡ p ++ q
     → (mid : Tallied) × Passes server_rules h.before p mid × IsSoundAfter (changes_in p) h.before.held mid.held × Passes server_rules mid q h.after
@@ -208,7 +208,7 @@ run-is-bounded secret words end left left' taken taken' told told' h =
     (bounded h.before.held h.after.held (sound-end end _ _ h.before h.after _ _ h.fresh.sound h.run.script.served)))
 
 -- and at each moment of a server's story, but for what was taken at its start
-pub server-is-bounded : (secret config socket : List ℕ) (watch : Option (List ℕ)) (reserve : Option ℕ) (limits : Limits) (how : Ending) (log log' : Log)
+pub server-is-bounded : (secret config socket : List ℕ) (watch : Desks) (reserve : Option ℕ) (limits : Limits) (how : Ending) (log log' : Log)
     → (h : HasServedAll server_rules (IsNewService secret reserve) config socket watch limits how log log')
     → (p q : Story) → h.hosted.story ≡ p ++ q
     → (mid : Tallied) × Passes server_rules h.before p mid × (let rows = h.before.held.tenants in

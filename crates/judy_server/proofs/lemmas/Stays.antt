@@ -13,7 +13,7 @@ use Rattle.judy_many.specs.Stories.Moment.{Changed, Did, Ran}
 use Rattle.judy_many.specs.declared.serve.Ending.{Ending}
 use Rattle.judy_many.specs.declared.serve.Limits.{Limits}
 use Rattle.judy_programs.specs.Asking.{Log}
-use Rattle.judy_programs.specs.Hosting.{HasServedAll}
+use Rattle.judy_programs.specs.Hosting.{Desks, HasServedAll}
 use Rattle.judy_table.specs.Tenants.{is_vacant}
 use Rattle.judy_table.specs.declared.tenant.Tenant.{Tenant}
 use Rattle.judy_tenants.specs.Changes.{has_tenant, stays_at}
@@ -76,7 +76,7 @@ keeps-tenant t before (Changed text ∷ story) after (mid, step, rest) (both, qu
 
 -- over all lines of a server, whatever tables were put in force between them, its replies are those that
 -- it would get alone, and no other server would give others
-pub tenant-alone : (secret config socket : List ℕ) (watch : Option (List ℕ)) (reserve : Option ℕ) (limits : Limits) (how : Ending) (log log' : Log)
+pub tenant-alone : (secret config socket : List ℕ) (watch : Desks) (reserve : Option ℕ) (limits : Limits) (how : Ending) (log log' : Log)
     → (h : HasServedAll server_rules (IsNewService secret reserve) config socket watch limits how log log')
     → (t : ℕ) → StaysAt t h.before.held.tenants (changes_in h.hosted.story)
     → IsAloneFor t (seen_of h.before) (turns_in h.hosted.story) (seen_of h.after)

@@ -2,7 +2,7 @@ use Rattle.std.proofs.Common.{arith, subst}
 use Rattle.judy_many.specs.Endings.{lost_at}
 use Rattle.judy_many.specs.Lives.{view_of}
 use Rattle.judy_many.specs.Nets.{DidLog}
-use Rattle.judy_many.specs.Queues.{nobody}
+use Rattle.judy_many.specs.Watches.{nobody}
 use Rattle.judy_many.specs.Rules.{rules_of}
 use Rattle.judy_many.specs.Stories.Phase.{Reads}
 use Rattle.judy_many.proofs.Accepting.{accepted}
@@ -13,9 +13,9 @@ use Rattle.judy_many.proofs.arrivals.accept.Goals as goal
 
 pub returns-in-Nothing-clause-crowd : goal.returns-in-Nothing-clause-crowd
 returns-in-Nothing-clause-crowd g c = λ first now start past h.
-    let (mid, last, seated) = accepted _ _ c.args.limits first start past now _ _ c.loop-try.clients.slots.items c.loop-try.clients.accepted c.in-Some.at
-    _ _ c.accept_at-arrival.result c.accept_at-arrival.new.slot (omega (arith, c.in-Some.ensures.slots)) c.in-Some.ensures.free (omega arith)
-    c.has_come.ensures c.one_if.ensures c.accept_at-arrival.ensures.arrives (c.loop-try.invariant.crowd first now start past h) in
+    let (mid, last, seated) = accepted _ _ c.args.limits first start past now c.loop-try.clients.queue c.wake.new.queue _ _ c.loop-try.clients.slots.items c.loop-try.clients.accepted c.in-Some.at
+    _ _ c.accept_at-arrival.result c.accept_at-arrival.new.slot c.wake.ensures.stay c.wake.ensures.wakes (omega (arith, c.in-Some.ensures.slots)) c.in-Some.ensures.free (omega arith)
+    c.has_come-came.ensures c.one_if.ensures c.accept_at-arrival.ensures.arrives (c.loop-try.invariant.crowd first now start past h) in
     (mid, subst (λ r. DidLog mid (lost_at r) (g.N.Network.log c.accept_at-arrival.new.network)) c.in-Nothing.is last, seated)
 
 pub returns-in-Nothing-clause-known : goal.returns-in-Nothing-clause-known
@@ -24,9 +24,9 @@ returns-in-Nothing-clause-known g c = λ speakers k. known-change _ speakers _ _
 
 pub returns-in-Later-clause-crowd : goal.returns-in-Later-clause-crowd
 returns-in-Later-clause-crowd g c = λ first now start past h.
-    let (mid, last, seated) = accepted _ _ c.args.limits first start past now _ _ c.loop-try.clients.slots.items c.loop-try.clients.accepted c.in-Some.at
-    _ _ c.accept_at-arrival.result c.accept_at-arrival.new.slot (omega (arith, c.in-Some.ensures.slots)) c.in-Some.ensures.free (omega arith)
-    c.has_come.ensures c.one_if.ensures c.accept_at-arrival.ensures.arrives (c.loop-try.invariant.crowd first now start past h) in
+    let (mid, last, seated) = accepted _ _ c.args.limits first start past now c.loop-try.clients.queue c.wake.new.queue _ _ c.loop-try.clients.slots.items c.loop-try.clients.accepted c.in-Some.at
+    _ _ c.accept_at-arrival.result c.accept_at-arrival.new.slot c.wake.ensures.stay c.wake.ensures.wakes (omega (arith, c.in-Some.ensures.slots)) c.in-Some.ensures.free (omega arith)
+    c.has_come-came.ensures c.one_if.ensures c.accept_at-arrival.ensures.arrives (c.loop-try.invariant.crowd first now start past h) in
     (mid, subst (λ r. DidLog mid (lost_at r) (g.N.Network.log c.accept_at-arrival.new.network)) c.in-Later.is last, seated)
 
 pub returns-in-Later-clause-known : goal.returns-in-Later-clause-known
@@ -35,9 +35,9 @@ returns-in-Later-clause-known g c = λ speakers k. known-change _ speakers _ _ c
 
 pub returns-in-Fault-clause-crowd : goal.returns-in-Fault-clause-crowd
 returns-in-Fault-clause-crowd g c = λ first now start past h.
-    let (mid, last, seated) = accepted _ _ c.args.limits first start past now _ _ c.loop-try.clients.slots.items c.loop-try.clients.accepted c.in-Some.at
-    _ _ c.accept_at-arrival.result c.accept_at-arrival.new.slot (omega (arith, c.in-Some.ensures.slots)) c.in-Some.ensures.free (omega arith)
-    c.has_come.ensures c.one_if.ensures c.accept_at-arrival.ensures.arrives (c.loop-try.invariant.crowd first now start past h) in
+    let (mid, last, seated) = accepted _ _ c.args.limits first start past now c.loop-try.clients.queue c.wake.new.queue _ _ c.loop-try.clients.slots.items c.loop-try.clients.accepted c.in-Some.at
+    _ _ c.accept_at-arrival.result c.accept_at-arrival.new.slot c.wake.ensures.stay c.wake.ensures.wakes (omega (arith, c.in-Some.ensures.slots)) c.in-Some.ensures.free (omega arith)
+    c.has_come-came.ensures c.one_if.ensures c.accept_at-arrival.ensures.arrives (c.loop-try.invariant.crowd first now start past h) in
     (mid, subst (λ r. DidLog mid (lost_at r) (g.N.Network.log c.accept_at-arrival.new.network)) c.in-Fault.is last, seated)
 
 pub returns-in-Fault-clause-known : goal.returns-in-Fault-clause-known
@@ -47,11 +47,11 @@ returns-in-Fault-clause-known g c = λ speakers k. known-change _ speakers _ _ c
 pub loop-try-preserved : goal.loop-try-preserved
 loop-try-preserved g c = record {
   crowd = λ first now start past h.
-      let (mid, last, seated) = accepted _ _ c.args.limits first start past now _ _ c.loop-try.clients.slots.items c.loop-try.clients.accepted c.in-Some.at
-      _ _ c.accept_at-arrival.result c.accept_at-arrival.new.slot (omega (arith, c.in-Some.ensures.slots)) c.in-Some.ensures.free (omega arith)
-      c.has_come.ensures c.one_if.ensures c.accept_at-arrival.ensures.arrives (c.loop-try.invariant.crowd first now start past h) in
+      let (mid, last, seated) = accepted _ _ c.args.limits first start past now c.loop-try.clients.queue c.wake.new.queue _ _ c.loop-try.clients.slots.items c.loop-try.clients.accepted c.in-Some.at
+      _ _ c.accept_at-arrival.result c.accept_at-arrival.new.slot c.wake.ensures.stay c.wake.ensures.wakes (omega (arith, c.in-Some.ensures.slots)) c.in-Some.ensures.free (omega arith)
+      c.has_come-came.ensures c.one_if.ensures c.accept_at-arrival.ensures.arrives (c.loop-try.invariant.crowd first now start past h) in
       idle (λ b. view_of g.S.Served.who g.N.Network.number b.value) (rules_of g.S.Served.made g.S.Served.seen g.S.Shows.noted g.S.Shows.status g.S.Shows.changed) c.args.limits
-      first start Reads nobody past _ _ _ _ now
+      first start Reads (nobody c.wake.new.queue) past _ _ _ _ now
       (subst (λ r. DidLog mid (lost_at r) (g.N.Network.log c.accept_at-arrival.new.network)) c.in-Came.is last) seated;
   known = λ speakers k. known-change _ speakers _ _ c.index_mut.result.now _ (omega (arith, c.in-Some.ensures.slots)) c.index_mut.ensures.value
       (c.accept_at-arrival.ensures.known speakers) (c.loop-try.invariant.known speakers k);

@@ -7,6 +7,7 @@ use Rattle.judy_many.specs.Stories.Phase.{Sweeps}
 use Rattle.judy_many.specs.Stories.Moment.{Did}
 use Rattle.judy_many.specs.declared.network.How.TheVariants as how
 use Rattle.judy_many.proofs.OneSlot.{did_gone, did_none, did_stay}
+use Rattle.judy_many.proofs.Looking.{closed_left, open_none, open_stay}
 use Rattle.judy_many.proofs.Living.{no_log}
 use Rattle.judy_many.proofs.Telling.{piece_none, stays_none}
 use Rattle.judy_many.proofs.reloads.close_at.Goals as goal
@@ -18,6 +19,7 @@ returns-in_default-clause-did g c = (
   refl,
   tt,
   λ limits e. did_none (λ b. view_of g.S.Served.who g.N.Network.number b.value) limits Sweeps c.args.slot.now c.take.new.self (sym c.take.ensures.value ∙ c.in_default.is) c.take.ensures.after,
+  open_none (λ b. view_of g.S.Served.who g.N.Network.number b.value) c.args.slot.now c.take.new.self (sym c.take.ensures.value ∙ c.in_default.is) c.take.ensures.after,
 )
 
 pub returns-then-is_gone-clause-did : goal.returns-then-is_gone-clause-did
@@ -27,9 +29,11 @@ returns-then-is_gone-clause-did g c = (
       (ap (λ x. g.N.Network.number x.connection) c.deref_mut.ensures.value) c.close.ensures,
   refl,
   ((_, refl), tt),
-  let (who, is) = c.is_gone.ensures.gone c.if-is_gone.true in
-      λ limits e. did_gone (λ b. view_of g.S.Served.who g.N.Network.number b.value) limits Sweeps c.args.slot.now c.take.new.self c.in-Some.client who
+  λ limits e.
+      let (who, is) = c.is_gone.ensures.gone c.if-is_gone.true in
+      did_gone (λ b. view_of g.S.Served.who g.N.Network.number b.value) limits Sweeps c.args.slot.now c.take.new.self c.in-Some.client who
       (ap (λ x. option_map g.S.Served.who x.session.speaker) (sym c.deref.ensures) ∙ is) e c.in-Some.ensures.value c.take.ensures.after,
+  closed_left (λ b. view_of g.S.Served.who g.N.Network.number b.value) c.args.slot.now c.take.new.self (Did (Closed (g.N.Network.number c.in-Some.client.value.connection) how.Gone) ∷ []) c.take.ensures.after,
 )
 
 pub returns-clause-did : goal.returns-clause-did
@@ -40,4 +44,5 @@ returns-clause-did g c = (
   tt,
   λ limits e. did_stay (λ b. view_of g.S.Served.who g.N.Network.number b.value) limits Sweeps c.args.slot.now c.in-Some.client (view_of g.S.Served.who g.N.Network.number c.in-Some.client.value) [] c.in-Some.ensures.value refl
       (piece_none _ Sweeps) (stays_none _),
+  open_stay (λ b. view_of g.S.Served.who g.N.Network.number b.value) c.args.slot.now c.in-Some.client c.in-Some.ensures.value,
 )

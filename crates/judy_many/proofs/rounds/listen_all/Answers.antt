@@ -1,15 +1,14 @@
-use Rattle.std.proofs.Common.{refl, ◌∙◌}
+use Rattle.std.proofs.Common.{arith, refl, ◌∙◌}
 use Rattle.judy_many.specs.Crowds.{past_of}
 use Rattle.judy_many.specs.Lives.{view_of}
-use Rattle.judy_many.specs.Queues.{everybody}
 use Rattle.judy_many.specs.Stories.Phase.{Reads}
-use Rattle.judy_many.proofs.Crowding.{has_failed, has_written, widen}
+use Rattle.judy_many.proofs.Crowding.{all_read, begins, has_failed, has_written}
 use Rattle.judy_many.specs.Rules.{rules_of}
 use Rattle.judy_many.proofs.rounds.listen_all.Goals as goal
 
 pub loop-place-init : goal.loop-place-init
 loop-place-init g c = record {
-  crowd = λ limits first start waits began h. widen (λ b. view_of g.S.Served.who g.N.Network.number b.value) (rules_of g.S.Served.made g.S.Served.seen g.S.Shows.noted g.S.Shows.status g.S.Shows.changed) limits first start Reads _ _ (past_of waits began c.args.keeper.now) _ _ _ _ (λ j k. absurd k) h;
+  crowd = λ limits first start waits began h. begins (λ b. view_of g.S.Served.who g.N.Network.number b.value) (rules_of g.S.Served.made g.S.Served.seen g.S.Shows.noted g.S.Shows.status g.S.Shows.changed) limits first start Reads c.args.clients.now.queue (past_of waits began c.args.keeper.now) _ _ _ _ h;
   queue = refl;
   logins = refl;
   speakers = refl;
@@ -37,4 +36,4 @@ loop-place-preserved g c =
 
 pub returns-clause-crowd : goal.returns-clause-crowd
 returns-clause-crowd g c = λ limits first start waits began e h.
-    widen (λ b. view_of g.S.Served.who g.N.Network.number b.value) (rules_of g.S.Served.made g.S.Served.seen g.S.Shows.noted g.S.Shows.status g.S.Shows.changed) limits first start Reads _ everybody (past_of waits began c.loop-place.keeper) _ _ _ _ (λ j k. tt) (c.loop-place.invariant.crowd limits first start waits began h)
+    all_read (λ b. view_of g.S.Served.who g.N.Network.number b.value) (rules_of g.S.Served.made g.S.Served.seen g.S.Shows.noted g.S.Shows.status g.S.Shows.changed) limits first start c.args.clients.now.queue c.loop-place.clients.queue c.loop-place.place (past_of waits began c.loop-place.keeper) _ _ _ _ c.loop-place.invariant.queue c.len-place-end.ensures.found (let n = c.len-place-end.ensures.long in omega (arith, n)) (c.loop-place.invariant.crowd limits first start waits began h)

@@ -1,6 +1,6 @@
 use Rattle.std.proofs.Common.{refl}
 use Rattle.judy_many.specs.Lives.{view_of}
-use Rattle.judy_many.specs.Queues.{nobody}
+use Rattle.judy_many.specs.Watches.{nobody}
 use Rattle.judy_many.specs.Rules.{rules_of}
 use Rattle.judy_many.specs.Stories.Phase.{Sweeps}
 use Rattle.judy_many.proofs.Crowding.{answered, asked_again}
@@ -8,11 +8,11 @@ use Rattle.judy_many.proofs.serve.ask.Goals as goal
 
 pub returns-in-Round-clause-crowd : goal.returns-in-Round-clause-crowd
 returns-in-Round-clause-crowd g c = λ first start past e h.
-    answered (λ b. view_of g.S.Served.who g.N.Network.number b.value) (rules_of g.S.Served.made g.S.Served.seen g.S.Shows.noted g.S.Shows.status g.S.Shows.changed) c.args.limits first start Sweeps nobody past _ _ _ _ c.args.service.now c.args.limits.status refl c.in-Round.ensures h
+    answered (λ b. view_of g.S.Served.who g.N.Network.number b.value) (rules_of g.S.Served.made g.S.Served.seen g.S.Shows.noted g.S.Shows.status g.S.Shows.changed) c.args.limits first start Sweeps (nobody c.args.clients.now.queue) past _ _ _ _ c.args.service.now c.args.limits.status refl c.in-Round.ensures h
 
 pub returns-in-Reload-clause-crowd : goal.returns-in-Reload-clause-crowd
 returns-in-Reload-clause-crowd g c = λ first start past e h.
-    let (watches, asked) = asked_again (λ b. view_of g.S.Served.who g.N.Network.number b.value) (rules_of g.S.Served.made g.S.Served.seen g.S.Shows.noted g.S.Shows.status g.S.Shows.changed) c.args.limits first start Sweeps nobody past _ _ _ _ c.args.service.now c.args.limits.status refl c.in-Reload.ensures h in
+    let (watches, asked) = asked_again (λ b. view_of g.S.Served.who g.N.Network.number b.value) (rules_of g.S.Served.made g.S.Served.seen g.S.Shows.noted g.S.Shows.status g.S.Shows.changed) c.args.limits first start Sweeps (nobody c.args.clients.now.queue) past _ _ _ _ c.args.service.now c.args.limits.status refl c.in-Reload.ensures h in
     c.reload.ensures.crowd c.args.limits first start past watches c.is_some-keep.ensures asked
 
 pub returns-in-Stop-clause-stop : goal.returns-in-Stop-clause-stop

@@ -1,7 +1,9 @@
-use Rattle.std.proofs.Common.{arith, ◌≡◌, [], ◌∷◌, ◌++◌, List, ℕ, false, refl, sym, ap, ◌∙◌, append_assoc, append-nil}
+use Rattle.std.proofs.Common.{arith, ◌≡◌, ◌⊎◌, inl, inr, ◌<◌, ◌+◌, [], ◌∷◌, ◌++◌, List, ℕ, true, false, refl, sym, ap, subst, ◌∙◌, append_assoc, append-nil}
 use Rattle.std.proofs.lemmas.List.{length-append}
 use Rattle.std.specs.Prelude.{length}
+use Rattle.judy_many.specs.Sessions.{Turn}
 use Rattle.judy_many.proofs.Stepping.{Steps-none, Steps-held, Steps-append}
+use Rattle.judy_many.proofs.Looking.{no_line}
 use Rattle.judy_many.proofs.session.run_lines.Goals as goal
 
 -- one more line was heard
@@ -9,9 +11,13 @@ cut_more : (heard chunk after rest bytes : List ℕ) → heard ++ rest ≡ bytes
 cut_more heard chunk after rest bytes h e =
     append_assoc heard (chunk ++ 10 ∷ []) after ∙ ap (λ v. heard ++ v) (append_assoc chunk (10 ∷ []) after ∙ sym e) ∙ h
 
-pub loop-keeper-init : goal.loop-keeper-init
-loop-keeper-init g c = record {
-  steps = ([], [], refl, Steps-none _ _ _ _ _ _);
+-- at least one
+one_more : (turns : List Turn) (t : Turn) → 0 < length (turns ++ t ∷ [])
+one_more turns t = let e = length-append turns (t ∷ []) in omega (arith, e)
+
+pub loop-chunk-init : goal.loop-chunk-init
+loop-chunk-init g c = record {
+  steps = ([], [], refl, Steps-none _ _ _ _ _ _, inr (refl, refl, refl));
   left = omega arith;
   more = omega arith;
   logins = refl;
@@ -19,35 +25,45 @@ loop-keeper-init g c = record {
   known = c.requires.known;
 }
 
-pub returns-in_default-clause-steps : goal.returns-in_default-clause-steps
-returns-in_default-clause-steps g c =
-    let (used, turns, cut, steps) = c.loop-keeper.invariant.steps in (
-      used ++ c.loop-keeper.rest.now,
+pub returns-clause-steps : goal.returns-clause-steps
+returns-clause-steps g c =
+    let (used, turns, cut, steps, first) = c.loop-chunk.invariant.steps in (
+      used ++ c.loop-chunk.rest.now,
       [],
       turns ++ [],
-      append-nil (used ++ c.loop-keeper.rest.now) ∙ cut,
+      append-nil (used ++ c.loop-chunk.rest.now) ∙ cut,
       refl,
-      Steps-append _ used c.loop-keeper.rest.now turns [] false _ _ _ _ _ _ _ _ _ _ _ _ _ _ _ steps
-          (Steps-held _ c.loop-keeper.rest.now _ _ _ _ _ _ c.in_default.ensures c.hold.ensures),
+      λ some. absurd (some refl),
+      λ starts. elim first [
+        | inl one ↦ subst (λ t. 0 < length t) (sym (append-nil turns)) one
+        | inr none ↦ absurd (no_line c.loop-chunk.rest.now c.args.bytes.now none.0 starts.0 c.in_default.ensures)
+      ],
+      Steps-append _ used c.loop-chunk.rest.now turns [] false _ _ _ _ _ _ _ _ _ _ _ _ _ _ _ steps
+          (Steps-held _ c.loop-chunk.rest.now _ _ _ _ _ _ c.in_default.ensures c.hold.ensures),
     )
 
 pub returns-then-run_line-clause-steps : goal.returns-then-run_line-clause-steps
 returns-then-run_line-clause-steps g c =
-    let (used, turns, cut, steps) = c.loop-keeper.invariant.steps in
+    let (used, turns, cut, steps, first) = c.loop-chunk.invariant.steps in
     let k = c.run_line.ensures.steps in
     let more = rw c.if-run_line.true at k.1 in
     let line = c.in-Some.chunk.now ++ 10 ∷ [] in (
       used ++ line,
       c.in-Some.after.now,
       turns ++ k.0 ∷ [],
-      cut_more used c.in-Some.chunk.now c.in-Some.after.now c.loop-keeper.rest.now c.args.bytes.now cut c.in-Some.ensures.1,
+      cut_more used c.in-Some.chunk.now c.in-Some.after.now c.loop-chunk.rest.now c.args.bytes.now cut c.in-Some.ensures.1,
       omega arith,
+      λ some quit. absurd (never quit),
+      λ starts. one_more turns k.0,
       Steps-append _ used line turns (k.0 ∷ []) _ _ _ _ _ _ _ _ _ _ _ _ _ _ _ _ steps more,
     )
+  where
+    never : true ≡ false → ⊥
+    never e = cc
 
-pub loop-keeper-preserved : goal.loop-keeper-preserved
-loop-keeper-preserved g c =
-    let (used, turns, cut, steps) = c.loop-keeper.invariant.steps in
+pub loop-chunk-preserved : goal.loop-chunk-preserved
+loop-chunk-preserved g c =
+    let (used, turns, cut, steps, first) = c.loop-chunk.invariant.steps in
     let k = c.run_line.ensures.steps in
     let more = rw c.if-run_line.false at k.1 in
     let line = c.in-Some.chunk.now ++ 10 ∷ [] in
@@ -56,12 +72,13 @@ loop-keeper-preserved g c =
       steps = (
         used ++ line,
         turns ++ k.0 ∷ [],
-        cut_more used c.in-Some.chunk.now c.in-Some.after.now c.loop-keeper.rest.now c.args.bytes.now cut c.in-Some.ensures.1,
+        cut_more used c.in-Some.chunk.now c.in-Some.after.now c.loop-chunk.rest.now c.args.bytes.now cut c.in-Some.ensures.1,
         Steps-append _ used line turns (k.0 ∷ []) _ _ _ _ _ _ _ _ _ _ _ _ _ _ _ _ steps more,
+        inl (one_more turns k.0),
       );
-      left = omega (arith, ap length c.in-Some.ensures.1, length-append c.in-Some.chunk.now (10 ∷ c.in-Some.after.now), c.loop-keeper.invariant.left);
-      more = omega (arith, longer, length-append {A = ℕ}, c.loop-keeper.invariant.more);
-      logins = c.run_line.ensures.logins ∙ c.loop-keeper.invariant.logins;
-      speakers = c.run_line.ensures.speakers ∙ c.loop-keeper.invariant.speakers;
+      left = omega (arith, ap length c.in-Some.ensures.1, length-append c.in-Some.chunk.now (10 ∷ c.in-Some.after.now), c.loop-chunk.invariant.left);
+      more = omega (arith, longer, length-append {A = ℕ}, c.loop-chunk.invariant.more);
+      logins = c.run_line.ensures.logins ∙ c.loop-chunk.invariant.logins;
+      speakers = c.run_line.ensures.speakers ∙ c.loop-chunk.invariant.speakers;
       known = c.run_line.ensures.known;
     }

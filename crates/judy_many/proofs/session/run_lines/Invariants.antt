@@ -1,16 +1,17 @@
-use Rattle.std.proofs.Common.{◌≡◌, ◌≤◌, ◌++◌, false, ℕ, List, length}
+use Rattle.std.proofs.Common.{◌≡◌, ◌<◌, ◌≤◌, ◌⊎◌, ◌++◌, false, ℕ, List, length}
 use Rattle.std.specs.Prelude.{option_map}
 use Rattle.judy_protocol.specs.Services.{HasLoggedIn}
 use Rattle.judy_many.specs.Sessions.{Steps, Turn}
 use Rattle.judy_many.specs.Rules.{rules_of}
 use Rattle.judy_many.proofs.session.run_lines.Given as goal
 
-abbrev pub invariant-loop-keeper : goal.invariant-loop-keeper
-invariant-loop-keeper g l = record {
+abbrev pub invariant-loop-chunk : goal.invariant-loop-chunk
+invariant-loop-chunk g l = record {
   steps : (used : List ℕ) × (turns : List Turn) × (used ++ l.rest ≡ l.bytes)
       × Steps (rules_of g.S.Served.made g.S.Served.seen g.S.Shows.noted g.S.Shows.status g.S.Shows.changed) used turns false l.fn.session.held l.session.held
       (option_map g.S.Served.who l.fn.session.speaker) (option_map g.S.Served.who l.session.speaker)
-      l.fn.service l.service l.fn.answers.items l.answers.items l.fn.keeper l.keeper;
+      l.fn.service l.service l.fn.answers.items l.answers.items l.fn.keeper l.keeper
+      × ((0 < length turns) ⊎ ((l.rest ≡ l.bytes) × (l.answers.items ≡ l.fn.answers.items) × (l.keeper ≡ l.fn.keeper)));
   left : length l.rest ≤ length l.bytes;
   more : length l.fn.answers.items ≤ length l.answers.items;
   logins : (g.S.Served.seen l.service).logins ≡ (g.S.Served.seen l.fn.service).logins;
@@ -18,5 +19,5 @@ invariant-loop-keeper g l = record {
   known : HasLoggedIn (g.S.Served.seen l.service).speakers (option_map g.S.Served.who l.session.speaker);
 }
 
-abbrev pub decreases-loop-keeper : goal.decreases-loop-keeper
-decreases-loop-keeper g l = length l.rest
+abbrev pub decreases-loop-chunk : goal.decreases-loop-chunk
+decreases-loop-chunk g l = length l.rest

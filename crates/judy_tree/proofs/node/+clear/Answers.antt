@@ -1,17 +1,13 @@
-use Rattle.std.proofs.Common.{◌≡◌, ◌<◌, ◌≤◌, ◌+◌, ◌-◌, ◌*◌, ℕ, Some, true, ap, sym, ◌∙◌, length, subst, arith, is_some, refl, [], cond, Bool, false}
+use Rattle.std.proofs.Common.{◌≡◌, ◌+◌, ◌≤◌, true, Some, None, ap, sym, ◌∙◌, [], subst, arith}
 use Rattle.judy_arena.specs.Frame.{Frame}
-use Rattle.judy_model.specs.Contents.{word_order, has_key}
+use Rattle.judy_arena.proofs.lemmas.TakeLaws.{same-rests, rests-two}
+use Rattle.judy_model.specs.Contents.{head_of}
+use Rattle.judy_branch.specs.Branch.{branch_view}
 use Rattle.judy_tree.specs.Nodes.{is_branch}
-use Rattle.judy_tree.specs.Root.{IsRoot, entries, numbers}
-use Rattle.judy_tree.proofs.lemmas.Trees.{root-leaf, leaf-content, leaf-blocks, root-top}
-use Rattle.judy_tree.proofs.lemmas.Finds.{kid-at}
-use Rattle.judy_tree.proofs.Steps.{left-branch, left-only, own-left, frames-chain, kid-falls, falls-left, population-less}
+use Rattle.judy_tree.specs.Parts.{from}
+use Rattle.judy_tree.proofs.lemmas.Trees.{root-leaf, leaf-blocks}
+use Rattle.judy_tree.proofs.Clears.{partly-start, own-here, part-here, part-falls, part-byte, part-above, partly-next, partly-end}
 use Rattle.judy_tree.proofs.node.+clear.Goals as goal
-
--- a branch is a little less
-at-most-one : (t : Bool) → cond {A = ℕ} t 0 1 ≤ 1
-at-most-one true = omega arith
-at-most-one false = omega arith
 
 pub release-requires : goal.release-requires
 release-requires t c = root-leaf c.args.values c.args.arena.now.blocks c.args.root (sym c.leads_to_branch.ensures ∙ c.if-not-leads_to_branch.true) c.requires
@@ -22,92 +18,60 @@ returns-then-not-leads_to_branch-clause-frame t c =
     (sym (leaf-blocks c.args.arena.now.blocks c.args.root (sym c.leads_to_branch.ensures ∙ c.if-not-leads_to_branch.true)))
     c.release.ensures.frame
 
-pub last_child-byte-requires : goal.last_child-byte-requires
-last_child-byte-requires t c = (root-top c.args.values c.args.arena.now.blocks c.args.root
-    (sym c.leads_to_branch.ensures ∙ c.if-not-leads_to_branch.false) c.requires).branch
+pub loop-part-init : goal.loop-part-init
+loop-part-init t c = record {
+  partly = partly-start c.args.values c.args.arena.now.blocks c.args.root (sym c.leads_to_branch.ensures ∙ c.if-not-leads_to_branch.false) c.requires;
+  memory = same-rests c.args.arena.now;
+  low = omega arith;
+}
 
-pub population-keys-requires : goal.population-keys-requires
-population-keys-requires t c = (root-top c.args.values c.args.arena.now.blocks c.args.root
-    (sym c.leads_to_branch.ensures ∙ c.if-not-leads_to_branch.false) c.requires).branch
-
-pub population-gone-requires : goal.population-gone-requires
-population-gone-requires t c =
-    (kid-at c.args.values c.args.arena.now.blocks c.args.root 0 (sym c.leads_to_branch.ensures ∙ c.if-not-leads_to_branch.false)
-    c.requires c.last_child-byte.result.0 c.last_child-byte.result.1 c.last_child-byte.ensures.there).sound
+pub next_part-requires-clause-branch : goal.next_part-requires-clause-branch
+next_part-requires-clause-branch t c =
+    (own-here c.args.values c.args.arena.now.blocks c.args.root (sym c.leads_to_branch.ensures ∙ c.if-not-leads_to_branch.false) c.requires
+    c.loop-part.arena.blocks c.loop-part.low c.loop-part.invariant.partly).branch
 
 pub clear-requires : goal.clear-requires
 clear-requires t c =
     let is = sym c.leads_to_branch.ensures ∙ c.if-not-leads_to_branch.false in
-    let f = kid-falls c.args.values c.args.arena.now.blocks c.args.root c.last_child-byte.result.0 is c.requires
-    c.last_child-byte.result.1 c.last_child-byte.ensures.there in (
-      omega arith,
-      (kid-at c.args.values c.args.arena.now.blocks c.args.root 0 is c.requires c.last_child-byte.result.0
-          c.last_child-byte.result.1 c.last_child-byte.ensures.there).sound,
+    let e = sym c.next_part.ensures ∙ c.in-Some.is in
+    let f = part-falls c.args.values c.args.arena.now.blocks c.args.root is c.requires
+    c.loop-part.arena.blocks c.loop-part.low c.loop-part.invariant.partly c.in-Some.part.0 c.in-Some.part.1 e in (
+      omega (arith, f, c.decreases),
+      (part-here c.args.values c.args.arena.now.blocks c.args.root is c.requires
+          c.loop-part.arena.blocks c.loop-part.low c.loop-part.invariant.partly c.in-Some.part.0 c.in-Some.part.1 e).root,
     )
 
-pub overflow_sub-keys : goal.overflow_sub-keys
-overflow_sub-keys t c =
-    (population-less c.args.values c.args.arena.now.blocks c.args.root c.last_child-byte.result.0 c.last_child-byte.result.1
-    c.population-keys.result c.population-gone.result
-    (sym c.leads_to_branch.ensures ∙ c.if-not-leads_to_branch.false) c.requires c.last_child-byte.ensures.there
-    c.population-keys.ensures c.population-gone.ensures).0
-
-pub take_child-requires-clause-branch : goal.take_child-requires-clause-branch
-take_child-requires-clause-branch t c =
-    (own-left c.args.values c.args.arena.now.blocks c.clear.new.arena.blocks c.clear.new.arena.blocks c.args.root
-    c.last_child-byte.result.0 c.last_child-byte.result.1
-    (sym c.leads_to_branch.ensures ∙ c.if-not-leads_to_branch.false) c.requires c.last_child-byte.ensures.there c.clear.ensures.frame).branch
-
-pub take_child-requires-clause-there : goal.take_child-requires-clause-there
-take_child-requires-clause-there t c =
-    ap (λ z. has_key word_order z.children c.last_child-byte.result.0)
-    (own-left c.args.values c.args.arena.now.blocks c.clear.new.arena.blocks c.clear.new.arena.blocks c.args.root
-    c.last_child-byte.result.0 c.last_child-byte.result.1
-    (sym c.leads_to_branch.ensures ∙ c.if-not-leads_to_branch.false) c.requires c.last_child-byte.ensures.there c.clear.ensures.frame).view
-    ∙ ap is_some c.last_child-byte.ensures.there
-
-pub clear-requires-in-Branch : goal.clear-requires-in-Branch
-clear-requires-in-Branch t c =
+pub loop-part-preserved : goal.loop-part-preserved
+loop-part-preserved t c =
     let is = sym c.leads_to_branch.ensures ∙ c.if-not-leads_to_branch.false in
-    let less = population-less c.args.values c.args.arena.now.blocks c.args.root c.last_child-byte.result.0
-    c.last_child-byte.result.1 c.population-keys.result c.population-gone.result
-    is c.requires c.last_child-byte.ensures.there c.population-keys.ensures c.population-gone.ensures in
-    let l = left-branch c.args.values c.args.arena.now.blocks c.clear.new.arena.blocks c.take_child.new.arena.blocks c.args.root
-    c.last_child-byte.result.0 c.last_child-byte.result.1 is c.requires c.last_child-byte.ensures.there c.clear.ensures.frame
-    c.in-Branch.rest (c.population-keys.result - c.population-gone.result) c.in-Branch.ensures.taken.branch.branch
-    c.in-Branch.ensures.taken.branch.view c.in-Branch.ensures.taken.frame less.1 in
-    let f = falls-left c.args.values c.args.arena.now.blocks c.take_child.new.arena.blocks c.args.root c.in-Branch.rest
-    c.last_child-byte.result.0 c.last_child-byte.result.1 is c.requires c.last_child-byte.ensures.there l.content in
-    (omega arith, l.root)
+    let e = sym c.next_part.ensures ∙ c.in-Some.is in
+    let small = part-byte c.args.values c.args.arena.now.blocks c.args.root is c.requires
+    c.loop-part.arena.blocks c.loop-part.low c.loop-part.invariant.partly c.in-Some.part.0 c.in-Some.part.1 e in
+    record {
+      partly = partly-next c.args.values c.args.arena.now.blocks c.args.root is c.requires
+          c.loop-part.arena.blocks c.loop-part.low c.loop-part.invariant.partly c.in-Some.part.0 c.in-Some.part.1 e
+          c.clear.new.arena.blocks _ (omega arith) c.clear.ensures.frame;
+      memory = rests-two c.args.arena.now c.loop-part.arena c.clear.new.arena c.loop-part.invariant.memory c.clear.ensures.memory;
+      low = omega (arith, small);
+    }
 
-pub clear-requires-in-Only : goal.clear-requires-in-Only
-clear-requires-in-Only t c =
+pub loop-part-smaller : goal.loop-part-smaller
+loop-part-smaller t c =
     let is = sym c.leads_to_branch.ensures ∙ c.if-not-leads_to_branch.false in
-    let l = left-only c.args.values c.args.arena.now.blocks c.clear.new.arena.blocks c.take_child.new.arena.blocks c.args.root
-    c.last_child-byte.result.0 c.last_child-byte.result.1 is c.requires c.last_child-byte.ensures.there c.clear.ensures.frame
-    c.in-Only.rest (c.in-Only.ensures.taken.last, c.in-Only.ensures.taken.only) c.in-Only.ensures.taken.frame in
-    let f = falls-left c.args.values c.args.arena.now.blocks c.take_child.new.arena.blocks c.args.root c.in-Only.rest
-    c.last_child-byte.result.0 c.last_child-byte.result.1 is c.requires c.last_child-byte.ensures.there l.content in
-    (omega arith, l.root)
+    let e = sym c.next_part.ensures ∙ c.in-Some.is in
+    let small = part-byte c.args.values c.args.arena.now.blocks c.args.root is c.requires
+    c.loop-part.arena.blocks c.loop-part.low c.loop-part.invariant.partly c.in-Some.part.0 c.in-Some.part.1 e in
+    let above = part-above c.args.values c.args.arena.now.blocks c.args.root is c.requires
+    c.loop-part.arena.blocks c.loop-part.low c.loop-part.invariant.partly c.in-Some.part.0 c.in-Some.part.1 e in
+    omega (arith, small, above)
 
-pub returns-in-Branch-clause-frame : goal.returns-in-Branch-clause-frame
-returns-in-Branch-clause-frame t c =
-    let is = sym c.leads_to_branch.ensures ∙ c.if-not-leads_to_branch.false in
-    let less = population-less c.args.values c.args.arena.now.blocks c.args.root c.last_child-byte.result.0
-    c.last_child-byte.result.1 c.population-keys.result c.population-gone.result
-    is c.requires c.last_child-byte.ensures.there c.population-keys.ensures c.population-gone.ensures in
-    frames-chain c.args.arena.now.blocks c.take_child.new.arena.blocks c.clear-in-Branch.new.arena.blocks
-    (numbers c.args.arena.now.blocks c.args.root) (numbers c.take_child.new.arena.blocks c.in-Branch.rest) []
-    (left-branch c.args.values c.args.arena.now.blocks c.clear.new.arena.blocks c.take_child.new.arena.blocks c.args.root
-    c.last_child-byte.result.0 c.last_child-byte.result.1 is c.requires c.last_child-byte.ensures.there c.clear.ensures.frame
-    c.in-Branch.rest (c.population-keys.result - c.population-gone.result) c.in-Branch.ensures.taken.branch.branch
-    c.in-Branch.ensures.taken.branch.view c.in-Branch.ensures.taken.frame less.1).frame c.clear-in-Branch.ensures.frame
+pub release-requires-2 : goal.release-requires-2
+release-requires-2 t c =
+    (own-here c.args.values c.args.arena.now.blocks c.args.root (sym c.leads_to_branch.ensures ∙ c.if-not-leads_to_branch.false) c.requires
+    c.loop-part.arena.blocks c.loop-part.low c.loop-part.invariant.partly).branch
 
-pub returns-in-Only-clause-frame : goal.returns-in-Only-clause-frame
-returns-in-Only-clause-frame t c =
-    let is = sym c.leads_to_branch.ensures ∙ c.if-not-leads_to_branch.false in
-    frames-chain c.args.arena.now.blocks c.take_child.new.arena.blocks c.clear-in-Only.new.arena.blocks
-    (numbers c.args.arena.now.blocks c.args.root) (numbers c.take_child.new.arena.blocks c.in-Only.rest) []
-    (left-only c.args.values c.args.arena.now.blocks c.clear.new.arena.blocks c.take_child.new.arena.blocks c.args.root
-    c.last_child-byte.result.0 c.last_child-byte.result.1 is c.requires c.last_child-byte.ensures.there c.clear.ensures.frame
-    c.in-Only.rest (c.in-Only.ensures.taken.last, c.in-Only.ensures.taken.only) c.in-Only.ensures.taken.frame).frame c.clear-in-Only.ensures.frame
+pub returns-clause-frame : goal.returns-clause-frame
+returns-clause-frame t c =
+    partly-end c.args.values c.args.arena.now.blocks c.args.root (sym c.leads_to_branch.ensures ∙ c.if-not-leads_to_branch.false) c.requires
+    c.loop-part.arena.blocks c.loop-part.low c.loop-part.invariant.partly c.release-2.new.arena.blocks
+    (sym c.next_part.ensures ∙ c.in_default.is) c.release-2.ensures.frame

@@ -1,85 +1,96 @@
-use Rattle.std.proofs.Common.{◌≡◌, ◌<◌, [], length, ◌∙◌, ap, sym, refl, arith}
-use Rattle.judy_arena.specs.Blocks.{words_of}
-use Rattle.judy_refs.specs.References.{number_of}
+use Rattle.std.proofs.Common.{◌≡◌, [], length, ◌∙◌, ap, sym, refl, subst, arith}
+use Rattle.judy_arena.specs.Frame.{Frame}
 use Rattle.judy_arena.proofs.lemmas.TakeLaws.{same-rests, rests-two}
 use Rattle.judy_model.specs.declared.replies.Reply.TheVariants as reply
-use Rattle.judy_bytes.specs.Buckets.{bucket_key}
-use Rattle.judy_bytes.specs.BytesArrays.{bytes_in, bytes_numbers}
-use Rattle.judy_bytes.proofs.Changes.{first-reference, unchanged, there-some, empty-content, frames-join}
-use Rattle.judy_bytes.proofs.Contents.{content-without}
-use Rattle.judy_bytes.proofs.Counts.{few-keys, length-without}
+use Rattle.judy_words.specs.LongArrays.{long_in}
+use Rattle.judy_bytes.specs.Chains.{chain, IsBucketChain}
+use Rattle.judy_bytes.specs.BytesArrays.{IsBytesArray, bytes_in, bytes_numbers}
+use Rattle.judy_bytes.proofs.Changes.{none-map, none-content}
+use Rattle.judy_bytes.proofs.Links.{chain-reference}
 use Rattle.judy_bytes.proofs.Space.{map-has-space}
+use Rattle.judy_bytes.proofs.Clears.{partly-start, words-here, none-yet, chain-here, words-then, partly-next, few-so-far, partly-end, partly-count, no-numbers, words-gone}
 use Rattle.judy_bytes.proofs.array.JudyHS.clear.Goals as goal
 
-pub loop-least-init : goal.loop-least-init
-loop-least-init g c = record {
-  sound = c.requires;
-  frame = unchanged g.H.KeyHash.hashed c.args.arena.now.blocks c.args.arena.now.blocks c.args.self.now.words c.requires refl;
-  counted = omega arith;
+pub loop-place-init : goal.loop-place-init
+loop-place-init g c = record {
+  words = refl;
+  partly = partly-start g.H.KeyHash.hashed c.args.arena.now.blocks c.args.self.now.words c.requires c.first-found.result c.first-found.ensures.found;
   memory = same-rests c.args.arena.now;
 }
 
-pub least-requires-clause-references : goal.least-requires-clause-references
-least-requires-clause-references g c = λ h. first-reference g.H.KeyHash.hashed c.loop-least.arena.blocks c.loop-least.self.words h c.loop-least.invariant.sound
+pub reference_of-requires : goal.reference_of-requires
+reference_of-requires g c = chain-reference c.loop-place.arena.blocks c.in-Some.entry.1
+    (chain-here g.H.KeyHash.hashed c.args.arena.now.blocks c.args.self.now.words c.requires
+    c.loop-place.arena.blocks c.loop-place.place c.loop-place.found c.loop-place.count c.loop-place.invariant.partly c.in-Some.entry c.in-Some.is).sound
 
-pub take_first-requires-clause-some : goal.take_first-requires-clause-some
-take_first-requires-clause-some g c = λ e.
-    there-some g.H.KeyHash.hashed c.loop-least.arena.blocks c.loop-least.self.words c.in-Some.least.0 c.loop-least.invariant.sound
-    c.in-Some.ensures.there (sym c.in-Some.ensures.some ∙ e)
+pub clear-count-requires : goal.clear-count-requires
+clear-count-requires g c = subst (IsBucketChain c.loop-place.arena.blocks) (sym c.reference_of.ensures)
+    (chain-here g.H.KeyHash.hashed c.args.arena.now.blocks c.args.self.now.words c.requires
+    c.loop-place.arena.blocks c.loop-place.place c.loop-place.found c.loop-place.count c.loop-place.invariant.partly c.in-Some.entry c.in-Some.is).sound
 
 pub overflow_add-count : goal.overflow_add-count
 overflow_add-count g c =
-    let key = bucket_key (words_of c.loop-least.arena.blocks (number_of c.in-Some.least.1)) in
-    let few = few-keys g.H.KeyHash.hashed c.args.arena.now.blocks c.args.self.now.words c.requires in
-    let less = length-without c.loop-least.arena.blocks c.loop-least.self.words key c.take_first.ensures.there in
-    let all = c.loop-least.invariant.counted in
-    omega arith
+    let few = few-so-far g.H.KeyHash.hashed c.args.arena.now.blocks c.args.self.now.words c.requires
+    c.loop-place.arena.blocks c.loop-place.place c.loop-place.found c.loop-place.count c.loop-place.invariant.partly c.in-Some.entry c.in-Some.is
+    c.clear-count.new.arena.blocks c.clear-count.result
+    (subst (λ x. Frame c.loop-place.arena.blocks c.clear-count.new.arena.blocks (chain c.loop-place.arena.blocks x) []) c.reference_of.ensures c.clear-count.ensures.gone)
+    (c.clear-count.ensures.count ∙ ap (λ x. length (chain c.loop-place.arena.blocks x)) c.reference_of.ensures) in
+    omega (arith, few)
 
-pub loop-least-smaller : goal.loop-least-smaller
-loop-least-smaller g c =
-    let key = bucket_key (words_of c.loop-least.arena.blocks (number_of c.in-Some.least.1)) in
-    let less = length-without c.loop-least.arena.blocks c.loop-least.self.words key c.take_first.ensures.there in
-    let now = ap length (content-without g.H.KeyHash.hashed c.loop-least.arena.blocks c.take_first.new.arena.blocks
-    c.loop-least.self.words c.take_first.new.self.words key c.take_first.ensures.array) in
-    let goal : length (bytes_in c.take_first.new.arena.blocks c.take_first.new.self.words) < length
-    (bytes_in c.loop-least.arena.blocks c.loop-least.self.words) = omega arith in
-    goal
+pub next-found-requires : goal.next-found-requires
+next-found-requires g c = (words-then g.H.KeyHash.hashed c.args.arena.now.blocks c.args.self.now.words c.requires
+    c.loop-place.arena.blocks c.loop-place.place c.loop-place.found c.loop-place.count c.loop-place.invariant.partly c.in-Some.entry c.in-Some.is
+    c.clear-count.new.arena.blocks c.clear-count.result
+    (subst (λ x. Frame c.loop-place.arena.blocks c.clear-count.new.arena.blocks (chain c.loop-place.arena.blocks x) []) c.reference_of.ensures c.clear-count.ensures.gone)
+    (c.clear-count.ensures.count ∙ ap (λ x. length (chain c.loop-place.arena.blocks x)) c.reference_of.ensures)).0
 
-pub loop-least-preserved : goal.loop-least-preserved
-loop-least-preserved g c =
-    let key = bucket_key (words_of c.loop-least.arena.blocks (number_of c.in-Some.least.1)) in
-    let less = length-without c.loop-least.arena.blocks c.loop-least.self.words key c.take_first.ensures.there in
-    let now = ap length (content-without g.H.KeyHash.hashed c.loop-least.arena.blocks c.take_first.new.arena.blocks
-    c.loop-least.self.words c.take_first.new.self.words key c.take_first.ensures.array) in
-    let all = c.loop-least.invariant.counted in
-    record {
-      sound = c.take_first.ensures.array.sound;
-      frame = frames-join c.args.arena.now.blocks c.loop-least.arena.blocks c.take_first.new.arena.blocks
-          (bytes_numbers c.args.arena.now.blocks c.args.self.now.words) (bytes_numbers c.loop-least.arena.blocks c.loop-least.self.words)
-          (bytes_numbers c.take_first.new.arena.blocks c.take_first.new.self.words) c.loop-least.invariant.frame c.take_first.ensures.array.frame;
-      counted = omega arith;
-      memory = rests-two c.args.arena.now c.loop-least.arena c.take_first.new.arena c.loop-least.invariant.memory c.take_first.ensures.memory;
-    }
+pub loop-place-preserved : goal.loop-place-preserved
+loop-place-preserved g c = record {
+  words = refl;
+  partly = partly-next g.H.KeyHash.hashed c.args.arena.now.blocks c.args.self.now.words c.requires
+      c.loop-place.arena.blocks c.loop-place.place c.loop-place.found c.loop-place.count c.loop-place.invariant.partly c.in-Some.entry c.in-Some.is
+      c.clear-count.new.arena.blocks c.clear-count.result
+      (subst (λ x. Frame c.loop-place.arena.blocks c.clear-count.new.arena.blocks (chain c.loop-place.arena.blocks x) []) c.reference_of.ensures c.clear-count.ensures.gone)
+      (c.clear-count.ensures.count ∙ ap (λ x. length (chain c.loop-place.arena.blocks x)) c.reference_of.ensures)
+      c.next-found.result c.next-found.ensures.found;
+  memory = rests-two c.args.arena.now c.loop-place.arena c.clear-count.new.arena c.loop-place.invariant.memory c.clear-count.ensures.memory;
+}
+
+pub clear-requires : goal.clear-requires
+clear-requires g c = (words-here g.H.KeyHash.hashed c.args.arena.now.blocks c.args.self.now.words c.requires
+    c.loop-place.arena.blocks c.loop-place.place c.loop-place.found c.loop-place.count c.loop-place.invariant.partly).0
 
 pub returns-clause-array : goal.returns-clause-array
-returns-clause-array g c = record { sound = c.loop-least.invariant.sound; frame = c.loop-least.invariant.frame }
+returns-clause-array g c =
+    let size = c.population-place-end.ensures in
+    let last : c.loop-place.place ≡ length (long_in c.args.arena.now.blocks c.args.self.now.words) =
+    omega (arith, size, c.loop-place-test.false, c.loop-place.auto.place-end) in
+    record {
+      sound = subst (IsBytesArray g.H.KeyHash.hashed c.clear.new.arena.blocks) (sym c.new-self.ensures.nothing)
+          (none-map g.H.KeyHash.hashed c.clear.new.arena.blocks);
+      frame = subst (Frame c.args.arena.now.blocks c.clear.new.arena.blocks (bytes_numbers c.args.arena.now.blocks c.args.self.now.words))
+          (sym (no-numbers c.clear.new.arena.blocks c.new-self.result c.new-self.ensures.nothing))
+          (partly-end g.H.KeyHash.hashed c.args.arena.now.blocks c.args.self.now.words c.requires
+          c.loop-place.arena.blocks c.loop-place.place c.loop-place.found c.loop-place.count c.loop-place.invariant.partly c.clear.new.arena.blocks last
+          (words-gone c.loop-place.arena.blocks c.clear.new.arena.blocks c.args.self.now.words c.clear.new.self
+          c.clear.ensures.array.sound c.clear.ensures.content c.clear.ensures.array.frame));
+    }
+
+pub returns-clause-space : goal.returns-clause-space
+returns-clause-space g c = map-has-space g.H.KeyHash.hashed c.clear.new.arena c.new-self.result (returns-clause-array g c).sound
 
 pub returns-clause-counted : goal.returns-clause-counted
 returns-clause-counted g c =
-    let none = ap length (empty-content c.loop-least.arena.blocks c.loop-least.self.words c.in_default.ensures.none) in
-    let all = c.loop-least.invariant.counted in
-    omega arith
+    let size = c.population-place-end.ensures in
+    let last : c.loop-place.place ≡ length (long_in c.args.arena.now.blocks c.args.self.now.words) =
+    omega (arith, size, c.loop-place-test.false, c.loop-place.auto.place-end) in
+    partly-count g.H.KeyHash.hashed c.args.arena.now.blocks c.args.self.now.words c.requires
+    c.loop-place.arena.blocks c.loop-place.place c.loop-place.found c.loop-place.count c.loop-place.invariant.partly last
 
 pub returns-clause-content : goal.returns-clause-content
-returns-clause-content g c = empty-content c.loop-least.arena.blocks c.loop-least.self.words c.in_default.ensures.none
+returns-clause-content g c = ap (bytes_in c.clear.new.arena.blocks) c.new-self.ensures.nothing ∙ none-content c.clear.new.arena.blocks
 
 pub returns-clause-step : goal.returns-clause-step
 returns-clause-step g c =
-    let none = empty-content c.loop-least.arena.blocks c.loop-least.self.words c.in_default.ensures.none in
-    let size = ap length none in
-    let all = c.loop-least.invariant.counted in
-    let counted : length (bytes_in c.args.arena.now.blocks c.args.self.now.words) ≡ c.loop-least.count = omega arith in
-    ap (λ n. (reply.Count n, [])) counted ∙ ap (λ m. (reply.Count c.loop-least.count, m)) (sym none)
-
-pub returns-clause-space : goal.returns-clause-space
-returns-clause-space g c = map-has-space g.H.KeyHash.hashed c.loop-least.arena c.loop-least.self.words (returns-clause-array g c).sound
+    ap (λ n. (reply.Count n, [])) (sym (returns-clause-counted g c))
+    ∙ ap (λ m. (reply.Count c.loop-place.count, m)) (sym (returns-clause-content g c))

@@ -1,16 +1,11 @@
-use Rattle.std.proofs.Common.{◌≡◌, ◌+◌, length}
-use Rattle.judy_arena.specs.Frame.{Frame}
 use Rattle.judy_arena.specs.Takes.{TakesNothing}
-use Rattle.judy_bytes.specs.BytesArrays.{IsBytesArray, bytes_in, bytes_numbers}
+use Rattle.std.proofs.Common.{◌≡◌}
+use Rattle.judy_bytes.proofs.Clears.{IsPartly}
 use Rattle.judy_bytes.proofs.array.JudyHS.clear.Given as goal
 
-abbrev pub invariant-loop-least : goal.invariant-loop-least
-invariant-loop-least g l = record {
-  sound : IsBytesArray g.H.KeyHash.hashed l.arena.blocks l.self.words;
-  frame : Frame l.fn.arena.blocks l.arena.blocks (bytes_numbers l.fn.arena.blocks l.fn.self.words) (bytes_numbers l.arena.blocks l.self.words);
-  counted : l.count + length (bytes_in l.arena.blocks l.self.words) ≡ length (bytes_in l.fn.arena.blocks l.fn.self.words);
+abbrev pub invariant-loop-place : goal.invariant-loop-place
+invariant-loop-place g l = record {
+  words : l.words ≡ l.fn.self.words;
+  partly : IsPartly g.H.KeyHash.hashed l.fn.arena.blocks l.arena.blocks l.fn.self.words l.place l.found l.count;
   memory : TakesNothing l.fn.arena l.arena;
 }
-
-abbrev pub decreases-loop-least : goal.decreases-loop-least
-decreases-loop-least g l = length (bytes_in l.arena.blocks l.self.words)

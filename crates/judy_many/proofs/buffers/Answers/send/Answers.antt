@@ -14,4 +14,5 @@ returns-in-Took-clause-acts g c = (
       (c.split_at.ensures.back ∙ ap (drop c.self.inside.written) c.as_slice.ensures.value) c.self.view_is,
   refl,
   tt,
+  λ some. omega arith,
 )

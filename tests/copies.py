@@ -1,0 +1,151 @@
+"""A crate's wrong bodies as copies of its functions.
+
+The compiler gives a verdict for each function and goes on after one that is not proved. So each wrong
+body becomes one more function beside the real one: a copy under another name, with the same contract,
+the edit in its text, and a copy of the real one's proof. Nothing calls it, so the crate stays as it
+was. A copy without an edit is the control: it must be proved. A function that calls itself, or a
+method of a trait's impl, can't be copied so; it is edited in its place, one edit of each such function
+at a time. All other functions keep their contracts and lose their proofs: these are holes, which the
+compiler takes as proved, so that only what is tried is checked (`--allow-holes`, `--only`)."""
+
+import re
+
+from functions import CYCLE, own_impl_around
+
+HOLE = "use %s.{statement}\n\npub %s_spec : {M : Type 1} → statement M\n%s_spec 𝓤 𝓛 𝓜 𝓡 w = ?\n"
+COPIED, PLACED, WHOLE = "as a copy", "in its place", "alone"
+
+
+class Try:
+    """How an edit is tried: its function, for COPIED the name of the copy, and the text of the function
+    with the edit."""
+
+    def __init__(self, edit, how, function=None, text=None):
+        self.edit, self.how, self.function, self.text, self.name = edit, how, function, text, None
+
+    def path(self):
+        """The path of what is tried, below the crate."""
+        return self.function.path(self.name)
+
+
+def functions_in(edit, sources):
+    """The functions that an edit changes, with None for a change outside of all. What it imports is
+    no change."""
+    found = set()
+    for part in edit.parts:
+        if not part.is_import():
+            at = sources.texts[part.file].find(part.old)
+            found.add(sources.around(part.file, at, len(part.old)) if part.file.startswith("src/") else None)
+    return found
+
+
+def how_to_try(edit, sources):
+    """How to try an edit that fits the crate."""
+    found = functions_in(edit, sources)
+    function = found.pop() if len(found) == 1 else None
+    if not function or function.is_odd:
+        return Try(edit, WHOLE)
+    text = sources.texts[function.file][function.start : function.end]
+    for part in edit.parts:
+        if not part.is_import():
+            if text.count(part.old) != 1:
+                return Try(edit, WHOLE)
+            text = text.replace(part.old, part.new)
+    return Try(edit, PLACED if function.cycle or function.of_trait else COPIED, function, text)
+
+
+class Batch:
+    """A crate's texts with copies and changed functions in them, and what is tried there."""
+
+    def __init__(self, crate, sources):
+        self.crate, self.sources = crate, sources
+        self.texts, self.changes, self.imports = dict(sources.texts), {}, {}
+        self.asked, self.spans = [], []
+
+    def copy(self, function, text, name, tried=None):
+        """Adds a copy of a function, with this text, under this name."""
+        shown, at = CYCLE.sub("", re.sub(r"\bfn %s\b" % function.name, "fn " + name, text, count=1)).lstrip("\n"), function.end
+        if function.of_trait:
+            header, at = own_impl_around(self.sources.texts[function.file], function.end)
+            shown = "%s {\n%s\n}" % (header, shown)
+        self.changes.setdefault(function.file, []).append((at, at, "\n\n" + shown, tried))
+        below, as_copy = ["/".join(["proofs", *function.place(it)]) + "/" for it in (None, name)]
+        cited = ["Rattle.%s.proofs.%s" % (self.crate, ".".join(function.place(it))) for it in (None, name)]
+        for path, proof in {} if function.cycle else self.sources.proof_of(function).items():
+            self.texts[as_copy + path[len(below) :]] = re.sub(re.escape(cited[0]) + r"(?![\w-])", cited[1], proof)
+        self.asked.append(function.path(name))
+
+    def copy_all(self, tries):
+        """Adds a copy of the function of each of these, and gives it its name."""
+        numbers = {}
+        for it in tries:
+            numbers[it.function] = numbers.get(it.function, 0) + 1
+            it.name = "%s_w%d" % (it.function.name, numbers[it.function])
+            self.copy(it.function, it.text, it.name, it)
+            self.change_imports(it.edit)
+
+    def place(self, tried):
+        """Gives a function the text that is tried."""
+        one = tried.function
+        self.changes.setdefault(one.file, []).append((one.start, one.end, tried.text, tried))
+        self.change_imports(tried.edit)
+        self.asked.append(one.path())
+
+    def keep(self, function):
+        """Has a function checked as it is."""
+        self.asked.append(function.path())
+
+    def change_imports(self, edit):
+        """Changes what files import, as an edit does."""
+        for part in edit.parts:
+            if part.is_import():
+                self.imports[part.file, part.old] = part.new
+
+    def change(self, tried):
+        """Gives the files of an edit its texts."""
+        texts = tried.edit.edited()[0]
+        self.texts.update(texts)
+        self.spans += [(file, 0, len(text), tried) for file, text in texts.items()]
+
+    def dig(self):
+        """Makes holes of the proofs of all functions that are not asked for."""
+        asked = set(self.asked)
+        kept = {self.cited(it) for it in self.sources.functions if it.path() in asked}
+        for it in self.sources.functions:
+            cited, proof = self.cited(it), self.sources.proof_of(it)
+            if it.is_odd or "tests" in it.module() or cited in kept or (it.of_trait and not proof):
+                continue
+            for path in proof:
+                self.texts.pop(path, None)
+            name = "+" + it.cycle if it.cycle else it.name
+            stated = cited if it.cycle else cited + ".Statement"
+            self.texts[cited[len("Rattle.%s." % self.crate) :].replace(".", "/") + "/Proof.antt"] = HOLE % (stated, name, name)
+
+    def cited(self, it):
+        """The name by which proofs cite a function, or its cycle."""
+        return "Rattle.%s.proofs.%s" % (self.crate, ".".join(it.place("+" + it.cycle if it.cycle else None)))
+
+    def done(self):
+        """The texts with all changes."""
+        for (file, old), new in self.imports.items():
+            self.changes.setdefault(file, []).append((self.texts[file].index(old), self.texts[file].index(old) + len(old), new, None))
+        for file, changes in self.changes.items():
+            text, was, made = self.texts[file], 0, ""
+            for start, end, new, tried in sorted(changes, key=lambda it: it[0]):
+                made += text[was:start]
+                self.spans.append((file, len(made), len(made) + len(new), tried))
+                made, was = made + new, end
+            self.texts[file] = made + text[was:]
+        self.changes, self.imports = {}, {}
+        return self.texts
+
+    def blamed(self, errors):
+        """What is tried at the places of these errors, each with the first of them."""
+        found = {}
+        for file, line, kind, said in errors:
+            lines = self.texts.get(file, "").split("\n")
+            at = sum(len(it) + 1 for it in lines[: line - 1]) + len(lines[min(line, len(lines)) - 1])
+            for of, start, end, tried in self.spans:
+                if tried and of == file and start <= at <= end:
+                    found.setdefault(tried, ("%s %s" % (kind, said)).strip()[:200])
+        return found

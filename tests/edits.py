@@ -1,0 +1,89 @@
+"""The wrong bodies of the crates: the files crates/NAME/wrong/*.edit and crates/NAME/must-fail/*.edit. Its
+lines are `file: PATH`, `old: TEXT` and `new: TEXT`: each text is one line, since the kit reads no more
+of it. A line `by: FUNCTION` names a function of the crate that the prover refuses with the edit. Only
+an edit of a definition needs it, so that not all functions are tried."""
+
+import os
+
+TOP = os.path.dirname(os.path.dirname(os.path.realpath(__file__)))
+CRATES = os.path.join(TOP, "crates")
+PARTS = ("src", "specs", "proofs")
+FOLDERS = ("must-fail", "wrong")
+
+
+def read(path):
+    """The text of a file."""
+    with open(path, encoding="utf-8") as file:
+        return file.read()
+
+
+def write(path, text):
+    """Writes a file, and its folders."""
+    os.makedirs(os.path.dirname(path), exist_ok=True)
+    with open(path, "w", encoding="utf-8") as file:
+        file.write(text)
+
+
+class Part:
+    """One change of an edit: `old` becomes `new` in a file of the crate."""
+
+    def __init__(self, file, old, new):
+        self.file, self.old, self.new = file, old, new
+
+    def is_import(self):
+        """Whether it only changes what the file imports."""
+        return all(it.startswith(("use ", "ghost use ")) for it in (self.old, self.new))
+
+
+class Edit:
+    """A wrong body: the parts of its file, the function that refuses it if that is said, and the
+    lines that can't be read."""
+
+    def __init__(self, crate, path):
+        self.crate, self.path = crate, path
+        self.name = "/".join(path.split("/")[-3:]).removesuffix(".edit")
+        self.parts, self.by, self.faults = [], None, []
+        file, old = None, None
+        for line in read(path).split("\n"):
+            if line.startswith("file: "):
+                file, old = line[len("file: ") :].strip(), None
+            elif line.startswith("old: "):
+                old = line[len("old: ") :]
+            elif line.startswith("by: "):
+                self.by = line[len("by: ") :].strip()
+            elif line.startswith("new:") and file and old:
+                self.parts.append(Part(file, old, line[len("new:") :].removeprefix(" ")))
+                old = None
+            elif line:
+                self.faults.append("a line is no `file:`, `old:`, `new:` or `by:` in this order: " + line)
+
+    def edited(self):
+        """The texts of the files that it changes, and why it does not fit the crate; None if it does."""
+        texts = {}
+        for part in self.parts:
+            whole = os.path.join(CRATES, self.crate, part.file)
+            if not part.file.startswith(tuple(it + "/" for it in PARTS)) or not os.path.isfile(whole):
+                return texts, "there is no file " + part.file
+            text = texts.get(part.file) or read(whole)
+            if text.count(part.old) != 1:
+                return texts, "%s has this text %d times, not once: %s" % (part.file, text.count(part.old), part.old)
+            if part.new == part.old:
+                return texts, "it changes nothing: " + part.old
+            texts[part.file] = text.replace(part.old, part.new)
+        return texts, None if texts else "it changes no file"
+
+    def fault(self):
+        """Why the edit does not fit its crate; None if it does."""
+        return self.faults[0] if self.faults else self.edited()[1]
+
+
+def crates():
+    """The names of the crates."""
+    return sorted(it for it in os.listdir(CRATES) if os.path.isdir(os.path.join(CRATES, it, "src")))
+
+
+def edits_of(crate):
+    """The wrong bodies of a crate."""
+    places = [os.path.join(CRATES, crate, it) for it in FOLDERS]
+    files = [os.path.join(place, it) for place in places if os.path.isdir(place) for it in sorted(os.listdir(place))]
+    return [Edit(crate, it) for it in files if it.endswith(".edit")]
