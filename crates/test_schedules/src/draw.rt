@@ -26,7 +26,7 @@ impl Draw {
         (self.word() as usize).checked_rem(limit).unwrap_or(0)
     }
 
-    /// Whether it happens, so many times of so many.
+    /// Whether it happens: `times` of `of` draws.
     pub fn happens(&mut self, times: usize, of: usize) -> bool {
         self.below(of) < times
     }

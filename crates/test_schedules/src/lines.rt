@@ -120,7 +120,7 @@ impl Text {
             .unwrap_or(self.bytes.len())
     }
 
-    /// How many lines end at this byte or before it, if so many are known to.
+    /// How many lines end at this byte or before it, of those that are noted.
     pub fn lines_in(&self, known: usize, upto: usize) -> usize {
         let mut lines = known;
         for _line in 0..self.ends.len() {
@@ -145,7 +145,7 @@ struct Account {
 }
 
 impl Account {
-    /// Notes an entry of so many pieces.
+    /// Notes an entry and its number of pieces.
     fn note(&mut self, pieces: u64) {
         self.entries = self.entries.saturating_add(1);
         self.pieces = self.pieces.saturating_add(pieces);
@@ -195,7 +195,7 @@ pub struct Talk {
 }
 
 impl Talk {
-    /// The talk of a client that logs in as this tenant, and whose key has so many blocks.
+    /// The talk of a client that logs in as this tenant, with a key of this number of blocks.
     pub fn new(alloc: Global, tenant: usize, blocks: usize) -> Result<Talk, AllocError> {
         let mut talk = Talk {
             lines: Text::new(alloc),

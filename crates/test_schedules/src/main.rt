@@ -16,7 +16,7 @@ use crate::schedule::{Finding, play};
 use anyhow::{Result, anyhow};
 use std::env::{self, Env};
 
-/// After so many faults it ends.
+/// It ends after this number of faults.
 const FAULTS_LIMIT: u64 = 10;
 
 /// Tells the fault that the schedule of a seed found.
@@ -43,7 +43,7 @@ fn tell(rt: &impl Print, seed: u64, found: Finding) -> Result<()> {
     Ok(())
 }
 
-/// Plays the schedules of so many seeds, and tells of those that found a fault.
+/// Plays the schedules of a range of seeds, and tells of those that found a fault.
 fn run(rt: &(impl Print + AllocGlobal), first: u64, count: u64) -> Result<()> {
     let mut faults = 0u64;
     for seed in first..first.saturating_add(count) {

@@ -204,7 +204,7 @@ impl Peer {
             .unwrap_or(&[])
     }
 
-    /// The server reads so many bytes.
+    /// The server reads this number of bytes.
     pub fn hear(&mut self, count: usize) {
         self.heard = self.heard.saturating_add(count);
         self.lines_heard = self.talk.lines.lines_in(self.lines_heard, self.heard);

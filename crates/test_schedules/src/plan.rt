@@ -52,13 +52,13 @@ fn draw_end(draw: &mut Draw, size: usize) -> usize {
     usize::MAX
 }
 
-/// At most so many bytes at once, and never so few that it takes long.
+/// The most bytes at once. It is never so low that a schedule takes long.
 fn draw_piece(draw: &mut Draw, size: usize) -> usize {
     let piece = draw.one_of(&[1, 30, 500, 5000, 100_000]);
     piece.max(size / 64)
 }
 
-/// What a client does that has so many lines, and so many bytes to send and to read.
+/// What a client does, by its number of lines and the numbers of bytes that it sends and reads.
 fn draw_habits(draw: &mut Draw, lines: usize, sends: usize, reads: usize) -> Habits {
     let share = draw.one_of(&[1, 1, 2, 2, 3, 4, 8]);
     Habits {
@@ -119,8 +119,8 @@ fn draw_time(draw: &mut Draw) -> Option<u32> {
     None
 }
 
-/// How many clients there may be at once, and more, where so many come. In a crowd there is one place, for
-/// which the others wait.
+/// The limits of a server to which this number of clients comes. In a crowd there is one place, for which
+/// the others wait.
 pub fn draw_limits(draw: &mut Draw, peers: usize, crowd: bool) -> Limits {
     let places = draw.one_of(&[1, 2, 3, PEERS_LIMIT, PEERS_LIMIT, PEERS_LIMIT]);
     let places = if crowd { 1 } else { places };

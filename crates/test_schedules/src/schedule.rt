@@ -11,7 +11,7 @@ use judy_server::Server;
 use judy_tenants::Sha256Hash;
 use std::alloc::{AllocError, Global};
 
-/// With so many bytes a segment of the journal is full.
+/// A segment of the journal is full with this number of bytes.
 const SEGMENT_LIMIT: usize = 67_108_864;
 
 /// A fault that a schedule found, with the number of the client.
@@ -23,7 +23,7 @@ pub enum Finding {
     Close(usize),
     /// A client had no turn between two waits.
     Skipped(usize),
-    /// The server sleeps, or has ended, and a client has so many answers of so many.
+    /// The server sleeps, or has ended, and a client has this number of answers, of this number of lines.
     Missing(usize, usize, usize),
     /// The server sleeps, or has ended, and a client waits to be accepted.
     Waiting(usize),
