@@ -54,14 +54,15 @@ fn a_silent_client_is_closed(rt: HostRuntime) -> Result<(), Fail> {
 #[test]
 fn a_client_without_a_log_in_is_closed(rt: HostRuntime) -> Result<(), Fail> {
     let alloc = rt.alloc();
+    let (call, log_in) = (*b"J1T a 1\n", *b"AUTH alice abc\n");
     let parts = [
         Part {
             reads: 1,
-            ..giving(b"J1T a 1\n")
+            ..giving(&call)
         },
         Part {
             reads: 1,
-            ..giving(b"AUTH alice abc\n")
+            ..giving(&log_in)
         },
     ];
     let order: [&[usize]; 4] = [&[], &[0, 1], &[], &[]];
