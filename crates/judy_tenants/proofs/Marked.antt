@@ -5,8 +5,8 @@
 --                                 and afterwards
 --     frees-next                  what is known before the array of the next name is freed
 --     freed-more                  then no array of another tenant was freed
---     unmarked                    a marked tenant has no arrays once its names are forgotten
-use Rattle.std.proofs.Common.{◌≡◌, ◌≢◌, ◌⊎◌, ℕ, zero, suc, ◌+◌, ◌≤◌, ◌<◌, ◌&&◌, Bool, true, false, inl, inr, List, ◌∷◌, length}
+--     unmarked, all-gone          a marked tenant has no arrays once its names are forgotten
+use Rattle.std.proofs.Common.{◌≡◌, ◌≢◌, ◌⊎◌, ℕ, zero, suc, ◌+◌, ◌≤◌, ◌<◌, ◌&&◌, Bool, true, false, not, inl, inr, List, ◌∷◌, length}
 use Rattle.std.proofs.Common.{get_or, replicate, ap, sym, ◌∙◌, refl, subst, arith, nat_lt}
 use Rattle.std.specs.Prelude.{unwrap_or}
 use Rattle.std.specs.FinMap.{get, remove, retain_keys}
@@ -256,3 +256,13 @@ freed-more t so_far next others = record {
 pub unmarked : (b : Blocks) (d : Places) (gone : List Bool) (t : ℕ) → get_or gone t false ≡ true → state_in b (retain_keys d (is_staying gone)) t ≡ no_arrays
 unmarked b d gone t marked = no-names b (retain_keys d (is_staying gone)) t (λ kind name.
     gone-none gone d (spot_of t kind name) (gone-of gone t kind name ∙ marked))
+
+-- and neither has a place that the table does not have
+pub all-gone : {H : List ℕ → ℕ} {tenants : List Tenant} {b : Blocks} {accounts : List Account} (d : Places) (gone : List Bool) (stays : Bool) (t : ℕ)
+    → IsServer H b (retain_keys d (is_staying gone)) accounts tenants → get_or gone t false ≡ (nat_lt t (length tenants) && not stays) → stays ≡ false
+    → state_in b (retain_keys d (is_staying gone)) t ≡ no_arrays
+all-gone {H} {tenants} {b} d gone stays t s marked leaves = by (nat_lt t (length tenants)) refl
+  where
+    by : (x : Bool) → nat_lt t (length tenants) ≡ x → state_in b (retain_keys d (is_staying gone)) t ≡ no_arrays
+    by true e = unmarked b d gone t (marked ∙ ap (λ x. x && not stays) e ∙ ap not leaves)
+    by false e = s.owned.outside t (ltb-false t (length tenants) e)

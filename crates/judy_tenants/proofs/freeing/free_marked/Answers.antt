@@ -1,6 +1,6 @@
-use Rattle.std.proofs.Common.{◌≡◌, ◌≤◌, ◌<◌, ◌+◌, ℕ, IsFalse, true, false, get_or, length, List, ◌∷◌, ap, sym, ◌∙◌, refl, subst}
+use Rattle.std.proofs.Common.{◌≡◌, ◌≤◌, ◌<◌, ◌+◌, IsFalse, true, false, get_or, length, List, ◌∷◌, ap, sym, ◌∙◌, refl, subst}
 use Rattle.std.specs.FinMap.{retain_keys}
-use Rattle.judy_directory.specs.Kinds.{IsOf, spot_of, is_gone, is_staying}
+use Rattle.judy_directory.specs.Kinds.{IsOf, spot_of, is_gone}
 use Rattle.judy_directory.specs.Places.{Stand}
 use Rattle.judy_directory.specs.Rooms.{AreOnce}
 use Rattle.judy_directory.proofs.lemmas.Left.{is_left, left-all, left-none, left-stays, left-gone, gone-of}
@@ -35,7 +35,7 @@ loop-spot-preserved-then-not-is_gone g c =
     let next : c.loop-spot.names ≡ c.in-Some.spot ∷ c.next.new.self = c.in-Some.ensures.some in
     let stays : is_gone c.args.gone.now c.in-Some.spot ≡ false = sym c.is_gone.ensures ∙ c.if-not-is_gone.true in
     let left = ap (λ ks. retain_keys c.args.directory.now.0 (is_left c.args.gone.now ks)) next
-        ∙ left-stays c.args.gone.now c.args.directory.now.0 c.in-Some.spot c.next.new.self stays in
+    ∙ left-stays c.args.gone.now c.args.directory.now.0 c.in-Some.spot c.next.new.self stays in
     record {
       once = (subst AreOnce next c.loop-spot.invariant.once).1;
       stocked = subst (λ m. IsServer g.H.KeyHash.hashed c.loop-spot.arena.blocks m c.loop-spot.accounts.items c.args.table.now) left c.loop-spot.invariant.stocked;
@@ -156,11 +156,11 @@ loop-spot-preserved g c =
     let next : c.loop-spot.names ≡ key ∷ rest = c.in-Some.ensures.some in
     let once = subst AreOnce next c.loop-spot.invariant.once in
     let leaves : is_gone gone key ≡ true = ap (is_gone gone) (sym (read-settled g c)) ∙ gone-of gone t c.array-kind.result.0 c.array-kind.result.1
-        ∙ marked-settled g c in
+    ∙ marked-settled g c in
     let left = left-gone gone d key rest leaves once.0 in
     let live = subst (λ m. m ≤ c.loop-spot.arena.peak) (sym c.the_region_is_bounded.ensures.sum) c.the_region_is_bounded.ensures.live in
     let written = take-written c.loop-spot.accounts.len c.settle.new.accounts c.loop-spot.accounts.items
-        (c.loop-spot.accounts.ok.0 ∙ sym (c.settle.ensures.many ∙ ap length c.deref_mut.ensures.value)) in
+    (c.loop-spot.accounts.ok.0 ∙ sym (c.settle.ensures.many ∙ ap length c.deref_mut.ensures.value)) in
     record {
       once = once.1;
       stocked =
