@@ -87,9 +87,11 @@ fn free_marked<H: KeyHash>(
     laws::kinds_are_lawful();
     laws::calls_add_one();
     table.rows_are_sound();
+    let nothing = Place::nothing();
     let mut names = directory.list();
     while let Some(spot) = names.next() {
-        if !spot.is_gone(gone) {
+        let leaves = spot.is_gone(gone);
+        if !leaves {
             continue;
         }
         arena.the_region_is_bounded();
@@ -97,7 +99,7 @@ fn free_marked<H: KeyHash>(
         let (kind, name) = spot.array();
         let place = stands_at(directory, &spot);
         free(alloc, arena, hash, kind, name, place);
-        settle(accounts, tenant, place, Place::nothing());
+        settle(accounts, tenant, place, nothing);
     }
 }
 

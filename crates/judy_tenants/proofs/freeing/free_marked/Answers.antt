@@ -3,7 +3,7 @@ use Rattle.std.specs.FinMap.{retain_keys}
 use Rattle.judy_directory.specs.Kinds.{IsOf, spot_of, is_gone}
 use Rattle.judy_directory.specs.Places.{Stand}
 use Rattle.judy_directory.specs.Rooms.{AreOnce}
-use Rattle.judy_directory.proofs.lemmas.Left.{is_left, left-all, left-none, left-stays, left-gone, gone-of}
+use Rattle.judy_directory.proofs.lemmas.Left.{is_left, left-all, left-none, left-stays, left-gone}
 use Rattle.judy_tenants.specs.declared.accounts.Account.{Account}
 use Rattle.judy_tenants.specs.declared.stock.Stock.{Stock}
 use Rattle.judy_tenants.specs.Accounts.{entries_at, account_pieces, IsServer}
@@ -30,10 +30,10 @@ loop-spot-init g c =
     }
 
 -- a name of a tenant that stays is left
-pub loop-spot-preserved-then-not-is_gone : goal.loop-spot-preserved-then-not-is_gone
-loop-spot-preserved-then-not-is_gone g c =
+pub loop-spot-preserved-then-not-leaves : goal.loop-spot-preserved-then-not-leaves
+loop-spot-preserved-then-not-leaves g c =
     let next : c.loop-spot.names ≡ c.in-Some.spot ∷ c.next.new.self = c.in-Some.ensures.some in
-    let stays : is_gone c.args.gone.now c.in-Some.spot ≡ false = sym c.is_gone.ensures ∙ c.if-not-is_gone.true in
+    let stays : is_gone c.args.gone.now c.in-Some.spot ≡ false = sym c.is_gone-leaves.ensures ∙ c.if-not-leaves.true in
     let left = ap (λ ks. retain_keys c.args.directory.now.0 (is_left c.args.gone.now ks)) next
     ∙ left-stays c.args.gone.now c.args.directory.now.0 c.in-Some.spot c.next.new.self stays in
     record {
@@ -58,7 +58,7 @@ read-before : (g : _) (c : goal.After-free-arg-1 g) → spot_of c.tenant-tenant.
 read-before g c = c.array-kind.ensures c.tenant-tenant.result (subst (λ t. IsOf t c.in-Some.spot) (sym c.tenant-tenant.ensures) c.tenant.ensures)
 
 marked-before : (g : _) (c : goal.After-free-arg-1 g) → get_or c.args.gone.now c.tenant-tenant.result false ≡ true
-marked-before g c = marked-next c.args.gone.now c.tenant-tenant.result c.array-kind.result c.in-Some.spot (read-before g c) (sym c.is_gone.ensures ∙ c.if-not-is_gone.false)
+marked-before g c = marked-next c.args.gone.now c.tenant-tenant.result c.array-kind.result c.in-Some.spot (read-before g c) (sym c.is_gone-leaves.ensures ∙ c.if-not-leaves.false)
 
 known-before : (g : _) (c : goal.After-free-arg-1 g) → FreesNext g.H.KeyHash.hashed c.args.table.now (stock-before g c) c.tenant-tenant.result c.in-Some.spot
     c.array-kind.result.0 c.array-kind.result.1 c.stands_at-place.result
@@ -75,7 +75,7 @@ free-requires-clause-few g c = few-next (known-before g c)
 
 -- ---- before its account is settled
 
-abbrev stock-freed : (g : _) → goal.After-nothing g → Stock
+abbrev stock-freed : (g : _) → goal.After-deref_mut g → Stock
 stock-freed g c = record {
   arena = c.loop-spot.arena;
   directory = (retain_keys c.args.directory.now.0 (is_left c.args.gone.now (c.in-Some.spot ∷ c.next.new.self)), c.args.directory.now.1);
@@ -84,20 +84,20 @@ stock-freed g c = record {
   granted = 0;
 }
 
-read-freed : (g : _) (c : goal.After-nothing g) → spot_of c.tenant-tenant.result c.array-kind.result.0 c.array-kind.result.1 ≡ c.in-Some.spot
+read-freed : (g : _) (c : goal.After-deref_mut g) → spot_of c.tenant-tenant.result c.array-kind.result.0 c.array-kind.result.1 ≡ c.in-Some.spot
 read-freed g c = c.array-kind.ensures c.tenant-tenant.result (subst (λ t. IsOf t c.in-Some.spot) (sym c.tenant-tenant.ensures) c.tenant.ensures)
 
-marked-freed : (g : _) (c : goal.After-nothing g) → get_or c.args.gone.now c.tenant-tenant.result false ≡ true
-marked-freed g c = marked-next c.args.gone.now c.tenant-tenant.result c.array-kind.result c.in-Some.spot (read-freed g c) (sym c.is_gone.ensures ∙ c.if-not-is_gone.false)
+marked-freed : (g : _) (c : goal.After-deref_mut g) → get_or c.args.gone.now c.tenant-tenant.result false ≡ true
+marked-freed g c = marked-next c.args.gone.now c.tenant-tenant.result c.array-kind.result c.in-Some.spot (read-freed g c) (sym c.is_gone-leaves.ensures ∙ c.if-not-leaves.false)
 
-known-freed : (g : _) (c : goal.After-nothing g) → FreesNext g.H.KeyHash.hashed c.args.table.now (stock-freed g c) c.tenant-tenant.result c.in-Some.spot
+known-freed : (g : _) (c : goal.After-deref_mut g) → FreesNext g.H.KeyHash.hashed c.args.table.now (stock-freed g c) c.tenant-tenant.result c.in-Some.spot
     c.array-kind.result.0 c.array-kind.result.1 c.stands_at-place.result
 known-freed g c =
     frees-next (stock-freed g c) c.args.gone.now c.args.directory.now.0 c.loop-spot.names c.next.new.self c.in-Some.spot c.tenant-tenant.result c.array-kind.result
     c.stands_at-place.result refl (c.kinds_are_lawful.ensures g.H.KeyHash.hashed) c.calls_add_one.ensures c.rows_are_sound.ensures.limited
     c.loop-spot.invariant.stocked c.in-Some.ensures.some (c.requires.known c.tenant-tenant.result (marked-freed g c)) (read-freed g c) c.stands_at-place.ensures
 
-settling : (g : _) (c : goal.After-nothing g) → CanSettle c.tenant-tenant.result c.deref_mut.result.now (answer-next (known-freed g c) c.free.new.arena
+settling : (g : _) (c : goal.After-deref_mut g) → CanSettle c.tenant-tenant.result c.deref_mut.result.now (answer-next (known-freed g c) c.free.new.arena
     c.free.ensures.array c.free.ensures.refusals c.free.ensures.memory)
 settling g c =
     can-next (known-freed g c) c.free.new.arena c.free.ensures.array c.free.ensures.refusals c.free.ensures.memory c.deref_mut.result.now
@@ -112,12 +112,12 @@ settle-requires-clause-pieces g c = (settling g c).pieces_before
 pub settle-requires-clause-few_entries : goal.settle-requires-clause-few_entries
 settle-requires-clause-few_entries g c =
     subst (λ (p : Stand). entries_at c.deref_mut.result.now c.tenant-tenant.result + p.entries < c.stands_at-place.result.entries + 18446744073709551616)
-    (sym c.nothing.ensures) (settling g c).entries_after
+    (sym c.nothing-nothing.ensures) (settling g c).entries_after
 
 pub settle-requires-clause-few_pieces : goal.settle-requires-clause-few_pieces
 settle-requires-clause-few_pieces g c =
     subst (λ (p : Stand). account_pieces c.deref_mut.result.now c.tenant-tenant.result + p.pieces < c.stands_at-place.result.pieces + 18446744073709551616)
-    (sym c.nothing.ensures) (settling g c).pieces_after
+    (sym c.nothing-nothing.ensures) (settling g c).pieces_after
 
 -- ---- once it is settled
 
@@ -134,7 +134,7 @@ read-settled : (g : _) (c : goal.After-accounts-1 g) → spot_of c.tenant-tenant
 read-settled g c = c.array-kind.ensures c.tenant-tenant.result (subst (λ t. IsOf t c.in-Some.spot) (sym c.tenant-tenant.ensures) c.tenant.ensures)
 
 marked-settled : (g : _) (c : goal.After-accounts-1 g) → get_or c.args.gone.now c.tenant-tenant.result false ≡ true
-marked-settled g c = marked-next c.args.gone.now c.tenant-tenant.result c.array-kind.result c.in-Some.spot (read-settled g c) (sym c.is_gone.ensures ∙ c.if-not-is_gone.false)
+marked-settled g c = marked-next c.args.gone.now c.tenant-tenant.result c.array-kind.result c.in-Some.spot (read-settled g c) (sym c.is_gone-leaves.ensures ∙ c.if-not-leaves.false)
 
 known-settled : (g : _) (c : goal.After-accounts-1 g) → FreesNext g.H.KeyHash.hashed c.args.table.now (stock-settled g c) c.tenant-tenant.result c.in-Some.spot
     c.array-kind.result.0 c.array-kind.result.1 c.stands_at-place.result
@@ -155,8 +155,7 @@ loop-spot-preserved g c =
     let n = known-settled g c in
     let next : c.loop-spot.names ≡ key ∷ rest = c.in-Some.ensures.some in
     let once = subst AreOnce next c.loop-spot.invariant.once in
-    let leaves : is_gone gone key ≡ true = ap (is_gone gone) (sym (read-settled g c)) ∙ gone-of gone t c.array-kind.result.0 c.array-kind.result.1
-    ∙ marked-settled g c in
+    let leaves : is_gone gone key ≡ true = sym c.is_gone-leaves.ensures ∙ c.if-not-leaves.false in
     let left = left-gone gone d key rest leaves once.0 in
     let live = subst (λ m. m ≤ c.loop-spot.arena.peak) (sym c.the_region_is_bounded.ensures.sum) c.the_region_is_bounded.ensures.live in
     let written = take-written c.loop-spot.accounts.len c.settle.new.accounts c.loop-spot.accounts.items
@@ -168,8 +167,8 @@ loop-spot-preserved g c =
           (subst (λ m. IsServer H arena.blocks m c.settle.new.accounts c.args.table.now) left
           (stocked-next n arena c.free.ensures.array c.free.ensures.refusals c.free.ensures.memory c.deref_mut.result.now c.deref_mut.ensures.value
           c.settle.new.accounts c.settle.ensures.many
-          (c.settle.ensures.entries ∙ ap (λ (p : Stand). entries_at c.deref_mut.result.now t + p.entries) c.nothing.ensures)
-          (c.settle.ensures.pieces ∙ ap (λ (p : Stand). account_pieces c.deref_mut.result.now t + p.pieces) c.nothing.ensures)
+          (c.settle.ensures.entries ∙ ap (λ (p : Stand). entries_at c.deref_mut.result.now t + p.entries) c.nothing-nothing.ensures)
+          (c.settle.ensures.pieces ∙ ap (λ (p : Stand). account_pieces c.deref_mut.result.now t + p.pieces) c.nothing-nothing.ensures)
           c.settle.ensures.other_entries c.settle.ensures.other_pieces));
       freed =
           subst (λ m. AreFreedIn (λ u. IsFalse (get_or gone u false)) c.args.arena.now d arena m) left
