@@ -1,5 +1,5 @@
 -- The numbers of the four kinds of array, and the keys of arrays.
-use Rattle.std.specs.Prelude.{◌≡◌, ℕ, zero, suc, ◌+◌, ◌*◌, ◌/◌, ◌==◌, Bool, false, not, List, [], ◌∷◌, get_or}
+use Rattle.std.specs.Prelude.{◌≡◌, ℕ, zero, suc, ◌+◌, ◌*◌, ◌/◌, Bool, false, not, List, [], ◌∷◌, get_or}
 use Rattle.judy_directory.specs.declared.spot.ArrayKind.{ArrayKind}
 use Rattle.judy_directory.specs.declared.spot.ArrayKind.TheVariants.{One, Long, Str, Bytes}
 
@@ -28,11 +28,6 @@ spot_of tenant kind name = owner_byte tenant kind ∷ name
 -- the key is that of an array of this tenant
 abbrev pub IsOf : ℕ → List ℕ → Type 0
 IsOf tenant key = (kind : ArrayKind) × (name : List ℕ) × (key ≡ spot_of tenant kind name)
-
--- the test of it
-abbrev pub is_of : ℕ → List ℕ → Bool
-is_of tenant [] = false
-is_of tenant (owner ∷ name) = owner / 4 == tenant
 
 -- whether the key is that of an array of a tenant that is marked
 abbrev pub is_gone : List Bool → List ℕ → Bool

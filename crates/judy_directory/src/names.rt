@@ -1,14 +1,14 @@
 //! The names that have a place: a hash table, and a short list beside it.
-ghost use Rattle.std.specs.Prelude.{◌≡◌, ◌≤◌, ℕ, List, IfOk, IfSome, IfNone, OnOk, OnErr, IsTrue, None, [], max};
+ghost use Rattle.std.specs.Prelude.{◌≡◌, ◌≤◌, ℕ, List, IfOk, OnOk, OnErr, IsTrue, None, [], max};
 ghost use Rattle.std.specs.FinMap as map;
 ghost use Rattle.std.specs.HashMap.{hasher_of, spare};
-ghost use Rattle.judy_directory.specs.Kinds.{IsOf, is_staying};
+ghost use Rattle.judy_directory.specs.Kinds.{is_staying};
 ghost use Rattle.judy_directory.specs.Places.{at, nothing};
-ghost use Rattle.judy_directory.specs.Rooms.{own_key, staying, is_listed, AreOnce};
+ghost use Rattle.judy_directory.specs.Rooms.{staying, is_listed, AreOnce};
 ghost use Rattle.judy_directory.specs.Secrets.{start_of};
 
 use crate::all_names::AllNames;
-use crate::kept::{drop_gone, drop_kept, find_kept, own_kept, push_kept, reserve_kept};
+use crate::kept::{drop_gone, drop_kept, find_kept, push_kept, reserve_kept};
 use crate::keyed::Keyed;
 use crate::spot::{Place, Spot};
 use judy_arena::NoMemory;
@@ -42,18 +42,6 @@ fn empty_table(alloc: Global, secret: &[u8]) -> Result<HashMap<Spot, Place, Keye
         return Err(NoMemory);
     }
     Ok(table)
-}
-
-/// The first name of a tenant in the table of names.
-fn own_listed(table: &HashMap<Spot, Place, Keyed>, tenant: u8) -> Option<Spot>
-    ensures { result ≡ own_key tenant table.now.entries }
-{
-    for (spot, _) in table.iter() {
-        if spot.is_of(tenant) {
-            return Some(spot.copied());
-        }
-    }
-    None
 }
 
 /// Removes the names of the tenants that are marked from the table.
@@ -118,19 +106,6 @@ impl Names {
             return Some(place);
         }
         find_kept(self.kept.as_slice(), spot)
-    }
-
-    /// Some name of a tenant that has a place. None if no name of the tenant has one.
-    pub fn some_spot(&self, tenant: u8) -> Option<Spot>
-        ensures some { IfSome result (λ key. IsTrue (map.contains_key self.now.0 key)
-            × IsOf tenant key) }
-        ensures none { IfNone result ((key : List ℕ) → IsOf tenant key
-            → map.get self.now.0 key ≡ None) }
-    {
-        if let Some(spot) = own_listed(&self.table, tenant) {
-            return Some(spot);
-        }
-        own_kept(self.kept.as_slice(), tenant)
     }
 
     /// All names that have a place, each once.

@@ -1,6 +1,6 @@
 //! The key of an array in the directory, and its place.
 ghost use Rattle.std.specs.Prelude.{◌≡◌, ℕ, ◌∷◌, ◌<◌, [], drop, nat_eq, slice_index};
-ghost use Rattle.judy_directory.specs.Kinds.{array_kind_number, kind_with, spot_of, is_of, is_gone, IsOf};
+ghost use Rattle.judy_directory.specs.Kinds.{array_kind_number, kind_with, spot_of, is_gone, IsOf};
 ghost use Rattle.std.specs.Cmp.{partial_equiv_from_equiv};
 ghost use Rattle.std.specs.Cmp.Lexicographic.{pointwise, nat_list_eq_equiv, bytes_decides};
 ghost use Rattle.std.specs.Hash.{same_Alike, le_bytes};
@@ -76,13 +76,6 @@ impl Spot {
             owner: 4 * tenant as u16 + kind.number() as u16,
             name,
         }
-    }
-
-    /// Whether the array belongs to this tenant.
-    pub fn is_of(&self, tenant: u8) -> bool
-        ensures { result ≡ is_of tenant self.now }
-    {
-        self.owner / 4 == tenant as u16
     }
 
     /// The tenant of the array.

@@ -1,10 +1,10 @@
--- Freeing one array, and all arrays of a tenant.
+-- Freeing one array, and the arrays of the tenants that are marked.
 --     few-quotas        the quotas of a table are few
 --     frees-at          what is known before an array is freed; below it, what holds afterwards
 --     no-names          a tenant without names has no arrays
-use Rattle.std.proofs.Common.{◌≡◌, ◌≢◌, ℕ, zero, suc, ◌+◌, ◌-◌, ◌≤◌, ◌<◌, true, false, cond, ◌==◌, inl, is_some, List, [], ◌∷◌, ◌++◌, length, take, drop, map, None, Some, ap, sym, ◌∙◌, refl, subst, arith, nat_lt}
+use Rattle.std.proofs.Common.{◌≡◌, ◌≢◌, ℕ, ◌+◌, ◌≤◌, ◌<◌, true, false, cond, inl, List, [], ◌∷◌, ◌++◌, length, take, drop, map, None, Some, ap, sym, ◌∙◌, refl, subst, arith, nat_lt}
 use Rattle.std.specs.Prelude.{option_map}
-use Rattle.std.specs.FinMap.{find, get, insert, remove, contains_key, len, empty_of_len, get-empty, len-remove}
+use Rattle.std.specs.FinMap.{find, get}
 use Rattle.std.proofs.Math.Seq.{take-append_seam}
 use Rattle.std.proofs.lemmas.Bool.{ltb-true, ltb-false}
 use Rattle.std.proofs.lemmas.List.{get_or-map, get_or_past, length-map}
@@ -21,7 +21,6 @@ use Rattle.judy_directory.specs.declared.spot.ArrayKind.TheVariants.{One, Long, 
 use Rattle.judy_directory.specs.Kinds.{owner_byte, spot_of}
 use Rattle.judy_directory.specs.Places.{Stand, at}
 use Rattle.judy_directory.specs.Shelf.{Places}
-use Rattle.judy_directory.proofs.lemmas.Changes.{total}
 use Rattle.judy_directory.proofs.lemmas.Named.{find-arrays_of}
 use Rattle.judy_table.specs.declared.tenant.Tenant.{Tenant}
 use Rattle.judy_table.specs.Tenants.{AreLimited}
@@ -37,12 +36,12 @@ use Rattle.judy_tenants.specs.States.{state_in, sizes_in, key_of_call}
 use Rattle.judy_tenants.specs.Stocks.{IsStocked, IsExchange}
 use Rattle.judy_tenants.proofs.CallsServed.{CanSettle}
 use Rattle.judy_tenants.proofs.Exchanges.{others-rest, other-sizes-rest, before-entries, before-pieces, used-moved, pieces-moved, used-fits, pieces-fit, settled-stock}
-use Rattle.judy_tenants.proofs.StateLaws.{KeyOf, content_at, arrays_at, arrays_at-state_in, only, pieces-within}
+use Rattle.judy_tenants.proofs.StateLaws.{KeyOf, content_at, arrays_at, arrays_at-state_in, pieces-within}
 use Rattle.judy_tenants.proofs.Steps.{HasWay}
 
 -- ---- the call
 
-kind-of-free : (kind : ArrayKind) (name : List ℕ) → kind_of_call (free_of kind name) ≡ kind
+pub kind-of-free : (kind : ArrayKind) (name : List ℕ) → kind_of_call (free_of kind name) ≡ kind
 kind-of-free One name = refl
 kind-of-free Long name = refl
 kind-of-free Str name = refl
@@ -116,17 +115,6 @@ few-quotas ts h t = by (nat_lt t (length ts)) refl
 
 -- ---- one array
 
--- a name that is there is counted
-some-names : (d : Places) (k : List ℕ) → contains_key d k ≡ true → 0 < len d
-some-names d k there = by (len d) refl
-  where
-    unlike : {A B : Type 0} (a : A) → true ≡ false → B
-    unlike a e = cc
-
-    by : (n : ℕ) → len d ≡ n → 0 < n
-    by zero e = absurd (unlike d (sym there ∙ ap (λ m. contains_key m k) (empty_of_len d e) ∙ ap is_some (get-empty string_order k)))
-    by (suc n) e = omega arith
-
 -- what is known before an array of a tenant is freed
 pub record FreesAt (H : List ℕ → ℕ) (tenants : List Tenant) (old : Stock) (t : ℕ) (c : Call) (key : List ℕ) : Type 0 where
   pub laws : KindLaws H
@@ -192,21 +180,6 @@ module _ {H : List ℕ → ℕ} {tenants : List Tenant} {old : Stock} {t : ℕ} 
           entries_after = omega (arith, es, moved_e, fits_e, few_entries);
           pieces_after = omega (arith, ps, moved_p, fits_p, few_pieces);
         }
-
-    -- the array has no root any more, so its name is forgotten
-    no-root : answer.after.root ≡ 0
-    no-root = only m.laws (kind_of_call c) new.arena.blocks answer.after.root x.array.place.sound
-        (empties m.frees old.arena.blocks new.arena.blocks answer.before.root answer.after.root answer.reply x.step)
-
-    forgotten : new.directory.0 ≡ remove old.directory.0 key
-    forgotten = z.places ∙ ap (λ n. cond (n == 0) (remove old.directory.0 key) (insert old.directory.0 key answer.after)) no-root
-
-    pub fewer-names : contains_key old.directory.0 key ≡ true → len new.directory.0 < len old.directory.0
-    fewer-names there =
-        let one : 0 < len old.directory.0 = some-names old.directory.0 key there in
-        let gone : len new.directory.0 ≡ len old.directory.0 - 1
-        = ap len forgotten ∙ len-remove total old.directory.0 key ∙ ap (λ b. cond b (len old.directory.0 - 1) (len old.directory.0)) there in
-        omega (arith, one, gone)
 
     -- nothing else changed, once the account is updated
     pub only-freed : old.arena.live ≤ old.arena.peak → (last : Stock) → last.arena ≡ new.arena → last.directory.0 ≡ new.directory.0

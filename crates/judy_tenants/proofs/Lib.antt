@@ -18,5 +18,6 @@ mod Runs
 mod Fresh
 mod Sound
 mod Frees
+mod Marked
 mod Carried
 pub mod lemmas

@@ -1,7 +1,9 @@
 -- Freeing the arrays of tenants.
 --     free_of kind name        the call that frees an array
 --     AreFreed stay old new    arrays were freed, but none of a tenant that stays
+--     AreFreedIn stay a d b e  the same, from the places d in the arena a to the places e in b
 use Rattle.std.specs.Prelude.{◌≡◌, ℕ, List}
+use Rattle.judy_arena.specs.Blocks.{ArenaState}
 use Rattle.judy_model.specs.declared.calls.Call.{Call}
 use Rattle.judy_model.specs.declared.calls.Call.TheVariants as call
 use Rattle.judy_model.specs.declared.calls.OneCall.TheVariants as one
@@ -10,6 +12,7 @@ use Rattle.judy_model.specs.declared.calls.StrCall.TheVariants as str
 use Rattle.judy_model.specs.declared.calls.BytesCall.TheVariants as bytes
 use Rattle.judy_directory.specs.declared.spot.ArrayKind.{ArrayKind}
 use Rattle.judy_directory.specs.declared.spot.ArrayKind.TheVariants.{One, Long, Str, Bytes}
+use Rattle.judy_directory.specs.Shelf.{Places}
 use Rattle.judy_tenants.specs.declared.stock.Stock.{Stock}
 use Rattle.judy_tenants.specs.States.{state_in, sizes_in}
 
@@ -32,3 +35,12 @@ pub record AreFreed (stay : ℕ → Type 0) (old new : Stock) : Type 0 where
   pub footing : new.directory.1 ≡ old.directory.1
   pub unplaced : new.unplaced ≡ old.unplaced
   pub granted : new.granted ≡ old.granted
+
+-- The same of the arena and the places alone.
+pub record AreFreedIn (stay : ℕ → Type 0) (a : ArenaState) (d : Places) (b : ArenaState) (e : Places) : Type 0 where
+  pub states : (t : ℕ) → stay t → state_in b.blocks e t ≡ state_in a.blocks d t
+  pub sizes : (t : ℕ) → stay t → sizes_in b.blocks e t ≡ sizes_in a.blocks d t
+  pub refusals : b.refusals ≡ a.refusals
+  pub region : b.region ≡ a.region
+  pub reserved : b.reserved ≡ a.reserved
+  pub peak : b.peak ≡ a.peak

@@ -1,22 +1,32 @@
 //! Frees the arrays of the tenants that do not stay.
-ghost use Rattle.std.specs.Prelude.{◌≡◌, ◌≢◌, ◌<◌, ℕ, IsTrue, IsFalse, length};
+ghost use Rattle.std.specs.Prelude.{◌≡◌, ◌<◌, ◌^◌, ◌&&◌, ℕ, IsTrue, IsFalse, false, not, get_or, length, nat_lt};
 ghost use Rattle.std.specs.FinMap as map;
+ghost use Rattle.judy_arena.specs.Takes.{Takes};
 ghost use Rattle.judy_model.specs.Tenant.{no_arrays};
-ghost use Rattle.judy_directory.specs.Kinds.{IsOf};
+ghost use Rattle.judy_directory.specs.Kinds.{is_staying};
+ghost use Rattle.judy_directory.specs.Places.{nothing};
+ghost use Rattle.judy_kinds.specs.Calls.{ArrayBecomes};
+ghost use Rattle.judy_kinds.specs.Kinds.{IsPlaceOf};
+ghost use Rattle.judy_tenants.specs.Accounts.{IsServer};
 ghost use Rattle.judy_tenants.specs.Changes.{has_tenant, stays_at};
-ghost use Rattle.judy_tenants.specs.Frees.{free_of, AreFreed};
+ghost use Rattle.judy_tenants.specs.Frees.{free_of, AreFreed, AreFreedIn};
 ghost use Rattle.judy_tenants.specs.States.{state_in};
 ghost use Rattle.judy_tenants.specs.Stocks.{IsStocked};
 
-use crate::accounts::settle;
+use crate::accounts::{Account, settle};
 use crate::laws;
-use crate::stock::{Stock, exchange};
+use crate::stock::{Stock, stands_at};
 use arrayvec::ArrayVec;
+use judy_arena::Arena;
 use judy_bytes::KeyHash;
-use judy_directory::{ArrayKind, Spot};
+use judy_directory::{ArrayKind, Directory, Place};
+use judy_kinds::answer;
 use judy_model::{BytesCall, Call, LongCall, Name, OneCall, StrCall};
-use judy_table::{Table, TenantId};
+use judy_table::Table;
 use std::alloc::Global;
+
+/// How many rows a table has at most.
+const ROWS: usize = 128;
 
 /// The call that frees an array.
 fn free_of<'a>(kind: ArrayKind, name: Name) -> Call<'a>
@@ -30,47 +40,66 @@ fn free_of<'a>(kind: ArrayKind, name: Name) -> Call<'a>
     }
 }
 
-/// Frees an array of a tenant.
+/// Frees the array at a place, by its own call. Its name is not forgotten.
 fn free<H: KeyHash>(
     alloc: Global,
-    stock: &mut Stock,
+    arena: &mut Arena,
+    hash: H,
+    kind: ArrayKind,
+    name: Name,
+    place: Place,
+)
+    requires place { IsPlaceOf H.hashed kind arena.old.blocks place }
+    requires few { place.pieces < 2 ^ 63 }
+    ensures array { ArrayBecomes H.hashed kind arena.old place arena.new nothing }
+    ensures refusals { arena.new.refusals ≡ arena.old.refusals }
+    ensures memory { Takes 0 arena.old arena.new }
+{
+    laws::kinds_are_lawful();
+    let call = free_of(kind, name);
+    let mut found = ArrayVec::new();
+    let Ok(_answered) = answer(alloc, arena, hash, place, &call, &mut found) else {
+        // Only an insertion asks for memory.
+        unreachable!();
+    };
+}
+
+/// Frees the arrays of the tenants that are marked, in one pass over all names. The names are not
+/// forgotten yet: once they are, all else is sound.
+fn free_marked<H: KeyHash>(
+    alloc: Global,
+    arena: &mut Arena,
+    accounts: &mut Vec<Account>,
     hash: H,
     table: &Table,
-    tenant: TenantId,
-    spot: &Spot,
+    directory: &Directory,
+    gone: &[bool],
 )
-    requires stocked { IsStocked H.hashed table.now stock.old }
-    requires known { tenant < length table.now }
-    requires own { IsOf tenant spot.now }
-    requires there { IsTrue (map.contains_key stock.old.directory.0 spot.now) }
-    ensures stocked { IsStocked H.hashed table.now stock.new }
-    ensures freed { AreFreed (λ t. t ≢ tenant) stock.old stock.new }
-    ensures fewer { map.len stock.new.directory.0 < map.len stock.old.directory.0 }
+    requires stocked { IsServer H.hashed arena.old.blocks directory.now.0 accounts.old.items
+        table.now }
+    requires known { (t : ℕ) → IsTrue (get_or gone.now t false) → t < length table.now }
+    ensures stocked { IsServer H.hashed arena.new.blocks
+        (map.retain_keys directory.now.0 (is_staying gone.now)) accounts.new.items table.now }
+    ensures freed { AreFreedIn (λ t. IsFalse (get_or gone.now t false))
+        arena.old directory.now.0
+        arena.new (map.retain_keys directory.now.0 (is_staying gone.now)) }
 {
     laws::kinds_are_lawful();
     laws::calls_add_one();
     table.rows_are_sound();
-    stock.arena.the_region_is_bounded();
-    let (kind, name) = spot.array();
-    let call = free_of(kind, name);
-    let mut found = ArrayVec::new();
-    let Ok(answered) = exchange(alloc, stock, hash, spot, &call, &mut found) else {
-        // Only an insertion asks for memory.
-        unreachable!();
-    };
-    settle(&mut stock.accounts, tenant, answered.before, answered.after);
-}
-
-/// Frees all arrays of a tenant.
-fn free_all<H: KeyHash>(alloc: Global, stock: &mut Stock, hash: H, table: &Table, tenant: TenantId)
-    requires stocked { IsStocked H.hashed table.now stock.old }
-    requires known { tenant < length table.now }
-    ensures stocked { IsStocked H.hashed table.now stock.new }
-    ensures freed { AreFreed (λ t. t ≢ tenant) stock.old stock.new }
-    ensures none { state_in stock.new.arena.blocks stock.new.directory.0 tenant ≡ no_arrays }
-{
-    while let Some(spot) = stock.directory.some_spot(tenant.place()) {
-        free(alloc, stock, hash, table, tenant, &spot);
+    let nothing = Place::nothing();
+    let mut names = directory.list();
+    while let Some(spot) = names.next() {
+        let leaves = spot.is_gone(gone);
+        if !leaves {
+            continue;
+        }
+        arena.the_region_is_bounded();
+        let tenant = table.tenant(spot.tenant());
+        let (kind, name) = spot.array();
+        let place = stands_at(directory, &spot);
+        free(alloc, arena, hash, kind, name, place);
+        settle(accounts, tenant, place, nothing);
     }
 }
 
@@ -88,6 +117,19 @@ pub fn stays_at(table: &Table, later: &Table, place: usize) -> bool
     has_tenant(table, place) && has_tenant(later, place)
 }
 
+/// The marks of the places whose tenants do not stay when later rows come in force.
+fn marks(table: &Table, later: &Table) -> [bool; ROWS]
+    ensures { (t : ℕ) → get_or result t false
+        ≡ (nat_lt t (length table.now) && not (stays_at table.now later.now t)) }
+{
+    table.rows_are_sound();
+    let mut gone = [false; ROWS];
+    for place in 0..table.len() {
+        gone[place] = !stays_at(table, later, place);
+    }
+    gone
+}
+
 /// Frees all arrays of the tenants that do not stay when later rows come in force.
 pub fn free_gone<H: KeyHash>(
     alloc: Global,
@@ -102,9 +144,16 @@ pub fn free_gone<H: KeyHash>(
     ensures gone { (t : ℕ) → IsFalse (stays_at table.now later.now t)
         → state_in stock.new.arena.blocks stock.new.directory.0 t ≡ no_arrays }
 {
-    for place in 0..table.len() {
-        if !stays_at(table, later, place) {
-            free_all(alloc, stock, hash, table, table.tenant(place));
-        }
-    }
+    let marked = marks(table, later);
+    let gone = marked.as_slice();
+    free_marked(
+        alloc,
+        &mut stock.arena,
+        &mut stock.accounts,
+        hash,
+        table,
+        &stock.directory,
+        gone,
+    );
+    stock.directory.forget_gone(gone);
 }

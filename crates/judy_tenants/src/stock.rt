@@ -64,7 +64,7 @@ pub fn prepare(alloc: Global, stock: &mut Stock, words: u64, names: usize) -> Re
 }
 
 /// The place at a key.
-fn stands_at(directory: &Directory, spot: &Spot) -> Place
+pub fn stands_at(directory: &Directory, spot: &Spot) -> Place
     ensures { result ≡ at directory.now.0 spot.now }
 {
     directory.find(spot).unwrap_or(Place::nothing())

@@ -110,25 +110,31 @@ fn keep(rt: &impl Abort, directory: &mut Directory, spot: &Spot, n: u64) -> Resu
 }
 
 #[test]
-fn all_names_of_a_tenant_are_given(rt: HostRuntime) -> Result<(), Fail> {
+fn names_are_listed_and_forgotten(rt: HostRuntime) -> Result<(), Fail> {
     let mut directory = empty(rt.alloc())?;
-    assert!(rt; directory.some_spot(127).is_none());
+    assert!(rt; directory.list().next().is_none());
     for n in 0..200 {
         keep(&rt, &mut directory, &spot(63, ArrayKind::Str, n)?, n)?;
         keep(&rt, &mut directory, &spot(127, ArrayKind::Bytes, n)?, n)?;
         keep(&rt, &mut directory, &spot(127, ArrayKind::Long, n)?, n)?;
     }
     assert_eq!(rt; directory.count(), 600);
-    for _ in 0..400 {
-        let spot = directory.some_spot(127).ok_or("one more")?;
-        let (kind, name) = spot.array();
-        assert!(rt; kind == ArrayKind::Bytes || kind == ArrayKind::Long);
-        assert!(rt; Spot::new(127, kind, name) == spot);
-        directory.forget(&spot);
+    let mut names = directory.list();
+    for _ in 0..600 {
+        let spot = names.next().ok_or("one more")?;
+        assert!(rt; directory.find(&spot).is_some());
     }
-    assert!(rt; directory.some_spot(127).is_none());
-    assert!(rt; directory.some_spot(62).is_none());
-    assert!(rt; directory.some_spot(63).is_some());
+    assert!(rt; names.next().is_none());
+    let mut gone = [false; 128];
+    directory.forget_gone(gone.as_slice());
+    assert_eq!(rt; directory.count(), 600);
+    gone[127] = true;
+    directory.forget_gone(gone.as_slice());
     assert_eq!(rt; directory.count(), 200);
+    for n in 0..200 {
+        assert!(rt; directory.find(&spot(63, ArrayKind::Str, n)?).is_some());
+        assert!(rt; directory.find(&spot(127, ArrayKind::Bytes, n)?).is_none());
+        assert!(rt; directory.find(&spot(127, ArrayKind::Long, n)?).is_none());
+    }
     Ok(())
 }

@@ -1,0 +1,268 @@
+-- Freeing the arrays of the tenants that are marked.
+--     marked-first, marked-more   the marks so far
+--     freed-place                 a place after the call that frees its array
+--     FreesNext                   what is known before an array is freed; below it, what holds then
+--                                 and afterwards
+--     frees-next                  what is known before the array of the next name is freed
+--     freed-more                  then no array of another tenant was freed
+--     unmarked, all-gone          a marked tenant has no arrays once its names are forgotten
+use Rattle.std.proofs.Common.{◌≡◌, ◌≢◌, ◌⊎◌, ℕ, zero, suc, ◌+◌, ◌≤◌, ◌<◌, ◌&&◌, Bool, true, false, not, inl, inr, List, ◌∷◌, length}
+use Rattle.std.proofs.Common.{get_or, replicate, ap, sym, ◌∙◌, refl, subst, arith, nat_lt}
+use Rattle.std.specs.Prelude.{unwrap_or}
+use Rattle.std.specs.FinMap.{get, remove, retain_keys}
+use Rattle.std.proofs.Math.ListN.{set}
+use Rattle.std.proofs.lemmas.Bool.{false≢true, ltb-true, ltb-false}
+use Rattle.std.proofs.lemmas.Bool.Decides.{eqb_tells}
+use Rattle.std.proofs.lemmas.List.{get_or-set_same, get_or-set_other}
+use Rattle.judy_arena.specs.Blocks.{Blocks, ArenaState}
+use Rattle.judy_arena.specs.Takes.{Takes}
+use Rattle.judy_model.specs.declared.calls.Call.{Call}
+use Rattle.judy_model.specs.declared.replies.Reply.{Reply}
+use Rattle.judy_model.specs.Pieces.{word_pieces, string_pieces, pieces_of}
+use Rattle.judy_model.specs.Tenant.{no_arrays}
+use Rattle.judy_directory.specs.declared.spot.ArrayKind.{ArrayKind}
+use Rattle.judy_directory.specs.declared.spot.ArrayKind.TheVariants.{One, Long, Str, Bytes}
+use Rattle.judy_directory.specs.Kinds.{spot_of, is_gone, is_staying}
+use Rattle.judy_directory.specs.Places.{Stand, at, nothing, with_place}
+use Rattle.judy_directory.specs.Shelf.{Places}
+use Rattle.judy_directory.proofs.lemmas.Left.{gone-of, gone-none, is_left, left-here}
+use Rattle.judy_table.specs.declared.tenant.Tenant.{Tenant}
+use Rattle.judy_table.specs.Tenants.{AreLimited}
+use Rattle.judy_words.specs.OneArrays.{one_in}
+use Rattle.judy_words.specs.LongArrays.{long_in}
+use Rattle.judy_string.specs.StringArrays.{string_in}
+use Rattle.judy_bytes.specs.BytesArrays.{bytes_in}
+use Rattle.judy_kinds.specs.Calls.{kind_of_call, blocks_of_call, AnswersAt, ArrayBecomes}
+use Rattle.judy_kinds.specs.Kinds.{kind_of_key, entries_of, pieces_at, IsPlaceOf}
+use Rattle.judy_kinds.specs.Laws.{HoldsNothing}
+use Rattle.judy_tenants.specs.declared.accounts.Account.{Account}
+use Rattle.judy_tenants.specs.declared.stock.Stock.{Stock}
+use Rattle.judy_tenants.specs.declared.stock.Answered.{Answered}
+use Rattle.judy_tenants.specs.Accounts.{entries_at, account_pieces, IsServer}
+use Rattle.judy_tenants.specs.Frees.{free_of, AreFreed, AreFreedIn}
+use Rattle.judy_tenants.specs.Growth.{KindLaws, CallsAddOne}
+use Rattle.judy_tenants.specs.States.{state_in}
+use Rattle.judy_tenants.specs.Stocks.{IsStocked, IsExchange}
+use Rattle.judy_tenants.proofs.CallsServed.{CanSettle}
+use Rattle.judy_tenants.proofs.Frees.{Frees, FreesAt, frees-at, kind-of-free, empties, takes-none, few-there, can-free, only-freed, freed-stocked, no-names}
+use Rattle.judy_tenants.proofs.Owners.{kind_at-owner_byte}
+use Rattle.judy_tenants.proofs.StateLaws.{only}
+
+-- ---- the marks
+
+none-marked : (n t : ℕ) → get_or (replicate n false) t false ≡ false
+none-marked zero t = refl
+none-marked (suc n) zero = refl
+none-marked (suc n) (suc t) = none-marked n t
+
+-- the test of a bound
+below : (i n : ℕ) → i < n → nat_lt i n ≡ true
+below i n h = by (nat_lt i n) refl
+  where
+    by : (b : Bool) → nat_lt i n ≡ b → nat_lt i n ≡ true
+    by true e = e
+    by false e = let past = ltb-false i n e in absurd (omega (arith, past, h))
+
+above : (i n : ℕ) → n ≤ i → nat_lt i n ≡ false
+above i n h = by (nat_lt i n) refl
+  where
+    by : (b : Bool) → nat_lt i n ≡ b → nat_lt i n ≡ false
+    by true e = let inside = ltb-true i n e in absurd (omega (arith, inside, h))
+    by false e = e
+
+-- at first none is marked
+pub marked-first : (n : ℕ) (f : ℕ → Bool) (t : ℕ) → get_or (replicate n false) t false ≡ (nat_lt t 0 && f t)
+marked-first n f t = none-marked n t ∙ sym (ap (λ b. b && f t) (above t 0 (omega arith)))
+
+-- a bound that grows by a number that is not tested
+grown : (t i : ℕ) → t ≢ i → nat_lt t i ≡ nat_lt t (i + 1)
+grown t i h = by (nat_lt t i) refl
+  where
+    by : (b : Bool) → nat_lt t i ≡ b → nat_lt t i ≡ nat_lt t (i + 1)
+    by true e = let inside = ltb-true t i e in e ∙ sym (below t (i + 1) (omega (arith, inside)))
+    by false e = let past = ltb-false t i e in e ∙ sym (above t (i + 1) (more past))
+      where
+        more : i ≤ t → i + 1 ≤ t
+        more k = omega (arith, k, h)
+
+-- one more mark
+pub marked-more : (xs : List Bool) (i : ℕ) (f : ℕ → Bool) → i < length xs → ((t : ℕ) → get_or xs t false ≡ (nat_lt t i && f t))
+    → (t : ℕ) → get_or (set xs i (f i)) t false ≡ (nat_lt t (i + 1) && f t)
+marked-more xs i f inside done t = by (eqb_tells t i)
+  where
+    here : get_or (set xs i (f i)) i false ≡ (nat_lt i (i + 1) && f i)
+    here = get_or-set_same xs i (f i) false inside ∙ ap (λ b. b && f i) (sym (below i (i + 1) (omega arith)))
+
+    by : {A B : Type 0} → (A × (t ≡ i)) ⊎ (B × (t ≢ i)) → get_or (set xs i (f i)) t false ≡ (nat_lt t (i + 1) && f t)
+    by (inl h) = subst (λ u. get_or (set xs i (f i)) u false ≡ (nat_lt u (i + 1) && f u)) (sym h.1) here
+    by (inr h) = get_or-set_other xs i t (f i) false h.1 ∙ done t ∙ ap (λ b. b && f t) (grown t i h.1)
+
+-- ---- the call that frees an array
+
+-- a place without a root is none
+none-there : (kind : ArrayKind) (b : Blocks) → HoldsNothing b 0 → entries_of kind b 0 ≡ 0
+none-there One b h = ap length h.set
+none-there Long b h = ap length h.map
+none-there Str b h = ap length h.string
+none-there Bytes b h = ap length h.bytes
+
+no-pieces : (kind : ArrayKind) (b : Blocks) → HoldsNothing b 0 → pieces_at kind b 0 ≡ 0
+no-pieces One b h = ap (pieces_of word_pieces) h.set
+no-pieces Long b h = ap (pieces_of word_pieces) h.map
+no-pieces Str b h = ap (pieces_of string_pieces) h.string
+no-pieces Bytes b h = ap (pieces_of string_pieces) h.bytes
+
+no-place : {H : List ℕ → ℕ} (kind : ArrayKind) (b : Blocks) (p : Stand) → HoldsNothing b 0 → IsPlaceOf H kind b p → p.root ≡ 0 → p ≡ nothing
+no-place kind b p none h root =
+    let entries : p.entries ≡ 0 = h.entries ∙ ap (entries_of kind b) root ∙ none-there kind b none in
+    let pieces : p.pieces ≡ 0 = h.pieces ∙ ap (pieces_at kind b) root ∙ no-pieces kind b none in
+    λ i. record { root = root i; entries = entries i; pieces = pieces i }
+
+-- the place after the call
+pub freed-place : {H : List ℕ → ℕ} → KindLaws H → (kind : ArrayKind) (name : List ℕ) (c : Call) → c ≡ free_of kind name → (a b : ArenaState) (p q : Stand) (r : Reply)
+    → ArrayBecomes H (kind_of_call c) a p b q → AnswersAt a.blocks p.root c r b.blocks q.root → ArrayBecomes H kind a p b nothing
+freed-place {H} laws kind name c made a b p q r became step =
+    let f : Frees c = record { kind = kind; name = name; is = made } in
+    let root : q.root ≡ 0 = only laws (kind_of_call c) b.blocks q.root became.place.sound (empties f a.blocks b.blocks p.root q.root r step) in
+    let same : q ≡ nothing = no-place (kind_of_call c) b.blocks q (laws.empties b.blocks).0 became.place root in
+    subst (λ k. ArrayBecomes H k a p b nothing) (ap kind_of_call made ∙ kind-of-free kind name)
+    (subst (λ (s : Stand). ArrayBecomes H (kind_of_call c) a p b s) same became)
+
+-- a pair by its second part
+told : {A B : Type 0} (x : A × B) (y : B) → x.1 ≡ y → (r : A) × (x ≡ (r, y))
+told x y e = (x.0, ap (λ z. (x.0, z)) e)
+
+-- there is a reply that leads there
+reply-to-free : (kind : ArrayKind) (name : List ℕ) (a b : Blocks) (w : ℕ) → HoldsNothing b 0 → (r : Reply) × AnswersAt a w (free_of kind name) r b 0
+reply-to-free One name a b w h = told _ (one_in b 0) (sym h.set)
+reply-to-free Long name a b w h = told _ (long_in b 0) (sym h.map)
+reply-to-free Str name a b w h = told _ (string_in b 0) (sym h.string)
+reply-to-free Bytes name a b w h = told _ (bytes_in b 0) (sym h.bytes)
+
+-- ---- one array
+
+-- what is known before the array of the next name is freed
+pub record FreesNext (H : List ℕ → ℕ) (tenants : List Tenant) (old : Stock) (t : ℕ) (key : List ℕ) (kind : ArrayKind) (name : List ℕ) (p : Stand) : Type 0 where
+  pub laws : KindLaws H
+  pub adds : CallsAddOne
+  pub limited : AreLimited tenants
+  pub stocked : IsStocked H tenants old
+  pub known : t < length tenants
+  pub read : spot_of t kind name ≡ key
+  pub found : p ≡ at old.directory.0 key
+
+module _ {H : List ℕ → ℕ} {tenants : List Tenant} {old : Stock} {t : ℕ} {key : List ℕ} {kind : ArrayKind} {name : List ℕ} {p : Stand}
+    (n : FreesNext H tenants old t key kind name p) where
+  freeing : FreesAt H tenants old t (free_of kind name) key
+  freeing = frees-at old t n.laws n.adds n.stocked n.known n.limited (kind, name) n.read refl
+
+  -- the place leads to an array
+  pub place-next : IsPlaceOf H kind old.arena.blocks p
+  place-next =
+      let same : kind_of_key key ≡ kind = ap kind_of_key (sym n.read) ∙ kind_at-owner_byte t kind in
+      subst (λ (q : Stand). IsPlaceOf H kind old.arena.blocks q) (sym n.found)
+      (subst (λ k. IsPlaceOf H k old.arena.blocks (at old.directory.0 key)) same (n.stocked.held.sound key))
+
+  -- with few pieces
+  pub few-next : p.pieces < 9223372036854775808
+  few-next = subst (λ (q : Stand). q.pieces < 9223372036854775808) (sym n.found) (few-there freeing)
+
+  module _ (arena : ArenaState) (became : ArrayBecomes H kind old.arena p arena nothing) (refusals : arena.refusals ≡ old.arena.refusals)
+      (takes : Takes 0 old.arena arena) where
+    -- the stock without the array and its name, before its account is settled
+    abbrev pub stock-next : Stock
+    stock-next = record old { arena = arena; directory = (with_place old.directory.0 key nothing, old.directory.1) }
+
+    pub reply : (r : Reply) × AnswersAt old.arena.blocks p.root (free_of kind name) r arena.blocks 0
+    reply = reply-to-free kind name old.arena.blocks arena.blocks p.root (n.laws.empties arena.blocks).0
+
+    abbrev pub answer-next : Answered
+    answer-next = record { reply = reply.0; before = p; after = nothing }
+
+    exchanged : IsExchange H key (free_of kind name) old stock-next answer-next
+    exchanged = record {
+      before = n.found;
+      places = refl;
+      footing = refl;
+      array = subst (λ k. ArrayBecomes H k old.arena p arena nothing) (sym (kind-of-free kind name)) became;
+      step = reply.1;
+      refusals = refusals;
+      unplaced = refl;
+      granted = refl;
+      accounts = refl;
+    }
+
+    took : Takes (blocks_of_call old.arena.blocks (at old.directory.0 key).root (free_of kind name)) old.arena arena
+    took = subst (λ m. Takes m old.arena arena) (sym (takes-none freeing.frees old.arena.blocks (at old.directory.0 key).root)) takes
+
+    -- the account can be settled
+    pub can-next : (accounts : List Account) → accounts ≡ old.accounts.items → CanSettle t accounts answer-next
+    can-next = can-free freeing stock-next answer-next exchanged took
+
+    -- no array of another tenant was freed
+    pub freed-next : old.arena.live ≤ old.arena.peak → AreFreed (λ u. u ≢ t) old stock-next
+    freed-next live = only-freed freeing stock-next answer-next exchanged took live stock-next refl refl refl refl refl
+
+    -- and without the name the service is sound
+    pub stocked-next : (accounts : List Account) → accounts ≡ old.accounts.items → (settled : List Account) → length settled ≡ length accounts
+        → entries_at settled t + p.entries ≡ entries_at accounts t + 0 → account_pieces settled t + p.pieces ≡ account_pieces accounts t + 0
+        → ((u : ℕ) → u ≢ t → entries_at settled u ≡ entries_at accounts u)
+        → ((u : ℕ) → u ≢ t → account_pieces settled u ≡ account_pieces accounts u)
+        → IsServer H arena.blocks (remove old.directory.0 key) settled tenants
+    stocked-next = freed-stocked freeing stock-next answer-next exchanged took
+
+-- ---- the names that are left
+
+-- the next name is that of a marked tenant
+pub marked-next : (gone : List Bool) (t : ℕ) (parts : ArrayKind × List ℕ) (key : List ℕ) → spot_of t parts.0 parts.1 ≡ key → is_gone gone key ≡ true
+    → get_or gone t false ≡ true
+marked-next gone t parts key read leaves = sym (gone-of gone t parts.0 parts.1) ∙ ap (is_gone gone) read ∙ leaves
+
+-- no other tenant is it
+pub others-next : (gone : List Bool) (t : ℕ) → get_or gone t false ≡ true → (u : ℕ) → get_or gone u false ≡ false → u ≢ t
+others-next gone t marked u h e = false≢true (sym h ∙ ap (λ v. get_or gone v false) e ∙ marked)
+
+-- what is known of the next name, if the names that are left are those that stay or are still to come
+pub frees-next : {H : List ℕ → ℕ} {tenants : List Tenant} (stock : Stock) (gone : List Bool) (d : Places) (names rest : List (List ℕ)) (key : List ℕ) (t : ℕ)
+    (parts : ArrayKind × List ℕ) (p : Stand) → stock.directory.0 ≡ retain_keys d (is_left gone (key ∷ rest)) → KindLaws H → CallsAddOne → AreLimited tenants
+    → IsServer H stock.arena.blocks (retain_keys d (is_left gone names)) stock.accounts.items tenants → names ≡ key ∷ rest
+    → t < length tenants → spot_of t parts.0 parts.1 ≡ key → p ≡ at d key → FreesNext H tenants stock t key parts.0 parts.1 p
+frees-next {H} {tenants} stock gone d names rest key t parts p left laws adds limited s next known read found = record {
+  laws = laws;
+  adds = adds;
+  limited = limited;
+  stocked = subst (λ m. IsServer H stock.arena.blocks m stock.accounts.items tenants) (sym left)
+      (subst (λ ks. IsServer H stock.arena.blocks (retain_keys d (is_left gone ks)) stock.accounts.items tenants) next s);
+  known = known;
+  read = read;
+  found = found ∙ ap (λ o. unwrap_or o nothing) (sym (ap (λ m. get m key) left ∙ left-here gone d key rest));
+}
+
+-- ---- all of them
+
+-- no array of another tenant was freed
+pub freed-more : {stay : ℕ → Type 0} {a : ArenaState} {d : Places} {old new : Stock} (t : ℕ) → AreFreedIn stay a d old.arena old.directory.0
+    → AreFreed (λ u. u ≢ t) old new → ((u : ℕ) → stay u → u ≢ t) → AreFreedIn stay a d new.arena new.directory.0
+freed-more t so_far next others = record {
+  states = λ u h. next.states u (others u h) ∙ so_far.states u h;
+  sizes = λ u h. next.sizes u (others u h) ∙ so_far.sizes u h;
+  refusals = next.refusals ∙ so_far.refusals;
+  region = next.region ∙ so_far.region;
+  reserved = next.reserved ∙ so_far.reserved;
+  peak = next.peak ∙ so_far.peak;
+}
+
+-- a marked tenant has no arrays once its names are forgotten
+pub unmarked : (b : Blocks) (d : Places) (gone : List Bool) (t : ℕ) → get_or gone t false ≡ true → state_in b (retain_keys d (is_staying gone)) t ≡ no_arrays
+unmarked b d gone t marked = no-names b (retain_keys d (is_staying gone)) t (λ kind name.
+    gone-none gone d (spot_of t kind name) (gone-of gone t kind name ∙ marked))
+
+-- and neither has a place that the table does not have
+pub all-gone : {H : List ℕ → ℕ} {tenants : List Tenant} {b : Blocks} {accounts : List Account} (d : Places) (gone : List Bool) (stays : Bool) (t : ℕ)
+    → IsServer H b (retain_keys d (is_staying gone)) accounts tenants → get_or gone t false ≡ (nat_lt t (length tenants) && not stays) → stays ≡ false
+    → state_in b (retain_keys d (is_staying gone)) t ≡ no_arrays
+all-gone {H} {tenants} {b} d gone stays t s marked leaves = by (nat_lt t (length tenants)) refl
+  where
+    by : (x : Bool) → nat_lt t (length tenants) ≡ x → state_in b (retain_keys d (is_staying gone)) t ≡ no_arrays
+    by true e = unmarked b d gone t (marked ∙ ap (λ x. x && not stays) e ∙ ap not leaves)
+    by false e = s.owned.outside t (ltb-false t (length tenants) e)
