@@ -1,6 +1,6 @@
 -- A word array whose root is a branch is cleared part by part. Each part is a word array of its own,
 -- and a sound one over its nodes.
-use Rattle.std.proofs.Common.{◌≡◌, ℕ, suc, ◌+◌, ◌-◌, ◌*◌, ◌<◌, ◌≤◌, ◌==◌, Bool, true, false, cond, List, [], ◌∷◌, ◌++◌, length}
+use Rattle.std.proofs.Common.{◌≡◌, ℕ, suc, ◌+◌, ◌<◌, ◌≤◌, Bool, true, false, cond, List, [], ◌∷◌, ◌++◌, length}
 use Rattle.std.proofs.Common.{Some, None, ap, sym, ◌∙◌, refl, subst, arith, length-append, ◌||◌}
 use Rattle.std.specs.Prelude.{nat_lt}
 use Rattle.std.proofs.lemmas.Bool.{false_from_ne_true}
@@ -13,7 +13,7 @@ use Rattle.judy_model.specs.Contents.{Entries, word_order, value_of, head_of}
 use Rattle.judy_model.proofs.lemmas.TestLemmas.{not_both}
 use Rattle.judy_tree.specs.Nodes.{is_branch, joined, depth}
 use Rattle.judy_tree.specs.Parts.{parts, from, root_number}
-use Rattle.judy_tree.specs.Root.{IsRoot, entries, numbers as own_numbers}
+use Rattle.judy_tree.specs.Root.{entries, numbers as own_numbers}
 use Rattle.judy_tree.proofs.lemmas.BranchLaws.{branch-kept, Kept as BranchKept, branch-live}
 use Rattle.judy_tree.proofs.lemmas.Clearing.{IsCleared, cleared-start, cleared-next, cleared-end, child-apart, own-not-gone, next-from, found-from, from-zero}
 use Rattle.judy_tree.proofs.lemmas.PartLaws.{part-root, part-deeper, part-byte, part-found, part-blocks}
