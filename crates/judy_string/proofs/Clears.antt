@@ -31,7 +31,7 @@ use Rattle.judy_string.proofs.Counts.{strings-few, length-after}
 same_Some : {A : Type 0} {x y : A} → Some x ≡ Some y → x ≡ y
 same_Some h = cc
 
-joined-both : {A : Type 0} (g : ℕ × ℕ → List A) (xs ys : Entries ℕ) → joined_strings g (xs ++ ys) ≡ joined_strings g xs ++ joined_strings g ys
+pub joined-both : {A : Type 0} (g : ℕ × ℕ → List A) (xs ys : Entries ℕ) → joined_strings g (xs ++ ys) ≡ joined_strings g xs ++ joined_strings g ys
 joined-both g [] ys = refl
 joined-both g (x ∷ xs) ys = ap (λ l. g x ++ l) (joined-both g xs ys) ∙ sym (append_assoc (g x) (joined_strings g xs) (joined_strings g ys))
 

@@ -18,6 +18,7 @@ mod Space
 mod Counts
 mod Spells
 mod Clears
+mod Parts
 mod Options
 mod Whole
 mod Taking

@@ -1,16 +1,19 @@
 //! Nodes: word arrays and suffix blocks, and the strings under them.
-ghost use Rattle.std.specs.Prelude.{◌≡◌, suc, ◌*◌, ◌≤◌, false, IsTrue, length, drop, []};
+ghost use Rattle.std.specs.Prelude.{◌≡◌, suc, ◌*◌, ◌≤◌, false, IsTrue, IsFalse, length, drop, []};
 ghost use Rattle.judy_arena.specs.Frame.{Frame};
 ghost use Rattle.judy_arena.specs.Takes.{TakesNothing};
 ghost use Rattle.judy_packing.specs.Packing.{is_last, word_bytes};
 ghost use Rattle.judy_model.specs.Contents.{string_order, value_of, has_key};
 ghost use Rattle.judy_string.specs.Changes.{IsRest, IsWritten, RemovesString};
 ghost use Rattle.judy_string.specs.Strings.{IsNestedAt, IsSpelt, nested_content_at, nested_numbers_at, content_under, numbers_under};
+ghost use Rattle.judy_string.specs.Suffixes.{is_suffix};
+ghost use Rattle.judy_tree.specs.Nodes.{is_branch};
 
 use crate::{suffix, words};
 use judy_arena::Arena;
 use judy_packing::word_at;
 use judy_refs::Ref;
+use judy_tree::{leads_to_branch, next_part, release_branch};
 use judy_words::JudyL;
 
 /// The bytes of a string after its first word.
@@ -105,6 +108,9 @@ pub(crate) fn remove(arena: &mut Arena, node: Ref, string: &[u8], room: usize) -
 }
 
 /// Releases every block under a node. Returns how many strings there were.
+///
+/// A word array whose root is a branch is taken apart part by part, so that no entry is looked up
+/// from the root.
 #[cycle(clear)]
 pub(crate) fn clear(arena: &mut Arena, node: Ref, room: usize) -> u64
     requires few { room ≤ 125 }
@@ -118,6 +124,9 @@ pub(crate) fn clear(arena: &mut Arena, node: Ref, room: usize) -> u64
         suffix::release(arena, node);
         return 1;
     }
+    if leads_to_branch(node) {
+        return clear_parts(arena, node, room);
+    }
     let mut words = JudyL::from_reference(node);
     let mut count = 0;
     let mut found = words.first(arena, 0);
@@ -129,6 +138,29 @@ pub(crate) fn clear(arena: &mut Arena, node: Ref, room: usize) -> u64
         found = words.next(arena, entry.0);
     }
     words.clear(arena);
+    count
+}
+
+// Releases every block under a word array whose root is a branch: its parts, and then the branch.
+// Returns how many strings there were.
+#[cycle(clear)]
+fn clear_parts(arena: &mut Arena, node: Ref, room: usize) -> u64
+    requires few { room ≤ 125 }
+    requires node { IsNestedAt (suc room) arena.old.blocks node }
+    requires array { IsFalse (is_suffix node) }
+    requires branch { IsTrue (is_branch node) }
+    ensures gone { Frame arena.old.blocks arena.new.blocks
+        (nested_numbers_at (suc room) arena.old.blocks node) [] }
+    ensures count { result ≡ length (nested_content_at (suc room) arena.old.blocks node) }
+    ensures memory { TakesNothing arena.old arena.new }
+{
+    let mut low = 0;
+    let mut count = 0;
+    while let Some(part) = next_part(arena, node, low) {
+        count += clear(arena, part.1, room);
+        low = u16::from(part.0) + 1;
+    }
+    release_branch(arena, node);
     count
 }
 

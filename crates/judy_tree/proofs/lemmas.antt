@@ -5,6 +5,7 @@ pub mod Counts
 pub mod Finds
 pub mod Heads
 pub mod Joins
+pub mod PartLaws
 pub mod RootLaws
 pub mod Trees
 pub mod Unchanged

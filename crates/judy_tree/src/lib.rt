@@ -15,4 +15,5 @@ mod split;
 pub use answers::Inserted;
 pub use fork::{byte_of, head, leads_to_branch};
 pub use node::population;
+pub use parts::{next_part, release_branch};
 pub use root::Root;

@@ -8,6 +8,7 @@ use Rattle.judy_string.proofs.Suffixes.{suffix-some}
 use Rattle.judy_string.proofs.Steps.{node-reference}
 use Rattle.judy_string.proofs.Clears.{cleared-none, cleared-stays, cleared-found, cleared-child, cleared-more, cleared-small}
 use Rattle.judy_string.proofs.Clears.{cleared-all, at-first, at-next, none-at, emptied, suffix-gone, suffix-one, part-below}
+use Rattle.judy_string.proofs.Parts.{partly-start, own-here, partly-end, here, deeper, root-high, above, byte, partly-next, partly-small}
 use Rattle.judy_string.proofs.nodes.+clear.Goals as goal
 
 pub clear-release-requires-clause-live : goal.clear-release-requires-clause-live
@@ -149,3 +150,85 @@ clear_entry-returns-clause-count t c =
     c.clear.ensures.count ∙ ap (λ m. length (nested_content_at m c.args.arena.now.blocks c.known.result)) bound
     ∙ ap (λ u. length (nested_content_at c.args.room c.args.arena.now.blocks u)) c.known.ensures
     ∙ sym (part-below (nested_content_at c.args.room c.args.arena.now.blocks) c.args.word c.args.value more)
+
+pub clear_parts-loop-part-init : goal.clear_parts-loop-part-init
+clear_parts-loop-part-init t c =
+    let nest = nest-of c.args.room c.args.arena.now.blocks c.args.node c.requires.array c.requires.node in
+    record {
+      partly = partly-start c.args.room c.args.arena.now.blocks c.args.node nest c.requires.branch;
+      memory = same-rests c.args.arena.now;
+      low = omega arith;
+    }
+
+pub clear_parts-next_part-requires-clause-branch : goal.clear_parts-next_part-requires-clause-branch
+clear_parts-next_part-requires-clause-branch t c =
+    let nest = nest-of c.args.room c.args.arena.now.blocks c.args.node c.requires.array c.requires.node in
+    (own-here c.args.room c.args.arena.now.blocks c.args.node nest c.requires.branch c.loop-part.arena.blocks c.loop-part.low
+    c.loop-part.count c.loop-part.invariant.partly).branch
+
+pub clear_parts-clear-count-requires : goal.clear_parts-clear-count-requires
+clear_parts-clear-count-requires t c =
+    let nest = nest-of c.args.room c.args.arena.now.blocks c.args.node c.requires.array c.requires.node in
+    let e = sym c.next_part.ensures ∙ c.in-Some.is in
+    let down = deeper c.args.room c.args.arena.now.blocks c.args.node nest c.requires.branch c.loop-part.arena.blocks
+    c.loop-part.low c.loop-part.count c.loop-part.invariant.partly c.in-Some.part.0 c.in-Some.part.1 e in (
+      omega (arith, down, root-high c.args.room c.args.arena.now.blocks c.args.node nest c.requires.branch, c.decreases),
+      (
+        c.requires.few,
+        (here c.args.room c.args.arena.now.blocks c.args.node nest c.requires.branch c.loop-part.arena.blocks c.loop-part.low
+            c.loop-part.count c.loop-part.invariant.partly c.in-Some.part.0 c.in-Some.part.1 e).array,
+      ),
+    )
+
+pub clear_parts-overflow_add-count : goal.clear_parts-overflow_add-count
+clear_parts-overflow_add-count t c =
+    let nest = nest-of c.args.room c.args.arena.now.blocks c.args.node c.requires.array c.requires.node in
+    let e = sym c.next_part.ensures ∙ c.in-Some.is in
+    let small = partly-small c.args.room c.args.arena.now.blocks c.args.node nest c.requires.branch c.loop-part.arena.blocks
+    c.loop-part.low c.loop-part.count c.loop-part.invariant.partly c.in-Some.part.0 c.in-Some.part.1 e c.clear-count.result
+    c.clear-count.ensures.count in
+    omega (arith, small)
+
+pub clear_parts-loop-part-preserved : goal.clear_parts-loop-part-preserved
+clear_parts-loop-part-preserved t c =
+    let nest = nest-of c.args.room c.args.arena.now.blocks c.args.node c.requires.array c.requires.node in
+    let e = sym c.next_part.ensures ∙ c.in-Some.is in
+    let small = byte c.args.room c.args.arena.now.blocks c.args.node nest c.requires.branch c.loop-part.arena.blocks
+    c.loop-part.low c.loop-part.count c.loop-part.invariant.partly c.in-Some.part.0 c.in-Some.part.1 e in
+    record {
+      partly = partly-next c.args.room c.args.arena.now.blocks c.args.node nest c.requires.branch c.loop-part.arena.blocks
+          c.loop-part.low c.loop-part.count c.loop-part.invariant.partly c.in-Some.part.0 c.in-Some.part.1 e
+          c.clear-count.new.arena.blocks c.clear-count.result _ (omega arith) c.clear-count.ensures.gone c.clear-count.ensures.count;
+      memory = rests-two c.args.arena.now c.loop-part.arena c.clear-count.new.arena c.loop-part.invariant.memory c.clear-count.ensures.memory;
+      low = omega (arith, small);
+    }
+
+pub clear_parts-loop-part-smaller : goal.clear_parts-loop-part-smaller
+clear_parts-loop-part-smaller t c =
+    let nest = nest-of c.args.room c.args.arena.now.blocks c.args.node c.requires.array c.requires.node in
+    let e = sym c.next_part.ensures ∙ c.in-Some.is in
+    let small = byte c.args.room c.args.arena.now.blocks c.args.node nest c.requires.branch c.loop-part.arena.blocks
+    c.loop-part.low c.loop-part.count c.loop-part.invariant.partly c.in-Some.part.0 c.in-Some.part.1 e in
+    let least = above c.args.room c.args.arena.now.blocks c.args.node nest c.requires.branch c.loop-part.arena.blocks
+    c.loop-part.low c.loop-part.count c.loop-part.invariant.partly c.in-Some.part.0 c.in-Some.part.1 e in
+    omega (arith, small, least)
+
+pub clear_parts-release_branch-requires : goal.clear_parts-release_branch-requires
+clear_parts-release_branch-requires t c =
+    let nest = nest-of c.args.room c.args.arena.now.blocks c.args.node c.requires.array c.requires.node in
+    (own-here c.args.room c.args.arena.now.blocks c.args.node nest c.requires.branch c.loop-part.arena.blocks c.loop-part.low
+    c.loop-part.count c.loop-part.invariant.partly).branch
+
+pub clear_parts-returns-clause-gone : goal.clear_parts-returns-clause-gone
+clear_parts-returns-clause-gone t c =
+    let nest = nest-of c.args.room c.args.arena.now.blocks c.args.node c.requires.array c.requires.node in
+    (partly-end c.args.room c.args.arena.now.blocks c.args.node nest c.requires.branch c.loop-part.arena.blocks c.loop-part.low
+    c.loop-part.count c.loop-part.invariant.partly c.release_branch.new.arena.blocks (sym c.next_part.ensures ∙ c.in_default.is)
+    c.release_branch.ensures.frame).0
+
+pub clear_parts-returns-clause-count : goal.clear_parts-returns-clause-count
+clear_parts-returns-clause-count t c =
+    let nest = nest-of c.args.room c.args.arena.now.blocks c.args.node c.requires.array c.requires.node in
+    (partly-end c.args.room c.args.arena.now.blocks c.args.node nest c.requires.branch c.loop-part.arena.blocks c.loop-part.low
+    c.loop-part.count c.loop-part.invariant.partly c.release_branch.new.arena.blocks (sym c.next_part.ensures ∙ c.in_default.is)
+    c.release_branch.ensures.frame).1
