@@ -12,6 +12,7 @@ pub mod Logins
 mod OneSlot
 mod Owning
 pub mod Passing
+mod Presence
 mod Queueing
 mod Seats
 pub mod Recording

@@ -10,6 +10,7 @@ pub mod Intakes
 pub mod Journaling
 pub mod Lives
 pub mod Nets
+pub mod Present
 pub mod Queues
 pub mod Records
 pub mod Rules

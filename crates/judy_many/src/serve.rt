@@ -5,6 +5,7 @@ ghost use Rattle.judy_many.specs.Crowds.{Crowd, HasFailed, HasServedMany, Past, 
 ghost use Rattle.judy_many.specs.Endings.{waited_if};
 ghost use Rattle.judy_many.specs.Lives.{view_of};
 ghost use Rattle.judy_many.specs.Nets.{Acts, DidLog, may_sleep};
+ghost use Rattle.judy_many.specs.Present.{speakers_at};
 ghost use Rattle.judy_many.specs.Queues.{AreAwake, StayAwake, awake_in};
 ghost use Rattle.judy_many.specs.Rules.{rules_of};
 ghost use Rattle.judy_many.specs.Slots.{AreKnown};
@@ -197,12 +198,14 @@ fn ask<S: Shows, N: Network>(
         → Crowd (λ b. view_of S.who N.number b.value) (rules_of S.made S.seen S.noted S.status S.changed) limits first
         start Sweeps (nobody clients.new.queue) past (N.log network.new) clients.new.slots.items clients.new.accepted service.new }
     ensures stop { result ≡ true
-        → HasAnswered limits.status Next.Stop (S.status service.old) (N.log network.old) (N.log network.new)
+        → HasAnswered limits.status Next.Stop (S.status service.old
+        (speakers_at (λ b. view_of S.who N.number b.value) clients.old.slots.items))
+        (N.log network.old) (N.log network.new)
         × (service.new ≡ service.old) }
     ensures known { AreKnown (λ b. option_map S.who b.value.session.speaker)
         (S.seen service.new).speakers clients.new.slots.items }
 {
-    match answer(network, &*service, limits, text) {
+    match answer(alloc, network, &*service, &*clients, limits, text) {
         Next::Round => false,
         Next::Reload => {
             let keep = limits.journal.is_some();

@@ -147,8 +147,12 @@ impl<H: Chosen> Shows for Server<H> {
 
     ghost changed = { IsReload };
 
-    fn show(&self, text: &mut Vec<u8>) -> Result<(), AllocError> {
-        add_status(text, &self.service, &self.tally)
+    fn show(
+        &self,
+        speakers: &[Option<Speaker>],
+        text: &mut Vec<u8>,
+    ) -> Result<(), AllocError> {
+        add_status(text, &self.service, &self.tally, speakers)
     }
 
     fn note(&mut self, asked: &Result<Line<'_>, Refusal>, answer: &[u8]) {
