@@ -147,11 +147,7 @@ impl<H: Chosen> Shows for Server<H> {
 
     ghost changed = { IsReload };
 
-    fn show(
-        &self,
-        speakers: &[Option<Speaker>],
-        text: &mut Vec<u8>,
-    ) -> Result<(), AllocError> {
+    fn show(&self, speakers: &[Option<Speaker>], text: &mut Vec<u8>) -> Result<(), AllocError> {
         add_status(text, &self.service, &self.tally, speakers)
     }
 
