@@ -12,7 +12,7 @@ use Rattle.judy_many.specs.Crowds.{Past}
 use Rattle.judy_many.specs.Endings.{lost_by, lost_in, waits_in}
 use Rattle.judy_many.specs.Journaling.{AreKeeping, AreSettled, Carries, IsKeeping}
 use Rattle.judy_many.specs.Nets.{Act}
-use Rattle.judy_many.specs.Nets.Act.{Came, Refused, Read, Dry, Ended, Broke, Wrote, Failed, Closed, Waited, Lost, Asked, Questioned, Reported, Warned, Tabled, Untabled, Replied, Began, Kept, Unkept, Synced, Unsynced}
+use Rattle.judy_many.specs.Nets.Act.{Came, Refused, Read, Dry, Ended, Broke, Wrote, Failed, Closed, Waited, Lost, Asked, Questioned, Reported, Warned, Tabled, Untabled, Named, Replied, Began, Kept, Unkept, Synced, Unsynced}
 use Rattle.judy_many.specs.Rules.{Rules}
 use Rattle.judy_many.specs.Statuses.{Lasts, Passes, Tells}
 use Rattle.judy_many.specs.Stories.{AreRead, AreWithin, IsPhased, IsWithin, Phase, Share, Story, acts_in, came_by, came_in, closed_by, closed_in, is_of, is_wait, just_read, own, share_of, times, told, writes_after, writes_since}

@@ -12,7 +12,7 @@ use Rattle.judy_many.specs.Watches.{Queued, nobody, unqueued}
 use Rattle.judy_many.specs.Lives.{IsServed, View}
 use Rattle.judy_many.specs.Journaling.{AreKept, Carries, IsFailure, MayKeep}
 use Rattle.judy_many.specs.Nets.{Act, Acts, DidLog}
-use Rattle.judy_many.specs.Nets.Act.{Came, Refused, Read, Dry, Ended, Broke, Wrote, Failed, Closed, Waited, Lost, Asked, Questioned, Reported, Warned, Tabled, Untabled, Replied, Began, Kept, Unkept, Synced, Unsynced}
+use Rattle.judy_many.specs.Nets.Act.{Came, Refused, Read, Dry, Ended, Broke, Wrote, Failed, Closed, Waited, Lost, Asked, Questioned, Reported, Warned, Tabled, Untabled, Named, Replied, Began, Kept, Unkept, Synced, Unsynced}
 use Rattle.judy_many.specs.Present.{speakers_at}
 use Rattle.judy_many.specs.Rules.{Rules}
 use Rattle.judy_many.specs.Statuses.{HasAnswered, Lasts, Passes}

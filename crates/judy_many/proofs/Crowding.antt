@@ -10,7 +10,7 @@ use Rattle.judy_many.specs.Journaling.{AreSettled, AreWritten, Carries, MayKeep,
 use Rattle.judy_many.specs.Queues.{AreAwake, IsBefore, IsPlaced, Line, StayAwake, awake_in, is_awake, mark_in, slot_in, stands, stands_in}
 use Rattle.judy_many.specs.Lives.{IsPart, IsServed, Lives, SlotDid, View}
 use Rattle.judy_many.specs.Nets.{Act, Acts, DidLog}
-use Rattle.judy_many.specs.Nets.Act.{Came, Closed, Questioned, Replied, Reported, Tabled, Untabled, Waited, Warned}
+use Rattle.judy_many.specs.Nets.Act.{Came, Closed, Named, Questioned, Replied, Reported, Tabled, Untabled, Waited, Warned}
 use Rattle.std.specs.List.{list_any}
 use Rattle.judy_many.specs.Arrivals.{Arrives, IsArrival}
 use Rattle.judy_many.specs.Present.{speakers_at}
@@ -482,6 +482,27 @@ module _ {B S : Type 0} (view : B → View) (rules : Rules S) (limits : Limits) 
       subst (λ s. Now phase had past log' slots count s) (sym same)
       (aside phase had past log log' slots count now now (Did (Tabled text) ∷ [])
       (record { foreign = λ n. refl; came = refl; closed = refl; within = (e, tt); phases = λ wrote. ((tt, tt), refl); silent = λ share. refl; unlost = refl; waited = refl; reads = λ last. tt; quiet = refl }) k (λ h. (tt, refl)) refl h)
+
+  -- it is asked to close the connections of a tenant
+  pub asked_kick : (phase : Phase) (had : Queued) (past : Past) (log log' : Acts) (slots : List (Option B)) (count : ℕ) (now : S) (watches : Bool) → limits.status ≡ watches
+      → HasAnswered watches next.Kick (rules.status now (speakers_at view slots)) log log' → Now phase had past log slots count now → (limits.status ≡ true) × Now phase had past log' slots count now
+  asked_kick phase had past log log' slots count now false e bad h = absurd bad
+  asked_kick phase had past log log' slots count now true e k h = (
+    e,
+    aside phase had past log log' slots count now now (Did (Questioned question.Kick) ∷ []) (record { foreign = λ n. refl; came = refl; closed = refl; within = (e, tt); phases = λ wrote. ((tt, tt), refl); silent = λ share. refl; unlost = refl; waited = refl; reads = λ last. tt; quiet = refl }) k (λ h. (tt, refl)) refl h,
+  )
+
+  -- a tenant was named
+  pub has_named : (phase : Phase) (had : Queued) (past : Past) (log log' : Acts) (slots : List (Option B)) (count : ℕ) (now : S) (name : List ℕ) → limits.status ≡ true
+      → DidLog log (Named name ∷ []) log' → Now phase had past log slots count now → Now phase had past log' slots count now
+  has_named phase had past log log' slots count now name e k h =
+      aside phase had past log log' slots count now now (Did (Named name) ∷ []) (record { foreign = λ n. refl; came = refl; closed = refl; within = (e, tt); phases = λ wrote. ((tt, tt), refl); silent = λ share. refl; unlost = refl; waited = refl; reads = λ last. tt; quiet = refl }) k (λ h. (tt, refl)) refl h
+
+  -- the asker was answered
+  pub has_answered : (phase : Phase) (had : Queued) (past : Past) (log log' : Acts) (slots : List (Option B)) (count : ℕ) (now : S) (reply : List ℕ) → limits.status ≡ true
+      → DidLog log (Replied reply ∷ []) log' → Now phase had past log slots count now → Now phase had past log' slots count now
+  has_answered phase had past log log' slots count now reply e k h =
+      aside phase had past log log' slots count now now (Did (Replied reply) ∷ []) (record { foreign = λ n. refl; came = refl; closed = refl; within = (e, tt); phases = λ wrote. ((tt, tt), refl); silent = λ share. refl; unlost = refl; waited = refl; reads = λ last. tt; quiet = refl }) k (λ h. (tt, refl)) refl h
 
   -- the asker was answered, and the operator told
   pub has_replied : (phase : Phase) (had : Queued) (past : Past) (log log' : Acts) (slots : List (Option B)) (count : ℕ) (now : S) (changed : Bool) (reply line : List ℕ) → limits.status ≡ true

@@ -5,6 +5,7 @@ mod Closing
 mod Crowding
 pub mod Journals
 mod Disk
+mod Kicking
 mod Known
 mod Looking
 mod Living

@@ -8,6 +8,7 @@ pub mod Endings
 pub mod Fates
 pub mod Intakes
 pub mod Journaling
+pub mod Kicks
 pub mod Lives
 pub mod Nets
 pub mod Present

@@ -11,7 +11,7 @@ use Rattle.judy_many.specs.declared.asking.Next.{Next}
 use Rattle.judy_many.specs.declared.asking.Next.TheVariants as next
 use Rattle.judy_many.specs.declared.network.Question.TheVariants as question
 use Rattle.judy_many.specs.Nets.{Act, Acts, DidLog}
-use Rattle.judy_many.specs.Nets.Act.{Came, Refused, Read, Dry, Ended, Broke, Wrote, Failed, Closed, Waited, Lost, Asked, Questioned, Reported, Warned, Tabled, Untabled, Replied, Began, Kept, Unkept, Synced, Unsynced}
+use Rattle.judy_many.specs.Nets.Act.{Came, Refused, Read, Dry, Ended, Broke, Wrote, Failed, Closed, Waited, Lost, Asked, Questioned, Reported, Warned, Tabled, Untabled, Named, Replied, Began, Kept, Unkept, Synced, Unsynced}
 use Rattle.judy_many.specs.Present.{AreOpen}
 use Rattle.judy_many.specs.Rules.{Rules}
 use Rattle.judy_many.specs.Sessions.{AreTurns}
@@ -27,15 +27,17 @@ abbrev pub Tells : (List (Option Speaker) → List ℕ) → Story → Act → Ty
 Tells status past (Reported text) = (who : List (Option Speaker)) × AreOpen past who × IsStatus (status who) text
 Tells status past act = Unit {0}
 
--- A stop was asked for, or that the table is read again; or nothing was; or the status, which was told.
+-- A stop was asked for, or that the table is read again, or that connections of a tenant are closed; or nothing was; or the status, which was told.
 -- Without a status socket nothing is asked.
 abbrev pub HasAnswered : Bool → Next → List ℕ → Acts → Acts → Type 0
 HasAnswered true next.Stop status log log' = DidLog log (Questioned question.Stop ∷ []) log'
 HasAnswered true next.Reload status log log' = DidLog log (Questioned question.Reload ∷ []) log'
+HasAnswered true next.Kick status log log' = DidLog log (Questioned question.Kick ∷ []) log'
 HasAnswered true next.Round status log log' = DidLog log [] log'
     ⊎ ((text : List ℕ) × IsStatus status text × DidLog log (Questioned question.Status ∷ Reported text ∷ []) log')
 HasAnswered false next.Stop status log log' = ⊥
 HasAnswered false next.Reload status log log' = ⊥
+HasAnswered false next.Kick status log log' = ⊥
 HasAnswered false next.Round status log log' = DidLog log [] log'
 
 -- Lines change the service as they were run, and a new table as it does. Nothing else changes it: no

@@ -54,6 +54,8 @@ pub enum Next {
     Round,
     /// The table is read again first.
     Reload,
+    /// Connections of a tenant are closed first.
+    Kick,
     /// The server ends.
     Stop,
 }
@@ -79,6 +81,7 @@ pub fn answer<S: Shows, N: Network>(
         Question::Nothing => Next::Round,
         Question::Stop => Next::Stop,
         Question::Reload => Next::Reload,
+        Question::Kick => Next::Kick,
         Question::Status => {
             make(alloc, service, clients, text);
             network.report(text.as_slice());

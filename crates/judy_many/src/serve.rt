@@ -17,6 +17,7 @@ use crate::arrivals::accept;
 use crate::asking::{Next, answer};
 use crate::clients::{Clients, Listening};
 use crate::keeping::Keeper;
+use crate::kicks::kick;
 use crate::network::{Network, Sync};
 use crate::reloads::reload;
 use crate::rounds::{listen_all, tell_all};
@@ -180,7 +181,8 @@ fn take_turns<S: Shows, N: Network>(
     true
 }
 
-/// Answers one question of the operator, and reads the table again if that is what it asks for.
+/// Answers one question of the operator, and reads the table again, or closes the connections of a tenant,
+/// if that is what it asks for.
 /// Returns whether it asks for a stop.
 fn ask<S: Shows, N: Network>(
     alloc: Global,
@@ -210,6 +212,10 @@ fn ask<S: Shows, N: Network>(
         Next::Reload => {
             let keep = limits.journal.is_some();
             reload(alloc, network, service, clients, keep, text);
+            false
+        }
+        Next::Kick => {
+            kick(network, &*service, clients);
             false
         }
         Next::Stop => true,

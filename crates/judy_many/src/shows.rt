@@ -1,10 +1,11 @@
 //! A service that counts its lines, tells its status, and changes its table.
-ghost use Rattle.std.specs.Prelude.{◌≡◌, ◌++◌, ℕ, List, Option, map, option_map, true, MatchBool, OnOk};
+ghost use Rattle.std.specs.Prelude.{◌≡◌, ◌++◌, ℕ, List, [], Option, map, option_map, true, false, MatchBool, OnOk};
 ghost use Rattle.judy_model.specs.Speakers.{Speaker};
 ghost use Rattle.judy_model.specs.Stream.{Heard};
 ghost use Rattle.judy_protocol.specs.Services.{IsKnown};
 ghost use Rattle.judy_protocol.specs.Talks.{as_heard};
 ghost use Rattle.judy_many.specs.Changes.{IsChange, KeepsTenants};
+ghost use Rattle.judy_many.specs.Kicks.{HasName};
 
 use judy_protocol::{Line, Refusal, Served};
 use std::alloc::{AllocError, Global};
@@ -56,6 +57,11 @@ pub trait Shows: Served {
     /// Whether a speaker may speak: after a change of the table its tenant may be gone.
     fn knows(&self, speaker: Self::Speaker) -> bool
         ensures { result ≡ (Self.seen self.now).speakers (Self.who speaker) };
+
+    /// Whether a tenant has this name.
+    fn has(&self, name: &[u8]) -> bool
+        ensures yes { result ≡ true → HasName (Self.seen self.now).names name.now }
+        ensures no { result ≡ false → HasName (Self.seen self.now).names name.now → name.now ≡ [] };
 
     /// Counting changes nothing that a connection relies on.
     ghost unseen: { (before after : Self) (line : Heard) (answer : List ℕ)
