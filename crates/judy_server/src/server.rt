@@ -190,6 +190,10 @@ impl<H: Chosen> Shows for Server<H> {
         self.service.knows(speaker)
     }
 
+    fn has(&self, name: &[u8]) -> bool {
+        self.service.find(name).is_some()
+    }
+
     ghost stays = { λ before after text changed.
         keeps-or-empties changed.table before.held after.held changed.tenants changed.held };
 
