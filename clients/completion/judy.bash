@@ -1,7 +1,7 @@
 # Completion of the command line judy in bash. ./install puts it where bash-completion finds it; otherwise
 # source it.
 
-_judy_commands="add status top stop reload wait dump load check backup move table digest help"
+_judy_commands="add status top stop reload kick wait dump load check backup move table digest help"
 _judy_calls="AUTH J1BC J1C J1F J1FA J1FE J1L J1LE J1N J1NE J1P J1PE J1S J1T J1U JHSA JHSD JHSFA JHSG JHSI \
 JLA JLBC JLC JLD JLF JLFA JLFE JLG JLI JLL JLLE JLN JLNE JLP JLPE JSLA JSLD JSLF JSLFA JSLG JSLI \
 JSLL JSLN JSLP QUIT USED"
@@ -28,7 +28,7 @@ _judy_words() {
         add) echo "JL: JSL: JHS: $_judy_options --help" ;;
         status | wait) echo "$_judy_options --help" ;;
         top) echo "--once --timeout --help" ;;
-        stop | reload) echo "--timeout --help" ;;
+        stop | reload | kick) echo "--timeout --help" ;;
         dump) echo "J1: JL: JSL: JHS: -o --output --all --empty $_judy_options --help" ;;
         load) echo "--unchecked $_judy_options --help" ;;
         check) echo "--unchecked --whole $_judy_options --help" ;;
@@ -54,7 +54,7 @@ _judy() {
     command=$(_judy_command)
     mapfile -t COMPREPLY < <(compgen -W "$(_judy_words "$command")" -- "$current")
     case $command in
-        '' | status | top | stop | reload | load | check | backup | table)
+        '' | status | top | stop | reload | kick | load | check | backup | table)
             [ ${#COMPREPLY[@]} -gt 0 ] || mapfile -t COMPREPLY < <(compgen -f -- "$current")
             ;;
     esac

@@ -9,7 +9,7 @@ from typing import Dict, List, NamedTuple, Optional, Tuple
 
 from judyd import wording
 
-CAUSES = ("quit", "end", "fault", "login", "idle", "turn", "memory", "gone")
+CAUSES = ("quit", "end", "fault", "login", "idle", "turn", "memory", "gone", "kick")
 CALLS = ("AUTH", "QUIT", "USED", *sorted(wording.CALLS), "none")
 KINDS = {b"FULL": "full", b"ERR MEMORY": "memory", b"ERR AUTH": "auth", b"ERR READONLY": "readonly", b"ERR SYNTAX": "syntax", b"ERR LONG": "long"}
 
@@ -42,6 +42,8 @@ METRICS = [
     Metric("judyd_tenant_quota_entries", "gauge", "tenant", "The most entries of a tenant."),
     Metric("judyd_tenant_pieces", "gauge", "tenant", "Pieces of a tenant."),
     Metric("judyd_tenant_quota_pieces", "gauge", "tenant", "The most pieces of a tenant."),
+    Metric("judyd_tenant_connections", "gauge", "tenant", "Connections on which a tenant is logged in."),
+    Metric("judyd_connections_without_tenant", "gauge", "", "Connections on which nobody is logged in."),
     Metric("judyd_lines_total", "counter", "call", "Lines by what they ask for."),
     Metric("judyd_replies_total", "counter", "kind", "Replies by kind."),
     Metric("judyd_logins_refused_total", "counter", "tenant", "Refused log-ins by tenant."),
@@ -68,6 +70,7 @@ class Numbers:
         self.plain.update({"judyd_live_words": 4, "judyd_machine_words": 512, "judyd_peak_words": 512, "judyd_arrays": 1, "judyd_uptime_seconds": 1})
         self.labelled: Dict[str, Dict[str, int]] = {
             "judyd_connections_ended_total": dict.fromkeys(CAUSES, 0),
+            "judyd_tenant_connections": dict.fromkeys(self.tenants, 0),
             "judyd_lines_total": dict.fromkeys(CALLS, 0),
             "judyd_replies_total": dict.fromkeys(("ok", *KINDS.values()), 0),
             "judyd_logins_refused_total": dict.fromkeys(self.tenants, 0),

@@ -207,6 +207,31 @@ class Reload(WithStatus):
         self.fails(4, "no answer for 0.3 s", "reload", "--timeout", "0.3")
 
 
+class Kick(WithStatus):
+    """judy kick."""
+
+    def kick(self, tenant, *words):
+        """What judy kick says."""
+        return run_judy(b"", "kick", *words, self.server.path, tenant)
+
+    def test_kick(self):
+        self.server.fixed = b"OK 3\n"
+        self.assertEqual(self.kick("a.b_C-1"), (0, "3\n", ""))
+        self.assertEqual(self.server.asked, [b"KICK a.b_C-1\n"])
+
+    def test_refused(self):
+        for answer, said in ((b"ERR TENANT\n", "the server has no tenant alice"), (b"OK\n", "answers OK: it is not the socket of --control"), (b"ERR\n", "answers ERR: it is not the socket of --control")):
+            self.server.fixed = answer
+            status, got, wrong = self.kick("alice")
+            self.assertEqual((status, got, said in wrong), (1, "", True), wrong)
+
+    def test_no_name(self):
+        for name in ("", "a b", "a\n", "x" * 33):
+            status, got, wrong = self.kick(name)
+            self.assertEqual((status, got, "no tenant has such a name" in wrong), (1, "", True), wrong)
+        self.assertEqual(self.server.asked, [])
+
+
 class Stop(WithStatus):
     """judy stop."""
 

@@ -162,6 +162,12 @@ def run_reload(options: argparse.Namespace) -> int:
     return 0
 
 
+def run_kick(options: argparse.Namespace) -> int:
+    """judy kick"""
+    print(metrics.kick(options.path, options.tenant, options.timeout or None))
+    return 0
+
+
 def run_wait(options: argparse.Namespace) -> int:
     """judy wait"""
     address, tls = address_of(options)
@@ -232,6 +238,7 @@ SUBCOMMANDS = {
     "top": run_top,
     "stop": run_stop,
     "reload": run_reload,
+    "kick": run_kick,
     "wait": run_wait,
     "dump": run_dump,
     "load": run_load,

@@ -15,6 +15,8 @@ LIMIT = 1 << 20
 """The most bytes of an answer."""
 
 _LINE = re.compile(r'(\w+)(?:\{\w+="([^"\\]*)"\})? (\d{1,20})\Z')
+_NAME = re.compile(r"[A-Za-z0-9_.-]{1,32}\Z")
+_KICKED = re.compile(rb"OK (\d{1,20})\n\Z")
 _CAUSES = {
     errno.ENOENT: "no server has made that socket (judyd serve --%(option)s %(path)s)",
     errno.ECONNREFUSED: "no server listens there, and one that ended left the socket: %(path)s",
@@ -133,10 +135,10 @@ def stop(path: str, seconds: Optional[float]) -> None:
         time.sleep(0.02)
 
 
-def reload(path: str, seconds: Optional[float]) -> None:
-    """Tells a server at its control socket to read its table again. An error has the reason if it does not."""
+def _said(path: str, line: str, seconds: Optional[float]) -> bytes:
+    """The line that the control socket answers to a command."""
     until = None if seconds is None else time.monotonic() + seconds
-    with Question(path, "RELOAD", seconds, "control") as question:
+    with Question(path, line, seconds, "control") as question:
         got = b""
         while not got.endswith(b"\n"):
             left = None if until is None else max(until - time.monotonic(), 0)
@@ -146,10 +148,34 @@ def reload(path: str, seconds: Optional[float]) -> None:
             if piece == b"":
                 raise ConnectionLost("%s: the server closed without an answer" % path)
             got += piece or b""
+    return got
+
+
+def _other(path: str, got: bytes) -> Error:
+    """Another answer than one of a control socket."""
+    return Error("%s answers %s: it is not the socket of --control" % (path, got[:-1].decode("ascii", "replace")))
+
+
+def reload(path: str, seconds: Optional[float]) -> None:
+    """Tells a server at its control socket to read its table again. An error has the reason if it does not."""
+    got = _said(path, "RELOAD", seconds)
     if got.startswith(b"ERR ") and got not in (b"ERR SYNTAX\n", b"ERR AUTH\n", b"ERR LONG\n"):
         raise Error("the table is not read again: %s" % got[4:-1].decode("ascii", "replace"))
     if got != b"OK\n":
-        raise Error("%s answers %s: it is not the socket of --control" % (path, got[:-1].decode("ascii", "replace")))
+        raise _other(path, got)
+
+
+def kick(path: str, tenant: str, seconds: Optional[float]) -> int:
+    """Tells a server at its control socket to close the connections of a tenant. Returns how many it closed."""
+    if not _NAME.match(tenant):
+        raise Error("no tenant has such a name: %s" % tenant)
+    got = _said(path, "KICK %s" % tenant, seconds)
+    if got == b"ERR TENANT\n":
+        raise Error("the server has no tenant %s" % tenant)
+    found = _KICKED.match(got)
+    if not found:
+        raise _other(path, got)
+    return int(found[1])
 
 
 def _identity(path: str) -> Optional[Tuple[int, int, int]]:

@@ -21,6 +21,7 @@ and goes on. If the connection is lost it says how many lines were answered, and
   judy top [--once] PATH                     a screen of them, which renews itself each second
   judy stop PATH                             ends that server, and waits until it has ended
   judy reload PATH                           tells it to read its table again: status 1 if it does not
+  judy kick PATH TENANT                      tells it to close the connections of a tenant
   judy wait [--timeout S]                    waits until a server answers: status 1 if none does
   judy dump [-o FILE] J1:ids JHS:keys=FILE .. arrays as lines, to a file or to standard output
   judy load [FILE]                           loads a dump, if it is whole
@@ -72,15 +73,17 @@ def subcommand(name: str) -> argparse.ArgumentParser:
     sub = argparse.ArgumentParser(prog="judy %s" % name)
     if name in ("add", "status", "wait", "dump", "load", "check", "backup", "move"):
         add_options(sub, is_first=False)
-    if name in ("top", "stop", "reload"):
+    if name in ("top", "stop", "reload", "kick"):
         add_timeout(sub, argparse.SUPPRESS)
     if name == "status":
         sub.add_argument("path", nargs="?", metavar="PATH", help="print what the socket of judyd serve --status tells")
     elif name == "top":
         sub.add_argument("--once", action="store_true", help="print one table")
         sub.add_argument("path", metavar="PATH", help="the socket of judyd serve --status")
-    elif name in ("stop", "reload"):
+    elif name in ("stop", "reload", "kick"):
         sub.add_argument("path", metavar="PATH", help="the socket of judyd serve --control")
+        if name == "kick":
+            sub.add_argument("tenant", metavar="TENANT", help="whose connections are closed")
     elif name == "add":
         sub.add_argument("array", metavar="ARRAY", help="JL:NAME, JSL:NAME or JHS:NAME")
         sub.add_argument("key", metavar="KEY", help="a number for JL, a text for JSL and JHS")

@@ -3,15 +3,16 @@
 --     IsBeside        it is no client's
 --     IsAside         nor is it anything for the journal
 --     keeping         what is written into the journal is beside the turns
-use Rattle.std.proofs.Common.{◌≡◌, ◌+◌, ℕ, Bool, true, false, List, [], ◌∷◌, Option, arith, sym, ◌∙◌, ap, subst, refl}
+use Rattle.std.proofs.Common.{◌≡◌, ◌+◌, ℕ, Bool, true, false, List, [], ◌∷◌, ◌++◌, Option, arith, sym, ◌∙◌, ap, subst, refl}
 use Rattle.std.specs.Prelude.{is_some}
 use Rattle.judy_journal.specs.Journals.{Commit}
+use Rattle.judy_model.specs.Speakers.{Speaker}
 use Rattle.judy_many.specs.Books.{noted_by}
 use Rattle.judy_many.specs.Crowds.{Past}
 use Rattle.judy_many.specs.Endings.{lost_by, lost_in, waits_in}
 use Rattle.judy_many.specs.Journaling.{AreKeeping, AreSettled, Carries, IsKeeping}
 use Rattle.judy_many.specs.Nets.{Act}
-use Rattle.judy_many.specs.Nets.Act.{Came, Refused, Read, Dry, Ended, Broke, Wrote, Failed, Closed, Waited, Lost, Asked, Questioned, Reported, Warned, Tabled, Untabled, Replied, Began, Kept, Unkept, Synced, Unsynced}
+use Rattle.judy_many.specs.Nets.Act.{Came, Refused, Read, Dry, Ended, Broke, Wrote, Failed, Closed, Waited, Lost, Asked, Questioned, Reported, Warned, Tabled, Untabled, Named, Replied, Began, Kept, Unkept, Synced, Unsynced}
 use Rattle.judy_many.specs.Rules.{Rules}
 use Rattle.judy_many.specs.Statuses.{Lasts, Passes, Tells}
 use Rattle.judy_many.specs.Stories.{AreRead, AreWithin, IsPhased, IsWithin, Phase, Share, Story, acts_in, came_by, came_in, closed_by, closed_in, is_of, is_wait, just_read, own, share_of, times, told, writes_after, writes_since}
@@ -95,12 +96,12 @@ pub record IsKeepingOne (limits : Limits) (a : Act) : Type 0 where
   pub silent : (share : Share) → share_of a share ≡ 0
   pub unlost : lost_by a ≡ 0
   pub waited : is_wait a ≡ false
-  pub status : (text : List ℕ) → Tells text a
+  pub status : (status : List (Option Speaker) → List ℕ) (past : Story) → Tells status past a
 
 keeping_one : (limits : Limits) (a : Act) → is_some limits.journal ≡ true → IsKeeping a → IsKeepingOne limits a
-keeping_one limits (Began k) e h = record { foreign = λ n. refl; came = refl; closed = refl; within = e; writes = λ wrote. refl; silent = λ share. refl; unlost = refl; waited = refl; status = λ text. tt }
-keeping_one limits (Kept text) e h = record { foreign = λ n. refl; came = refl; closed = refl; within = e; writes = λ wrote. refl; silent = λ share. refl; unlost = refl; waited = refl; status = λ text. tt }
-keeping_one limits Synced e h = record { foreign = λ n. refl; came = refl; closed = refl; within = e; writes = λ wrote. refl; silent = λ share. refl; unlost = refl; waited = refl; status = λ text. tt }
+keeping_one limits (Began k) e h = record { foreign = λ n. refl; came = refl; closed = refl; within = e; writes = λ wrote. refl; silent = λ share. refl; unlost = refl; waited = refl; status = λ status past. tt }
+keeping_one limits (Kept text) e h = record { foreign = λ n. refl; came = refl; closed = refl; within = e; writes = λ wrote. refl; silent = λ share. refl; unlost = refl; waited = refl; status = λ status past. tt }
+keeping_one limits Synced e h = record { foreign = λ n. refl; came = refl; closed = refl; within = e; writes = λ wrote. refl; silent = λ share. refl; unlost = refl; waited = refl; status = λ status past. tt }
 keeping_one limits act e h = absurd h
 
 pub keeping : (limits : Limits) (acts : List Act) → is_some limits.journal ≡ true → AreKeeping acts → IsBeside limits (told acts)
@@ -132,9 +133,9 @@ keeping limits (a ∷ acts) e h =
       reads = λ last. rest.reads (just_read a);
     }
 
-pub keeping_passes : {S : Type 0} (rules : Rules S) (limits : Limits) (acts : List Act) (now : S) → is_some limits.journal ≡ true → AreKeeping acts → Passes rules now (told acts) now
-keeping_passes rules limits [] now e h = refl
-keeping_passes rules limits (a ∷ acts) now e h = ((keeping_one limits a e h.0).status (rules.status now), keeping_passes rules limits acts now e h.1)
+pub keeping_passes : {S : Type 0} (rules : Rules S) (limits : Limits) (acts : List Act) (now : S) → is_some limits.journal ≡ true → AreKeeping acts → (past : Story) → Passes rules past now (told acts) now
+keeping_passes rules limits [] now e h past = refl
+keeping_passes rules limits (a ∷ acts) now e h past = ((keeping_one limits a e h.0).status (rules.status now) past, keeping_passes rules limits acts now e h.1 (past ++ Did a ∷ []))
 
 pub told_lasts : {S : Type 0} (rules : Rules S) (keep : Bool) (acts : List Act) (now : S) → Lasts rules keep now (told acts) now
 told_lasts rules keep [] now = refl

@@ -101,14 +101,14 @@ chain_as P Q to a c (run ∷ []) h = to a c run h
 chain_as P Q to a c (run ∷ more ∷ runs) (mid, next, one, change, rest) = (mid, next, to a mid run one, change, chain_as P Q to next c (more ∷ runs) rest)
 
 module _ {S : Type 0} (rules : Rules S) (apart : KeepsApart rules) (unseen : IsUnseen rules) (stays : Stays rules) where
-  runs_called : (before after : S) (story : Story) → Passes rules before story after → Chain AreCalled (rules.seen before) (runs_in story) (rules.seen after)
-  runs_called before after [] h = record { count = refl; calls = ap rules.seen h }
-  runs_called before after (Did a ∷ story) h = runs_called before after story h.1
-  runs_called before after (Ran n turns ∷ story) (mid, first, rest) =
+  runs_called : (past : Story) (before after : S) (story : Story) → Passes rules past before story after → Chain AreCalled (rules.seen before) (runs_in story) (rules.seen after)
+  runs_called past before after [] h = record { count = refl; calls = ap rules.seen h }
+  runs_called past before after (Did a ∷ story) h = runs_called (past ++ Did a ∷ []) before after story h.1
+  runs_called past before after (Ran n turns ∷ story) (mid, first, rest) =
       let seen = turns_seen rules apart unseen before mid turns first in
-      chain_with (rules.seen before) (rules.seen mid) (rules.seen after) turns (runs_in story) (record { count = seen.0; calls = seen.1 }) (runs_called mid after story rest)
-  runs_called before after (Changed text ∷ story) (mid, step, rest) =
-      chain_after (rules.seen before) (rules.seen mid) (rules.seen after) (runs_in story) (stays before mid text step) (runs_called mid after story rest)
+      chain_with (rules.seen before) (rules.seen mid) (rules.seen after) turns (runs_in story) (record { count = seen.0; calls = seen.1 }) (runs_called (past ++ Ran n turns ∷ []) mid after story rest)
+  runs_called past before after (Changed text ∷ story) (mid, step, rest) =
+      chain_after (rules.seen before) (rules.seen mid) (rules.seen after) (runs_in story) (stays before mid text step) (runs_called (past ++ Changed text ∷ []) mid after story rest)
 
   module _ (goes_on : ServingGoesOn) (one : ServingIsStepwise) (equal : SoloIsDetermined) where
     alone : (a b : Seen) (ts : List Turn) → AreCalled a ts b → IsAlone a ts b
@@ -116,31 +116,31 @@ module _ {S : Type 0} (rules : Rules S) (apart : KeepsApart rules) (unseen : IsU
         let (run, quotas, logins) = are_served Called (λ s. s) (λ before after event reply h. h) goes_on one equal a b (events_in ts) (replies_in ts) h.count h.calls in
         record { solo = run; worlds = served-worlds equal a.quotas a.states (events_in ts) (replies_in ts) b.states run; quotas = quotas }
 
-    pub runs_alone : (before after : S) (story : Story) → Passes rules before story after → Chain IsAlone (rules.seen before) (runs_in story) (rules.seen after)
-    runs_alone before after story h = chain_as AreCalled IsAlone alone (rules.seen before) (rules.seen after) (runs_in story) (runs_called before after story h)
+    pub runs_alone : (past : Story) (before after : S) (story : Story) → Passes rules past before story after → Chain IsAlone (rules.seen before) (runs_in story) (rules.seen after)
+    runs_alone past before after story h = chain_as AreCalled IsAlone alone (rules.seen before) (rules.seen after) (runs_in story) (runs_called past before after story h)
 
-    solo_of : SoloGoesOn → (t : ℕ) (before after : S) (story : Story) (h : Passes rules before story after) → Keeps rules t before story after h
+    solo_of : SoloGoesOn → (t : ℕ) (past : Story) (before after : S) (story : Story) (h : Passes rules past before story after) → Keeps rules t past before story after h
         → IsSolo ((rules.seen before).quotas t) ((rules.seen before).states t) (exchanges t (turns_in story)) ((rules.seen after).states t)
-    solo_of steps t before after [] h k = (alone (rules.seen before) (rules.seen after) [] (record { count = refl; calls = ap rules.seen h })).solo.solo t
-    solo_of steps t before after (Did a ∷ story) h k = solo_of steps t before after story h.1 k
-    solo_of steps t before after (Ran n turns ∷ story) (mid, first, rest) k =
+    solo_of steps t past before after [] h k = (alone (rules.seen before) (rules.seen after) [] (record { count = refl; calls = ap rules.seen h })).solo.solo t
+    solo_of steps t past before after (Did a ∷ story) h k = solo_of steps t (past ++ Did a ∷ []) before after story h.1 k
+    solo_of steps t past before after (Ran n turns ∷ story) (mid, first, rest) k =
         let seen = turns_seen rules apart unseen before mid turns first in
         let here : IsAlone (rules.seen before) turns (rules.seen mid) = alone (rules.seen before) (rules.seen mid) turns (record { count = seen.0; calls = seen.1 }) in
         let quota = (rules.seen before).quotas t in
         let state = (rules.seen before).states t in
         let last = (rules.seen after).states t in
         let later : IsSolo quota ((rules.seen mid).states t) (exchanges t (turns_in story)) last
-        = subst (λ q. IsSolo q ((rules.seen mid).states t) (exchanges t (turns_in story)) last) (ap (λ q. q t) here.quotas) (solo_of steps t mid after story rest k) in
+        = subst (λ q. IsSolo q ((rules.seen mid).states t) (exchanges t (turns_in story)) last) (ap (λ q. q t) here.quotas) (solo_of steps t (past ++ Ran n turns ∷ []) mid after story rest k) in
         subst (λ p. IsSolo quota state p last) (sym (exchanges-append t turns (turns_in story) seen.0))
         ((steps quota state (exchanges t turns) (exchanges t (turns_in story)) last).1 ((rules.seen mid).states t, here.solo.solo t, later))
-    solo_of steps t before after (Changed text ∷ story) (mid, step, rest) (quota, state, k) =
+    solo_of steps t past before after (Changed text ∷ story) (mid, step, rest) (quota, state, k) =
         subst (λ s. IsSolo ((rules.seen before).quotas t) s (exchanges t (turns_in story)) ((rules.seen after).states t)) state
-        (subst (λ q. IsSolo q ((rules.seen mid).states t) (exchanges t (turns_in story)) ((rules.seen after).states t)) quota (solo_of steps t mid after story rest k))
+        (subst (λ q. IsSolo q ((rules.seen mid).states t) (exchanges t (turns_in story)) ((rules.seen after).states t)) quota (solo_of steps t (past ++ Changed text ∷ []) mid after story rest k))
 
-    pub kept_alone : SoloGoesOn → (before after : S) (story : Story) (h : Passes rules before story after) (t : ℕ) → Keeps rules t before story after h
+    pub kept_alone : SoloGoesOn → (past : Story) (before after : S) (story : Story) (h : Passes rules past before story after) (t : ℕ) → Keeps rules t past before story after h
         → IsAloneFor t (rules.seen before) (turns_in story) (rules.seen after)
-    kept_alone steps before after story h t k =
-        let solo = solo_of steps t before after story h k in record {
+    kept_alone steps past before after story h t k =
+        let solo = solo_of steps t past before after story h k in record {
           solo = solo;
           worlds = λ pairs last there calls marks.
               equal ((rules.seen before).quotas t) ((rules.seen before).states t) pairs (exchanges t (turns_in story)) last ((rules.seen after).states t) there solo calls marks;

@@ -12,7 +12,8 @@ use Rattle.judy_many.specs.Watches.{Queued, nobody, unqueued}
 use Rattle.judy_many.specs.Lives.{IsServed, View}
 use Rattle.judy_many.specs.Journaling.{AreKept, Carries, IsFailure, MayKeep}
 use Rattle.judy_many.specs.Nets.{Act, Acts, DidLog}
-use Rattle.judy_many.specs.Nets.Act.{Came, Refused, Read, Dry, Ended, Broke, Wrote, Failed, Closed, Waited, Lost, Asked, Questioned, Reported, Warned, Tabled, Untabled, Replied, Began, Kept, Unkept, Synced, Unsynced}
+use Rattle.judy_many.specs.Nets.Act.{Came, Refused, Read, Dry, Ended, Broke, Wrote, Failed, Closed, Waited, Lost, Asked, Questioned, Reported, Warned, Tabled, Untabled, Named, Replied, Began, Kept, Unkept, Synced, Unsynced}
+use Rattle.judy_many.specs.Present.{speakers_at}
 use Rattle.judy_many.specs.Rules.{Rules}
 use Rattle.judy_many.specs.Statuses.{HasAnswered, Lasts, Passes}
 use Rattle.judy_many.specs.Stories.{AreRead, AreWithin, Phase, IsPhased, Share, Story, acts_in, came_in, closed_in, own, times, writes_since}
@@ -81,8 +82,8 @@ crowd_ends view rules apart unseen stays goes_on one equal steps first start mid
       reads = told.reads;
       lasts = told.lasts;
       journaled = are_kept (opened limits.journal writer) journal story told.keeps;
-      alone = runs_alone rules apart unseen stays goes_on one equal first now story told.run;
-      kept = kept_alone rules apart unseen stays goes_on one equal steps first now story told.run;
+      alone = runs_alone rules apart unseen stays goes_on one equal [] first now story told.run;
+      kept = kept_alone rules apart unseen stays goes_on one equal steps [] first now story told.run;
     }
   where
     same : (n : ℕ) → own n (h.story ++ more) ≡ own n h.story
@@ -94,7 +95,7 @@ module _ {B S : Type 0} (view : B → View) (rules : Rules S) (apart : KeepsApar
     (first : S) (start : Acts) (limits : Limits) (writer : Option Writing) where
   told_on : (phase : Phase) (had : Queued) (waits : ℕ) (journal : Option Journal) (lost : ℕ) (mid log : Acts) (slots : List (Option B)) (count : ℕ) (now : S)
       (h : Crowd view rules limits first start phase had (past_of waits (opened limits.journal writer) journal) mid slots count now) (more : Story)
-      → DidLog mid (acts_in more) log → Passes rules now more now → Lasts rules (is_some limits.journal) now more now → came_in (acts_in more) ≡ 0 → closed_in (acts_in more) ≡ 0 → AreWithin limits (acts_in more)
+      → DidLog mid (acts_in more) log → Passes rules h.story now more now → Lasts rules (is_some limits.journal) now more now → came_in (acts_in more) ≡ 0 → closed_in (acts_in more) ≡ 0 → AreWithin limits (acts_in more)
       → ((wrote : Bool) → IsPhased wrote more × (writes_since wrote more ≡ wrote)) → ((share : Share) → times share more ≡ 0)
       → lost ≡ lost_in (acts_in more) → waits_in (acts_in more) ≡ 0 → is_quiet more ≡ true → ((last : Option (List ℕ)) → AreRead limits last more)
       → IsTold rules limits first start phase lost (past_of waits (opened limits.journal writer) journal) log slots count now (h.story ++ more)
@@ -154,7 +155,7 @@ module _ {B S : Type 0} (view : B → View) (rules : Rules S) (apart : KeepsApar
 
   -- where a stop was asked for
   pub ends_stopped : (mid log : Acts) (phase : Phase) (had : Queued) (waits : ℕ) (journal : Option Journal) (slots : List (Option B)) (count : ℕ) (now : S) (watches : Bool) → limits.status ≡ watches
-      → HasAnswered watches next.Stop (rules.status now) mid log → Crowd view rules limits first start phase had (past_of waits (opened limits.journal writer) journal) mid slots count now
+      → HasAnswered watches next.Stop (rules.status now (speakers_at view slots)) mid log → Crowd view rules limits first start phase had (past_of waits (opened limits.journal writer) journal) mid slots count now
       → HasServedMany rules limits writer ending.Stopped start log first now
   ends_stopped mid log phase had waits journal slots count now false e bad h = absurd bad
   ends_stopped mid log phase had waits journal slots count now true e k h =
@@ -185,7 +186,7 @@ module _ {B S : Type 0} (view : B → View) (rules : Rules S) (apart : KeepsApar
 
       ended : (a : Act) → IsFailure a → lost_in (a ∷ []) ≡ 1 → AreWithin limits (a ∷ []) → DidLog f.mid (a ∷ []) log → ((n : ℕ) → own n (Did a ∷ []) ≡ [])
           → came_in (a ∷ []) ≡ 0 → closed_in (a ∷ []) ≡ 0 → ((wrote : Bool) → IsPhased wrote (Did a ∷ []) × (writes_since wrote (Did a ∷ []) ≡ wrote))
-          → ((share : Share) → times share (Did a ∷ []) ≡ 0) → waits_in (a ∷ []) ≡ 0 → is_quiet (Did a ∷ []) ≡ true → Passes rules now (Did a ∷ []) now
+          → ((share : Share) → times share (Did a ∷ []) ≡ 0) → waits_in (a ∷ []) ≡ 0 → is_quiet (Did a ∷ []) ≡ true → Passes rules f.crowd.story now (Did a ∷ []) now
           → HasServedMany rules limits writer ending.Journal start log first now
       ended a fails lost within k none came closed phases silent wait quiet passes =
           crowd_ends view rules apart unseen stays goes_on one equal steps first start f.mid log writer Phase.Reads unqueued f.waits f.journal 1 slots count now limits ending.Journal (Did a ∷ []) (λ e. absurd (journal_not e)) f.crowd none

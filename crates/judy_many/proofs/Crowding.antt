@@ -10,12 +10,13 @@ use Rattle.judy_many.specs.Journaling.{AreSettled, AreWritten, Carries, MayKeep,
 use Rattle.judy_many.specs.Queues.{AreAwake, IsBefore, IsPlaced, Line, StayAwake, awake_in, is_awake, mark_in, slot_in, stands, stands_in}
 use Rattle.judy_many.specs.Lives.{IsPart, IsServed, Lives, SlotDid, View}
 use Rattle.judy_many.specs.Nets.{Act, Acts, DidLog}
-use Rattle.judy_many.specs.Nets.Act.{Came, Closed, Questioned, Replied, Reported, Tabled, Untabled, Waited, Warned}
+use Rattle.judy_many.specs.Nets.Act.{Came, Closed, Named, Questioned, Replied, Reported, Tabled, Untabled, Waited, Warned}
 use Rattle.std.specs.List.{list_any}
 use Rattle.judy_many.specs.Arrivals.{Arrives, IsArrival}
+use Rattle.judy_many.specs.Present.{speakers_at}
 use Rattle.judy_many.specs.Rules.{Rules}
 use Rattle.judy_many.specs.Sessions.{AreTurns, records_in}
-use Rattle.judy_many.specs.Statuses.{HasAnswered, Lasts, Passes, Tells}
+use Rattle.judy_many.specs.Statuses.{HasAnswered, IsStatus, Lasts, Passes}
 use Rattle.judy_many.specs.Warnings.{HasWarned, warning_acts}
 use Rattle.judy_many.specs.Stories.{AreRead, AreWithin, BeginsWith, Phase, InPhase, IsPhased, IsWarning, Mine, Share, Story, acts_in, came_in, closed_in, most, own, times, told, told_head, turns_in, turns_since, writes_since}
 use Rattle.judy_many.specs.Stories.Moment.{Changed, Did}
@@ -29,11 +30,12 @@ use Rattle.judy_many.proofs.Looking.{closed_in_slot}
 use Rattle.judy_many.proofs.Queueing.{before_later, before_none, before_only}
 use Rattle.judy_many.proofs.Seats.{At-here, At-index, At-keep, At-only, At-set, At-some, At-within, free_at, long_set, taken_at, taken_free, taken_most, taken_none}
 use Rattle.judy_many.proofs.Turning.{GoOn, fair-append, lost-append, mine_plain, since-append, since_fresh, since_most, since_other, since_quiet, still, takes_turn, waits-append}
+use Rattle.judy_many.proofs.Presence.{present}
 use Rattle.judy_many.proofs.Passing.{AreRead-append, Lasts-append, Passes-append, lasts_plain, passes_plain, reads_plain}
 use Rattle.judy_many.proofs.Beside.{IsAside, IsBeside, Passed, after_lines, beside, keeping, keeping_passes, later, reads_not_writes, stays_past, told_lasts}
 use Rattle.judy_many.proofs.Journals.{Carries-append, keeps_allowed, keeps_quiet, keeps_turn, settled_turn}
 use Rattle.judy_many.proofs.Recording.{noted_none}
-use Rattle.judy_many.proofs.Living.{no_log, then_log}
+use Rattle.judy_many.proofs.Living.{cut_log, no_log, then_log}
 use Rattle.judy_many.proofs.Watching.{alert_anew, alert_beside, alert_comes, alert_keep, alert_looks, alert_read, alert_swept, alert_told, alert_turned, alert_waits, awake-append, awake_none, each-append, each_none, no_looks}
 use Rattle.judy_many.proofs.Telling.{AreWithin-append, IsPhased-append, acts_in-append, acts_in-told, came-append, closed-append, lives_served, split, writes_since-append}
 
@@ -43,7 +45,7 @@ module _ {B S : Type 0} (rules : Rules S) (limits : Limits) (first : S) (start :
   -- more happened
   pub told_more : (phase phase' : Phase) (lost lost' : ℕ) (past past' : Past) (log log' : Acts) (slots slots' : List (Option B)) (count count' : ℕ) (now after : S) (story more : Story)
       → IsTold rules limits first start phase lost past log slots count now story
-      → DidLog log (acts_in more) log' → Passes rules now more after → Lasts rules (is_some limits.journal) now more after
+      → DidLog log (acts_in more) log' → Passes rules story now more after → Lasts rules (is_some limits.journal) now more after
       → count' ≡ count + came_in (acts_in more) → count' ≤ limits.connections
       → came_in (acts_in more) + taken slots ≡ closed_in (acts_in more) + taken slots'
       → taken slots + came_in (acts_in more) ≤ limits.clients → length slots' ≤ length slots
@@ -54,7 +56,7 @@ module _ {B S : Type 0} (rules : Rules S) (limits : Limits) (first : S) (start :
       → IsTold rules limits first start phase' lost' past' log' slots' count' after (story ++ more)
   told_more phase phase' lost lost' past past' log log' slots slots' count count' now after story more h k r l counts capped sums room sized within phases quiet turns lose passed reads looks = record {
     logged = subst (λ a. DidLog start a log') (sym (acts_in-append story more)) (then_log start log log' (acts_in story) (acts_in more) h.logged k);
-    run = Passes-append rules first now after story more h.run r;
+    run = Passes-append rules [] first now after story more h.run r;
     lasts = Lasts-append rules (is_some limits.journal) first now after story more h.lasts l;
     total = let e = came-append story more in let f = h.total in omega (arith, e, f, counts);
     capped = capped;
@@ -309,13 +311,13 @@ module _ {B S : Type 0} (view : B → View) (rules : Rules S) (limits : Limits) 
 
   -- what happened beside: it changes no client and no slot
   aside_to : (phase : Phase) (had : Queued) (past past' : Past) (log log' : Acts) (slots : List (Option B)) (count : ℕ) (now after : S) (more : Story) → IsBeside limits more
-      → Passed phase past more past' → DidLog log (acts_in more) log' → Passes rules now more after → Lasts rules (is_some limits.journal) now more after → Now phase had past log slots count now → Now phase had past' log' slots count after
+      → Passed phase past more past' → DidLog log (acts_in more) log' → ((h : Now phase had past log slots count now) → Passes rules h.story now more after) → Lasts rules (is_some limits.journal) now more after → Now phase had past log slots count now → Now phase had past' log' slots count after
   aside_to phase had past past' log log' slots count now after more a passed k r l h =
       let came = a.came in
       let closed = a.closed in
       let lost = a.unlost in
       foreign phase phase had had past past' log log' slots slots count now after h more a.foreign
-      (told_more rules limits first start phase phase 0 0 past past' log log' slots slots count count now after h.story more h.is_told k r l (omega (arith, came)) h.is_told.capped
+      (told_more rules limits first start phase phase 0 0 past past' log log' slots slots count count now after h.story more h.is_told k (r h) l (omega (arith, came)) h.is_told.capped
       (omega (arith, came, closed)) (let a = taken_most slots in let b = h.is_told.sized in omega (arith, a, b, came)) (omega arith) a.within
       (a.phases (writes_since false h.story)).0 (λ e. (a.phases (writes_since false h.story)).1 ∙ h.is_told.quiet e)
       (still h.story more h.is_told.fair a.silent) (omega (arith, lost)) passed a.reads (no_looks h.story more a.waited))
@@ -323,7 +325,7 @@ module _ {B S : Type 0} (view : B → View) (rules : Rules S) (limits : Limits) 
       (λ j c at. alert_keep phase had j (view c) h.story more (a.foreign (view c).number) a.waited (h.alert j c at))
 
   aside : (phase : Phase) (had : Queued) (past : Past) (log log' : Acts) (slots : List (Option B)) (count : ℕ) (now after : S) (more : Story) → IsAside limits more
-      → DidLog log (acts_in more) log' → Passes rules now more after → Lasts rules (is_some limits.journal) now more after → Now phase had past log slots count now → Now phase had past log' slots count after
+      → DidLog log (acts_in more) log' → ((h : Now phase had past log slots count now) → Passes rules h.story now more after) → Lasts rules (is_some limits.journal) now more after → Now phase had past log slots count now → Now phase had past log' slots count after
   aside phase had past log log' slots count now after more a k r l h =
       aside_to phase had past past log log' slots count now after more (beside limits more a)
       (stays_past phase past more a.waited (keeps_quiet past.journal more a.quiet) h.is_told.settled) k r l h
@@ -333,7 +335,7 @@ module _ {B S : Type 0} (view : B → View) (rules : Rules S) (limits : Limits) 
       → Now phase had past log' slots count now
   idle phase had past log log' slots count now k h =
       aside phase had past log log' slots count now now []
-      (record { foreign = λ n. refl; came = refl; closed = refl; within = tt; phases = λ wrote. (tt, refl); silent = λ share. refl; unlost = refl; waited = refl; reads = λ last. tt; quiet = refl }) k refl refl h
+      (record { foreign = λ n. refl; came = refl; closed = refl; within = tt; phases = λ wrote. (tt, refl); silent = λ share. refl; unlost = refl; waited = refl; reads = λ last. tt; quiet = refl }) k (λ h. refl) refl h
 
   -- at a wait nothing is owed to an open connection, if it may sleep, and each had its turn
   looks_waits : (line : Line) (past : Past) (log : Acts) (slots : List (Option B)) (count : ℕ) (now : S) (sleeps : Bool) (slots_told : List ℕ)
@@ -391,29 +393,44 @@ module _ {B S : Type 0} (view : B → View) (rules : Rules S) (limits : Limits) 
 
   -- a status was asked for, and told
   has_told : (phase : Phase) (had : Queued) (past : Past) (log log' : Acts) (slots : List (Option B)) (count : ℕ) (now : S) (text : List ℕ) → limits.status ≡ true
-      → Tells (rules.status now) (Reported text) → DidLog log (Questioned question.Status ∷ Reported text ∷ []) log' → Now phase had past log slots count now
+      → IsStatus (rules.status now (speakers_at view slots)) text → DidLog log (Questioned question.Status ∷ Reported text ∷ []) log' → Now phase had past log slots count now
       → Now phase had past log' slots count now
   has_told phase had past log log' slots count now text watches tells k h =
-      aside phase had past log log' slots count now now (Did (Questioned question.Status) ∷ Did (Reported text) ∷ [])
+      let (mid, asks, reports) = cut_log log log' (Questioned question.Status ∷ []) (Reported text ∷ []) k in
+      let asked =
+      aside phase had past log mid slots count now now (Did (Questioned question.Status) ∷ [])
       (record {
         foreign = λ n. refl;
         came = refl;
         closed = refl;
-        within = (watches, (watches, tt));
-        phases = λ wrote. ((tt, (tt, tt)), refl);
+        within = (watches, tt);
+        phases = λ wrote. ((tt, tt), refl);
         silent = λ share. refl;
         unlost = refl;
         waited = refl;
         reads = λ last. tt;
         quiet = refl;
-      }) k (tt, (tells, refl)) refl h
+      }) asks (λ h. (tt, refl)) refl h in
+      aside phase had past mid log' slots count now now (Did (Reported text) ∷ [])
+      (record {
+        foreign = λ n. refl;
+        came = refl;
+        closed = refl;
+        within = (watches, tt);
+        phases = λ wrote. ((tt, tt), refl);
+        silent = λ share. refl;
+        unlost = refl;
+        waited = refl;
+        reads = λ last. tt;
+        quiet = refl;
+      }) reports (λ h. ((speakers_at view slots, present view rules limits first start phase had past mid slots count now h, tells), refl)) refl asked
 
   -- a line was told to the operator, if it was due
   has_warned : (phase : Phase) (had : Queued) (past : Past) (log log' : Acts) (slots : List (Option B)) (count : ℕ) (now : S) (due : Bool) (line : List ℕ) → IsWarning limits line
       → DidLog log (warning_acts due line) log' → Now phase had past log slots count now → Now phase had past log' slots count now
   has_warned phase had past log log' slots count now true line is k h =
       aside phase had past log log' slots count now now (Did (Warned line) ∷ [])
-      (record { foreign = λ n. refl; came = refl; closed = refl; within = (is, tt); phases = λ wrote. ((tt, tt), refl); silent = λ share. refl; unlost = refl; waited = refl; reads = λ last. tt; quiet = refl }) k (tt, refl) refl h
+      (record { foreign = λ n. refl; came = refl; closed = refl; within = (is, tt); phases = λ wrote. ((tt, tt), refl); silent = λ share. refl; unlost = refl; waited = refl; reads = λ last. tt; quiet = refl }) k (λ h. (tt, refl)) refl h
   has_warned phase had past log log' slots count now false line is k h = idle phase had past log log' slots count now k h
 
   pub warned : (phase : Phase) (had : Queued) (past : Past) (log log' : Acts) (slots : List (Option B)) (count : ℕ) (now : S) → HasWarned log log'
@@ -424,19 +441,19 @@ module _ {B S : Type 0} (view : B → View) (rules : Rules S) (limits : Limits) 
 
   -- the server goes on after it asked
   pub answered : (phase : Phase) (had : Queued) (past : Past) (log log' : Acts) (slots : List (Option B)) (count : ℕ) (now : S) (watches : Bool) → limits.status ≡ watches
-      → HasAnswered watches next.Round (rules.status now) log log' → Now phase had past log slots count now → Now phase had past log' slots count now
+      → HasAnswered watches next.Round (rules.status now (speakers_at view slots)) log log' → Now phase had past log slots count now → Now phase had past log' slots count now
   answered phase had past log log' slots count now true e (inl k) h = idle phase had past log log' slots count now k h
   answered phase had past log log' slots count now true e (inr (text, tells, k)) h = has_told phase had past log log' slots count now text e tells k h
   answered phase had past log log' slots count now false e k h = idle phase had past log log' slots count now k h
 
   -- it is asked to read the table again
   pub asked_again : (phase : Phase) (had : Queued) (past : Past) (log log' : Acts) (slots : List (Option B)) (count : ℕ) (now : S) (watches : Bool) → limits.status ≡ watches
-      → HasAnswered watches next.Reload (rules.status now) log log' → Now phase had past log slots count now → (limits.status ≡ true) × Now phase had past log' slots count now
+      → HasAnswered watches next.Reload (rules.status now (speakers_at view slots)) log log' → Now phase had past log slots count now → (limits.status ≡ true) × Now phase had past log' slots count now
   asked_again phase had past log log' slots count now false e bad h = absurd bad
   asked_again phase had past log log' slots count now true e k h = (
     e,
     aside phase had past log log' slots count now now (Did (Questioned question.Reload) ∷ [])
-        (record { foreign = λ n. refl; came = refl; closed = refl; within = (e, tt); phases = λ wrote. ((tt, tt), refl); silent = λ share. refl; unlost = refl; waited = refl; reads = λ last. tt; quiet = refl }) k (tt, refl) refl h,
+        (record { foreign = λ n. refl; came = refl; closed = refl; within = (e, tt); phases = λ wrote. ((tt, tt), refl); silent = λ share. refl; unlost = refl; waited = refl; reads = λ last. tt; quiet = refl }) k (λ h. (tt, refl)) refl h,
   )
 
   -- the table was read, and put in force if it could be
@@ -456,15 +473,36 @@ module _ {B S : Type 0} (view : B → View) (rules : Rules S) (limits : Limits) 
         waited = refl;
         reads = λ last. (refl, e, tt);
         quiet = refl;
-      }) k (tt, (after, step, refl)) (after, step, keeps refl, refl) h
+      }) k (λ h. (tt, (after, step, refl))) (after, step, keeps refl, refl) h
   has_changed phase had past log log' slots count now after false e keeps (same, inl k) h =
       subst (λ s. Now phase had past log' slots count s) (sym same)
       (aside phase had past log log' slots count now now (Did Untabled ∷ [])
-      (record { foreign = λ n. refl; came = refl; closed = refl; within = (e, tt); phases = λ wrote. ((tt, tt), refl); silent = λ share. refl; unlost = refl; waited = refl; reads = λ last. tt; quiet = refl }) k (tt, refl) refl h)
+      (record { foreign = λ n. refl; came = refl; closed = refl; within = (e, tt); phases = λ wrote. ((tt, tt), refl); silent = λ share. refl; unlost = refl; waited = refl; reads = λ last. tt; quiet = refl }) k (λ h. (tt, refl)) refl h)
   has_changed phase had past log log' slots count now after false e keeps (same, inr (text, k)) h =
       subst (λ s. Now phase had past log' slots count s) (sym same)
       (aside phase had past log log' slots count now now (Did (Tabled text) ∷ [])
-      (record { foreign = λ n. refl; came = refl; closed = refl; within = (e, tt); phases = λ wrote. ((tt, tt), refl); silent = λ share. refl; unlost = refl; waited = refl; reads = λ last. tt; quiet = refl }) k (tt, refl) refl h)
+      (record { foreign = λ n. refl; came = refl; closed = refl; within = (e, tt); phases = λ wrote. ((tt, tt), refl); silent = λ share. refl; unlost = refl; waited = refl; reads = λ last. tt; quiet = refl }) k (λ h. (tt, refl)) refl h)
+
+  -- it is asked to close the connections of a tenant
+  pub asked_kick : (phase : Phase) (had : Queued) (past : Past) (log log' : Acts) (slots : List (Option B)) (count : ℕ) (now : S) (watches : Bool) → limits.status ≡ watches
+      → HasAnswered watches next.Kick (rules.status now (speakers_at view slots)) log log' → Now phase had past log slots count now → (limits.status ≡ true) × Now phase had past log' slots count now
+  asked_kick phase had past log log' slots count now false e bad h = absurd bad
+  asked_kick phase had past log log' slots count now true e k h = (
+    e,
+    aside phase had past log log' slots count now now (Did (Questioned question.Kick) ∷ []) (record { foreign = λ n. refl; came = refl; closed = refl; within = (e, tt); phases = λ wrote. ((tt, tt), refl); silent = λ share. refl; unlost = refl; waited = refl; reads = λ last. tt; quiet = refl }) k (λ h. (tt, refl)) refl h,
+  )
+
+  -- a tenant was named
+  pub has_named : (phase : Phase) (had : Queued) (past : Past) (log log' : Acts) (slots : List (Option B)) (count : ℕ) (now : S) (name : List ℕ) → limits.status ≡ true
+      → DidLog log (Named name ∷ []) log' → Now phase had past log slots count now → Now phase had past log' slots count now
+  has_named phase had past log log' slots count now name e k h =
+      aside phase had past log log' slots count now now (Did (Named name) ∷ []) (record { foreign = λ n. refl; came = refl; closed = refl; within = (e, tt); phases = λ wrote. ((tt, tt), refl); silent = λ share. refl; unlost = refl; waited = refl; reads = λ last. tt; quiet = refl }) k (λ h. (tt, refl)) refl h
+
+  -- the asker was answered
+  pub has_answered : (phase : Phase) (had : Queued) (past : Past) (log log' : Acts) (slots : List (Option B)) (count : ℕ) (now : S) (reply : List ℕ) → limits.status ≡ true
+      → DidLog log (Replied reply ∷ []) log' → Now phase had past log slots count now → Now phase had past log' slots count now
+  has_answered phase had past log log' slots count now reply e k h =
+      aside phase had past log log' slots count now now (Did (Replied reply) ∷ []) (record { foreign = λ n. refl; came = refl; closed = refl; within = (e, tt); phases = λ wrote. ((tt, tt), refl); silent = λ share. refl; unlost = refl; waited = refl; reads = λ last. tt; quiet = refl }) k (λ h. (tt, refl)) refl h
 
   -- the asker was answered, and the operator told
   pub has_replied : (phase : Phase) (had : Queued) (past : Past) (log log' : Acts) (slots : List (Option B)) (count : ℕ) (now : S) (changed : Bool) (reply line : List ℕ) → limits.status ≡ true
@@ -482,7 +520,7 @@ module _ {B S : Type 0} (view : B → View) (rules : Rules S) (limits : Limits) 
         waited = refl;
         reads = λ last. tt;
         quiet = refl;
-      }) k (tt, (tt, refl)) refl h
+      }) k (λ h. (tt, (tt, refl))) refl h
 
   -- the next phase of a round begins, or more slots are said to have had a turn
   next_phase : (phase phase' : Phase) (had had' : Queued) (past : Past) (log : Acts) (slots : List (Option B)) (count : ℕ) (now : S) (h : Now phase had past log slots count now)
@@ -564,7 +602,7 @@ module _ {B S : Type 0} (view : B → View) (rules : Rules S) (limits : Limits) 
       let none = b.waited in
       aside_to Phase.Reads had (past_of waits began (Some i)) (past_of waits began (Some j)) log log' slots count now now (told acts) b
       (record { waited = omega (arith, none); began = refl; keeps = (w.kept, ap Some w.after_is); settled = λ e. absurd (reads_not_writes e) })
-      (subst (λ a. DidLog log a log') (sym (acts_in-told acts)) k) (keeping_passes rules limits acts now h.is_told.allowed w.keeping) (told_lasts rules (is_some limits.journal) acts now) h
+      (subst (λ a. DidLog log a log') (sym (acts_in-told acts)) k) (λ h. keeping_passes rules limits acts now h.is_told.allowed w.keeping h.story) (told_lasts rules (is_some limits.journal) acts now) h
 
   -- the journal was written, if there is one
   pub has_written : (had : Queued) (waits : ℕ) (began i j : Option Journal) (log log' : Acts) (slots : List (Option B)) (count : ℕ) (now : S) → AreWritten true i j log log'
@@ -686,7 +724,7 @@ module _ {B S : Type 0} (view : B → View) (rules : Rules S) (limits : Limits) 
       let passed : Passed phase past more later_past
       = record { waited = omega (arith, waited); began = refl; keeps = keeps_turn phase n past.journal more mine once h.is_told.settled; settled = settled_turn phase past.journal more once h.is_told.settled } in
       gone phase had had' wider past later_past log log' slots count now after h n more mine waited i b beside at refl
-      (told_more rules limits first start phase phase 0 0 past later_past log log' slots (slice_set slots i None) count count now after h.story more h.is_told k (passes_plain rules now after more plain.2 plain.3 r) (lasts_plain rules (is_some limits.journal) now after more plain.3 r)
+      (told_more rules limits first start phase phase 0 0 past later_past log log' slots (slice_set slots i None) count count now after h.story more h.is_told k (passes_plain rules h.story now after more plain.2 plain.3 r) (lasts_plain rules (is_some limits.journal) now after more plain.3 r)
       (omega (arith, came)) h.is_told.capped (omega (arith, came, close, count_is))
       (let a = taken_most slots in let b = h.is_told.sized in omega (arith, a, b, came))
       (let a = long_set slots i None in omega (arith, a)) closing fits.0 fits.1
@@ -707,7 +745,7 @@ module _ {B S : Type 0} (view : B → View) (rules : Rules S) (limits : Limits) 
       (λ m q d e. d (sym q.is ∙ ap (λ c. (view c).number) (At-only slots i q.b b (subst (λ j. At slots j q.b) e q.there) at)))
       same (omega arith) (h.below i b at)
       (λ j c d there e. d (h.apart j i c b there at e))
-      (told_more rules limits first start phase phase 0 0 past later_past log log' slots (slice_set slots i (Some s)) count count now after h.story more h.is_told k (passes_plain rules now after more plain.2 plain.3 r) (lasts_plain rules (is_some limits.journal) now after more plain.3 r)
+      (told_more rules limits first start phase phase 0 0 past later_past log log' slots (slice_set slots i (Some s)) count count now after h.story more h.is_told k (passes_plain rules h.story now after more plain.2 plain.3 r) (lasts_plain rules (is_some limits.journal) now after more plain.3 r)
       (omega (arith, came)) h.is_told.capped (omega (arith, came, close, count_is))
       (let a = taken_most slots in let b = h.is_told.sized in omega (arith, a, b, came))
       (let a = long_set slots i (Some s) in omega (arith, a)) closing fits.0 fits.1
@@ -764,7 +802,7 @@ module _ {B S : Type 0} (view : B → View) (rules : Rules S) (limits : Limits) 
       let lost = a.unlost in
       let waited = a.waited in
       told_more rules limits first start Phase.Reads Phase.Reads 0 0 past past log log' slots (slice_set slots i s) count (count + came) now now h.story more h.is_told k
-      (passes_plain rules now now more a.untold a.unchanged (subst (λ t. AreTurns rules now t now) (sym a.none) refl))
+      (passes_plain rules h.story now now more a.untold a.unchanged (subst (λ t. AreTurns rules now t now) (sym a.none) refl))
       (lasts_plain rules (is_some limits.journal) now now more a.unchanged (subst (λ t. AreTurns rules now t now) (sym a.none) refl))
       (omega (arith, came_is)) capped (let e = count_is.0 in omega (arith, came_is, closed_is, sums, e))
       (let e = count_is.1 in omega (arith, came_is, one, e, sized))

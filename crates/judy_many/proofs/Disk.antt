@@ -10,7 +10,7 @@ use Rattle.judy_many.specs.Books.{Journal, noted}
 use Rattle.judy_many.specs.declared.network.Sync.{Sync}
 use Rattle.judy_many.specs.declared.network.Sync.TheVariants as sync
 use Rattle.judy_many.specs.Journaling.{AnswersAreKept, IsJournaled, IsOnDisk, IsSecured, IsText, StoriesAreWritten, disk_acts, journal_after, journal_since, kept_after, phase_of, writer_at}
-use Rattle.judy_many.specs.Nets.Act.{Came, Refused, Read, Dry, Ended, Broke, Wrote, Failed, Closed, Waited, Lost, Asked, Questioned, Reported, Warned, Tabled, Untabled, Replied, Began, Kept, Unkept, Synced, Unsynced}
+use Rattle.judy_many.specs.Nets.Act.{Came, Refused, Read, Dry, Ended, Broke, Wrote, Failed, Closed, Waited, Lost, Asked, Questioned, Reported, Warned, Tabled, Untabled, Named, Replied, Began, Kept, Unkept, Synced, Unsynced}
 use Rattle.judy_many.specs.Sessions.{Turn, records_in}
 use Rattle.judy_many.specs.Stories.{Moment, Story, acts_in, turns_in}
 use Rattle.judy_many.specs.Stories.Moment.{Changed, Did, Ran}
@@ -55,6 +55,7 @@ on_disk j kept more (Did (Reported text) ∷ story) h c = on_disk j kept more st
 on_disk j kept more (Did (Warned text) ∷ story) h c = on_disk j kept more story h.1 c
 on_disk j kept more (Did (Tabled text) ∷ story) h c = on_disk j kept more story h.1 c
 on_disk j kept more (Did Untabled ∷ story) h c = on_disk j kept more story h.1 c
+on_disk j kept more (Did (Named name) ∷ story) h c = on_disk j kept more story h.1 c
 on_disk j kept more (Did (Replied text) ∷ story) h c = on_disk j kept more story h.1 c
 on_disk j kept more (Did (Began k) ∷ story) h c =
     let (kept', more', d) = on_disk (record j { segment = k; begun = false }) kept more story h.1 c in
@@ -129,6 +130,7 @@ rule_after j (Did (Reported text)) = refl
 rule_after j (Did (Warned text)) = refl
 rule_after j (Did (Tabled text)) = refl
 rule_after j (Did Untabled) = refl
+rule_after j (Did (Named name)) = refl
 rule_after j (Did (Replied text)) = refl
 rule_after j (Did (Began k)) = refl
 rule_after j (Did (Kept text)) = stays j.begun

@@ -7,7 +7,7 @@ use Rattle.std.proofs.Common.{◌≡◌, ℕ, Bool, true, false, [], ◌∷◌, 
 use Rattle.judy_many.specs.Books.{Journal, noted_by, noted}
 use Rattle.judy_many.specs.Journaling.{AreSettled, IsJournaled, IsSettled, Carries, MayHappen, MayKeep, journal_after, journal_since}
 use Rattle.judy_many.specs.Nets.{Act}
-use Rattle.judy_many.specs.Nets.Act.{Came, Refused, Read, Dry, Ended, Broke, Wrote, Failed, Closed, Waited, Lost, Asked, Questioned, Reported, Warned, Tabled, Untabled, Replied, Began, Kept, Unkept, Synced, Unsynced}
+use Rattle.judy_many.specs.Nets.Act.{Came, Refused, Read, Dry, Ended, Broke, Wrote, Failed, Closed, Waited, Lost, Asked, Questioned, Reported, Warned, Tabled, Untabled, Named, Replied, Began, Kept, Unkept, Synced, Unsynced}
 use Rattle.judy_many.specs.Sessions.{records_in}
 use Rattle.judy_many.specs.Stories.{IsOnce, Mine, Phase, Share, Story, is_of, share_of, times, turns_in}
 use Rattle.judy_many.specs.Stories.Moment.{Changed, Did, Ran}

@@ -5,6 +5,7 @@ mod Closing
 mod Crowding
 pub mod Journals
 mod Disk
+mod Kicking
 mod Known
 mod Looking
 mod Living
@@ -12,6 +13,7 @@ pub mod Logins
 mod OneSlot
 mod Owning
 pub mod Passing
+mod Presence
 mod Queueing
 mod Seats
 pub mod Recording

@@ -19,7 +19,7 @@ use Rattle.judy_many.proofs.Owning.{same_eq}
 use Rattle.judy_many.proofs.Turning.{times-append}
 use Rattle.judy_many.proofs.Journals.{keeps_quiet}
 use Rattle.judy_many.proofs.Living.{live_part}
-use Rattle.judy_many.proofs.Telling.{AreWithin-append, InPhase-append, Mine-append, came-append, closed-append, leaves_gone, leaves_part, leaves_silent, left_served, piece_none, stays_none}
+use Rattle.judy_many.proofs.Telling.{AreWithin-append, InPhase-append, Mine-append, came-append, closed-append, leaves_gone, leaves_kicked, leaves_part, leaves_silent, left_served, piece_none, stays_none}
 
 never : false ≡ true → ⊥
 never e = cc
@@ -78,6 +78,11 @@ module _ {B : Type 0} (view : B → View) (limits : Limits) (phase : Phase) wher
   pub did_gone : (s t : Option B) (b : B) (who : Speaker) → (view b).who ≡ Some who → IsAllowed limits how.Gone → Some b ≡ s → t ≡ None
       → SlotDid limits phase (option_map view s) (option_map view t) (Did (Closed (view b).number how.Gone) ∷ [])
   did_gone s t b who is allowed e f = did_left how.Gone s t b [] e f (piece_none (view b).number phase) allowed (leaves_gone (view b) who is)
+
+  -- the client was closed, since the operator named its speaker
+  pub did_kicked : (s t : Option B) (b : B) (who : Speaker) → (view b).who ≡ Some who → IsAllowed limits how.Kicked → Some b ≡ s → t ≡ None
+      → SlotDid limits phase (option_map view s) (option_map view t) (Did (Closed (view b).number how.Kicked) ∷ [])
+  did_kicked s t b who is allowed e f = did_left how.Kicked s t b [] e f (piece_none (view b).number phase) allowed (leaves_kicked (view b) who is)
 
 -- a client came
 pub arrived : (n i : ℕ) → IsArrival 1 0 (Did (Came n i) ∷ [])

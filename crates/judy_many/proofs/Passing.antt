@@ -1,20 +1,21 @@
 -- What is told on the status socket.
-use Rattle.std.proofs.Common.{◌≡◌, ℕ, Bool, true, false, List, [], ◌∷◌, ◌++◌, Option, None, arith, refl, subst, sym, ◌∙◌}
+use Rattle.std.proofs.Common.{append-nil, append_assoc, ◌≡◌, ℕ, Bool, true, false, List, [], ◌∷◌, ◌++◌, Option, None, arith, refl, subst, sym, ◌∙◌}
+use Rattle.judy_model.specs.Speakers.{Speaker}
 use Rattle.judy_many.specs.Endings.{reports_by, reports_in}
 use Rattle.judy_many.specs.Nets.{Act}
-use Rattle.judy_many.specs.Nets.Act.{Came, Refused, Read, Dry, Ended, Broke, Wrote, Failed, Closed, Waited, Lost, Asked, Questioned, Reported, Warned, Tabled, Untabled, Replied, Began, Kept, Unkept, Synced, Unsynced}
+use Rattle.judy_many.specs.Nets.Act.{Came, Refused, Read, Dry, Ended, Broke, Wrote, Failed, Closed, Waited, Lost, Asked, Questioned, Reported, Warned, Tabled, Untabled, Named, Replied, Began, Kept, Unkept, Synced, Unsynced}
 use Rattle.judy_many.specs.Rules.{Rules}
 use Rattle.judy_many.specs.Sessions.{AreTurns, Turn}
 use Rattle.judy_many.specs.Statuses.{Lasts, Passes, Tells}
-use Rattle.judy_many.specs.Stories.{AreRead, Story, acts_in, changes_in, just_read, turns_in}
+use Rattle.judy_many.specs.Stories.{AreRead, Moment, Story, acts_in, changes_in, just_read, turns_in}
 use Rattle.judy_many.specs.Stories.Moment.{Changed, Did, Ran}
 use Rattle.judy_many.specs.declared.serve.Limits.{Limits}
 use Rattle.judy_many.proofs.Stepping.{AreTurns-append}
 
 -- an answer that is no report
-untold : (text : List ℕ) (a : Act) → reports_by a ≡ 0 → Tells text a
-untold text (Reported told) e = absurd (omega (arith, e))
-untold text act e = tt
+untold : (status : List (Option Speaker) → List ℕ) (past : Story) (a : Act) → reports_by a ≡ 0 → Tells status past a
+untold status past (Reported told) e = absurd (omega (arith, e))
+untold status past act e = tt
 
 some : (text : List ℕ) (texts : List (List ℕ)) → text ∷ texts ≡ [] → ⊥
 some text texts e = cc
@@ -28,28 +29,35 @@ module _ {S : Type 0} (rules : Rules S) where
       (last, (mid, one, first), more)
 
   -- where nothing is told, lines are all that happens to the service
-  pub passes_plain : (before after : S) (story : Story) → reports_in (acts_in story) ≡ 0 → changes_in story ≡ [] → AreTurns rules before (turns_in story) after → Passes rules before story after
-  passes_plain before after [] none same h = h
-  passes_plain before after (Did a ∷ story) none same h =
-      (untold (rules.status before) a (omega (arith, none)), passes_plain before after story (omega (arith, none)) same h)
-  passes_plain before after (Ran n turns ∷ story) none same h =
+  pub passes_plain : (past : Story) (before after : S) (story : Story) → reports_in (acts_in story) ≡ 0 → changes_in story ≡ [] → AreTurns rules before (turns_in story) after → Passes rules past before story after
+  passes_plain past before after [] none same h = h
+  passes_plain past before after (Did a ∷ story) none same h =
+      (untold (rules.status before) past a (omega (arith, none)), passes_plain (past ++ Did a ∷ []) before after story (omega (arith, none)) same h)
+  passes_plain past before after (Ran n turns ∷ story) none same h =
       let (mid, first, more) = split_turns before after turns (turns_in story) h in
-      (mid, first, passes_plain mid after story none same more)
-  passes_plain before after (Changed text ∷ story) none same h = absurd (some text (changes_in story) same)
+      (mid, first, passes_plain (past ++ Ran n turns ∷ []) mid after story none same more)
+  passes_plain past before after (Changed text ∷ story) none same h = absurd (some text (changes_in story) same)
 
-  pub Passes-append : (before mid after : S) (a b : Story) → Passes rules before a mid → Passes rules mid b after → Passes rules before (a ++ b) after
-  Passes-append before mid after [] b h k = subst (λ s. Passes rules s b after) h k
-  Passes-append before mid after (Did x ∷ a) b h k = (h.0, Passes-append before mid after a b h.1 k)
-  Passes-append before mid after (Ran n turns ∷ a) b (next, first, rest) k = (next, first, Passes-append next mid after a b rest k)
-  Passes-append before mid after (Changed text ∷ a) b (next, first, rest) k = (next, first, Passes-append next mid after a b rest k)
+  -- the past of what comes after a moment
+  onward : (past : Story) (m : Moment) (a b : Story) (mid after : S) → Passes rules (past ++ m ∷ a) mid b after → Passes rules ((past ++ m ∷ []) ++ a) mid b after
+  onward past m a b mid after k = subst (λ p. Passes rules p mid b after) (sym (append_assoc past (m ∷ []) a)) k
+
+  pub Passes-append : (past : Story) (before mid after : S) (a b : Story) → Passes rules past before a mid → Passes rules (past ++ a) mid b after → Passes rules past before (a ++ b) after
+  Passes-append past before mid after [] b h k = subst (λ p. Passes rules p before b after) (append-nil past) (subst (λ s. Passes rules (past ++ []) s b after) h k)
+  Passes-append past before mid after (Did x ∷ a) b h k =
+      (h.0, Passes-append (past ++ Did x ∷ []) before mid after a b h.1 (onward past (Did x) a b mid after k))
+  Passes-append past before mid after (Ran n turns ∷ a) b (next, first, rest) k =
+      (next, first, Passes-append (past ++ Ran n turns ∷ []) next mid after a b rest (onward past (Ran n turns) a b mid after k))
+  Passes-append past before mid after (Changed text ∷ a) b (next, first, rest) k =
+      (next, first, Passes-append (past ++ Changed text ∷ []) next mid after a b rest (onward past (Changed text) a b mid after k))
 
   -- the lines of a story in which the table stays
-  pub passes_run : (before after : S) (story : Story) → changes_in story ≡ [] → Passes rules before story after → AreTurns rules before (turns_in story) after
-  passes_run before after [] same h = h
-  passes_run before after (Did a ∷ story) same h = passes_run before after story same h.1
-  passes_run before after (Ran n turns ∷ story) same (mid, first, rest) =
-      AreTurns-append rules before mid after turns (turns_in story) first (passes_run mid after story same rest)
-  passes_run before after (Changed text ∷ story) same h = absurd (some text (changes_in story) same)
+  pub passes_run : (past : Story) (before after : S) (story : Story) → changes_in story ≡ [] → Passes rules past before story after → AreTurns rules before (turns_in story) after
+  passes_run past before after [] same h = h
+  passes_run past before after (Did a ∷ story) same h = passes_run (past ++ Did a ∷ []) before after story same h.1
+  passes_run past before after (Ran n turns ∷ story) same (mid, first, rest) =
+      AreTurns-append rules before mid after turns (turns_in story) first (passes_run (past ++ Ran n turns ∷ []) mid after story same rest)
+  passes_run past before after (Changed text ∷ story) same h = absurd (some text (changes_in story) same)
 
 -- ---- tables that keep all tenants
 

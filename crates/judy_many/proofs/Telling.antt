@@ -12,7 +12,7 @@ use Rattle.judy_many.specs.declared.serve.Limits.{Limits}
 use Rattle.judy_many.specs.Fates.{Ends, IsLeft, Leaves, Stays}
 use Rattle.judy_many.specs.Lives.{HasReason, IsLive, IsOrdered, IsReason, IsPart, IsServed, IsWhole, Lives, View, end_well, ends_well, is_orderly, read_in, wrote_in}
 use Rattle.judy_many.specs.Nets.{Act}
-use Rattle.judy_many.specs.Nets.Act.{Came, Refused, Read, Dry, Ended, Broke, Wrote, Failed, Closed, Waited, Lost, Asked, Questioned, Reported, Warned, Tabled, Untabled, Replied, Began, Kept, Unkept, Synced, Unsynced}
+use Rattle.judy_many.specs.Nets.Act.{Came, Refused, Read, Dry, Ended, Broke, Wrote, Failed, Closed, Waited, Lost, Asked, Questioned, Reported, Warned, Tabled, Untabled, Named, Replied, Began, Kept, Unkept, Synced, Unsynced}
 use Rattle.judy_many.specs.Sessions.{Speaks, Turn}
 use Rattle.judy_many.specs.Stories.{AreReads, AreWithin, AreWrites, Phase, InPhase, IsOnce, IsPhased, IsPiece, IsRead, IsWrite, Mine, Moment, Share, Story, acts_by, acts_in, came_by, came_in, closed_by, closed_in, reading, running, share_of, times, told, turns_by, turns_in, writes_after, writes_since}
 use Rattle.judy_many.specs.Stories.Moment.{Did, Ran}
@@ -282,6 +282,22 @@ leaves_silent v is s live =
 -- a client whose speaker is gone
 pub leaves_gone : (v : View) (who : Speaker) → v.who ≡ Some who → Leaves how.Gone v []
 leaves_gone v who is s live =
+    let same = stays_none v s live in
+    record {
+      order = same.order;
+      whole = λ yes. absurd (no yes);
+      stays = same.live.stays;
+      why = (who, subst (Speaks None (turns_in (s ++ []))) is same.live.speaks);
+      came = same.came;
+      unclosed = same.unclosed;
+    }
+  where
+    no : false ≡ true → ⊥
+    no e = cc
+
+-- a client whose speaker is one that the operator named
+pub leaves_kicked : (v : View) (who : Speaker) → v.who ≡ Some who → Leaves how.Kicked v []
+leaves_kicked v who is s live =
     let same = stays_none v s live in
     record {
       order = same.order;

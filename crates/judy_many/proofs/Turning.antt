@@ -4,7 +4,7 @@ use Rattle.std.specs.Prelude.{◌==◌, if◌then◌else◌}
 use Rattle.std.proofs.lemmas.Bool.Decides.{eqb_tells}
 use Rattle.judy_many.specs.Endings.{lost_by, lost_in, reports_by, reports_in, waits_in}
 use Rattle.judy_many.specs.Nets.{Act}
-use Rattle.judy_many.specs.Nets.Act.{Came, Refused, Read, Dry, Ended, Broke, Wrote, Failed, Closed, Waited, Lost, Asked, Questioned, Reported, Warned, Tabled, Untabled, Replied, Began, Kept, Unkept, Synced, Unsynced}
+use Rattle.judy_many.specs.Nets.Act.{Came, Refused, Read, Dry, Ended, Broke, Wrote, Failed, Closed, Waited, Lost, Asked, Questioned, Reported, Warned, Tabled, Untabled, Named, Replied, Began, Kept, Unkept, Synced, Unsynced}
 use Rattle.judy_many.specs.Stories.{HasTurns, Mine, Moment, Share, Story, acts_in, belongs, changes_in, is_of, is_wait, own, share_by, times, turns_after, turns_since, waits_by, writes_after, writes_since}
 use Rattle.judy_many.specs.Stories.Moment.{Changed, Did, Ran}
 use Rattle.judy_many.proofs.Owning.{belongs_other}
@@ -179,6 +179,10 @@ no_wait n (Tabled text) e = absurd (never e)
     never : false ≡ true → ⊥
     never e = cc
 no_wait n Untabled e = absurd (never e)
+  where
+    never : false ≡ true → ⊥
+    never e = cc
+no_wait n (Named name) e = absurd (never e)
   where
     never : false ≡ true → ⊥
     never e = cc

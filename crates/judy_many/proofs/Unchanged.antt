@@ -4,7 +4,7 @@
 --     one_run                  over it each tenant's replies are those that it would get alone
 --     one_login                each speaker is by the names and tokens of the table
 --     keeps_all                it kept each tenant's quota and arrays
-use Rattle.std.proofs.Common.{◌≡◌, ℕ, false, List, [], ◌∷◌, Option, ap, subst, refl}
+use Rattle.std.proofs.Common.{◌≡◌, ℕ, false, List, [], ◌∷◌, ◌++◌, Option, ap, subst, refl}
 use Rattle.judy_journal.specs.Writes.{Writing}
 use Rattle.judy_many.specs.Changes.{Chain, IsAlone}
 use Rattle.judy_many.specs.Crowds.{HasServedMany}
@@ -36,7 +36,7 @@ module _ {S : Type 0} (rules : Rules S) (limits : Limits) (writer : Option Writi
   table_stays off = unasked limits h.story _ off h.reads
 
   pub run_is : changes_in h.story ≡ [] → AreTurns rules before (turns_in h.story) after
-  run_is same = passes_run rules before after h.story same h.told
+  run_is same = passes_run rules [] before after h.story same h.told
 
   pub one_run : changes_in h.story ≡ [] → IsAlone (rules.seen before) (turns_in h.story) (rules.seen after)
   one_run same = subst (λ runs. Chain IsAlone (rules.seen before) runs (rules.seen after)) (runs_are h.story same) h.alone
@@ -47,12 +47,12 @@ module _ {S : Type 0} (rules : Rules S) (limits : Limits) (writer : Option Writi
       own_use (rules.seen before).logins n h.story (turns_use rules apart unseen before after (turns_in h.story) (run_is same)).0
 
 -- a story in which the table stays keeps each tenant's quota and arrays
-pub keeps_all : {S : Type 0} (rules : Rules S) (t : ℕ) (before : S) (story : Story) (after : S) → changes_in story ≡ [] → (h : Passes rules before story after)
-    → Keeps rules t before story after h
-keeps_all rules t before [] after same h = tt
-keeps_all rules t before (Did a ∷ story) after same h = keeps_all rules t before story after same h.1
-keeps_all rules t before (Ran n turns ∷ story) after same (mid, first, rest) = keeps_all rules t mid story after same rest
-keeps_all rules t before (Changed text ∷ story) after same h = absurd (some text (changes_in story) same)
+pub keeps_all : {S : Type 0} (rules : Rules S) (t : ℕ) (past : Story) (before : S) (story : Story) (after : S) → changes_in story ≡ [] → (h : Passes rules past before story after)
+    → Keeps rules t past before story after h
+keeps_all rules t past before [] after same h = tt
+keeps_all rules t past before (Did a ∷ story) after same h = keeps_all rules t (past ++ Did a ∷ []) before story after same h.1
+keeps_all rules t past before (Ran n turns ∷ story) after same (mid, first, rest) = keeps_all rules t (past ++ Ran n turns ∷ []) mid story after same rest
+keeps_all rules t past before (Changed text ∷ story) after same h = absurd (some text (changes_in story) same)
   where
     some : (text : List ℕ) (texts : List (List ℕ)) → text ∷ texts ≡ [] → ⊥
     some text texts e = cc

@@ -61,7 +61,7 @@ past_of waits began journal = record { waits = waits; began = began; journal = j
 -- written since the server last waited. In the second, all records are kept.
 pub record IsTold {B S : Type 0} (rules : Rules S) (limits : Limits) (first : S) (start : Acts) (phase : Phase) (lost : ℕ) (past : Past) (log : Acts) (slots : List (Option B)) (count : ℕ) (now : S) (story : Story) : Type 0 where
   pub logged : DidLog start (acts_in story) log
-  pub run : Passes rules first story now
+  pub run : Passes rules [] first story now
   pub lasts : Lasts rules (is_some limits.journal) first story now
   pub total : came_in (acts_in story) ≡ count
   pub capped : count ≤ limits.connections
@@ -142,9 +142,9 @@ pub record HasServedMany {S : Type 0} (rules : Rules S) (limits : Limits) (write
   pub cause : IsCaused how story
   -- at `Done` as many connections as were wanted have come, and each of them was closed
   pub done : how ≡ ending.Done → (n : ℕ) → n < limits.connections → closed_in (acts_in (own n story)) ≡ 1
-  -- each status that was told is that of the service at this moment; nothing but lines and tables changes
-  -- the service
-  pub told : Passes rules before story after
+  -- each status that was told is that of the service and of the open connections at this moment; nothing
+  -- but lines and tables changes the service
+  pub told : Passes rules [] before story after
   -- each table that was put in force is the one that was just read; without a status socket there is none
   pub reads : AreRead limits None story
   -- with a journal: no answer was written before the records of all lines that were run were kept in it
@@ -154,4 +154,4 @@ pub record HasServedMany {S : Type 0} (rules : Rules S) (limits : Limits) (write
   -- between changes of the table each tenant's replies are those that it would get alone
   pub alone : Chain IsAlone (rules.seen before) (runs_in story) (rules.seen after)
   -- and over all lines, for a tenant whose quota and arrays each new table kept
-  pub kept : (t : ℕ) → Keeps rules t before story after told → IsAloneFor t (rules.seen before) (turns_in story) (rules.seen after)
+  pub kept : (t : ℕ) → Keeps rules t [] before story after told → IsAloneFor t (rules.seen before) (turns_in story) (rules.seen after)

@@ -8,8 +8,10 @@ pub mod Endings
 pub mod Fates
 pub mod Intakes
 pub mod Journaling
+pub mod Kicks
 pub mod Lives
 pub mod Nets
+pub mod Present
 pub mod Queues
 pub mod Records
 pub mod Rules

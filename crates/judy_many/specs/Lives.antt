@@ -16,7 +16,7 @@ use Rattle.judy_many.specs.declared.network.How.{How}
 use Rattle.judy_many.specs.declared.network.How.TheVariants as how
 use Rattle.judy_many.specs.declared.serve.Limits.{Limits}
 use Rattle.judy_many.specs.Nets.{Act}
-use Rattle.judy_many.specs.Nets.Act.{Came, Refused, Read, Dry, Ended, Broke, Wrote, Failed, Closed, Waited, Lost, Asked, Questioned, Reported, Warned, Tabled, Untabled, Replied, Began, Kept, Unkept, Synced, Unsynced}
+use Rattle.judy_many.specs.Nets.Act.{Came, Refused, Read, Dry, Ended, Broke, Wrote, Failed, Closed, Waited, Lost, Asked, Questioned, Reported, Warned, Tabled, Untabled, Named, Replied, Began, Kept, Unkept, Synced, Unsynced}
 use Rattle.judy_many.specs.Sessions.{Turn, lines_in, texts, Speaks}
 use Rattle.judy_many.specs.Stories.{AreWithin, Phase, InPhase, IsOnce, Mine, Story, acts_in, came_in, closed_in, is_end, is_fault, turns_in}
 use Rattle.judy_many.specs.Stories.Moment.{Did}
@@ -118,7 +118,7 @@ abbrev pub IsOrdered : Story → Type 0
 IsOrdered story = (p q : Story) → story ≡ p ++ q → IsPart (acts_in p) (turns_in p)
 
 -- Why a connection is closed: a line asked to quit; it sends no more; a read or a write of it failed;
--- nobody had logged in on it. A connection whose speaker is gone had logged in.
+-- nobody had logged in on it. A connection whose speaker is gone, or was kicked, had logged in.
 abbrev pub IsReason : How → List Act → List Turn → Type 0
 IsReason how.Quit acts turns = asks_to_quit (lines_in turns) ≡ true
 IsReason how.End acts turns = list_any is_end acts ≡ true
@@ -128,6 +128,7 @@ IsReason how.Idle acts turns = Unit {0}
 IsReason how.Over acts turns = Unit {0}
 IsReason how.Memory acts turns = Unit {0}
 IsReason how.Gone acts turns = (who : Speaker) × Speaks None turns (Some who)
+IsReason how.Kicked acts turns = (who : Speaker) × Speaks None turns (Some who)
 
 -- it was closed for a reason
 abbrev pub HasReason : Story → Type 0

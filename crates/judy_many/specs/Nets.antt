@@ -70,6 +70,8 @@ pub data Act : Type 0 where
   -- the file of the table was read again, and this is its text; or it was not
   Tabled : List ℕ → Act
   Untabled : Act
+  -- the question named this tenant
+  Named : List ℕ → Act
   -- a question was answered with this text
   Replied : List ℕ → Act
   -- the file of this segment of the journal was made, without bytes, and its directory was synced
@@ -137,6 +139,7 @@ question_acts question.Nothing = []
 question_acts question.Status = Questioned question.Status ∷ []
 question_acts question.Stop = Questioned question.Stop ∷ []
 question_acts question.Reload = Questioned question.Reload ∷ []
+question_acts question.Kick = Questioned question.Kick ∷ []
 
 -- the file of a segment was made, or not
 abbrev pub begin_acts : Bool → ℕ → List Act

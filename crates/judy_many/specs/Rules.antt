@@ -1,6 +1,7 @@
 -- What a service does with lines and with a new table, and what is seen of it.
 --     Rules S         the steps of a service of kind S, and what they are judged by
-use Rattle.std.specs.Prelude.{ℕ, List}
+use Rattle.std.specs.Prelude.{ℕ, List, Option}
+use Rattle.judy_model.specs.Speakers.{Speaker}
 use Rattle.judy_model.specs.Stream.{Heard}
 use Rattle.judy_protocol.specs.Services.{Made, Seen}
 
@@ -15,10 +16,10 @@ pub record Rules (S : Type 0) : Type 1 where
   pub seen : S → Seen
   -- the step of counting a line
   pub noted : Noted S
-  -- the text of the status
-  pub status : S → List ℕ
+  -- the text of the status, with who speaks on each open connection
+  pub status : S → List (Option Speaker) → List ℕ
   -- the step in which the table of a text is put in force
   pub changed : S → List ℕ → S → Type 0
 
-abbrev pub rules_of : {S : Type 0} → Made S → (S → Seen) → Noted S → (S → List ℕ) → (S → List ℕ → S → Type 0) → Rules S
+abbrev pub rules_of : {S : Type 0} → Made S → (S → Seen) → Noted S → (S → List (Option Speaker) → List ℕ) → (S → List ℕ → S → Type 0) → Rules S
 rules_of made seen noted status changed = record { made = made; seen = seen; noted = noted; status = status; changed = changed }

@@ -1,52 +1,61 @@
 -- What is told on the status socket.
---     Passes rules s story s'         a story takes the service from s to s', and each status that is
---                                     told is that of the service at this moment
---     Keeps rules t s story s' h       each new table on the way kept this tenant's quota and arrays
+--     Passes rules past s story s'    a story after this past takes the service from s to s', and each status
+--                                     that is told is that of the service and of its connections at this moment
+--     Keeps rules t past s story s' h each new table on the way kept this tenant's quota and arrays
 --     Lasts rules keep s story s'     if that is wanted, each new table on the way kept all tenants
 --     HasAnswered ..                  what was asked once, and what it was answered
-use Rattle.std.specs.Prelude.{◌≡◌, ◌⊎◌, ℕ, Bool, true, false, List, [], ◌∷◌}
+use Rattle.std.specs.Prelude.{◌≡◌, ◌⊎◌, ℕ, Bool, true, false, List, [], ◌∷◌, ◌++◌, Option}
+use Rattle.judy_model.specs.Speakers.{Speaker}
 use Rattle.judy_many.specs.Changes.{KeepsTenants}
 use Rattle.judy_many.specs.declared.asking.Next.{Next}
 use Rattle.judy_many.specs.declared.asking.Next.TheVariants as next
 use Rattle.judy_many.specs.declared.network.Question.TheVariants as question
 use Rattle.judy_many.specs.Nets.{Act, Acts, DidLog}
-use Rattle.judy_many.specs.Nets.Act.{Came, Refused, Read, Dry, Ended, Broke, Wrote, Failed, Closed, Waited, Lost, Asked, Questioned, Reported, Warned, Tabled, Untabled, Replied, Began, Kept, Unkept, Synced, Unsynced}
+use Rattle.judy_many.specs.Nets.Act.{Came, Refused, Read, Dry, Ended, Broke, Wrote, Failed, Closed, Waited, Lost, Asked, Questioned, Reported, Warned, Tabled, Untabled, Named, Replied, Began, Kept, Unkept, Synced, Unsynced}
+use Rattle.judy_many.specs.Present.{AreOpen}
 use Rattle.judy_many.specs.Rules.{Rules}
 use Rattle.judy_many.specs.Sessions.{AreTurns}
 use Rattle.judy_many.specs.Stories.{Story}
 use Rattle.judy_many.specs.Stories.Moment.{Changed, Did, Ran}
 
--- the text that is told is the status of this service, or empty where there is no memory for it
-abbrev pub Tells : List ℕ → Act → Type 0
-Tells status (Reported text) = (text ≡ status) ⊎ (text ≡ [])
-Tells status act = Unit {0}
+-- a text is this status, or empty where there is no memory for it
+abbrev pub IsStatus : List ℕ → List ℕ → Type 0
+IsStatus status text = (text ≡ status) ⊎ (text ≡ [])
 
--- A stop was asked for, or that the table is read again; or nothing was; or the status, which was told.
+-- after this past, the text that is told is the status with the speakers of the connections that are open
+abbrev pub Tells : (List (Option Speaker) → List ℕ) → Story → Act → Type 0
+Tells status past (Reported text) = (who : List (Option Speaker)) × AreOpen past who × IsStatus (status who) text
+Tells status past act = Unit {0}
+
+-- A stop was asked for, or that the table is read again, or that connections of a tenant are closed; or nothing was; or the status, which was told.
 -- Without a status socket nothing is asked.
 abbrev pub HasAnswered : Bool → Next → List ℕ → Acts → Acts → Type 0
 HasAnswered true next.Stop status log log' = DidLog log (Questioned question.Stop ∷ []) log'
 HasAnswered true next.Reload status log log' = DidLog log (Questioned question.Reload ∷ []) log'
+HasAnswered true next.Kick status log log' = DidLog log (Questioned question.Kick ∷ []) log'
 HasAnswered true next.Round status log log' = DidLog log [] log'
-    ⊎ ((text : List ℕ) × Tells status (Reported text) × DidLog log (Questioned question.Status ∷ Reported text ∷ []) log')
+    ⊎ ((text : List ℕ) × IsStatus status text × DidLog log (Questioned question.Status ∷ Reported text ∷ []) log')
 HasAnswered false next.Stop status log log' = ⊥
 HasAnswered false next.Reload status log log' = ⊥
+HasAnswered false next.Kick status log log' = ⊥
 HasAnswered false next.Round status log log' = DidLog log [] log'
 
 -- Lines change the service as they were run, and a new table as it does. Nothing else changes it: no
 -- question does.
-abbrev pub Passes : {S : Type 0} → Rules S → S → Story → S → Type 0
-Passes rules before [] after = after ≡ before
-Passes rules before (Did a ∷ story) after = Tells (rules.status before) a × Passes rules before story after
-Passes {S} rules before (Ran n turns ∷ story) after = (mid : S) × AreTurns rules before turns mid × Passes rules mid story after
-Passes {S} rules before (Changed text ∷ story) after = (mid : S) × rules.changed before text mid × Passes rules mid story after
+abbrev pub Passes : {S : Type 0} → Rules S → Story → S → Story → S → Type 0
+Passes rules past before [] after = after ≡ before
+Passes rules past before (Did a ∷ story) after = Tells (rules.status before) past a × Passes rules (past ++ Did a ∷ []) before story after
+Passes {S} rules past before (Ran n turns ∷ story) after = (mid : S) × AreTurns rules before turns mid × Passes rules (past ++ Ran n turns ∷ []) mid story after
+Passes {S} rules past before (Changed text ∷ story) after = (mid : S) × rules.changed before text mid × Passes rules (past ++ Changed text ∷ []) mid story after
 
 -- each table that was put in force on the way kept this tenant's quota and arrays
-abbrev pub Keeps : {S : Type 0} (rules : Rules S) (t : ℕ) (before : S) (story : Story) (after : S) → Passes rules before story after → Type 0
-Keeps rules t before [] after h = Unit {0}
-Keeps rules t before (Did a ∷ story) after h = Keeps rules t before story after h.1
-Keeps rules t before (Ran n turns ∷ story) after (mid, first, rest) = Keeps rules t mid story after rest
-Keeps rules t before (Changed text ∷ story) after (mid, step, rest) =
-    ((rules.seen mid).quotas t ≡ (rules.seen before).quotas t) × ((rules.seen mid).states t ≡ (rules.seen before).states t) × Keeps rules t mid story after rest
+abbrev pub Keeps : {S : Type 0} (rules : Rules S) (t : ℕ) (past : Story) (before : S) (story : Story) (after : S) → Passes rules past before story after → Type 0
+Keeps rules t past before [] after h = Unit {0}
+Keeps rules t past before (Did a ∷ story) after h = Keeps rules t (past ++ Did a ∷ []) before story after h.1
+Keeps rules t past before (Ran n turns ∷ story) after (mid, first, rest) = Keeps rules t (past ++ Ran n turns ∷ []) mid story after rest
+Keeps rules t past before (Changed text ∷ story) after (mid, step, rest) =
+    ((rules.seen mid).quotas t ≡ (rules.seen before).quotas t) × ((rules.seen mid).states t ≡ (rules.seen before).states t)
+    × Keeps rules t (past ++ Changed text ∷ []) mid story after rest
 
 -- The same way of the service, where each new table keeps all tenants, if that is wanted.
 abbrev pub Lasts : {S : Type 0} → Rules S → Bool → S → Story → S → Type 0

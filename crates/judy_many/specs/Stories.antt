@@ -16,7 +16,7 @@ use Rattle.judy_many.specs.declared.network.Got.{Got}
 use Rattle.judy_many.specs.declared.network.Got.TheVariants as got
 use Rattle.judy_many.specs.declared.serve.Limits.{Limits}
 use Rattle.judy_many.specs.Nets.{Act}
-use Rattle.judy_many.specs.Nets.Act.{Came, Refused, Read, Dry, Ended, Broke, Wrote, Failed, Closed, Waited, Lost, Asked, Questioned, Reported, Warned, Tabled, Untabled, Replied, Began, Kept, Unkept, Synced, Unsynced}
+use Rattle.judy_many.specs.Nets.Act.{Came, Refused, Read, Dry, Ended, Broke, Wrote, Failed, Closed, Waited, Lost, Asked, Questioned, Reported, Warned, Tabled, Untabled, Named, Replied, Began, Kept, Unkept, Synced, Unsynced}
 use Rattle.judy_many.specs.Sessions.{Turn}
 
 -- an answer of the system, or lines of one connection that were run one after another, or the table of
@@ -173,6 +173,7 @@ IsAllowed limits how.Login = is_some limits.login ≡ true
 IsAllowed limits how.Idle = is_some limits.idle ≡ true
 IsAllowed limits how.Over = is_some limits.turn ≡ true
 IsAllowed limits how.Gone = limits.status ≡ true
+IsAllowed limits how.Kicked = limits.status ≡ true
 IsAllowed limits other = Unit {0}
 
 -- one text is the beginning of another
@@ -201,6 +202,7 @@ IsWithin limits (Reported text) = limits.status ≡ true
 IsWithin limits (Warned text) = IsWarning limits text
 IsWithin limits (Tabled text) = limits.status ≡ true
 IsWithin limits Untabled = limits.status ≡ true
+IsWithin limits (Named name) = limits.status ≡ true
 IsWithin limits (Replied text) = limits.status ≡ true
 IsWithin limits (Began k) = is_some limits.journal ≡ true
 IsWithin limits (Kept text) = is_some limits.journal ≡ true

@@ -21,6 +21,7 @@ pub struct Counts {
     turn: u64,
     memory: u64,
     gone: u64,
+    kick: u64,
     received: u64,
     sent: u64,
     dropped: u64,
@@ -84,6 +85,7 @@ impl Counts {
             turn: 0,
             memory: 0,
             gone: 0,
+            kick: 0,
             received: 0,
             sent: 0,
             dropped: 0,
@@ -126,6 +128,7 @@ impl Counts {
             How::Over => self.turn = up(self.turn),
             How::Memory => self.memory = up(self.memory),
             How::Gone => self.gone = up(self.gone),
+            How::Kicked => self.kick = up(self.kick),
         }
     }
 
@@ -140,7 +143,8 @@ impl Counts {
             .saturating_add(self.idle)
             .saturating_add(self.turn)
             .saturating_add(self.memory)
-            .saturating_add(self.gone);
+            .saturating_add(self.gone)
+            .saturating_add(self.kick);
         self.accepted.saturating_sub(first.saturating_add(rest))
     }
 
@@ -191,6 +195,11 @@ impl Counts {
             text,
             b"judyd_connections_ended_total{cause=\"gone\"}",
             self.gone,
+        );
+        add(
+            text,
+            b"judyd_connections_ended_total{cause=\"kick\"}",
+            self.kick,
         );
     }
 

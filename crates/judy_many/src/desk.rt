@@ -5,6 +5,7 @@ use crate::network::Question;
 use crate::times::is_past;
 use arrayvec::ArrayVec;
 use itoa::Buffer;
+use judy_model::Name;
 use judy_protocol::cut_line;
 use mio::net::{UnixListener, UnixStream};
 use mio::{Interest, Registry, Token};
@@ -119,6 +120,11 @@ fn has_end(text: &[u8]) -> bool {
     false
 }
 
+/// The tenant that a line of a command names, if it asks to close connections of one.
+fn kicked(line: &[u8]) -> Option<Name> {
+    Name::read(line.strip_prefix(b"KICK ".as_slice())?)
+}
+
 /// What the line of a command asks.
 fn read_command(line: &[u8]) -> Meaning {
     if line == b"STOP".as_slice() {
@@ -126,6 +132,9 @@ fn read_command(line: &[u8]) -> Meaning {
     }
     if line == b"RELOAD".as_slice() {
         return Meaning::Asks(Question::Reload);
+    }
+    if kicked(line).is_some() {
+        return Meaning::Asks(Question::Kick);
     }
     Meaning::Other
 }
@@ -392,6 +401,18 @@ impl Desk {
         if self.spare.is_none() {
             self.spare = spare_of(&self.listener);
         }
+    }
+
+    /// The tenant that the last question names. An empty name if it names none.
+    pub fn named(&self) -> Name {
+        let nobody = Name::of(b"");
+        let Some(asker) = &self.current else {
+            return nobody;
+        };
+        let Some((line, _rest)) = cut_line(asker.asked.as_slice()) else {
+            return nobody;
+        };
+        kicked(without_return(line)).unwrap_or(nobody)
     }
 
     /// Answers with these texts, and closes the connection. What it does not take at once is dropped.

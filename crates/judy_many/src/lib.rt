@@ -9,6 +9,7 @@ mod clients;
 mod counts;
 mod desk;
 mod keeping;
+mod kicks;
 mod laws;
 mod limits;
 mod lines;

@@ -16,6 +16,9 @@ pub const EVENTS_LIMIT: usize = CLIENTS_LIMIT + 1 + 2 * (ASKERS_LIMIT + 1);
 /// The most bytes of a line that tells an operator something.
 pub const TOLD_LIMIT: usize = 512;
 
+/// The most bytes of the answer to a question that closes connections.
+pub const KICKED_LIMIT: usize = 32;
+
 /// The most bytes of a question of the operator.
 pub const QUESTION_LIMIT: usize = 4096;
 

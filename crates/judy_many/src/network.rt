@@ -1,12 +1,13 @@
 //! What the loop asks of the system: to wait, to accept, to read, to write and to close.
 ghost use Rattle.std.specs.Prelude.{◌≡◌, ◌<◌, ℕ, [], ◌∷◌, length};
 ghost use Rattle.judy_many.specs.Nets.{Acts, DidLog, Fits, Takes, begin_acts, keep_acts, may_sleep, question_acts, read_acts, sync_acts, table_acts, write_acts};
-ghost use Rattle.judy_many.specs.Nets.Act.{Closed, Replied, Reported, Warned};
+ghost use Rattle.judy_many.specs.Nets.Act.{Closed, Named, Replied, Reported, Warned};
 ghost use Rattle.judy_many.specs.Comes.{HasCome};
 ghost use Rattle.judy_many.specs.Queues.{StayAwake};
 ghost use Rattle.judy_many.specs.Woken.{HasWoken};
 
 use crate::queue::Queue;
+use judy_model::Name;
 
 /// The answer to an accept.
 #[derive(Drop)]
@@ -63,6 +64,8 @@ pub enum How {
     Memory,
     /// Its tenant or its token is not in the table that was put in force.
     Gone,
+    /// The operator asked that the connections of its tenant are closed.
+    Kicked,
 }
 
 /// What the operator asks for on the status socket or the control socket.
@@ -76,6 +79,8 @@ pub enum Question {
     Stop,
     /// That the table is read again.
     Reload,
+    /// That the connections of a tenant are closed.
+    Kick,
 }
 
 /// Why the file of the table was not read again.
@@ -166,6 +171,10 @@ pub trait Network {
     /// Reads the file of the table again, into an empty text.
     fn table(&mut self, text: &mut Vec<u8>) -> Result<(), Unread>
         ensures { DidLog (log self.old) (table_acts result text.new.items) (log self.new) };
+
+    /// The name of the tenant that the last question named. Empty if it named none.
+    fn named(&mut self) -> Name
+        ensures { DidLog (log self.old) (Named result ∷ []) (log self.new) };
 
     /// Answers what was asked last, with this text alone.
     fn reply(&mut self, text: &[u8])

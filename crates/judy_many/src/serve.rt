@@ -5,6 +5,7 @@ ghost use Rattle.judy_many.specs.Crowds.{Crowd, HasFailed, HasServedMany, Past, 
 ghost use Rattle.judy_many.specs.Endings.{waited_if};
 ghost use Rattle.judy_many.specs.Lives.{view_of};
 ghost use Rattle.judy_many.specs.Nets.{Acts, DidLog, may_sleep};
+ghost use Rattle.judy_many.specs.Present.{speakers_at};
 ghost use Rattle.judy_many.specs.Queues.{AreAwake, StayAwake, awake_in};
 ghost use Rattle.judy_many.specs.Rules.{rules_of};
 ghost use Rattle.judy_many.specs.Slots.{AreKnown};
@@ -16,6 +17,7 @@ use crate::arrivals::accept;
 use crate::asking::{Next, answer};
 use crate::clients::{Clients, Listening};
 use crate::keeping::Keeper;
+use crate::kicks::kick;
 use crate::network::{Network, Sync};
 use crate::reloads::reload;
 use crate::rounds::{listen_all, tell_all};
@@ -179,7 +181,8 @@ fn take_turns<S: Shows, N: Network>(
     true
 }
 
-/// Answers one question of the operator, and reads the table again if that is what it asks for.
+/// Answers one question of the operator, and reads the table again, or closes the connections of a tenant,
+/// if that is what it asks for.
 /// Returns whether it asks for a stop.
 fn ask<S: Shows, N: Network>(
     alloc: Global,
@@ -197,16 +200,22 @@ fn ask<S: Shows, N: Network>(
         → Crowd (λ b. view_of S.who N.number b.value) (rules_of S.made S.seen S.noted S.status S.changed) limits first
         start Sweeps (nobody clients.new.queue) past (N.log network.new) clients.new.slots.items clients.new.accepted service.new }
     ensures stop { result ≡ true
-        → HasAnswered limits.status Next.Stop (S.status service.old) (N.log network.old) (N.log network.new)
+        → HasAnswered limits.status Next.Stop (S.status service.old
+        (speakers_at (λ b. view_of S.who N.number b.value) clients.old.slots.items))
+        (N.log network.old) (N.log network.new)
         × (service.new ≡ service.old) }
     ensures known { AreKnown (λ b. option_map S.who b.value.session.speaker)
         (S.seen service.new).speakers clients.new.slots.items }
 {
-    match answer(network, &*service, limits, text) {
+    match answer(alloc, network, &*service, &*clients, limits, text) {
         Next::Round => false,
         Next::Reload => {
             let keep = limits.journal.is_some();
             reload(alloc, network, service, clients, keep, text);
+            false
+        }
+        Next::Kick => {
+            kick(network, &*service, clients);
             false
         }
         Next::Stop => true,

@@ -1,9 +1,11 @@
 //! A service that counts its lines, tells its status, and changes its table.
-ghost use Rattle.std.specs.Prelude.{◌≡◌, ◌++◌, ℕ, List, true, MatchBool, OnOk};
+ghost use Rattle.std.specs.Prelude.{◌≡◌, ◌++◌, ℕ, List, [], Option, map, option_map, true, false, MatchBool, OnOk};
+ghost use Rattle.judy_model.specs.Speakers.{Speaker};
 ghost use Rattle.judy_model.specs.Stream.{Heard};
 ghost use Rattle.judy_protocol.specs.Services.{IsKnown};
 ghost use Rattle.judy_protocol.specs.Talks.{as_heard};
 ghost use Rattle.judy_many.specs.Changes.{IsChange, KeepsTenants};
+ghost use Rattle.judy_many.specs.Kicks.{HasName};
 
 use judy_protocol::{Line, Refusal, Served};
 use std::alloc::{AllocError, Global};
@@ -14,8 +16,8 @@ use std::alloc::{AllocError, Global};
 /// `noted` is all that an implementation promises of counting, and `changed` all that it promises of
 /// a new table. `unseen` and `stays` prove that it is enough.
 pub trait Shows: Served {
-    /// The text of the status.
-    ghost status: { Self → List ℕ };
+    /// The text of the status, with who speaks on each open connection.
+    ghost status: { Self → List (Option Speaker) → List ℕ };
 
     /// A line that was run was counted: what it asked for, and its answer.
     ghost noted: { Self → Heard → List ℕ → Self → Type 0 };
@@ -23,9 +25,10 @@ pub trait Shows: Served {
     /// The table of this text was put in force.
     ghost changed: { Self → List ℕ → Self → Type 0 };
 
-    /// Appends the text. It fails only for memory.
-    fn show(&self, text: &mut Vec<u8>) -> Result<(), AllocError>
-        ensures { OnOk result (text.new.items ≡ text.old.items ++ status self.now) };
+    /// Appends the text, with these speakers of the open connections. It fails only for memory.
+    fn show(&self, speakers: &[Option<Self::Speaker>], text: &mut Vec<u8>) -> Result<(), AllocError>
+        ensures { OnOk result (text.new.items ≡ text.old.items
+            ++ status self.now (map (option_map Self.who) speakers.now)) };
 
     /// Counts a line that was run.
     fn note(&mut self, asked: &Result<Line<'_>, Refusal>, answer: &[u8])
@@ -54,6 +57,11 @@ pub trait Shows: Served {
     /// Whether a speaker may speak: after a change of the table its tenant may be gone.
     fn knows(&self, speaker: Self::Speaker) -> bool
         ensures { result ≡ (Self.seen self.now).speakers (Self.who speaker) };
+
+    /// Whether a tenant has this name.
+    fn has(&self, name: &[u8]) -> bool
+        ensures yes { result ≡ true → HasName (Self.seen self.now).names name.now }
+        ensures no { result ≡ false → HasName (Self.seen self.now).names name.now → name.now ≡ [] };
 
     /// Counting changes nothing that a connection relies on.
     ghost unseen: { (before after : Self) (line : Heard) (answer : List ℕ)

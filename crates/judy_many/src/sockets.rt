@@ -7,6 +7,7 @@ use crate::limits::{CLIENTS_LIMIT, EVENTS_LIMIT};
 use crate::lines::tell_line;
 use crate::network::{Accept, Got, How, Network, Put, Question, Unread};
 use crate::queue::Queue;
+use judy_model::Name;
 use mio::net::{UnixListener, UnixStream};
 use mio::{Events, Interest, Poll, Registry, Token};
 use std::alloc::Global;
@@ -308,6 +309,13 @@ impl<'a, F: Files + Net + Clock + Eprint> Network for Sockets<'a, F> {
     // else.
     fn table(&mut self, _text: &mut Vec<u8>) -> Result<(), Unread> {
         Err(Unread::File)
+    }
+
+    fn named(&mut self) -> Name {
+        match &self.control {
+            Some(desk) => desk.named(),
+            None => Name::of(b""),
+        }
     }
 
     fn reply(&mut self, text: &[u8]) {

@@ -10,6 +10,7 @@ use crate::marks::{Mark, remove_marked};
 use arrayvec::ArrayVec;
 use judy_disk::Locks;
 use judy_many::{Accept, Connection, Got, How, Network, Put, Question, Queue, Sockets, Unread};
+use judy_model::Name;
 use judy_recovery::{JournalFault, Player, Resumed};
 use judy_stream::Reads;
 use std::alloc::Global;
@@ -233,6 +234,13 @@ impl<'a, F: Locks + Net + Clock + Eprint + Clone + Drop> Network for System<'a, 
                 .map_err(|_| Unread::Memory),
             FileRead::Long => Err(Unread::Long),
             FileRead::Fault => Err(Unread::File),
+        }
+    }
+
+    fn named(&mut self) -> Name {
+        match &mut self.sockets {
+            Some(sockets) => sockets.named(),
+            None => Name::of(b""),
         }
     }
 

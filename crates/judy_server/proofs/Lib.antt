@@ -1,5 +1,6 @@
 pub mod lemmas
 mod Asked
+mod Counting
 mod Forgetting
 mod Replaying
 mod Restoring

@@ -47,12 +47,13 @@ pub samples_all : (m : Metric) (label : List ℕ) (number : ℕ → ℕ) (place 
 samples_all m label number place values t all e so =
     sym (append-nil t) ∙ ap (λ l. t ++ l) (sym (samples-none m label number place place values e)) ∙ so
 
--- six parts, one after another
-pub six-parts : (p q r s t u a b c d e f g : List ℕ) → b ≡ a ++ p → c ≡ b ++ q → d ≡ c ++ r → e ≡ d ++ s → f ≡ e ++ t → g ≡ f ++ u
-    → g ≡ a ++ (p ++ (q ++ (r ++ (s ++ (t ++ u)))))
-six-parts p q r s t u a b c d e f g hb hc hd he hf hg =
-    adds-then a p (q ++ (r ++ (s ++ (t ++ u)))) b g hb (adds-then b q (r ++ (s ++ (t ++ u))) c g hc (adds-then c r (s ++ (t ++ u)) d g hd
-    (adds-then d s (t ++ u) e g he (adds-then e t u f g hf hg))))
+-- eight parts, one after another
+pub eight-parts : (p q r s t u v w a b c d e f g h i : List ℕ) → b ≡ a ++ p → c ≡ b ++ q → d ≡ c ++ r → e ≡ d ++ s → f ≡ e ++ t → g ≡ f ++ u → h ≡ g ++ v → i ≡ h ++ w
+    → i ≡ a ++ (p ++ (q ++ (r ++ (s ++ (t ++ (u ++ (v ++ w)))))))
+eight-parts p q r s t u v w a b c d e f g h i hb hc hd he hf hg hh hi =
+    adds-then a p (q ++ (r ++ (s ++ (t ++ (u ++ (v ++ w)))))) b i hb (adds-then b q (r ++ (s ++ (t ++ (u ++ (v ++ w))))) c i hc
+    (adds-then c r (s ++ (t ++ (u ++ (v ++ w)))) d i hd (adds-then d s (t ++ (u ++ (v ++ w))) e i he
+    (adds-then e t (u ++ (v ++ w)) f i hf (adds-then f u (v ++ w) g i hg (adds-then g v w h i hh hi))))))
 
 -- one item of a list more
 pub items_on : {A : Type 0} (f : A → List ℕ) (xs : List A) (i : ℕ) (d : A) (t t' all : List ℕ) → i < length xs → t' ≡ t ++ f (get_or xs i d)

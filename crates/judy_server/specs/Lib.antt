@@ -2,6 +2,7 @@ pub mod Counts
 pub mod Crashes
 pub mod Jobs
 pub mod Metrics
+pub mod Present
 pub mod Reloads
 pub mod Replays
 pub mod Rules

@@ -1,7 +1,7 @@
 -- The metrics of the status: their names, what they tell, and what kind of number they are.
 use Rattle.std.specs.Prelude.{ℕ, List, codes}
 use Rattle.judy_server.specs.declared.metrics.Metric.{Metric}
-use Rattle.judy_server.specs.declared.metrics.Metric.TheVariants.{Total as Totals, Share as Shares, Lines, Replies}
+use Rattle.judy_server.specs.declared.metrics.Metric.TheVariants.{Total as Totals, Share as Shares, Connections, Strangers, Lines, Replies}
 use Rattle.judy_server.specs.declared.metrics.Share.{Share}
 use Rattle.judy_server.specs.declared.metrics.Share.TheVariants as share
 use Rattle.judy_server.specs.declared.metrics.Total.{Total}
@@ -26,6 +26,8 @@ share_name share.RefusedLogins = codes "judyd_logins_refused_total"
 abbrev pub name_of : Metric → List ℕ
 name_of (Totals t) = total_name t
 name_of (Shares s) = share_name s
+name_of Connections = codes "judyd_tenant_connections"
+name_of Strangers = codes "judyd_connections_without_tenant"
 name_of Lines = codes "judyd_lines_total"
 name_of Replies = codes "judyd_replies_total"
 
@@ -48,6 +50,8 @@ share_help share.RefusedLogins = codes "Refused log-ins by tenant."
 abbrev pub help_of : Metric → List ℕ
 help_of (Totals t) = total_help t
 help_of (Shares s) = share_help s
+help_of Connections = codes "Connections on which a tenant is logged in."
+help_of Strangers = codes "Connections on which nobody is logged in."
 help_of Lines = codes "Lines by what they ask for."
 help_of Replies = codes "Replies by kind."
 
@@ -65,5 +69,7 @@ kind_of (Shares share.EntriesQuota) = codes "gauge"
 kind_of (Shares share.Pieces) = codes "gauge"
 kind_of (Shares share.PiecesQuota) = codes "gauge"
 kind_of (Shares share.RefusedLogins) = codes "counter"
+kind_of Connections = codes "gauge"
+kind_of Strangers = codes "gauge"
 kind_of Lines = codes "counter"
 kind_of Replies = codes "counter"

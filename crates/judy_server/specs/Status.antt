@@ -3,11 +3,13 @@
 --     heading metric      the two lines that come before those of a metric
 --     total_of t total    a number of the whole service, with its counts
 --     number_of t share   a number of the tenant at each place
---     status_of t         the text
-use Rattle.std.specs.Prelude.{ℕ, suc, List, [], ◌∷◌, ◌++◌, codes, decimal, flat_map, map, slice_index}
+--     status_of t who     the text, with these speakers of the open connections
+use Rattle.std.specs.Prelude.{ℕ, suc, List, [], ◌∷◌, ◌++◌, Option, codes, count_by, decimal, flat_map, map, slice_index}
+use Rattle.judy_model.specs.Speakers.{Speaker}
 use Rattle.judy_model.specs.Tenant.{pieces, used}
 use Rattle.judy_tenants.specs.Held.{quotas_of, states_of}
 use Rattle.judy_server.specs.Metrics.{help_of, kind_of, name_of}
+use Rattle.judy_server.specs.Present.{is_nobody, speaks_for}
 use Rattle.judy_server.specs.Tally.{Tallied, call_names, reply_kinds}
 use Rattle.judy_server.specs.declared.metrics.Metric.{Metric}
 use Rattle.judy_server.specs.declared.metrics.Metric.TheVariants as metrics
@@ -76,6 +78,13 @@ one_total t which = single (metrics.Total which) (total_of t which)
 unfoldable pub by_tenant : Tallied → Share → List ℕ
 by_tenant t which = group (metrics.Share which) (codes "tenant") (number_of t which) (map (λ row. row.name) t.held.tenants)
 
+-- the connections by the tenant that is logged in, and those on which nobody is
+unfoldable pub by_speaker : Tallied → List (Option Speaker) → List ℕ
+by_speaker t who = group metrics.Connections (codes "tenant") (λ place. count_by (speaks_for place) who) (map (λ row. row.name) t.held.tenants)
+
+unfoldable pub by_nobody : List (Option Speaker) → List ℕ
+by_nobody who = single metrics.Strangers (count_by is_nobody who)
+
 -- lines by what they ask for, and replies by their kind
 unfoldable pub by_call : Tally → List ℕ
 by_call tally = group metrics.Lines (codes "call") (slice_index tally.lines) call_names
@@ -92,8 +101,10 @@ abbrev pub first_shares : List Share
 first_shares = share.Entries ∷ share.EntriesQuota ∷ share.Pieces ∷ share.PiecesQuota ∷ []
 
 -- No entry, no name of an array and no token is in it.
-abbrev pub status_of : Tallied → List ℕ
-status_of t =
+abbrev pub status_of : Tallied → List (Option Speaker) → List ℕ
+status_of t who =
     flat_map (one_total t) first_totals
     ++ (flat_map (by_tenant t) first_shares
-    ++ (by_call t.tally ++ (by_kind t.tally ++ (by_tenant t share.RefusedLogins ++ one_total t total.UnknownLogins))))
+    ++ (by_speaker t who
+    ++ (by_nobody who
+    ++ (by_call t.tally ++ (by_kind t.tally ++ (by_tenant t share.RefusedLogins ++ one_total t total.UnknownLogins))))))

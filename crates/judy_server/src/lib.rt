@@ -6,6 +6,7 @@ mod calls;
 mod jobs;
 mod laws;
 mod metrics;
+mod present;
 mod records;
 mod reload;
 mod server;

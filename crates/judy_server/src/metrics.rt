@@ -43,6 +43,10 @@ pub enum Metric {
     Total(Total),
     /// A number of each tenant.
     Share(Share),
+    /// Connections, by the tenant that is logged in.
+    Connections,
+    /// Connections on which nobody is logged in.
+    Strangers,
     /// Lines, by what they ask for.
     Lines,
     /// Replies, by their kind.
@@ -84,6 +88,8 @@ pub fn name_of(metric: Metric) -> &'static str
     match metric {
         Metric::Total(total) => total_name(total),
         Metric::Share(share) => share_name(share),
+        Metric::Connections => "judyd_tenant_connections",
+        Metric::Strangers => "judyd_connections_without_tenant",
         Metric::Lines => "judyd_lines_total",
         Metric::Replies => "judyd_replies_total",
     }
@@ -124,6 +130,8 @@ pub fn help_of(metric: Metric) -> &'static str
     match metric {
         Metric::Total(total) => total_help(total),
         Metric::Share(share) => share_help(share),
+        Metric::Connections => "Connections on which a tenant is logged in.",
+        Metric::Strangers => "Connections on which nobody is logged in.",
         Metric::Lines => "Lines by what they ask for.",
         Metric::Replies => "Replies by kind.",
     }
@@ -146,6 +154,8 @@ pub fn kind_of(metric: Metric) -> &'static str
         Metric::Share(Share::Pieces) => "gauge",
         Metric::Share(Share::PiecesQuota) => "gauge",
         Metric::Share(Share::RefusedLogins) => "counter",
+        Metric::Connections => "gauge",
+        Metric::Strangers => "gauge",
         Metric::Lines => "counter",
         Metric::Replies => "counter",
     }

@@ -147,8 +147,8 @@ impl<H: Chosen> Shows for Server<H> {
 
     ghost changed = { IsReload };
 
-    fn show(&self, text: &mut Vec<u8>) -> Result<(), AllocError> {
-        add_status(text, &self.service, &self.tally)
+    fn show(&self, speakers: &[Option<Speaker>], text: &mut Vec<u8>) -> Result<(), AllocError> {
+        add_status(text, &self.service, &self.tally, speakers)
     }
 
     fn note(&mut self, asked: &Result<Line<'_>, Refusal>, answer: &[u8]) {
@@ -188,6 +188,10 @@ impl<H: Chosen> Shows for Server<H> {
 
     fn knows(&self, speaker: Speaker) -> bool {
         self.service.knows(speaker)
+    }
+
+    fn has(&self, name: &[u8]) -> bool {
+        self.service.find(name).is_some()
     }
 
     ghost stays = { λ before after text changed.

@@ -1,15 +1,18 @@
 //! The text of the service's status.
-ghost use Rattle.std.specs.Prelude.{◌≡◌, ◌<◌, ◌++◌, OnOk, flat_map, length, map, codes, slice_index};
+ghost use Rattle.std.specs.Prelude.{◌≡◌, ◌<◌, ◌++◌, OnOk, count_by, flat_map, length, map, option_map, codes, slice_index};
+ghost use Rattle.judy_table.specs.Shown.{seen};
 ghost use Rattle.judy_server.specs.Metrics.{name_of};
-ghost use Rattle.judy_server.specs.Status.{by_call, by_kind, by_tenant, first_shares, first_totals, heading, labelled_if};
+ghost use Rattle.judy_server.specs.Present.{speaks_for};
+ghost use Rattle.judy_server.specs.Status.{by_call, by_kind, by_nobody, by_speaker, by_tenant, first_shares, first_totals, heading, labelled_if};
 ghost use Rattle.judy_server.specs.Status.{labelled, number_of, one_total, sample, samples, single, status_of, total_of};
 ghost use Rattle.judy_server.specs.Tally.{call_names, reply_kinds, tallied};
 
 use crate::calls::{call_name, reply_kind};
 use crate::metrics::{Metric, Share, Total, help_of, kind_of, name_of};
+use crate::present::{count_nobody, count_tenant};
 use crate::tally::{CALLS, KINDS, Tally, count_at};
 use itoa::Buffer;
-use judy_table::TenantId;
+use judy_table::{Speaker, TenantId};
 use judy_tenants::{KeyHash, Service};
 use std::alloc::AllocError;
 
@@ -221,6 +224,54 @@ fn add_by_tenants<H: KeyHash>(
     Ok(())
 }
 
+/// Appends a line for each tenant: its connections.
+fn add_speakers<H: KeyHash>(
+    text: &mut Vec<u8>,
+    service: &Service<H>,
+    speakers: &[Option<Speaker>],
+) -> Result<(), AllocError>
+    ensures { OnOk result (text.new.items ≡ text.old.items ++ samples Metric.Connections (codes "tenant")
+        (λ place. count_by (speaks_for place) (map (option_map seen) speakers.now)) 0
+        (map (λ row. row.name) service.now.tenants)) }
+{
+    for place in 0..service.tenants() {
+        let tenant = service.tenant(place);
+        let n = count_tenant(speakers, tenant);
+        add_if(
+            text,
+            Metric::Connections,
+            b"tenant",
+            service.name(tenant),
+            n,
+        )?;
+    }
+    Ok(())
+}
+
+/// Appends the connections by tenant.
+#[tactic(auto, unfolding(crate::specs::Status::by_speaker))]
+fn add_by_speaker<H: KeyHash>(
+    text: &mut Vec<u8>,
+    service: &Service<H>,
+    tally: &Tally,
+    speakers: &[Option<Speaker>],
+) -> Result<(), AllocError>
+    ensures { OnOk result (text.new.items ≡ text.old.items
+        ++ by_speaker (tallied service.now tally.now) (map (option_map seen) speakers.now)) }
+{
+    add_heading(text, Metric::Connections)?;
+    add_speakers(text, service, speakers)
+}
+
+/// Appends the connections on which nobody is logged in.
+#[tactic(auto, unfolding(crate::specs::Status::by_nobody))]
+fn add_by_nobody(text: &mut Vec<u8>, speakers: &[Option<Speaker>]) -> Result<(), AllocError>
+    ensures { OnOk result (text.new.items ≡ text.old.items
+        ++ by_nobody (map (option_map seen) speakers.now)) }
+{
+    add_metric(text, Metric::Strangers, count_nobody(speakers))
+}
+
 /// Appends a line for each thing that a line can ask for.
 fn add_calls(text: &mut Vec<u8>, tally: &Tally) -> Result<(), AllocError>
     ensures { OnOk result (text.new.items ≡ text.old.items
@@ -269,16 +320,20 @@ fn add_by_kind(text: &mut Vec<u8>, tally: &Tally) -> Result<(), AllocError>
     add_kinds(text, tally)
 }
 
-/// Appends the status of a service with these counts.
+/// Appends the status of a service with these counts and these speakers of the open connections.
 pub fn add_status<H: KeyHash>(
     text: &mut Vec<u8>,
     service: &Service<H>,
     tally: &Tally,
+    speakers: &[Option<Speaker>],
 ) -> Result<(), AllocError>
-    ensures { OnOk result (text.new.items ≡ text.old.items ++ status_of (tallied service.now tally.now)) }
+    ensures { OnOk result (text.new.items ≡ text.old.items
+        ++ status_of (tallied service.now tally.now) (map (option_map seen) speakers.now)) }
 {
     add_totals(text, service, tally)?;
     add_by_tenants(text, service, tally)?;
+    add_by_speaker(text, service, tally, speakers)?;
+    add_by_nobody(text, speakers)?;
     add_by_call(text, tally)?;
     add_by_kind(text, tally)?;
     add_by_tenant(text, service, tally, Share::RefusedLogins)?;

@@ -8,6 +8,8 @@ mod faults;
 #[cfg(test)]
 mod journals;
 #[cfg(test)]
+mod kicks;
+#[cfg(test)]
 mod questions;
 #[cfg(test)]
 mod reloads;

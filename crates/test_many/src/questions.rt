@@ -48,6 +48,8 @@ fn a_status_is_that_of_its_round(rt: HostRuntime) -> Result<(), Fail> {
     for line in [
         b"judyd_tenant_entries{tenant=\"alice\"} 1".as_slice(),
         b"judyd_tenant_entries{tenant=\"alice\"} 2".as_slice(),
+        b"judyd_tenant_connections{tenant=\"alice\"} 1".as_slice(),
+        b"judyd_tenant_connections{tenant=\"alice\"} 0".as_slice(),
     ] {
         assert_eq!(rt; count(text, line), 1);
     }
@@ -55,6 +57,8 @@ fn a_status_is_that_of_its_round(rt: HostRuntime) -> Result<(), Fail> {
         b"judyd_tenant_entries{tenant=\"bob\"} 0".as_slice(),
         b"judyd_tenant_quota_entries{tenant=\"alice\"} 2".as_slice(),
         b"judyd_arrays 1".as_slice(),
+        b"judyd_tenant_connections{tenant=\"bob\"} 0".as_slice(),
+        b"judyd_connections_without_tenant 0".as_slice(),
         b"judyd_refused_requests_total 0".as_slice(),
         b"# TYPE judyd_live_words gauge".as_slice(),
     ] {

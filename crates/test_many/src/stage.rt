@@ -4,6 +4,7 @@ ghost use Rattle.judy_many.specs.Queues.{StayAwake};
 
 use arrayvec::ArrayVec;
 use judy_many::{Accept, Got, How, Network, Put, Question, Queue, Unread};
+use judy_model::Name;
 use judy_stream::{Page, Pull, Push, Sink, Source, Tape};
 
 /// The most bytes that a connection takes.
@@ -57,8 +58,8 @@ pub struct Seat {
 /// What was asked is kept as text: `|` a wait without limit, `:` one of at most a second, `.` one
 /// that does not wait; `x` an accept that failed; and with the number of the connection `a` accepted,
 /// `r` read, `w` written, `c` closed, and why (`Q` quit, `E` end, `F` fault, `I` idle, `O` too long,
-/// `M` memory, `G` gone). `?` is a question for the status, `!` one that the server ends, `^` one that
-/// the table is read again, `t` a read of the table, `=` a report, and `-` a reply. Of the journal, `b`
+/// `M` memory, `G` gone, `K` kicked). `?` is a question for the status, `!` one that the server ends, `^`
+/// one that the table is read again, `*` one that the connections of a tenant are closed, `t` a read of the table, `=` a report, and `-` a reply. Of the journal, `b`
 /// is a file that was made, `k` bytes that were kept, `s` a sync, and `z` one of these that failed.
 #[derive(Drop)]
 pub struct Stage<'a> {
@@ -72,6 +73,8 @@ pub struct Stage<'a> {
     pub times: &'a [Option<u64>],
     /// The questions on the status socket, one a round.
     pub questions: &'a [Question],
+    /// The tenant that each question to close connections names.
+    pub name: &'a [u8],
     /// The tables, one a read. After the last one the file cannot be read.
     pub tables: &'a [&'a [u8]],
     /// What was reported or replied, one text after another.
@@ -101,6 +104,7 @@ impl<'a> Stage<'a> {
             offers: &[],
             times: &[],
             questions: &[],
+            name: &[],
             tables: &[],
             reported: ArrayVec::new(),
             warned: ArrayVec::new(),
@@ -167,6 +171,7 @@ fn letter(how: How) -> u8 {
         How::Over => b'O',
         How::Memory => b'M',
         How::Gone => b'G',
+        How::Kicked => b'K',
     }
 }
 
@@ -293,6 +298,7 @@ impl<'a> Network for Stage<'a> {
             Question::Status => self.note(b'?'),
             Question::Stop => self.note(b'!'),
             Question::Reload => self.note(b'^'),
+            Question::Kick => self.note(b'*'),
         }
         question
     }
@@ -317,6 +323,13 @@ impl<'a> Network for Stage<'a> {
         match text.extend_from_slice(self.tables[n]) {
             Ok(()) => Ok(()),
             Err(_) => Err(Unread::Memory),
+        }
+    }
+
+    fn named(&mut self) -> Name {
+        match Name::read(self.name) {
+            Some(name) => name,
+            None => Name::of(b""),
         }
     }
 

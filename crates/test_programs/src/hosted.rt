@@ -5,6 +5,7 @@ ghost use Rattle.judy_many.specs.Queues.{StayAwake};
 use crate::rows::{TABLE, Tenants, input};
 use judy_command::Job;
 use judy_many::{Accept, Got, How, Limits, Network, Put, Question, Queue, Unread};
+use judy_model::Name;
 use judy_programs::{Hosted, Hosts, Journals, check_on, host_on};
 use judy_recovery::{Player, Resumed};
 use judy_server::do_job_on;
@@ -120,6 +121,10 @@ impl<'a> Network for Play<'a> {
 
     fn table(&mut self, _text: &mut Vec<u8>) -> Result<(), Unread> {
         Err(Unread::File)
+    }
+
+    fn named(&mut self) -> Name {
+        Name::of(b"")
     }
 
     fn reply(&mut self, _text: &[u8]) {}

@@ -11,6 +11,7 @@ use crate::draw::Draw;
 use crate::peer::{Parting, Peer, Place, Seen, Wrong};
 use crate::tenants::{PEERS_LIMIT, write_table};
 use judy_many::{Accept, Got, How, Network, Put, Question, Queue, Unread};
+use judy_model::Name;
 
 /// After this many waits the schedule has no end.
 const WAITS_LIMIT: u32 = 20_000;
@@ -460,6 +461,10 @@ impl Network for Machine {
         }
         self.put_in_force(&there);
         Ok(())
+    }
+
+    fn named(&mut self) -> Name {
+        Name::of(b"")
     }
 
     fn reply(&mut self, _text: &[u8]) {

@@ -245,7 +245,7 @@ impl Peer {
             How::End => (self.ended || self.left) && self.heard == self.sent,
             How::Fault => self.left,
             How::Gone => self.gone,
-            How::Login | How::Idle | How::Over | How::Memory => false,
+            How::Login | How::Idle | How::Over | How::Memory | How::Kicked => false,
         }
     }
 

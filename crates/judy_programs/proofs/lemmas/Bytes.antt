@@ -80,7 +80,7 @@ pub hosted-bytes-by-logins : {S T : Type 0} (rules : Rules S) (rules' : Rules T)
     (limits limits' : Limits) (writer writer' : Option Writing) (how how' : Ending) (log last log' last' : Log) (before after : S) (before' after' : T)
     (h : HasServedMany rules limits writer how log last before after) (k : HasServedMany rules' limits' writer' how' log' last' before' after')
     (t u n m : ℕ) (login : Login) → UseLogin login (turns_in (moments_of n h.story)) → UseLogin login (turns_in (moments_of m k.story))
-    → Keeps rules t before h.story after h.told → Keeps rules' u before' k.story after' k.told
+    → Keeps rules t [] before h.story after h.told → Keeps rules' u [] before' k.story after' k.told
     → (rules'.seen before').quotas u ≡ (rules.seen before).quotas t → (rules'.seen before').states u ≡ (rules.seen before).states t
     → CallsBy t n h.story → CallsBy u m k.story
     → let mine = moments_of n h.story in let theirs = moments_of m k.story in
@@ -131,4 +131,4 @@ hosted-bytes rules rules' apart unseen apart' unseen' limits limits' writer writ
     let used' = subst (λ l. UseLogin l (turns_in (moments_of m k.story))) logins
     (one_login rules' limits' writer' how' log' last' before' after' k apart' unseen' same' m) in
     hosted-bytes-by-logins rules rules' limits limits' writer writer' how how' log last log' last' before after before' after' h k t u n m login used used'
-    (keeps_all rules t before h.story after same h.told) (keeps_all rules' u before' k.story after' same' k.told)
+    (keeps_all rules t [] before h.story after same h.told) (keeps_all rules' u [] before' k.story after' same' k.told)

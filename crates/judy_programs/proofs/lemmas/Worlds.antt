@@ -4,7 +4,7 @@
 --                             as long as the tables stay
 --     hosted-worlds           so it is over all lines, if each new table keeps the quotas and arrays of the
 --                             two
-use Rattle.std.specs.Prelude.{◌≡◌, ℕ, List, Option}
+use Rattle.std.specs.Prelude.{◌≡◌, ℕ, List, [], Option}
 use Rattle.std.proofs.Common.{subst}
 use Rattle.judy_many.specs.Changes.{IsAlone, exchanges}
 use Rattle.judy_journal.specs.Writes.{Writing}
@@ -37,7 +37,7 @@ worlds-between-tables before after before' after' turns turns' h k t u quota sta
 pub hosted-worlds : {S T : Type 0} (rules : Rules S) (rules' : Rules T)
     (limits limits' : Limits) (writer writer' : Option Writing) (how how' : Ending) (log last log' last' : Log) (before after : S) (before' after' : T)
     (h : HasServedMany rules limits writer how log last before after) (k : HasServedMany rules' limits' writer' how' log' last' before' after')
-    (t u : ℕ) → Keeps rules t before h.story after h.told → Keeps rules' u before' k.story after' k.told
+    (t u : ℕ) → Keeps rules t [] before h.story after h.told → Keeps rules' u [] before' k.story after' k.told
     → (rules'.seen before').quotas u ≡ (rules.seen before).quotas t → (rules'.seen before').states u ≡ (rules.seen before).states t
     → let mine = exchanges t (turns_in h.story) in
     let theirs = exchanges u (turns_in k.story) in

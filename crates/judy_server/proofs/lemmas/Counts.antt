@@ -5,7 +5,7 @@
 --     unknown-counted    refused log-ins with a name that no tenant has
 --     story-counted      so it is over new tables, which forget the refused log-ins of places without a tenant
 --     counted-from-start so it is for a server since its start, from 0
-use Rattle.std.specs.Prelude.{◌≡◌, ◌+◌, ◌-◌, ◌^◌, ◌<◌, ◌≤◌, ◌==◌, ℕ, zero, suc, Bool, true, false, cond, List, [], ◌∷◌, Option, Some, None, count_by, length, replicate, slice_index, slice_set}
+use Rattle.std.specs.Prelude.{◌≡◌, ◌+◌, ◌-◌, ◌^◌, ◌<◌, ◌≤◌, ◌==◌, ℕ, zero, suc, Bool, true, false, cond, List, [], ◌∷◌, ◌++◌, Option, Some, None, count_by, length, replicate, slice_index, slice_set}
 use Rattle.std.proofs.Common.{◌∙◌, ap, arith, refl, subst, sym}
 use Rattle.std.proofs.lemmas.Bool.Decides.{nat_tests}
 use Rattle.std.proofs.lemmas.List.Sums.{sum_by-append, sum_by-cons}
@@ -277,23 +277,23 @@ module _ (count : Tally → ℕ) (fits : Tally → Type 0) (test : List Tenant �
       let later = turns-fit mid turns after (subst fits (sym line.1) here.1) run in
       (later.0, later.1 ∙ line.0)
 
-  story-counted : (before : Tallied) (story : Story) (after : Tallied) → fits before.tally → count before.tally ≤ 2 ^ 64 - 1
-      → Passes server_rules before story after
+  story-counted : (past : Story) (before : Tallied) (story : Story) (after : Tallied) → fits before.tally → count before.tally ≤ 2 ^ 64 - 1
+      → Passes server_rules past before story after
       → count after.tally ≡ counted_over test keep (count before.tally) before.held.tenants story
-  story-counted before [] after f small same = ap (λ (s : Tallied). count s.tally) same
-  story-counted before (Did a ∷ story) after f small h = story-counted before story after f small h.1
-  story-counted before (Ran n turns ∷ story) after f small (mid, first, rest) =
+  story-counted past before [] after f small same = ap (λ (s : Tallied). count s.tally) same
+  story-counted past before (Did a ∷ story) after f small h = story-counted (past ++ Did a ∷ []) before story after f small h.1
+  story-counted past before (Ran n turns ∷ story) after f small (mid, first, rest) =
       let now = turns-counted count fits test rises before turns mid f small first in
       let fit = turns-fit before turns mid f first in
       let low : count mid.tally ≤ 2 ^ 64 - 1 = subst (λ c. c ≤ 2 ^ 64 - 1) (sym now) (omega arith) in
-      story-counted mid story after fit.0 low rest
+      story-counted (past ++ Ran n turns ∷ []) mid story after fit.0 low rest
       ∙ ap (λ c. counted_over test keep c mid.held.tenants story) now
       ∙ ap (λ rows. counted_over test keep (risen (count before.tally) (count_by (test before.held.tenants) turns)) rows story) fit.1
-  story-counted before (Changed text ∷ story) after f small (mid, step, rest) =
+  story-counted past before (Changed text ∷ story) after f small (mid, step, rest) =
       let rows = rows-of before text mid step in
       let (now, fit, most) = keeps before text mid step f in
       let low : count mid.tally ≤ 2 ^ 64 - 1 = subst (λ c. c ≤ 2 ^ 64 - 1) (sym now) (most mid.held.tenants (count before.tally) small) in
-      story-counted mid story after fit low rest
+      story-counted (past ++ Changed text ∷ []) mid story after fit low rest
       ∙ ap (λ c. counted_over test keep c mid.held.tenants story) now
       ∙ ap (λ ts. counted_over test keep (keep ts (count before.tally)) ts story) rows
 
@@ -349,14 +349,14 @@ counted-from-start secret config socket watch reserve limits how log log' h =
           let count : Tally → ℕ = λ tally. slice_index tally.lines place in
           let zero = none count (none-yet.0 place) in
           let fits : place < length h.before.tally.lines = omega (arith, few, ap (λ (c : Tally). length c.lines) new.counts, counters.0) in
-          story-counted count (λ tally. place < length tally.lines) (λ rows. asks place) (λ rows n. n) (lines-rise place) (lines-keep place)
+          story-counted count (λ tally. place < length tally.lines) (λ rows. asks place) (λ rows n. n) (lines-rise place) (lines-keep place) []
           h.before story h.after fits (low _ zero) h.hosted.told
           ∙ plain-counted (asks place) (count h.before.tally) rows story (low _ zero) ∙ ap (λ c. risen c (count_by (asks place) (turns_in story))) zero;
       replies = λ place few.
           let count : Tally → ℕ = λ tally. slice_index tally.replies place in
           let zero = none count (none-yet.1 place) in
           let fits : place < length h.before.tally.replies = omega (arith, few, ap (λ (c : Tally). length c.replies) new.counts, counters.1) in
-          story-counted count (λ tally. place < length tally.replies) (λ rows. answers place) (λ rows n. n) (replies-rise place) (replies-keep place)
+          story-counted count (λ tally. place < length tally.replies) (λ rows. answers place) (λ rows n. n) (replies-rise place) (replies-keep place) []
           h.before story h.after fits (low _ zero) h.hosted.told
           ∙ plain-counted (answers place) (count h.before.tally) rows story (low _ zero) ∙ ap (λ c. risen c (count_by (answers place) (turns_in story))) zero;
       logins = λ place few.
@@ -364,12 +364,12 @@ counted-from-start secret config socket watch reserve limits how log log' h =
           let test : List Tenant → Turn → Bool = λ rows. refuses rows (Some place) in
           let zero = none count (none-yet.2 place) in
           let fits : place < length h.before.tally.refused = omega (arith, few, ap (λ (c : Tally). length c.refused) new.counts, counters.2) in
-          story-counted count (λ tally. place < length tally.refused) test (kept_at place) (logins-rise place) (logins-keep place)
+          story-counted count (λ tally. place < length tally.refused) test (kept_at place) (logins-rise place) (logins-keep place) []
           h.before story h.after fits (low _ zero) h.hosted.told
           ∙ ap (λ c. counted_over test (kept_at place) c rows story) zero ∙ ap (λ ts. refused_over place ts story) new.tenants;
       unknown =
           let zero = none (λ tally. tally.unknown) none-yet.3 in
-          story-counted (λ tally. tally.unknown) (λ tally. Unit {0}) (λ rows. refuses rows None) (λ rows n. n) unknown-rise unknown-keep
+          story-counted (λ tally. tally.unknown) (λ tally. Unit {0}) (λ rows. refuses rows None) (λ rows n. n) unknown-rise unknown-keep []
           h.before story h.after tt (low _ zero) h.hosted.told
           ∙ ap (λ c. counted_over (λ rows. refuses rows None) (λ rows n. n) c rows story) zero ∙ ap (λ ts. unknown_over ts story) new.tenants;
     }

@@ -123,17 +123,17 @@ change-ample megabytes old text new a r enough =
     }
 
 -- over new tables too, if the megabytes are enough for each of them
-pub story-served : (megabytes : ℕ) (before : Tallied) (story : Story) (after : Tallied) → IsAmple megabytes before.held
-    → AreMuch megabytes before.held.tenants (changes_in story) → Passes server_rules before story after → NoTurnForMemory (turns_in story)
-story-served megabytes before [] after a much run = tt
-story-served megabytes before (Did x ∷ story) after a much run = story-served megabytes before story after a much run.1
-story-served megabytes before (Ran n turns ∷ story) after a much (mid, first, rest) =
+pub story-served : (megabytes : ℕ) (past : Story) (before : Tallied) (story : Story) (after : Tallied) → IsAmple megabytes before.held
+    → AreMuch megabytes before.held.tenants (changes_in story) → Passes server_rules past before story after → NoTurnForMemory (turns_in story)
+story-served megabytes past before [] after a much run = tt
+story-served megabytes past before (Did x ∷ story) after a much run = story-served megabytes (past ++ Did x ∷ []) before story after a much run.1
+story-served megabytes past before (Ran n turns ∷ story) after a much (mid, first, rest) =
     let here = turns-served megabytes before turns mid a first in
     then-none turns (turns_in story) here.0
-    (story-served megabytes mid story after here.1
+    (story-served megabytes (past ++ Ran n turns ∷ []) mid story after here.1
     (subst (λ rows. AreMuch megabytes rows (changes_in story)) (sym (rows-stay turns before mid first)) much) rest)
-story-served megabytes before (Changed text ∷ story) after a much (mid, step, rest) =
-    story-served megabytes mid story after (change-ample megabytes before text mid a step much.0)
+story-served megabytes past before (Changed text ∷ story) after a much (mid, step, rest) =
+    story-served megabytes (past ++ Changed text ∷ []) mid story after (change-ample megabytes before text mid a step much.0)
     (subst (λ rows. AreMuch megabytes rows (changes_in story)) (sym (rows-of before text mid step)) much.1) rest
 
 -- a server that began with so many megabytes refuses no call for memory, whatever is called, as long as
@@ -146,7 +146,7 @@ never-memory secret config socket watch megabytes limits how log log' h much lat
     let new = h.begun.opened.fresh in
     let same : IsMuch megabytes h.before.held.tenants = subst (IsMuch megabytes) (sym new.tenants) much in
     let none = new.refusals in let granted = new.granted in
-    story-served megabytes h.before h.hosted.story h.after
+    story-served megabytes [] h.before h.hosted.story h.after
     (record {
       sound = new.sound;
       region = new.taken.0;

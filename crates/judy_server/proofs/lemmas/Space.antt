@@ -14,10 +14,10 @@
 --     few-words      the n of `WORDS n` is at most 16 for each piece of all tenants at that time,
 --                    and at least 4 for each array that has entries
 use Rattle.std.specs.Prelude.{None, Option, ◌≡◌, ◌≤◌, ◌+◌, ◌*◌, ℕ, Bool, true, List, [], ◌∷◌, ◌++◌, length, max}
-use Rattle.std.proofs.Common.{◌∙◌, ap, append_assoc, arith, refl, subst, sym}
+use Rattle.std.proofs.Common.{◌∙◌, ap, append-nil, append_assoc, arith, refl, subst, sym}
 use Rattle.judy_many.specs.Sessions.{AreTurns, IsTurn, Turn}
 use Rattle.judy_many.specs.Statuses.{Passes}
-use Rattle.judy_many.specs.Stories.{Story, changes_in}
+use Rattle.judy_many.specs.Stories.{Moment, Story, changes_in}
 use Rattle.judy_many.specs.Stories.Moment.{Changed, Did, Ran}
 use Rattle.judy_many.specs.declared.serve.Ending.{Ending}
 use Rattle.judy_many.specs.declared.serve.Limits.{Limits}
@@ -151,28 +151,34 @@ after-change text texts a b c first more = record {
   reserved = more.reserved ∙ first.reserved;
 }
 
+-- the past of what comes after a moment
+onward : (past : Story) (m : Moment) (p q : Story) (mid after : Tallied) → Passes server_rules ((past ++ m ∷ []) ++ p) mid q after → Passes server_rules (past ++ m ∷ p) mid q after
+onward past m p q mid after h = subst (λ r. Passes server_rules r mid q after) (append_assoc past (m ∷ []) p) h
+
 -- at each moment the service is sound, and has the tenants of the tables so far
-pub sound-story : (p q : Story) (before after : Tallied) → IsSoundService before.held → Passes server_rules before (p ++ q) after
-    → (mid : Tallied) × Passes server_rules before p mid × IsSoundAfter (changes_in p) before.held mid.held × Passes server_rules mid q after
-sound-story [] q before after s h = (before, refl, record { sound = s; tenants = refl; granted = refl; reserved = refl }, h)
-sound-story (Did a ∷ p) q before after s h =
-    let (mid, did, sound, left) = sound-story p q before after s h.1 in (mid, (h.0, did), sound, left)
-sound-story (Ran n turns ∷ p) q before after s (now, first, rest) =
+pub sound-story : (past p q : Story) (before after : Tallied) → IsSoundService before.held → Passes server_rules past before (p ++ q) after
+    → (mid : Tallied) × Passes server_rules past before p mid × IsSoundAfter (changes_in p) before.held mid.held × Passes server_rules (past ++ p) mid q after
+sound-story past [] q before after s h =
+    (before, refl, record { sound = s; tenants = refl; granted = refl; reserved = refl }, subst (λ r. Passes server_rules r before q after) (sym (append-nil past)) h)
+sound-story past (Did a ∷ p) q before after s h =
+    let (mid, did, sound, left) = sound-story (past ++ Did a ∷ []) p q before after s h.1 in
+    (mid, (h.0, did), sound, onward past (Did a) p q mid after left)
+sound-story past (Ran n turns ∷ p) q before after s (now, first, rest) =
     let lines = sound-turns turns before now s first in
-    let (mid, did, sound, left) = sound-story p q now after lines.sound rest in
-    (mid, (now, first, did), after-lines (changes_in p) before.held now.held mid.held lines sound, left)
-sound-story (Changed text ∷ p) q before after s (now, step, rest) =
+    let (mid, did, sound, left) = sound-story (past ++ Ran n turns ∷ []) p q now after lines.sound rest in
+    (mid, (now, first, did), after-lines (changes_in p) before.held now.held mid.held lines sound, onward past (Ran n turns) p q mid after left)
+sound-story past (Changed text ∷ p) q before after s (now, step, rest) =
     let one = sound-change before text now step in
-    let (mid, did, sound, left) = sound-story p q now after one.sound rest in
-    (mid, (now, step, did), after-change text (changes_in p) before.held now.held mid.held one sound, left)
+    let (mid, did, sound, left) = sound-story (past ++ Changed text ∷ []) p q now after one.sound rest in
+    (mid, (now, step, did), after-change text (changes_in p) before.held now.held mid.held one sound, onward past (Changed text) p q mid after left)
 
 -- at each moment of a server's story its service is sound, and has the tenants of the tables so far
 pub sound-server : (secret config socket : List ℕ) (watch : Desks) (reserve : Option ℕ) (limits : Limits) (how : Ending) (log log' : Log)
     → (h : HasServedAll server_rules (IsNewService secret reserve) config socket watch limits how log log')
     → (p q : Story) → h.hosted.story ≡ p ++ q
-    → (mid : Tallied) × Passes server_rules h.before p mid × IsSoundAfter (changes_in p) h.before.held mid.held × Passes server_rules mid q h.after
+    → (mid : Tallied) × Passes server_rules [] h.before p mid × IsSoundAfter (changes_in p) h.before.held mid.held × Passes server_rules p mid q h.after
 sound-server secret config socket watch reserve limits how log log' h p q e =
-    sound-story p q h.before h.after h.begun.opened.fresh.sound (subst (λ story. Passes server_rules h.before story h.after) e h.hosted.told)
+    sound-story [] p q h.before h.after h.begun.opened.fresh.sound (subst (λ story. Passes server_rules [] h.before story h.after) e h.hosted.told)
 
 -- a sound service is bounded by what its quotas allow, or by what was taken beforehand
 bounded-by : (granted reserved : ℕ) (held : Held) → IsSoundService held → held.granted ≡ granted → held.reserved ≡ reserved → IsBoundedBy granted reserved held
@@ -211,8 +217,8 @@ run-is-bounded secret words end left left' taken taken' told told' h =
 pub server-is-bounded : (secret config socket : List ℕ) (watch : Desks) (reserve : Option ℕ) (limits : Limits) (how : Ending) (log log' : Log)
     → (h : HasServedAll server_rules (IsNewService secret reserve) config socket watch limits how log log')
     → (p q : Story) → h.hosted.story ≡ p ++ q
-    → (mid : Tallied) × Passes server_rules h.before p mid × (let rows = h.before.held.tenants in
-    IsBoundedBy (granted_after (words_for rows) rows (changes_in p)) h.before.held.region mid.held) × Passes server_rules mid q h.after
+    → (mid : Tallied) × Passes server_rules [] h.before p mid × (let rows = h.before.held.tenants in
+    IsBoundedBy (granted_after (words_for rows) rows (changes_in p)) h.before.held.region mid.held) × Passes server_rules p mid q h.after
 server-is-bounded secret config socket watch reserve limits how log log' h p q e =
     let (mid, did, sound, left) = sound-server secret config socket watch reserve limits how log log' h p q e in
     let fresh = h.begun.opened.fresh in

@@ -3,7 +3,7 @@
 --     row-stays               so it is if each of them has the same row
 --     keeps-tenant            each new table keeps its arrays
 --     tenant-alone            over all lines of a server its replies are those that it would get alone
-use Rattle.std.proofs.Common.{◌≡◌, ◌∙◌, ℕ, zero, suc, Bool, true, false, List, [], ◌∷◌, Option, ap, not, refl, subst, sym}
+use Rattle.std.proofs.Common.{◌≡◌, ◌∙◌, ℕ, zero, suc, Bool, true, false, List, [], ◌∷◌, ◌++◌, Option, ap, not, refl, subst, sym}
 use Rattle.std.specs.Prelude.{◌&&◌, IsTrue, option_map, slice_get, unwrap_or}
 use Rattle.std.proofs.lemmas.Option.{slice_get-map}
 use Rattle.judy_many.specs.Changes.{IsAloneFor}
@@ -61,17 +61,17 @@ row-stays t rows (text ∷ texts) there (same, h) =
     (both, quota-is rows (rows_with rows text) t same, row-stays t (rows_with rows text) texts later h)
 
 -- each new table keeps its quota and its arrays
-pub keeps-tenant : (t : ℕ) (before : Tallied) (story : Story) (after : Tallied) (h : Passes server_rules before story after)
-    → StaysAt t before.held.tenants (changes_in story) → Keeps server_rules t before story after h
-keeps-tenant t before [] after h stays = tt
-keeps-tenant t before (Did a ∷ story) after h stays = keeps-tenant t before story after h.1 stays
-keeps-tenant t before (Ran n turns ∷ story) after (mid, first, rest) stays =
-    keeps-tenant t mid story after rest (subst (λ rows. StaysAt t rows (changes_in story)) (sym (rows-stay turns before mid first)) stays)
-keeps-tenant t before (Changed text ∷ story) after (mid, step, rest) (both, quota, stays) =
+pub keeps-tenant : (t : ℕ) (past : Story) (before : Tallied) (story : Story) (after : Tallied) (h : Passes server_rules past before story after)
+    → StaysAt t before.held.tenants (changes_in story) → Keeps server_rules t past before story after h
+keeps-tenant t past before [] after h stays = tt
+keeps-tenant t past before (Did a ∷ story) after h stays = keeps-tenant t (past ++ Did a ∷ []) before story after h.1 stays
+keeps-tenant t past before (Ran n turns ∷ story) after (mid, first, rest) stays =
+    keeps-tenant t (past ++ Ran n turns ∷ []) mid story after rest (subst (λ rows. StaysAt t rows (changes_in story)) (sym (rows-stay turns before mid first)) stays)
+keeps-tenant t past before (Changed text ∷ story) after (mid, step, rest) (both, quota, stays) =
     let rows = rows-of before text mid step in (
       ap (λ ts. quotas_of ts t) rows ∙ quota,
       (step.held.stays t (subst (λ ts. IsTrue (stays_at before.held.tenants ts t)) (sym rows) both)).0,
-      keeps-tenant t mid story after rest (subst (λ ts. StaysAt t ts (changes_in story)) (sym rows) stays),
+      keeps-tenant t (past ++ Changed text ∷ []) mid story after rest (subst (λ ts. StaysAt t ts (changes_in story)) (sym rows) stays),
     )
 
 -- over all lines of a server, whatever tables were put in force between them, its replies are those that
@@ -81,4 +81,4 @@ pub tenant-alone : (secret config socket : List ℕ) (watch : Desks) (reserve : 
     → (t : ℕ) → StaysAt t h.before.held.tenants (changes_in h.hosted.story)
     → IsAloneFor t (seen_of h.before) (turns_in h.hosted.story) (seen_of h.after)
 tenant-alone secret config socket watch reserve limits how log log' h t stays =
-    h.hosted.kept t (keeps-tenant t h.before h.hosted.story h.after h.hosted.told stays)
+    h.hosted.kept t (keeps-tenant t [] h.before h.hosted.story h.after h.hosted.told stays)

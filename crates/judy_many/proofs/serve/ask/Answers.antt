@@ -3,7 +3,7 @@ use Rattle.judy_many.specs.Lives.{view_of}
 use Rattle.judy_many.specs.Watches.{nobody}
 use Rattle.judy_many.specs.Rules.{rules_of}
 use Rattle.judy_many.specs.Stories.Phase.{Sweeps}
-use Rattle.judy_many.proofs.Crowding.{answered, asked_again}
+use Rattle.judy_many.proofs.Crowding.{answered, asked_again, asked_kick}
 use Rattle.judy_many.proofs.serve.ask.Goals as goal
 
 pub returns-in-Round-clause-crowd : goal.returns-in-Round-clause-crowd
@@ -17,3 +17,8 @@ returns-in-Reload-clause-crowd g c = λ first start past e h.
 
 pub returns-in-Stop-clause-stop : goal.returns-in-Stop-clause-stop
 returns-in-Stop-clause-stop g c = λ e. (c.in-Stop.ensures, refl)
+
+pub returns-in-Kick-clause-crowd : goal.returns-in-Kick-clause-crowd
+returns-in-Kick-clause-crowd g c = λ first start past e h.
+    let (watches, asked) = asked_kick (λ b. view_of g.S.Served.who g.N.Network.number b.value) (rules_of g.S.Served.made g.S.Served.seen g.S.Shows.noted g.S.Shows.status g.S.Shows.changed) c.args.limits first start Sweeps (nobody c.args.clients.now.queue) past _ _ _ _ c.args.service.now c.args.limits.status refl c.in-Kick.ensures h in
+    c.kick.ensures.crowd c.args.limits first c.args.service.now start past watches asked
