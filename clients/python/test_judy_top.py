@@ -72,15 +72,15 @@ class Lines(unittest.TestCase):
 
     def test_what_is_not_told(self):
         lines = lines_of(sample(), None, 80)
-        self.assertEqual([line.split()[0] for line in lines[: lines.index("")]], ["judyd", "a", "replies/s", "memory", "no", "log-ins", "clients", "ended"])
+        self.assertEqual([line.split()[0] for line in lines[: lines.index("")]], ["judyd", "a", "replies/s", "memory", "no", "log-ins", "clients", "ended", "turn"])
         older = Numbers().text().split(b"# HELP judyd_lines_total")[0]
         lines = lines_of(Sample(Metrics(older), 0.0), None, 80)
-        self.assertEqual([line.split()[0] for line in lines[: lines.index("")]], ["judyd", "a", "memory", "no", "clients", "ended"])
+        self.assertEqual([line.split()[0] for line in lines[: lines.index("")]], ["judyd", "a", "memory", "no", "clients", "ended", "turn"])
         self.assertEqual(lines[lines.index("") + 1].split(), ["TENANT", "ENTRIES", "QUOTA", "%", "PIECES", "QUOTA", "%"])
         text = re.sub(rb"(?m)^judyd_(live|machine|peak|arrays|refused|tenant)\w* .*\n", b"", re.sub(rb"(?m)^judyd_tenant.*\n", b"", Numbers().text()))
         lines = lines_of(Sample(Metrics(text), 0.0), None, 80)
         self.assertIn("memory     none is left to tell it", lines)
-        self.assertEqual([line.split()[0] for line in lines[: lines.index("")]], ["judyd", "a", "replies/s", "memory", "log-ins", "clients", "ended"])
+        self.assertEqual([line.split()[0] for line in lines[: lines.index("")]], ["judyd", "a", "replies/s", "memory", "log-ins", "clients", "ended", "turn"])
 
     def test_tenants(self):
         tenants = {"a-low": Tenant(1, 100, 1, 200), "full": Tenant(5, 100, 200, 200), "half": Tenant(50, 100, 50, 200), "none": Tenant(0, 0, 0, 0)}
@@ -115,7 +115,7 @@ class Lines(unittest.TestCase):
         for text in (b"", b"\n", b"hello\n", good[:-1], good.replace(b"judyd_live_words ", b"judyd_live_words -"), b"judyd_live_words 0\n", good.replace(b'{tenant="alice"', b"{alice"), b"<html>\n", b"\xff\xfe\n"):
             with self.assertRaises(Error, msg=repr(text[:40])):
                 Metrics(text)
-        shown = [metric.name for metric in METRICS if not metric.label and metric.name not in ("judyd_arrays", "judyd_live_words", "judyd_log_lines_dropped_total", "judyd_logins_unknown_total")]
+        shown = [metric.name for metric in METRICS if not metric.label and metric.name not in ("judyd_arrays", "judyd_connections_without_tenant", "judyd_live_words", "judyd_log_lines_dropped_total", "judyd_logins_unknown_total")]
         self.assertEqual(len(shown), 10)  # those that each server tells
         for name in shown:
             with self.assertRaisesRegex(Error, "the status has no " + name):
