@@ -7,6 +7,7 @@ import re
 HEAD = re.compile(r"^( *)(?:pub(?:\([a-z]+\))? )?(?:const |unsafe )*fn (\w+)", re.M)
 BLOCK = re.compile(r"^(?:pub(?:\([a-z]+\))? )?(?:unsafe )?(?:impl|trait)\b", re.M)
 CYCLE = re.compile(r"#\[cycle\((\w+)\)\]\s*")
+TYPE = re.compile(r"^(?:pub(?:\([a-z]+\))? )?(?:struct|enum) (\w+)", re.M)
 
 
 class Function:
@@ -18,10 +19,11 @@ class Function:
         self.file, self.name = file, name
         self.start, self.head, self.body, self.end = start, head, body, end
         self.owner, self.of_trait, self.is_odd, self.cycle = None, False, False, None
+        self.home = file
 
     def module(self):
-        """The names of its module below the crate."""
-        return [] if self.file in ("src/lib.rt", "src/main.rt") else self.file[len("src/") : -len(".rt")].split("/")
+        """The names of its module below the crate. A method's is that of its type."""
+        return [] if self.home in ("src/lib.rt", "src/main.rt") else self.home[len("src/") : -len(".rt")].split("/")
 
     def place(self, name=None):
         """The names that lead to it, or to another function beside it, below the crate."""
@@ -118,8 +120,14 @@ class Sources:
                         self.texts[os.path.relpath(os.path.join(at, name), folder)] = file.read()
         self.functions = [it for file, text in self.texts.items() if file.startswith("src/") and file.endswith(".rt")
                           for it in functions_of(file, text)]
+        homes = {}
+        for file, text in self.texts.items():
+            for name in TYPE.findall(text) if file.startswith("src/") else ():
+                homes.setdefault(name, []).append(file)
         folders = {os.path.dirname(it) for it in self.texts}
         for it in self.functions:
+            if it.owner and not it.of_trait and len(homes.get(it.owner, ())) == 1:
+                it.home = homes[it.owner][0]
             if not it.cycle and "/".join(["proofs", *it.place("+" + it.name)]) in folders:
                 it.cycle = it.name
 
