@@ -26,243 +26,265 @@ fn answer(alloc: Global, text: &[u8]) -> Result<usize, TableFault> {
     }
 }
 
-fn one(
-    alloc: Global,
-    header: &str,
-    digest: &str,
-    quota: &str,
-) -> Result<Result<usize, TableFault>, Fail> {
-    let mut text: ArrayString<256> = ArrayString::new();
+// A table's header, the text of its digest and of its quota, and its result.
+type Part = (
+    &'static str,
+    &'static str,
+    &'static str,
+    Result<usize, TableFault>,
+);
+
+const FAULTY: [Part; 9] = [
+    ("[alice]", ABC, "4", Ok(1)),
+    ("[alice]", UPPER, "0", Ok(1)),
+    ("[alice]", ABC, "16777216", Ok(1)),
+    ("[alice", ABC, "4", Err(TableFault::Toml)),
+    ("[\"a b\"]", ABC, "4", Err(TableFault::Name)),
+    ("[alice]", "ba78", "4", Err(TableFault::Digest)),
+    ("[alice]", ABC, "16777217", Err(TableFault::Quota)),
+    ("[alice]", ABC, "-1", Err(TableFault::Quota)),
+    ("[alice]", ABC, "\"4\"", Err(TableFault::Shape)),
+];
+
+// The text of a table of one tenant.
+fn text_of(header: &str, digest: &str, quota: &str) -> Result<ArrayString<256>, Fail> {
+    let mut text = ArrayString::new();
     write!(text, "{header}\nsha256 = \"{digest}\"\nquota = {quota}\n")?;
-    Ok(answer(alloc, text.as_bytes()))
+    Ok(text)
 }
 
 #[test]
 fn faulty_tables(rt: HostRuntime) -> Result<(), Fail> {
-    let a = rt.alloc();
-    assert_eq!(rt; one(a, "[alice]", ABC, "4")?, Ok(1));
-    assert_eq!(rt; one(a, "[alice]", UPPER, "0")?, Ok(1));
-    assert_eq!(rt; one(a, "[alice]", ABC, "16777216")?, Ok(1));
-    assert_eq!(rt; answer(a, b""), Err(TableFault::Count));
-    assert_eq!(rt; answer(a, b"alice = 1"), Err(TableFault::Shape));
-    assert_eq!(rt; one(a, "[alice", ABC, "4")?, Err(TableFault::Toml));
-    assert_eq!(rt; one(a, "[\"a b\"]", ABC, "4")?, Err(TableFault::Name));
-    assert_eq!(rt; one(a, "[alice]", "ba78", "4")?, Err(TableFault::Digest));
-    assert_eq!(rt; one(a, "[alice]", ABC, "16777217")?, Err(TableFault::Quota));
-    assert_eq!(rt; one(a, "[alice]", ABC, "-1")?, Err(TableFault::Quota));
-    assert_eq!(rt; one(a, "[alice]", ABC, "\"4\"")?, Err(TableFault::Shape));
+    for (place, (header, digest, quota, want)) in FAULTY.iter().enumerate() {
+        let text = text_of(header, digest, quota)?;
+        assert_eq!(rt; answer(rt.alloc(), text.as_bytes()), *want, "row {place}");
+    }
     Ok(())
 }
 
-// The results of tables, in which D stands for the digest's text in quotes.
-fn compare(rt: &HostRuntime, rows: &[(&str, Result<usize, TableFault>)]) -> Result<u32, Fail> {
-    let mut wrong = 0u32;
-    for row in rows.iter() {
-        let mut text: ArrayString<512> = ArrayString::new();
-        for c in row.0.chars() {
-            if c == 'D' {
-                write!(text, "\"{ABC}\"")?;
-            } else {
-                write!(text, "{c}")?;
-            }
-        }
-        let got = answer(rt.alloc(), text.as_bytes());
-        if got != row.1 {
-            let line = row.0;
-            eprintln!(rt; "DIFFERS {line:?}: {got:?}")?;
-            wrong = wrong.saturating_add(1);
+// A table's text, in which D stands for the digest's text in quotes, and its result.
+type Row = (&'static str, Result<usize, TableFault>);
+
+// The text of a row, with the digest.
+fn spelled(line: &str) -> Result<ArrayString<512>, Fail> {
+    let mut text = ArrayString::new();
+    for c in line.chars() {
+        if c == 'D' {
+            write!(text, "\"{ABC}\"")?;
+        } else {
+            write!(text, "{c}")?;
         }
     }
-    Ok(wrong)
+    Ok(text)
 }
+
+// Checks the results of tables.
+fn compare(rt: &impl Abort, alloc: Global, rows: &[Row]) -> Result<(), Fail> {
+    for (place, (line, want)) in rows.iter().enumerate() {
+        let text = spelled(line)?;
+        assert_eq!(rt;
+            answer(alloc, text.as_bytes()),
+            *want,
+            "row {place}: {line:?}"
+        );
+    }
+    Ok(())
+}
+
+const TEXTS_AND_NAMES: [Row; 21] = [
+    ("", Err(TableFault::Count)),
+    ("alice = 1", Err(TableFault::Shape)),
+    ("# only a comment\n", Err(TableFault::Count)),
+    ("# c\n[alice] # c\nsha256 = D # c\nquota = 4 # c", Ok(1)),
+    ("[alice]\r\nsha256 = D\r\nquota = 4\r\n", Ok(1)),
+    ("[alice]\rsha256 = D\rquota = 4\r", Err(TableFault::Toml)),
+    ("alice.sha256 = D\nalice.quota = 4", Ok(1)),
+    ("alice = { sha256 = D, quota = 4 }", Ok(1)),
+    ("alice = { sha256 = D, quota = 4, }", Ok(1)),
+    ("alice = {\n sha256 = D,\n # c\n quota = 4\n}", Ok(1)),
+    ("\u{feff}[alice]\nsha256 = D\nquota = 4", Ok(1)),
+    ("\u{feff}", Err(TableFault::Count)),
+    (
+        "\n\u{feff}[alice]\nsha256 = D\nquota = 4",
+        Err(TableFault::Toml),
+    ),
+    ("[\"alice\"]\nsha256 = D\nquota = 4", Ok(1)),
+    ("['alice']\nsha256 = D\nquota = 4", Ok(1)),
+    ("[\"a\\u006cice\"]\nsha256 = D\nquota = 4", Ok(1)),
+    ("[\"\"]\nsha256 = D\nquota = 4", Err(TableFault::Name)),
+    ("[a.b]\nsha256 = D\nquota = 4", Err(TableFault::Shape)),
+    ("[\"a.b\"]\nsha256 = D\nquota = 4", Ok(1)),
+    (
+        "[alice]\nsha256 = D\nquota = 4\n[alice]\nsha256 = D\nquota = 4",
+        Err(TableFault::Toml),
+    ),
+    (
+        "[alice]\nsha256 = D\nsha256 = D\nquota = 4",
+        Err(TableFault::Toml),
+    ),
+];
 
 #[test]
 fn texts_and_names(rt: HostRuntime) -> Result<(), Fail> {
-    let rows: [(&str, Result<usize, TableFault>); 19] = [
-        ("# only a comment\n", Err(TableFault::Count)),
-        ("# c\n[alice] # c\nsha256 = D # c\nquota = 4 # c", Ok(1)),
-        ("[alice]\r\nsha256 = D\r\nquota = 4\r\n", Ok(1)),
-        ("[alice]\rsha256 = D\rquota = 4\r", Err(TableFault::Toml)),
-        ("alice.sha256 = D\nalice.quota = 4", Ok(1)),
-        ("alice = { sha256 = D, quota = 4 }", Ok(1)),
-        ("alice = { sha256 = D, quota = 4, }", Ok(1)),
-        ("alice = {\n sha256 = D,\n # c\n quota = 4\n}", Ok(1)),
-        ("\u{feff}[alice]\nsha256 = D\nquota = 4", Ok(1)),
-        ("\u{feff}", Err(TableFault::Count)),
-        (
-            "\n\u{feff}[alice]\nsha256 = D\nquota = 4",
-            Err(TableFault::Toml),
-        ),
-        ("[\"alice\"]\nsha256 = D\nquota = 4", Ok(1)),
-        ("['alice']\nsha256 = D\nquota = 4", Ok(1)),
-        ("[\"a\\u006cice\"]\nsha256 = D\nquota = 4", Ok(1)),
-        ("[\"\"]\nsha256 = D\nquota = 4", Err(TableFault::Name)),
-        ("[a.b]\nsha256 = D\nquota = 4", Err(TableFault::Shape)),
-        ("[\"a.b\"]\nsha256 = D\nquota = 4", Ok(1)),
-        (
-            "[alice]\nsha256 = D\nquota = 4\n[alice]\nsha256 = D\nquota = 4",
-            Err(TableFault::Toml),
-        ),
-        (
-            "[alice]\nsha256 = D\nsha256 = D\nquota = 4",
-            Err(TableFault::Toml),
-        ),
-    ];
-    let wrong = compare(&rt, &rows)?;
-    assert_eq!(rt; wrong, 0);
-    Ok(())
+    compare(&rt, rt.alloc(), &TEXTS_AND_NAMES)
 }
+
+const OPTIONAL_KEYS: [Row; 12] = [
+    (
+        "[alice]\nsha256 = D\nquota = 4\nnote = 1",
+        Err(TableFault::Shape),
+    ),
+    ("[alice]\nsha256 = D\nquota = 4\npieces = 0", Ok(1)),
+    ("[alice]\nsha256 = D\nquota = 4\npieces = 2113929216", Ok(1)),
+    (
+        "[alice]\nsha256 = D\nquota = 4\npieces = 2113929217",
+        Err(TableFault::Pieces),
+    ),
+    (
+        "[alice]\nsha256 = D\nquota = 4\npieces = -1",
+        Err(TableFault::Pieces),
+    ),
+    (
+        "[alice]\nsha256 = D\nquota = 4\npieces = \"3\"",
+        Err(TableFault::Shape),
+    ),
+    (
+        "[alice]\nsha256 = D\nquota = 16777217\npieces = -1",
+        Err(TableFault::Quota),
+    ),
+    ("[alice]\nsha256 = D\nquota = 4\nread_sha256 = D", Ok(1)),
+    (
+        "[alice]\nsha256 = D\nquota = 4\nread_sha256 = D\npieces = 4",
+        Ok(1),
+    ),
+    (
+        "[alice]\nsha256 = D\nquota = 4\nread_sha256 = 4",
+        Err(TableFault::Shape),
+    ),
+    (
+        "[alice]\nsha256 = D\nquota = -1\nread_sha256 = \"ba78\"",
+        Err(TableFault::Digest),
+    ),
+    (
+        "[alice]\nsha256 = D\nread_sha256 = D",
+        Err(TableFault::Shape),
+    ),
+];
 
 #[test]
 fn optional_keys(rt: HostRuntime) -> Result<(), Fail> {
-    let rows: [(&str, Result<usize, TableFault>); 12] = [
-        (
-            "[alice]\nsha256 = D\nquota = 4\nnote = 1",
-            Err(TableFault::Shape),
-        ),
-        ("[alice]\nsha256 = D\nquota = 4\npieces = 0", Ok(1)),
-        ("[alice]\nsha256 = D\nquota = 4\npieces = 2113929216", Ok(1)),
-        (
-            "[alice]\nsha256 = D\nquota = 4\npieces = 2113929217",
-            Err(TableFault::Pieces),
-        ),
-        (
-            "[alice]\nsha256 = D\nquota = 4\npieces = -1",
-            Err(TableFault::Pieces),
-        ),
-        (
-            "[alice]\nsha256 = D\nquota = 4\npieces = \"3\"",
-            Err(TableFault::Shape),
-        ),
-        (
-            "[alice]\nsha256 = D\nquota = 16777217\npieces = -1",
-            Err(TableFault::Quota),
-        ),
-        ("[alice]\nsha256 = D\nquota = 4\nread_sha256 = D", Ok(1)),
-        (
-            "[alice]\nsha256 = D\nquota = 4\nread_sha256 = D\npieces = 4",
-            Ok(1),
-        ),
-        (
-            "[alice]\nsha256 = D\nquota = 4\nread_sha256 = 4",
-            Err(TableFault::Shape),
-        ),
-        (
-            "[alice]\nsha256 = D\nquota = -1\nread_sha256 = \"ba78\"",
-            Err(TableFault::Digest),
-        ),
-        (
-            "[alice]\nsha256 = D\nread_sha256 = D",
-            Err(TableFault::Shape),
-        ),
-    ];
-    let wrong = compare(&rt, &rows)?;
-    assert_eq!(rt; wrong, 0);
-    Ok(())
+    compare(&rt, rt.alloc(), &OPTIONAL_KEYS)
 }
+
+const SHAPES: [Row; 9] = [
+    ("[alice]\nsha256 = D", Err(TableFault::Shape)),
+    ("[alice]\nquota = 4", Err(TableFault::Shape)),
+    ("[alice]\nsha257 = D\nquota = 4", Err(TableFault::Shape)),
+    ("[[alice]]\nsha256 = D\nquota = 4", Err(TableFault::Shape)),
+    ("[alice]\nsha256 = D\nquota = 4.0", Err(TableFault::Shape)),
+    ("[alice]\nsha256 = D\nquota = 1e2", Err(TableFault::Shape)),
+    ("[alice]\nsha256 = D\nquota = true", Err(TableFault::Shape)),
+    (
+        "[alice]\nsha256 = D\nquota = 2020-01-01",
+        Err(TableFault::Shape),
+    ),
+    ("[alice]\nsha256 = 4\nquota = 4", Err(TableFault::Shape)),
+];
 
 #[test]
 fn shapes(rt: HostRuntime) -> Result<(), Fail> {
-    let rows: [(&str, Result<usize, TableFault>); 9] = [
-        ("[alice]\nsha256 = D", Err(TableFault::Shape)),
-        ("[alice]\nquota = 4", Err(TableFault::Shape)),
-        ("[alice]\nsha257 = D\nquota = 4", Err(TableFault::Shape)),
-        ("[[alice]]\nsha256 = D\nquota = 4", Err(TableFault::Shape)),
-        ("[alice]\nsha256 = D\nquota = 4.0", Err(TableFault::Shape)),
-        ("[alice]\nsha256 = D\nquota = 1e2", Err(TableFault::Shape)),
-        ("[alice]\nsha256 = D\nquota = true", Err(TableFault::Shape)),
-        (
-            "[alice]\nsha256 = D\nquota = 2020-01-01",
-            Err(TableFault::Shape),
-        ),
-        ("[alice]\nsha256 = 4\nquota = 4", Err(TableFault::Shape)),
-    ];
-    let wrong = compare(&rt, &rows)?;
-    assert_eq!(rt; wrong, 0);
-    Ok(())
+    compare(&rt, rt.alloc(), &SHAPES)
 }
+
+const NUMBERS: [Row; 9] = [
+    ("[alice]\nsha256 = D\nquota = 0x10", Ok(1)),
+    ("[alice]\nsha256 = D\nquota = 1_000", Ok(1)),
+    ("[alice]\nsha256 = D\nquota = +4", Ok(1)),
+    ("[alice]\nsha256 = D\nquota = -0", Ok(1)),
+    ("[alice]\nsha256 = D\nquota = 007", Err(TableFault::Toml)),
+    (
+        "[alice]\nsha256 = D\nquota = 9223372036854775807",
+        Err(TableFault::Quota),
+    ),
+    (
+        "[alice]\nsha256 = D\nquota = 9223372036854775808",
+        Err(TableFault::Toml),
+    ),
+    (
+        "[alice]\nsha256 = D\nquota = -9223372036854775808",
+        Err(TableFault::Quota),
+    ),
+    (
+        "[alice]\nsha256 = D\nquota = 18446744073709551616",
+        Err(TableFault::Toml),
+    ),
+];
 
 #[test]
 fn numbers(rt: HostRuntime) -> Result<(), Fail> {
-    let rows: [(&str, Result<usize, TableFault>); 9] = [
-        ("[alice]\nsha256 = D\nquota = 0x10", Ok(1)),
-        ("[alice]\nsha256 = D\nquota = 1_000", Ok(1)),
-        ("[alice]\nsha256 = D\nquota = +4", Ok(1)),
-        ("[alice]\nsha256 = D\nquota = -0", Ok(1)),
-        ("[alice]\nsha256 = D\nquota = 007", Err(TableFault::Toml)),
-        (
-            "[alice]\nsha256 = D\nquota = 9223372036854775807",
-            Err(TableFault::Quota),
-        ),
-        (
-            "[alice]\nsha256 = D\nquota = 9223372036854775808",
-            Err(TableFault::Toml),
-        ),
-        (
-            "[alice]\nsha256 = D\nquota = -9223372036854775808",
-            Err(TableFault::Quota),
-        ),
-        (
-            "[alice]\nsha256 = D\nquota = 18446744073709551616",
-            Err(TableFault::Toml),
-        ),
-    ];
-    let wrong = compare(&rt, &rows)?;
-    assert_eq!(rt; wrong, 0);
-    Ok(())
+    compare(&rt, rt.alloc(), &NUMBERS)
 }
+
+const DIGESTS_AND_ORDER: [Row; 6] = [
+    ("[alice]\nsha256 = \"\"\nquota = 4", Err(TableFault::Digest)),
+    (
+        "[alice]\nsha256 = \"\"\"\nab\"\"\"\nquota = 4",
+        Err(TableFault::Digest),
+    ),
+    (
+        "[bob]\nsha256 = \"x\"\nquota = 4\n[\"a b\"]\nsha256 = D\nquota = -1",
+        Err(TableFault::Name),
+    ),
+    (
+        "[\"b b\"]\nsha256 = D\nquota = 4\n[alice]\nsha256 = \"x\"\nquota = -1",
+        Err(TableFault::Digest),
+    ),
+    (
+        "[alice]\nsha256 = \"x\"\nquota = 4\n[bob]\nquota = 4",
+        Err(TableFault::Shape),
+    ),
+    (
+        "[b]\nsha256 = D\nquota = 4\n[B]\nsha256 = D\nquota = 4",
+        Ok(2),
+    ),
+];
 
 #[test]
 fn digests_and_order(rt: HostRuntime) -> Result<(), Fail> {
-    let rows: [(&str, Result<usize, TableFault>); 6] = [
-        ("[alice]\nsha256 = \"\"\nquota = 4", Err(TableFault::Digest)),
-        (
-            "[alice]\nsha256 = \"\"\"\nab\"\"\"\nquota = 4",
-            Err(TableFault::Digest),
-        ),
-        (
-            "[bob]\nsha256 = \"x\"\nquota = 4\n[\"a b\"]\nsha256 = D\nquota = -1",
-            Err(TableFault::Name),
-        ),
-        (
-            "[\"b b\"]\nsha256 = D\nquota = 4\n[alice]\nsha256 = \"x\"\nquota = -1",
-            Err(TableFault::Digest),
-        ),
-        (
-            "[alice]\nsha256 = \"x\"\nquota = 4\n[bob]\nquota = 4",
-            Err(TableFault::Shape),
-        ),
-        (
-            "[b]\nsha256 = D\nquota = 4\n[B]\nsha256 = D\nquota = 4",
-            Ok(2),
-        ),
-    ];
-    let wrong = compare(&rt, &rows)?;
-    assert_eq!(rt; wrong, 0);
-    Ok(())
+    compare(&rt, rt.alloc(), &DIGESTS_AND_ORDER)
 }
+
+const NO_TEXTS: [(&[u8], TableFault); 6] = [
+    (b"# \xff\n", TableFault::Toml),
+    (b"[\xc3\xa9]", TableFault::Toml),
+    (b"[\"\xc3\xa9\"]", TableFault::Shape),
+    (b"\xff\xfe[\0a\0]\0", TableFault::Toml),
+    (b"# \0\n", TableFault::Toml),
+    (b"\xed\xa0\x80 = 1", TableFault::Toml),
+];
 
 #[test]
 fn bytes_that_are_no_text(rt: HostRuntime) {
-    let a = rt.alloc();
-    assert_eq!(rt; answer(a, b"# \xff\n"), Err(TableFault::Toml));
-    assert_eq!(rt; answer(a, b"[\xc3\xa9]"), Err(TableFault::Toml));
-    assert_eq!(rt; answer(a, b"[\"\xc3\xa9\"]"), Err(TableFault::Shape));
-    assert_eq!(rt; answer(a, b"\xff\xfe[\0a\0]\0"), Err(TableFault::Toml));
-    assert_eq!(rt; answer(a, b"# \0\n"), Err(TableFault::Toml));
-    assert_eq!(rt; answer(a, b"\xed\xa0\x80 = 1"), Err(TableFault::Toml));
+    for (place, (bytes, want)) in NO_TEXTS.iter().enumerate() {
+        assert_eq!(rt; answer(rt.alloc(), bytes), Err(*want), "row {place}");
+    }
+}
+
+// The text of a table of this many tenants.
+fn many(n: u32) -> Result<ArrayString<8192>, Fail> {
+    let mut text = ArrayString::new();
+    for i in 0..n {
+        write!(text, "[t{i}]\nsha256 = \"{ABC}\"\nquota = {i}\n")?;
+    }
+    Ok(text)
 }
 
 #[test]
 fn many_tenants(rt: HostRuntime) -> Result<(), Fail> {
-    let a = rt.alloc();
-    for (n, want) in [(64u32, Ok(64usize)), (65, Err(TableFault::Count))] {
-        let mut text: ArrayString<8192> = ArrayString::new();
-        for i in 0..n {
-            write!(text, "[t{i}]\nsha256 = \"{ABC}\"\nquota = {i}\n")?;
-        }
-        assert_eq!(rt; answer(a, text.as_bytes()), want);
-    }
+    let most = many(64)?;
+    assert_eq!(rt; answer(rt.alloc(), most.as_bytes()), Ok(64));
+    let more = many(65)?;
+    assert_eq!(rt; answer(rt.alloc(), more.as_bytes()), Err(TableFault::Count));
     Ok(())
 }
 
@@ -280,20 +302,44 @@ fn login(table: &Table, name: &[u8], token: &[u8]) -> Option<(u8, Right)> {
     Some((speaker.tenant.place(), speaker.right))
 }
 
+// A tenant's name, and its place in a table.
+type Seat = (&'static [u8], Option<u8>);
+
+// Checks the places of tenants in a table.
+fn compare_places(rt: &impl Abort, table: &Table, rows: &[Seat]) {
+    for (row, (name, want)) in rows.iter().enumerate() {
+        assert_eq!(rt; place(table, name), *want, "row {row}");
+    }
+}
+
+// A name and a token, and the place and the right of their login.
+type Login = (&'static [u8], &'static [u8], Option<(u8, Right)>);
+
+// Checks the logins of a table.
+fn compare_logins(rt: &impl Abort, table: &Table, rows: &[Login]) {
+    for (row, (name, token, want)) in rows.iter().enumerate() {
+        assert_eq!(rt; login(table, name, token), *want, "row {row}");
+    }
+}
+
+const PLACES_OF_TWO: [Seat; 3] = [(b"alice", Some(0)), (b"bob", Some(1)), (b"carol", None)];
+
+const LOGINS_OF_TWO: [Login; 7] = [
+    (b"alice", b"abc", Some((0, Right::Change))),
+    (b"alice", b"hello", Some((0, Right::Look))),
+    (b"alice", b"abd", None),
+    (b"bob", b"hello", Some((1, Right::Change))),
+    (b"bob", b"abc", None),
+    (b"nobody", b"abc", None),
+    (b"", b"", None),
+];
+
 #[test]
 fn logins(rt: HostRuntime) -> Result<(), Fail> {
     let table = parse(rt.alloc(), TWO_TENANTS.as_bytes())?;
     assert_eq!(rt; table.len(), 2);
-    assert_eq!(rt; place(&table, b"alice"), Some(0));
-    assert_eq!(rt; place(&table, b"bob"), Some(1));
-    assert_eq!(rt; place(&table, b"carol"), None);
-    assert_eq!(rt; login(&table, b"alice", b"abc"), Some((0, Right::Change)));
-    assert_eq!(rt; login(&table, b"alice", b"hello"), Some((0, Right::Look)));
-    assert_eq!(rt; login(&table, b"alice", b"abd"), None);
-    assert_eq!(rt; login(&table, b"bob", b"hello"), Some((1, Right::Change)));
-    assert_eq!(rt; login(&table, b"bob", b"abc"), None);
-    assert_eq!(rt; login(&table, b"nobody", b"abc"), None);
-    assert_eq!(rt; login(&table, b"", b""), None);
+    compare_places(&rt, &table, &PLACES_OF_TWO);
+    compare_logins(&rt, &table, &LOGINS_OF_TWO);
     Ok(())
 }
 
@@ -316,33 +362,44 @@ fn seated(alloc: Global, rows: &Table, table: &Table) -> Result<Table, AllocErro
     }
 }
 
+// The places after the tenants alice, bob and carol are replaced by bob and dave.
+const SECOND_PLACES: [Seat; 4] = [
+    (b"alice", None),
+    (b"bob", Some(1)),
+    (b"carol", None),
+    (b"dave", Some(3)),
+];
+
+const SECOND_LOGINS: [Login; 3] = [
+    (b"alice", b"abc", None),
+    (b"", b"abc", None),
+    (b"dave", b"abc", Some((3, Right::Change))),
+];
+
+// The places after these are replaced by alice, dave, erin and fred.
+const THIRD_PLACES: [Seat; 5] = [
+    (b"alice", Some(0)),
+    (b"bob", None),
+    (b"erin", Some(2)),
+    (b"dave", Some(3)),
+    (b"fred", Some(4)),
+];
+
 #[test]
 fn places_after_another_table(rt: HostRuntime) -> Result<(), Fail> {
     let a = rt.alloc();
     let first = table_of(a, &["alice", "bob", "carol"])?;
-    let second = seated(a, &first, &table_of(a, &["bob", "dave"])?)?;
     assert_eq!(rt; first.len(), 3);
+    let second = seated(a, &first, &table_of(a, &["bob", "dave"])?)?;
     assert_eq!(rt; second.len(), 4);
-    assert_eq!(rt; place(&second, b"alice"), None);
-    assert_eq!(rt; place(&second, b"bob"), Some(1));
-    assert_eq!(rt; place(&second, b"carol"), None);
-    assert_eq!(rt; place(&second, b"dave"), Some(3));
-    assert_eq!(rt; login(&second, b"alice", b"abc"), None);
-    assert_eq!(rt; login(&second, b"", b"abc"), None);
-    assert_eq!(rt; login(&second, b"dave", b"abc"), Some((3, Right::Change)));
+    compare_places(&rt, &second, &SECOND_PLACES);
+    compare_logins(&rt, &second, &SECOND_LOGINS);
     let bob = second.find(b"bob").ok_or("bob")?;
     assert_eq!(rt; second.quota(bob).entries, 0);
-    let third = seated(
-        a,
-        &second,
-        &table_of(a, &["alice", "dave", "erin", "fred"])?,
-    )?;
+    let next = table_of(a, &["alice", "dave", "erin", "fred"])?;
+    let third = seated(a, &second, &next)?;
     assert_eq!(rt; third.len(), 5);
-    assert_eq!(rt; place(&third, b"alice"), Some(0));
-    assert_eq!(rt; place(&third, b"bob"), None);
-    assert_eq!(rt; place(&third, b"erin"), Some(2));
-    assert_eq!(rt; place(&third, b"dave"), Some(3));
-    assert_eq!(rt; place(&third, b"fred"), Some(4));
+    compare_places(&rt, &third, &THIRD_PLACES);
     Ok(())
 }
 
@@ -370,20 +427,21 @@ fn full_table(alloc: Global, letter: char) -> Result<Table, Fail> {
     Ok(parse(alloc, text.as_bytes())?)
 }
 
+// Places after all 64 tenants are replaced once, and once more.
+const REPLACED_ONCE: [Seat; 3] = [(b"b10", Some(64)), (b"b73", Some(127)), (b"a10", None)];
+
+const REPLACED_TWICE: [Seat; 3] = [(b"c10", Some(0)), (b"c73", Some(63)), (b"b10", None)];
+
 #[test]
 fn all_tenants_are_replaced(rt: HostRuntime) -> Result<(), Fail> {
     let a = rt.alloc();
     let first = full_table(a, 'a')?;
     let second = seated(a, &first, &full_table(a, 'b')?)?;
     assert_eq!(rt; second.len(), 128);
-    assert_eq!(rt; place(&second, b"b10"), Some(64));
-    assert_eq!(rt; place(&second, b"b73"), Some(127));
-    assert_eq!(rt; place(&second, b"a10"), None);
+    compare_places(&rt, &second, &REPLACED_ONCE);
     let third = seated(a, &second, &full_table(a, 'c')?)?;
     assert_eq!(rt; third.len(), 128);
-    assert_eq!(rt; place(&third, b"c10"), Some(0));
-    assert_eq!(rt; place(&third, b"c73"), Some(63));
-    assert_eq!(rt; place(&third, b"b10"), None);
+    compare_places(&rt, &third, &REPLACED_TWICE);
     Ok(())
 }
 
@@ -417,22 +475,28 @@ fn two_equal_digests_may_change(rt: HostRuntime) -> Result<(), Fail> {
     Ok(())
 }
 
+const NAMES: [(TableFault, &str); 8] = [
+    (TableFault::Memory, "Memory"),
+    (TableFault::Toml, "Toml"),
+    (TableFault::Shape, "Shape"),
+    (TableFault::Count, "Count"),
+    (TableFault::Name, "Name"),
+    (TableFault::Digest, "Digest"),
+    (TableFault::Quota, "Quota"),
+    (TableFault::Pieces, "Pieces"),
+];
+
+// The text that a fault is printed as.
+fn printed(fault: TableFault) -> Result<ArrayString<16>, Fail> {
+    let mut text = ArrayString::new();
+    write!(text, "{fault}")?;
+    Ok(text)
+}
+
 #[test]
 fn faults_have_names(rt: HostRuntime) -> Result<(), Fail> {
-    let faults = [
-        (TableFault::Memory, "Memory"),
-        (TableFault::Toml, "Toml"),
-        (TableFault::Shape, "Shape"),
-        (TableFault::Count, "Count"),
-        (TableFault::Name, "Name"),
-        (TableFault::Digest, "Digest"),
-        (TableFault::Quota, "Quota"),
-        (TableFault::Pieces, "Pieces"),
-    ];
-    for (fault, name) in faults {
-        let mut text: ArrayString<16> = ArrayString::new();
-        write!(text, "{fault}")?;
-        assert_eq!(rt; text.as_str(), name);
+    for (fault, name) in &NAMES {
+        assert_eq!(rt; printed(*fault)?.as_str(), *name);
     }
     Ok(())
 }
