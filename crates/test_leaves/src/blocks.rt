@@ -74,11 +74,9 @@ fn take(
     let wanted = len.next_power_of_two().max(4);
     assert_eq!(rt; words.len(), wanted);
     assert!(rt; words.iter().all(|word| *word == 0));
-    *place = Place {
-        block: Some(block),
-        len: wanted,
-        words: [0; 512],
-    };
+    place.block = Some(block);
+    place.len = wanted;
+    place.words.fill(0);
     Ok(())
 }
 
@@ -135,17 +133,8 @@ fn next(seed: u64) -> u64 {
         .wrapping_add(1_442_695_040_888_963_407)
 }
 
-/// The worked row. Returns how many requests were refused.
-fn row(rt: &impl Abort, alloc: Global) -> Result<u64, Fail> {
-    let mut arena = Arena::new(alloc);
-    assert_eq!(rt; arena.live_words(), 0);
-    assert!(rt; !arena.spare(1));
-    make_ready(rt, alloc, &mut arena)?;
-    let refused = arena.refusals();
-    assert!(rt; arena.spare(512));
-    let block = arena.alloc(alloc, 5)?;
-    assert_eq!(rt; arena.words(block), [0, 0, 0, 0, 0, 0, 0, 0].as_slice());
-    assert_eq!(rt; arena.live_words(), 8);
+/// A fresh block of 8 words is written, cut and released.
+fn write_and_cut(rt: &impl Abort, arena: &mut Arena, block: Block) {
     assert!(rt; arena.size(block) == 8);
     arena.set(block, 2, 7);
     arena.shrink(block, 3);
@@ -154,6 +143,26 @@ fn row(rt: &impl Abort, alloc: Global) -> Result<u64, Fail> {
     assert_eq!(rt; arena.live_words(), 4);
     arena.release(block);
     assert_eq!(rt; arena.live_words(), 0);
+}
+
+/// A block is taken, while there is room for it, and given back.
+fn take_and_give_back(rt: &impl Abort, alloc: Global, arena: &mut Arena) -> Result<(), NoMemory> {
+    assert!(rt; arena.spare(512));
+    let block = arena.alloc(alloc, 5)?;
+    assert_eq!(rt; arena.words(block), [0, 0, 0, 0, 0, 0, 0, 0].as_slice());
+    assert_eq!(rt; arena.live_words(), 8);
+    write_and_cut(rt, arena, block);
+    Ok(())
+}
+
+/// The worked row. Returns how many requests were refused.
+fn row(rt: &impl Abort, alloc: Global) -> Result<u64, Fail> {
+    let mut arena = Arena::new(alloc);
+    assert_eq!(rt; arena.live_words(), 0);
+    assert!(rt; !arena.spare(1));
+    make_ready(rt, alloc, &mut arena)?;
+    let refused = arena.refusals();
+    take_and_give_back(rt, alloc, &mut arena)?;
     assert_eq!(rt; arena.refusals(), refused);
     arena.blocks_are_sized();
     assert_eq!(rt; arena.peak(), 8);
@@ -196,9 +205,8 @@ fn turn(
     Ok(())
 }
 
-/// Makes this many turns and compares with the plain list. Returns how many requests were refused.
-fn walk(rt: &impl Abort, alloc: Global, turns: u32) -> Result<u64, Fail> {
-    let mut arena = Arena::new(alloc);
+/// The plain list, with no block.
+fn no_blocks(alloc: Global) -> Result<Vec<Place>, Fail> {
     let mut places = list(alloc, PLACES)?;
     for _ in 0..PLACES {
         places.push(Place {
@@ -207,26 +215,44 @@ fn walk(rt: &impl Abort, alloc: Global, turns: u32) -> Result<u64, Fail> {
             words: [0; 512],
         })?;
     }
+    Ok(places)
+}
+
+/// Makes this many turns and compares with the plain list.
+fn turns(
+    rt: &impl Abort,
+    alloc: Global,
+    arena: &mut Arena,
+    places: &mut Vec<Place>,
+    many: u32,
+) -> Result<(), NoMemory> {
     let mut seed = 1;
-    for step in 0..turns {
+    for step in 0..many {
         seed = next(seed);
         let pick = (seed >> 40) as usize % PLACES;
         if let Some(place) = places.get_mut(pick) {
-            turn(rt, alloc, &mut arena, place, seed)?;
+            turn(rt, alloc, arena, place, seed)?;
         }
         if step % 5_000 == 0 {
-            let _ = compare(rt, &arena, &places);
+            let _ = compare(rt, arena, places);
         }
     }
-    assert!(rt; compare(rt, &arena, &places) > 300);
-    for place in &mut places {
+    assert!(rt; compare(rt, arena, places) > 300);
+    Ok(())
+}
+
+/// Releases all blocks.
+fn release_all(rt: &impl Abort, arena: &mut Arena, places: &mut Vec<Place>) {
+    for place in places {
         if let Some(block) = place.block {
-            release(rt, &mut arena, place, block);
+            release(rt, arena, place, block);
         }
     }
     assert_eq!(rt; arena.live_words(), 0);
+}
 
-    // All released blocks have merged: each run is one free block.
+/// All released blocks have merged: each run is one free block.
+fn all_merged(rt: &impl Abort, alloc: Global, arena: &mut Arena) -> Result<(), NoMemory> {
     let region = arena.region();
     for _ in 0..region / 512 {
         assert!(rt; arena.spare(512));
@@ -234,6 +260,16 @@ fn walk(rt: &impl Abort, alloc: Global, turns: u32) -> Result<u64, Fail> {
     }
     assert!(rt; !arena.spare(1));
     assert_eq!(rt; (arena.live_words(), arena.region()), (region, region));
+    Ok(())
+}
+
+/// Makes this many turns and releases all blocks. Returns how many requests were refused.
+fn walk(rt: &impl Abort, alloc: Global, many: u32) -> Result<u64, Fail> {
+    let mut arena = Arena::new(alloc);
+    let mut places = no_blocks(alloc)?;
+    turns(rt, alloc, &mut arena, &mut places, many)?;
+    release_all(rt, &mut arena, &mut places);
+    all_merged(rt, alloc, &mut arena)?;
     Ok(arena.refusals())
 }
 
@@ -242,6 +278,48 @@ fn as_a_plain_list_does(rt: HostRuntime) -> Result<(), Fail> {
     let refused = walk(&rt, rt.alloc(), 100_000)?;
     let again = walk(&rt, rt.alloc(), 10_000)?;
     assert!(rt; refused.saturating_add(again) <= 1);
+    Ok(())
+}
+
+/// This many blocks of a size.
+fn many_of(
+    rt: &impl Abort,
+    alloc: Global,
+    arena: &mut Arena,
+    many: usize,
+    len: usize,
+) -> Result<Vec<Block>, Fail>
+    requires some { 1 ≤ len }
+    requires most { len ≤ 512 }
+{
+    let mut taken: Vec<Block> = list(alloc, many)?;
+    for _ in 0..many {
+        taken.push(ask(rt, alloc, arena, len)?)?;
+    }
+    Ok(taken)
+}
+
+/// Releases the blocks.
+fn give_back(rt: &impl Abort, arena: &mut Arena, taken: &mut Vec<Block>) {
+    for block in taken.iter() {
+        assert!(rt; 0 < arena.size(*block));
+        arena.release(*block);
+    }
+    assert_eq!(rt; arena.live_words(), 0);
+    taken.clear();
+}
+
+/// Allocates 300 blocks, for which there is room.
+fn take_300(
+    rt: &impl Abort,
+    alloc: Global,
+    arena: &mut Arena,
+    taken: &mut Vec<Block>,
+) -> Result<(), Fail> {
+    for _ in 0..300u32 {
+        assert!(rt; arena.spare(200));
+        taken.push(arena.alloc(alloc, 200)?)?;
+    }
     Ok(())
 }
 
@@ -255,16 +333,8 @@ fn take_again(
 ) -> Result<(), Fail> {
     let region = arena.region();
     for _ in 0..25u32 {
-        for block in taken.iter() {
-            assert!(rt; 0 < arena.size(*block));
-            arena.release(*block);
-        }
-        assert_eq!(rt; arena.live_words(), 0);
-        taken.clear();
-        for _ in 0..300u32 {
-            assert!(rt; arena.spare(200));
-            taken.push(arena.alloc(alloc, 200)?)?;
-        }
+        give_back(rt, arena, taken);
+        take_300(rt, alloc, arena, taken)?;
         assert_eq!(rt; arena.region(), region);
     }
     Ok(())
@@ -274,10 +344,7 @@ fn take_again(
 fn released_blocks_are_taken_again(rt: HostRuntime) -> Result<(), Fail> {
     let alloc = rt.alloc();
     let mut arena = Arena::new(alloc);
-    let mut taken: Vec<Block> = list(alloc, 300)?;
-    for _ in 0..300u32 {
-        taken.push(ask(&rt, alloc, &mut arena, 200)?)?;
-    }
+    let mut taken = many_of(&rt, alloc, &mut arena, 300, 200)?;
     assert_eq!(rt; arena.region(), 300 / 2 * 512);
     take_again(&rt, alloc, &mut arena, &mut taken)?;
 
@@ -290,23 +357,23 @@ fn released_blocks_are_taken_again(rt: HostRuntime) -> Result<(), Fail> {
     Ok(())
 }
 
+/// Releases each third block from this one on. No run is whole before the last of these is released.
+fn release_thirds(rt: &impl Abort, arena: &mut Arena, taken: &Vec<Block>, first: usize) {
+    for block in taken.iter().skip(first).step_by(3) {
+        assert!(rt; !arena.spare(512));
+        assert!(rt; 0 < arena.size(*block));
+        arena.release(*block);
+    }
+}
+
 #[test]
 fn buddies_merge(rt: HostRuntime) -> Result<(), Fail> {
     let alloc = rt.alloc();
     let mut arena = Arena::new(alloc);
-    let mut taken: Vec<Block> = list(alloc, 128)?;
-    for _ in 0..128u32 {
-        taken.push(ask(&rt, alloc, &mut arena, 4)?)?;
-    }
+    let taken = many_of(&rt, alloc, &mut arena, 128, 4)?;
     assert_eq!(rt; (arena.live_words(), arena.region()), (512, 512));
-
-    // Each third block at a time: no run is whole before the last block is released.
     for first in 0..3usize {
-        for block in taken.iter().skip(first).step_by(3) {
-            assert!(rt; !arena.spare(512));
-            assert!(rt; 0 < arena.size(*block));
-            arena.release(*block);
-        }
+        release_thirds(&rt, &mut arena, &taken, first);
     }
     assert!(rt; arena.spare(512));
     let _whole = arena.alloc(alloc, 512)?;
@@ -322,6 +389,15 @@ fn take_one_of_each(alloc: Global, arena: &mut Arena) -> Result<(), NoMemory> {
     Ok(())
 }
 
+/// A block of 512 words is cut while a run is free, which stays whole.
+fn cut_a_block(rt: &impl Abort, alloc: Global, arena: &mut Arena) -> Result<(), NoMemory> {
+    let block = arena.alloc(alloc, 512)?;
+    arena.reserve(alloc)?;
+    assert!(rt; arena.size(block) == 512);
+    arena.shrink(block, 1);
+    Ok(())
+}
+
 #[test]
 fn no_half_is_lost(rt: HostRuntime) -> Result<(), Fail> {
     let alloc = rt.alloc();
@@ -334,11 +410,8 @@ fn no_half_is_lost(rt: HostRuntime) -> Result<(), Fail> {
     assert_eq!(rt; (arena.live_words(), arena.region()), (512, 512));
     assert!(rt; !arena.spare(1));
 
-    // So do the halves of a block that is cut, while a run is free, which stays whole.
-    let block = arena.alloc(alloc, 512)?;
-    arena.reserve(alloc)?;
-    assert!(rt; arena.size(block) == 512);
-    arena.shrink(block, 1);
+    // So do the halves of a block that is cut.
+    cut_a_block(&rt, alloc, &mut arena)?;
     take_one_of_each(alloc, &mut arena)?;
     assert_eq!(rt; (arena.live_words(), arena.region()), (1024, 1536));
     assert!(rt; arena.spare(512));
@@ -371,11 +444,8 @@ fn each_refusal_is_counted(rt: HostRuntime) {
     assert!(rt; refused.saturating_add(again) <= 1);
 }
 
-#[test]
-fn copies_and_grows(rt: HostRuntime) -> Result<(), Fail> {
-    let mut arena = Arena::new(rt.alloc());
-    let from = ask(&rt, rt.alloc(), &mut arena, 6)?;
-    let to = arena.alloc(rt.alloc(), 6)?;
+/// Words are copied into a block of 8, and from there to another.
+fn copies(rt: &impl Abort, arena: &mut Arena, from: Block, to: Block) {
     assert!(rt; from != to);
     assert!(rt; arena.size(from) == 8 && arena.size(to) == 8);
     arena.copy_in(from, 1, &[10, 20, 30, 40, 50]);
@@ -383,13 +453,35 @@ fn copies_and_grows(rt: HostRuntime) -> Result<(), Fail> {
     assert_eq!(rt; arena.words(from), [0, 10, 20, 30, 40, 50, 0, 0].as_slice());
     assert_eq!(rt; arena.words(to), [20, 30, 40, 0, 0, 0, 0, 0].as_slice());
     assert_eq!(rt; arena.get(from, 5), 50);
+}
+
+/// All words of a block are written, and none of another.
+fn writes(rt: &impl Abort, arena: &mut Arena, from: Block, to: Block) {
+    assert!(rt; from != to);
+    assert!(rt; arena.size(from) == 8 && arena.size(to) == 8);
     arena.words_mut(from).fill(9);
     assert!(rt; arena.size(from) == 8 && arena.size(to) == 8);
     assert_eq!(rt; arena.words(from), [9, 9, 9, 9, 9, 9, 9, 9].as_slice());
     assert_eq!(rt; arena.words(to), [20, 30, 40, 0, 0, 0, 0, 0].as_slice());
-    let wide = arena.grow(rt.alloc(), to, 2, 9)?;
+}
+
+/// A block grows, and keeps its first two words.
+fn grows(rt: &impl Abort, alloc: Global, arena: &mut Arena, to: Block) -> Result<(), NoMemory> {
+    assert!(rt; arena.size(to) == 8);
+    let wide = arena.grow(alloc, to, 2, 9)?;
     assert!(rt; arena.size(wide) == 16);
     assert_eq!(rt; &arena.words(wide)[..4], [20, 30, 0, 0].as_slice());
     assert_eq!(rt; arena.live_words(), 24);
+    Ok(())
+}
+
+#[test]
+fn copies_and_grows(rt: HostRuntime) -> Result<(), Fail> {
+    let mut arena = Arena::new(rt.alloc());
+    let from = ask(&rt, rt.alloc(), &mut arena, 6)?;
+    let to = arena.alloc(rt.alloc(), 6)?;
+    copies(&rt, &mut arena, from, to);
+    writes(&rt, &mut arena, from, to);
+    grows(&rt, rt.alloc(), &mut arena, to)?;
     Ok(())
 }

@@ -58,14 +58,18 @@ fn word(found: Option<(u8, Ref)>) -> (u16, u64) {
     }
 }
 
-/// Compares every reader with the table.
-fn compare(rt: &impl Abort, held: &Held, table: &Table, population: u64) {
+/// Compares the head of a branch.
+fn compare_head(rt: &impl Abort, held: &Held, population: u64) {
     let (head, same) = held.head();
     assert!(rt; same);
     assert_eq!(rt;
         (head.level, head.prefix, head.population),
         (3, PREFIX, population)
     );
+}
+
+/// Compares the child of each byte, and the child before it, with the table. Returns how many there are.
+fn compare_rising(rt: &impl Abort, held: &Held, table: &Table) -> usize {
     let mut below = (256, 0);
     let mut count = 0usize;
     for byte in 0..256usize {
@@ -79,8 +83,11 @@ fn compare(rt: &impl Abort, held: &Held, table: &Table, population: u64) {
         assert_eq!(rt; word(held.prev_child(byte as u8)), below, "prev {byte}");
     }
     assert_eq!(rt; word(Some(held.last_child())), below);
-    assert_eq!(rt; held.child_count(), count);
-    assert_eq!(rt; held.words(), size_of(count), "words of {count}");
+    count
+}
+
+/// Compares the child after each byte with the table.
+fn compare_falling(rt: &impl Abort, held: &Held, table: &Table) {
     let mut above = (256, 0);
     for back in 0..256usize {
         let byte = 255 - back;
@@ -89,6 +96,15 @@ fn compare(rt: &impl Abort, held: &Held, table: &Table, population: u64) {
         }
         assert_eq!(rt; word(held.next_child(byte as u8)), above, "next {byte}");
     }
+}
+
+/// Compares every reader with the table.
+fn compare(rt: &impl Abort, held: &Held, table: &Table, population: u64) {
+    compare_head(rt, held, population);
+    let count = compare_rising(rt, held, table);
+    assert_eq!(rt; held.child_count(), count);
+    assert_eq!(rt; held.words(), size_of(count), "words of {count}");
+    compare_falling(rt, held, table);
 }
 
 /// Bytes 0 to 2 of the keys below.

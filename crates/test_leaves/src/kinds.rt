@@ -127,13 +127,18 @@ fn a_full_leaf_without_one_of_its_keys(rt: HostRuntime) {
     assert_eq!(rt; leaf.words(), 8);
 }
 
+/// A leaf gets 31 keys, each 1000 above the one before.
+fn fill_apart(rt: &impl Abort, alloc: Global, leaf: &mut Held) {
+    for i in 0..31u64 {
+        put(rt, alloc, leaf, i * 1000, i);
+    }
+}
+
 #[test]
 fn thirty_one_keys_that_stand_apart(rt: HostRuntime) {
     for values in [false, true] {
         let mut leaf = Held::new(rt.alloc(), values);
-        for i in 0..31u64 {
-            put(&rt, rt.alloc(), &mut leaf, i * 1000, i);
-        }
+        fill_apart(&rt, rt.alloc(), &mut leaf);
         assert!(rt; leaf.insert(rt.alloc(), 31000, 0) == Put::Split);
         assert!(rt; leaf.insert(rt.alloc(), 30000, 0) == Put::Present(given(values, 30)));
         assert_eq!(rt; leaf.get(31000), None);

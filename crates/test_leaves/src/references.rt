@@ -1,5 +1,6 @@
 //! References, compared with words written out by hand.
 use judy_refs::{Kind, Ref};
+use std::process::Abort;
 use std::test::Fail;
 
 const KINDS: [(Kind, u64); 8] = [
@@ -13,18 +14,24 @@ const KINDS: [(Kind, u64); 8] = [
     (Kind::Bucket, 0x8_0000_0000),
 ];
 
+/// Checks the reference of a kind to the block of a number.
+fn refers(rt: &impl Abort, kind: Kind, above: u64, number: u32) -> Result<(), Fail> {
+    let word = above | u64::from(number);
+    let reference = Ref::read(word).ok_or("a reference")?;
+    let block = reference.block().ok_or("a block")?;
+    assert_eq!(rt; block.number(), number);
+    assert_eq!(rt; Ref::of(kind, block), reference);
+    assert_eq!(rt; reference.word(), word);
+    assert_eq!(rt; Ref::known(word), reference);
+    assert_eq!(rt; reference.kind(), Some(kind));
+    Ok(())
+}
+
 #[test]
 fn a_reference_is_its_kind_and_its_number(rt: HostRuntime) -> Result<(), Fail> {
-    for (kind, above) in KINDS {
+    for (kind, above) in &KINDS {
         for number in [0, 1, 4_294_967_295u32] {
-            let word = above | u64::from(number);
-            let reference = Ref::read(word).ok_or("a reference")?;
-            let block = reference.block().ok_or("a block")?;
-            assert_eq!(rt; block.number(), number);
-            assert_eq!(rt; Ref::of(kind, block), reference);
-            assert_eq!(rt; reference.word(), word);
-            assert_eq!(rt; Ref::known(word), reference);
-            assert_eq!(rt; reference.kind(), Some(kind));
+            refers(&rt, *kind, *above, number)?;
         }
     }
     Ok(())

@@ -24,32 +24,39 @@ fn byte_of(order: Order, step: u8) -> u8 {
     }
 }
 
+/// Compares the searches for an entry at a word.
+fn compare_entries(rt: &impl Abort, leaf: &Held, wanted: &Wanted, x: u64) {
+    assert_eq!(rt; leaf.get(x), wanted.get(x), "get {x}");
+    let first = wanted.first_entry(x);
+    assert!(rt; leaf.first_entry(x) == first, "first entry {x}");
+    let last = wanted.last_entry(x);
+    assert!(rt; leaf.last_entry(x) == last, "last entry {x}");
+}
+
+/// Compares the searches for a gap at a word.
+fn compare_gaps(rt: &impl Abort, leaf: &Held, wanted: &Wanted, x: u64) {
+    let first = wanted.first_empty(x);
+    assert_eq!(rt; leaf.first_empty(x), first, "first_empty {x}");
+    let last = wanted.last_empty(x);
+    assert_eq!(rt; leaf.last_empty(x), last, "last_empty {x}");
+}
+
+/// Compares the ranks and numbers of keys at a word.
+fn compare_ranks(rt: &impl Abort, leaf: &Held, wanted: &Wanted, x: u64) {
+    assert_eq!(rt; leaf.find(x), wanted.find(x), "find {x}");
+    assert_eq!(rt; leaf.count(0, x), wanted.count(0, x), "count to {x}");
+    let since = wanted.count(x, u64::MAX);
+    assert_eq!(rt; leaf.count(x, u64::MAX), since, "count from {x}");
+    let nth = wanted.nth(x % 257);
+    assert_eq!(rt; leaf.nth(x % 257), nth, "nth {x}");
+    assert_eq!(rt; leaf.key_at(x % 257), nth, "key_at {x}");
+}
+
 /// Compares every query at a word.
 fn compare(rt: &impl Abort, leaf: &Held, wanted: &Wanted, x: u64) {
-    assert_eq!(rt; leaf.get(x), wanted.get(x), "get {x}");
-    assert_eq!(rt; leaf.find(x), wanted.find(x), "find {x}");
-    assert!(rt;
-        leaf.first_entry(x) == wanted.first_entry(x),
-        "first entry {x}"
-    );
-    assert!(rt;
-        leaf.last_entry(x) == wanted.last_entry(x),
-        "last entry {x}"
-    );
-    assert_eq!(rt;
-        leaf.first_empty(x),
-        wanted.first_empty(x),
-        "first_empty {x}"
-    );
-    assert_eq!(rt; leaf.last_empty(x), wanted.last_empty(x), "last_empty {x}");
-    assert_eq!(rt; leaf.count(0, x), wanted.count(0, x), "count to {x}");
-    assert_eq!(rt;
-        leaf.count(x, u64::MAX),
-        wanted.count(x, u64::MAX),
-        "count from {x}"
-    );
-    assert_eq!(rt; leaf.nth(x % 257), wanted.nth(x % 257), "nth {x}");
-    assert_eq!(rt; leaf.key_at(x % 257), wanted.nth(x % 257), "key_at {x}");
+    compare_entries(rt, leaf, wanted, x);
+    compare_gaps(rt, leaf, wanted, x);
+    compare_ranks(rt, leaf, wanted, x);
 }
 
 /// Compares every query at a key, next to it, around the 256 words from `base` on, and at both ends
@@ -79,8 +86,8 @@ fn compare_all(rt: &impl Abort, leaf: &Held, wanted: &Wanted, base: u64, key: u6
     }
 }
 
-/// Compares a leaf of one key, and a leaf of some of the entries. Both are then released.
-fn compare_parts(
+/// Compares a leaf of some of the entries, which is then released.
+fn compare_part(
     rt: &impl Abort,
     alloc: Global,
     leaf: &mut Held,
@@ -88,12 +95,15 @@ fn compare_parts(
     from: u64,
     len: u64,
 ) {
-    let words = leaf.words();
     let mut seen = leaf.part(alloc, from, len);
     if seen.is_none() {
         seen = leaf.part(alloc, from, len);
     }
     assert!(rt; seen == wanted.part(from, len), "part {from} {len}");
+}
+
+/// Compares a leaf of one key, which is then released.
+fn compare_single(rt: &impl Abort, alloc: Global, leaf: &mut Held, from: u64, len: u64) {
     let one = Part {
         population: 1,
         first: len,
@@ -105,6 +115,20 @@ fn compare_parts(
         seen = leaf.single(alloc, len, from);
     }
     assert!(rt; seen == Some(one), "single {len}");
+}
+
+/// Compares a leaf of one key, and a leaf of some of the entries. Both are then released.
+fn compare_parts(
+    rt: &impl Abort,
+    alloc: Global,
+    leaf: &mut Held,
+    wanted: &Wanted,
+    from: u64,
+    len: u64,
+) {
+    let words = leaf.words();
+    compare_part(rt, alloc, leaf, wanted, from, len);
+    compare_single(rt, alloc, leaf, from, len);
     assert_eq!(rt; leaf.words(), words, "words after both were given up");
 }
 
