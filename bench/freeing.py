@@ -103,7 +103,7 @@ def reload(server, *tenants):
     with open(server.config + ".new", "wb") as file:
         file.write("".join(it.toml() for it in tenants).encode())
     os.replace(server.config + ".new", server.config)
-    with connect(os.path.join(server.folder.name, "status"), 600) as client:
+    with connect(os.path.join(server.folder.name, "control"), 600) as client:
         client.sendall(b"RELOAD\n")
         if client.recv(4096) != b"OK\n":
             sys.exit("freeing: RELOAD was refused")
@@ -128,9 +128,9 @@ def leave(names):
 
 
 def serving():
-    """A server for the three tenants. Its status socket lies in its folder."""
+    """A server for the three tenants. Its control socket lies in its folder."""
     server = Server("".join(it.toml() for it in (ALICE, BOB, CAROL)).encode(), "--clients", "8")
-    server.words = (*server.words, "--status", os.path.join(server.folder.name, "status"))
+    server.words = (*server.words, "--control", os.path.join(server.folder.name, "control"))
     return server
 
 
