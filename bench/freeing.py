@@ -145,8 +145,8 @@ def main():
         "J1D": lambda: free("J1FA, dense words", count, dense(b"J1S a %d"), b"J1FA a"),
         "JL": lambda: free("JLFA, random words", count, words(b"JLI a %d 1"), b"JLFA a"),
         "JLD": lambda: free("JLFA, dense words", count, dense(b"JLI a %d 1"), b"JLFA a"),
-        "JSL": lambda: free("JSLFA, strings of 9 to 41 bytes", count, [b"JSLI a %s 1" % it for it in strings(draw, count)], b"JSLFA a"),
-        "JHS": lambda: free("JHSFA, keys of 9 to 41 bytes", count, [b"JHSI a %s 1" % it for it in strings(draw, count)], b"JHSFA a"),
+        "JSL": lambda: free("JSLFA, strings of 4 to 20 bytes", count, [b"JSLI a %s 1" % it for it in strings(draw, count)], b"JSLFA a"),
+        "JHS": lambda: free("JHSFA, keys of 4 to 20 bytes", count, [b"JHSI a %s 1" % it for it in strings(draw, count)], b"JHSFA a"),
         "RELOAD": lambda: leave(names),
     }
     print("| call | entries or names | CPU, s | wall, s | longest stop of others, s | CPU ns each |\n|---|---|---|---|---|---|", flush=True)

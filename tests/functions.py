@@ -75,6 +75,13 @@ def end_of_head(text, found):
     return body.end()
 
 
+def law_of(text, found):
+    """The empty body of a law, whose head was found: `{}` on a line of its own; None if it has another."""
+    body = re.compile(r"^%s\{\}$" % found[1], re.M).search(text, found.end())
+    following = HEAD.search(text, found.end())
+    return None if not body or (following and following.start() < body.start()) else body
+
+
 def start_of(text, head):
     """Where the attributes of a function begin."""
     while head:
@@ -91,6 +98,8 @@ def functions_of(file, text):
     for it in HEAD.finditer(text):
         body = end_of_head(text, it)
         last = body and re.compile(r"^%s\}" % it[1], re.M).search(text, body)
+        if not body and (last := law_of(text, it)):
+            body = last.end() - 1
         if not last:
             continue
         one = Function(file, it[2], start_of(text, it.start()), it.start(), body, last.end())

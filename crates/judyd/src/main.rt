@@ -6,8 +6,10 @@ ghost use Rattle.std.specs.Prelude.{◌≡◌, ℕ, List, Option, option_map};
 ghost use Rattle.judy_server.specs.Jobs.{IsProgram};
 ghost use Rattle.judyd.specs.Obeying.{IsFinished, IsObeyed, IsUpkept, refusal_status};
 
+mod built;
 mod standard;
 
+use built::BUILT;
 use judy_command::{Job, Refusal, Sync, VERSION, Word, parse_words};
 use judy_disk::{DiskFault, Folder};
 use judy_programs::{Failed, System, Unserved, read_secret, tell_line};
@@ -148,6 +150,14 @@ fn tell_unserved(rt: &HostRuntime, unserved: Unserved) {
     }
 }
 
+/// Prints help or the version. What the program is made of follows the version.
+fn help(rt: &HostRuntime, text: &str) {
+    let _ = print!(rt; "{text}");
+    if text.starts_with("judyd ") {
+        let _ = println!(rt; "{BUILT}");
+    }
+}
+
 /// Prints why the command line asks for nothing. Returns the status of the program.
 ///
 /// If a text cannot be written, only the status reports it.
@@ -156,7 +166,7 @@ fn refuse(rt: &HostRuntime, refusal: &Refusal) -> u8
 {
     match refusal {
         Refusal::Help(text) => {
-            let _ = print!(rt; "{text}");
+            help(rt, text.as_str());
             0
         }
         Refusal::Usage(text) => {
