@@ -12,6 +12,7 @@ import time
 from edits import CRATES, TOP, read, write
 
 VERDICT = re.compile(r"^fn (\S+): (.*)$", re.M)
+OPEN_GOAL, GOAL_IS_OPEN = ": it is not proved that ", "not proved; a goal of it is open"
 ERROR = re.compile(r"^(?:\./)?((?:src|specs|proofs)/\S+?):(\d+):(\d+): error(\S*) (.*)$", re.M)
 
 
@@ -44,8 +45,14 @@ class Ran:
         self.status, self.said, self.seconds, self.processor = status, said, seconds, processor
 
     def verdicts(self):
-        """What it said of each function, by its path below the crate."""
-        return {it[1].partition("::")[2]: it[2] for it in VERDICT.finditer(self.said)}
+        """What it said of each function, by its path below the crate. The lines above a verdict name the
+        goals of that function that are not proved."""
+        found, ended = {}, 0
+        for it in VERDICT.finditer(self.said):
+            has_goal = OPEN_GOAL in self.said[ended : it.start()]
+            found[it[1].partition("::")[2]] = GOAL_IS_OPEN if it[2].startswith("not proved") and has_goal else it[2]
+            ended = it.end()
+        return found
 
     def errors(self):
         """Its errors: the file, the line, the kind and the text of each."""
