@@ -38,6 +38,9 @@ const CONTROL_HELP: &str = "Where a third Unix socket is made, for RELOAD and ST
 
 const CLIENTS_HELP: &str = "How many clients to serve at once, 1 to 1024; others wait";
 
+const TENANT_CLIENTS_HELP: &str =
+    "Refuse a log-in beyond N connections of one tenant, 1 to 1024, with ERR CLIENTS";
+
 const CONNECTIONS_HELP: &str = "How many connections to serve before it ends";
 
 const LOGIN_HELP: &str = "Close a connection on which nobody is logged in after so long";
@@ -235,6 +238,10 @@ fn with_limits<'a>(alloc: Global, command: Command<'a>) -> Result<Command<'a>, A
     ensures local { IfOk result (λ c. (fields_of c).has_globals ≡ false) }
 {
     let command = with(command, clients(alloc))?;
+    let command = with(
+        command,
+        limited(alloc, "tenant-clients", "N", TENANT_CLIENTS_HELP),
+    )?;
     let command = with(command, connections(alloc))?;
     with_times(alloc, command)
 }
