@@ -51,6 +51,9 @@ reserve_rule = record (valued_rule (codes "reserve")) { parser = Some (parser.Si
 abbrev pub clients_rule : Rule
 clients_rule = record (limited_rule (codes "clients")) { defaults = codes "64" ∷ [] }
 
+abbrev pub tenant_clients_rule : Rule
+tenant_clients_rule = limited_rule (codes "tenant-clients")
+
 -- 4294967295 unless it is given
 abbrev pub connections_rule : Rule
 connections_rule = record (number_rule (codes "connections")) { defaults = codes "4294967295" ∷ [] }
@@ -71,9 +74,13 @@ with_places a = with_rule (with_rule (with_rule (with_rule a (needed_rule (codes
 abbrev pub with_times : App → App
 with_times a = with_rule (with_rule (with_rule a login_rule) (number_rule (codes "idle"))) (number_rule (codes "turn"))
 
+-- `[--clients N] [--tenant-clients N]`
+abbrev pub with_clients : App → App
+with_clients a = with_rule (with_rule a clients_rule) tenant_clients_rule
+
 -- `[--clients N] [--tenant-clients N] [--connections N]`, and the limits of time
 abbrev pub with_limits : App → App
-with_limits a = with_times (with_rule (with_rule (with_rule a clients_rule) (limited_rule (codes "tenant-clients"))) connections_rule)
+with_limits a = with_times (with_rule (with_clients a) connections_rule)
 
 -- `[--journal DIR] [--sync WHEN]`
 abbrev pub with_journal : App → App
