@@ -67,7 +67,7 @@ class Counts:
         if (call == "none") != (kind in ("long", "syntax")) or (call == "none" and kind != wanted):
             sys.exit("counted: %r was answered %r" % (line[:100], answer[:100]))
         self.numbers.update([(LINES, call), (REPLIES, kind)])
-        if call == "AUTH" and kind == "auth":
+        if call == "AUTH" and kind in ("auth", "clients"):
             self.numbers[(REFUSED, fields[0].decode()) if fields[0] in self.names else (UNKNOWN, "")] += 1
 
     def wanted(self):

@@ -183,6 +183,7 @@ static int code_of_refusal(struct text t)
     } refusals[] = {
         {"FULL", JD_FULL},     {"ERR MEMORY", JD_MEMORY}, {"ERR READONLY", JD_READONLY},
         {"ERR AUTH", JD_AUTH}, {"ERR SYNTAX", JD_SYNTAX}, {"ERR LONG", JD_LONG},
+        {"ERR CLIENTS", JD_CLIENTS},
     };
     for (size_t i = 0; i < sizeof refusals / sizeof *refusals; i++)
         if (is_text(t, refusals[i].reply))
@@ -627,6 +628,7 @@ const char *jd_strerror(int code)
     case JD_TIMEOUT: return "the server is silent for too long";
     case JD_REPLY: return "not a reply of judyd";
     case JD_SYSTEM: return "the system refuses a read or a write";
+    case JD_CLIENTS: return "the tenant has as many connections as it may have";
     default: return "not a code of this library";
     }
 }

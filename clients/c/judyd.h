@@ -38,7 +38,10 @@ enum {
     JD_CLOSED = -12,  /* the server has closed the connection, or it was closed after an earlier fault */
     JD_TIMEOUT = -13, /* no byte went either way for as long as jd_timeout says */
     JD_REPLY = -14,   /* a reply that the protocol does not have: the server is not a judyd */
-    JD_SYSTEM = -15   /* the system refuses a read or a write; errno has the reason */
+    JD_SYSTEM = -15,  /* the system refuses a read or a write; errno has the reason */
+
+    /* Refused by the server, as those above. */
+    JD_CLIENTS = -16 /* the tenant has as many connections as it may have; nobody is logged in now */
 };
 
 /* A connection. One thread may use it at a time. Different threads may use different connections. */

@@ -11,7 +11,7 @@ from judyd import wording
 
 CAUSES = ("quit", "end", "fault", "login", "idle", "turn", "memory", "gone", "kick")
 CALLS = ("AUTH", "QUIT", "USED", *sorted(wording.CALLS), "none")
-KINDS = {b"FULL": "full", b"ERR MEMORY": "memory", b"ERR AUTH": "auth", b"ERR READONLY": "readonly", b"ERR SYNTAX": "syntax", b"ERR LONG": "long"}
+KINDS = {b"FULL": "full", b"ERR MEMORY": "memory", b"ERR AUTH": "auth", b"ERR READONLY": "readonly", b"ERR SYNTAX": "syntax", b"ERR LONG": "long", b"ERR CLIENTS": "clients"}
 
 
 class Metric(NamedTuple):

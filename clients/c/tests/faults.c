@@ -189,6 +189,7 @@ static const struct {
     {LOG_IN, "OK", 1},
     {LOG_IN, "1", JD_REPLY},
     {LOG_IN, "ERR AUTH", JD_AUTH},
+    {LOG_IN, "ERR CLIENTS", JD_CLIENTS},
 };
 
 /* Makes a call of a kind. Checks that its results are stored if it returns 1, and otherwise not. */

@@ -168,7 +168,7 @@ class Client(Arrays):
         return reply
 
     def _note_log_in(self, line: bytes, reply: bytes) -> None:
-        if line.split()[:1] == [b"AUTH"] and reply in (b"OK", b"ERR AUTH"):
+        if line.split()[:1] == [b"AUTH"] and reply in (b"OK", b"ERR AUTH", b"ERR CLIENTS"):
             self._link.log_in = line if reply == b"OK" else None
 
     def _held(self) -> ContextManager[None]:

@@ -5,7 +5,7 @@ from typing import Dict, List, Sequence, Type
 
 __all__ = [
     "JudyError", "Error", "Closed", "NoServer", "ConnectionLost", "TimedOut", "Restarted",
-    "PoolEmpty", "Refused", "Full", "NoMemory", "ReadOnly", "NotAuthorized", "Syntax", "Long", "KeyTooLong",
+    "PoolEmpty", "Refused", "Full", "NoMemory", "ReadOnly", "NotAuthorized", "TooManyClients", "Syntax", "Long", "KeyTooLong",
 ]  # fmt: skip
 
 
@@ -98,6 +98,13 @@ class Syntax(Refused):
     meaning = "the line spells no request of this server"
 
 
+class TooManyClients(Refused):
+    """The tenant is logged in on as many other connections as `judyd serve --tenant-clients` allows. Nobody is
+    logged in on this one now."""
+
+    meaning = "the tenant has as many connections as it may have"
+
+
 class Long(Refused):
     """The line has more than 4,096 bytes."""
 
@@ -113,6 +120,7 @@ REFUSALS: Dict[bytes, Type[Refused]] = {
     b"ERR MEMORY": NoMemory,
     b"ERR READONLY": ReadOnly,
     b"ERR AUTH": NotAuthorized,
+    b"ERR CLIENTS": TooManyClients,
     b"ERR SYNTAX": Syntax,
     b"ERR LONG": Long,
 }

@@ -8,7 +8,7 @@ from collections import deque
 from typing import Callable, Deque, Iterator, List, Optional, Tuple
 
 from .client import Client
-from .errors import Closed, ConnectionLost, Error, NotAuthorized, Restarted
+from .errors import Closed, ConnectionLost, Error, NotAuthorized, Restarted, TooManyClients
 from .wording import advice, coded, is_quit, is_refused, request_of, told
 
 WINDOW = 1000
@@ -53,7 +53,7 @@ class Session:
         if not self._is_held:
             self.close()
         for request, reply in zip(requests, replies):
-            if request.split()[:1] == ["AUTH"] and reply in ("OK", "ERR AUTH"):
+            if request.split()[:1] == ["AUTH"] and reply in ("OK", "ERR AUTH", "ERR CLIENTS"):
                 self.log_in = request if reply == "OK" else None
         return replies
 
@@ -61,7 +61,10 @@ class Session:
         """A new connection, with the same log-in."""
         client = self._connect()
         try:
-            if self.log_in is not None and client.lines([coded(self.log_in)]) != [b"OK"]:
+            replies = client.lines([coded(self.log_in)]) if self.log_in is not None else [b"OK"]
+            if replies == [b"ERR CLIENTS"]:
+                raise TooManyClients("ERR CLIENTS")
+            if replies != [b"OK"]:
                 raise NotAuthorized("ERR AUTH")
         except BaseException:
             client.close()

@@ -5,7 +5,7 @@ import getpass
 import os
 from typing import Any, List, Optional, Set
 
-from .errors import Closed, NotAuthorized
+from .errors import Closed, NotAuthorized, TooManyClients
 from .session import Printer, Session, complain
 from .wording import COMMANDS, help_of, is_quit, request_of
 
@@ -103,6 +103,9 @@ class Terminal:
         except NotAuthorized:
             complain("the server no longer knows this tenant and token: AUTH again")
             self._session.log_in = None
+            return True
+        except TooManyClients:
+            complain("the tenant has as many connections as it may have; the next line tries again")
             return True
         except Closed as e:
             complain("%s; the next line tries again" % e)

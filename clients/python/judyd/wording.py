@@ -75,7 +75,7 @@ def _calls_of(kind: str, prefix: str, key: str) -> List[Call]:
 
 
 _OTHERS = [
-    Call("AUTH", "", ("tenant", "token"), 2, "logs in: OK, or ERR AUTH, after which nobody is logged in"),
+    Call("AUTH", "", ("tenant", "token"), 2, "logs in: OK, or ERR AUTH or ERR CLIENTS, after which nobody is logged in"),
     Call("USED", "", (), 0, "Q used quota pieces most: entries and pieces, each with its quota"),
     Call("QUIT", "", (), 0, "BYE, and the connection ends"),
 ]
@@ -148,6 +148,7 @@ def advice(request: str, reply: str) -> str:
     known = {
         "ERR LONG": "the line has %d bytes, and at most %d are read" % (len(coded(request)), LINE_LIMIT),
         "ERR AUTH": "nobody is logged in: judy -u TENANT, or a line AUTH first",
+        "ERR CLIENTS": "the tenant has as many connections as it may have: end one of them",
         "ERR READONLY": "the log-in is read-only",
         "FULL": "the quota has no room: USED shows it",
         "ERR MEMORY": "the server is out of memory for a new entry",

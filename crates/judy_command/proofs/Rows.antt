@@ -8,7 +8,7 @@ use Rattle.clap.specs.Words.{Text}
 use Rattle.clap.specs.ValueTests.{is_unsigned_in}
 use Rattle.clap.specs.declared.builder.value_parser.ValueParser.TheVariants as parser
 use Rattle.clap.proofs.ValueTestLemmas.{accepts-Accepts, Accepts-accepts}
-use Rattle.judy_command.specs.CommandLine.{IsSync, seconds_in, sync_in, number_in, most_count, most_megabytes, IsUsage, StopsBy, judyd_app, job_of, IsCount, IsInRange, job_at, served, words_fault}
+use Rattle.judy_command.specs.CommandLine.{IsSync, seconds_in, sync_in, number_in, most_clients, most_count, most_megabytes, IsUsage, StopsBy, judyd_app, job_of, IsCount, IsInRange, job_at, served, words_fault}
 use Rattle.clap.specs.Kinds.{or_else}
 use Rattle.std.proofs.Common.{◌⊎◌, ◌∷◌, [], inl, inr, subst, sym, Some, None, codes}
 use Rattle.clap.specs.Words.{Row, first_of, Kinds, IsAmong, takes, subcommand_of, fault_of}
@@ -97,6 +97,7 @@ sync_word (Some t) = or_round (sync_in t) (sync_of t)
 served-in_range : (rows : List Row) → IsInRange (served rows)
 served-in_range rows = (
   count_given 1024 64 (omega arith, omega arith) (first_of (codes "clients") rows),
+  counts_given most_clients (omega arith) (first_of (codes "tenant-clients") rows),
   count_given most_count most_count (omega arith, omega arith) (first_of (codes "connections") rows),
   count_given most_count 10 (omega arith, omega arith) (first_of (codes "login") rows),
   counts_given most_count (omega arith) (first_of (codes "idle") rows),
@@ -164,19 +165,29 @@ unfolding clap_on_literals
 taken-serve = refl
 
 job-serve : job_of (subcommand_of judyd_app (codes "serve" ∷ codes "--config" ∷ codes "c" ∷ codes "--socket" ∷ codes "s" ∷ []))
-    ≡ Some (Serve (codes "c") (codes "s") None None 64 4294967295 10 None None None None Round false)
+    ≡ Some (Serve (codes "c") (codes "s") None None 64 None 4294967295 10 None None None None Round false)
 unfolding clap_on_literals
 job-serve = refl
 
 job-status : job_of (subcommand_of judyd_app (codes "serve" ∷ codes "--config" ∷ codes "c" ∷ codes "--socket" ∷ codes "s" ∷ codes "--status" ∷ codes "t" ∷ []))
-    ≡ Some (Serve (codes "c") (codes "s") (Some (codes "t")) None 64 4294967295 10 None None None None Round false)
+    ≡ Some (Serve (codes "c") (codes "s") (Some (codes "t")) None 64 None 4294967295 10 None None None None Round false)
 unfolding clap_on_literals
 job-status = refl
 
 job-reserve : job_of (subcommand_of judyd_app (codes "serve" ∷ codes "--config" ∷ codes "c" ∷ codes "--socket" ∷ codes "s" ∷ codes
-    "--reserve" ∷ codes "64" ∷ [])) ≡ Some (Serve (codes "c") (codes "s") None None 64 4294967295 10 None None (Some 64) None Round false)
+    "--reserve" ∷ codes "64" ∷ [])) ≡ Some (Serve (codes "c") (codes "s") None None 64 None 4294967295 10 None None (Some 64) None Round false)
 unfolding clap_on_literals
 job-reserve = refl
+
+job-tenant-clients : job_of (subcommand_of judyd_app (codes "serve" ∷ codes "--config" ∷ codes "c" ∷ codes "--socket" ∷ codes "s" ∷ codes
+    "--tenant-clients" ∷ codes "3" ∷ [])) ≡ Some (Serve (codes "c") (codes "s") None None 64 (Some 3) 4294967295 10 None None None None Round false)
+unfolding clap_on_literals
+job-tenant-clients = refl
+
+refused-more-than-all-clients : fault_of judyd_app (codes "serve" ∷ codes "--config" ∷ codes "c" ∷ codes "--socket" ∷ codes "s" ∷ codes
+    "--tenant-clients" ∷ codes "1025" ∷ []) ≡ kind.ValueValidation ∷ []
+unfolding clap_on_literals
+refused-more-than-all-clients = refl
 
 refused-more-than-an-arena : fault_of judyd_app (codes "serve" ∷ codes "--config" ∷ codes "c" ∷ codes "--socket" ∷ codes "s" ∷ codes
     "--reserve" ∷ codes "131073" ∷ []) ≡ kind.ValueValidation ∷ []
@@ -197,7 +208,7 @@ abbrev serve-words : Text → Text → List Text
 serve-words dir when = codes "serve" ∷ codes "--config" ∷ codes "c" ∷ codes "--socket" ∷ codes "s" ∷ codes "--journal" ∷ dir ∷ codes "--sync" ∷ when ∷ []
 
 job-journal : job_of (subcommand_of judyd_app (serve-words (codes "d") (codes "5")))
-    ≡ Some (Serve (codes "c") (codes "s") None None 64 4294967295 10 None None None (Some (codes "d")) (Seconds 5) false)
+    ≡ Some (Serve (codes "c") (codes "s") None None 64 None 4294967295 10 None None None (Some (codes "d")) (Seconds 5) false)
 unfolding clap_on_literals
 job-journal = refl
 

@@ -4,8 +4,8 @@ ghost use Rattle.clap.specs.Words.{app_of, new_app, rule_of, with_rule, with_sub
 ghost use Rattle.clap.specs.declared.builder.Command.TheViews.{out-Command as fields_of};
 ghost use Rattle.judy_command.specs.CommandLine.{bare_app, clients_rule, compact_app, connections_rule, flag_rule};
 ghost use Rattle.judy_command.specs.CommandLine.{journal_app, judyd_app, limited_rule, login_rule, number_rule, placed_rule};
-ghost use Rattle.judy_command.specs.CommandLine.{reserve_rule, run_app, serve_app, valued_rule};
-ghost use Rattle.judy_command.specs.CommandLine.{with_journal, with_limits, with_places, with_times};
+ghost use Rattle.judy_command.specs.CommandLine.{reserve_rule, run_app, serve_app, tenant_clients_rule, valued_rule};
+ghost use Rattle.judy_command.specs.CommandLine.{with_clients, with_journal, with_limits, with_places, with_times};
 
 use clap::{Arg, ArgAction, Command};
 use std::alloc::{AllocError, Global};
@@ -37,6 +37,9 @@ const STATUS_HELP: &str = "Where a second Unix socket is made, for STATUS and GE
 const CONTROL_HELP: &str = "Where a third Unix socket is made, for RELOAD, KICK and STOP";
 
 const CLIENTS_HELP: &str = "How many clients to serve at once, 1 to 1024; others wait";
+
+const TENANT_CLIENTS_HELP: &str =
+    "Refuse a log-in beyond N connections of one tenant, 1 to 1024, with ERR CLIENTS";
 
 const CONNECTIONS_HELP: &str = "How many connections to serve before it ends";
 
@@ -141,6 +144,14 @@ fn clients<'a>(alloc: Global) -> Arg<'a>
     limited(alloc, "clients", "N", CLIENTS_HELP).default_value("64")
 }
 
+/// `--tenant-clients N`.
+fn tenant_clients<'a>(alloc: Global) -> Arg<'a>
+    ensures rule { rule_of result ≡ tenant_clients_rule }
+    ensures local { result.global ≡ false }
+{
+    limited(alloc, "tenant-clients", "N", TENANT_CLIENTS_HELP)
+}
+
 /// `--connections N`; the default is the greatest number.
 fn connections<'a>(alloc: Global) -> Arg<'a>
     ensures rule { rule_of result ≡ connections_rule }
@@ -228,13 +239,23 @@ fn with_times<'a>(alloc: Global, command: Command<'a>) -> Result<Command<'a>, Al
     with(command, numbered(alloc, "turn", "SECONDS", TURN_HELP))
 }
 
+/// A command with the options for the numbers of clients.
+fn with_clients<'a>(alloc: Global, command: Command<'a>) -> Result<Command<'a>, AllocError>
+    requires local { (fields_of command).has_globals ≡ false }
+    ensures app { IfOk result (λ c. app_of c ≡ with_clients (app_of command.entry)) }
+    ensures local { IfOk result (λ c. (fields_of c).has_globals ≡ false) }
+{
+    let command = with(command, clients(alloc))?;
+    with(command, tenant_clients(alloc))
+}
+
 /// A command with the options for the limits of connections.
 fn with_limits<'a>(alloc: Global, command: Command<'a>) -> Result<Command<'a>, AllocError>
     requires local { (fields_of command).has_globals ≡ false }
     ensures app { IfOk result (λ c. app_of c ≡ with_limits (app_of command.entry)) }
     ensures local { IfOk result (λ c. (fields_of c).has_globals ≡ false) }
 {
-    let command = with(command, clients(alloc))?;
+    let command = with_clients(alloc, command)?;
     let command = with(command, connections(alloc))?;
     with_times(alloc, command)
 }

@@ -56,6 +56,8 @@ pub enum Job {
         control: Option<Word>,
         /// How many clients to serve at once: 1 to 1024.
         clients: u32,
+        /// On how many connections one tenant may be logged in, if there is a limit: 1 to 1024.
+        tenant_clients: Option<u32>,
         /// How many connections to serve: 1 to 4294967295, and the last of these stands for no limit.
         connections: u32,
         /// How many seconds a connection may last on which nobody is logged in: 1 to 4294967295.
@@ -220,6 +222,7 @@ fn served(alloc: Global, matches: &ArgMatches<'_>) -> Result<Job, AllocError>
         status,
         control,
         clients: number_given(matches, "clients", MOST_CLIENTS).unwrap_or(64),
+        tenant_clients: number_given(matches, "tenant-clients", MOST_CLIENTS),
         connections: number_given(matches, "connections", u32::MAX).unwrap_or(u32::MAX),
         login: number_given(matches, "login", u32::MAX).unwrap_or(10),
         idle: number_given(matches, "idle", u32::MAX),

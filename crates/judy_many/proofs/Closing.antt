@@ -26,6 +26,7 @@ use Rattle.judy_many.specs.declared.network.Sync.{Sync}
 use Rattle.judy_many.specs.declared.serve.Limits.{Limits}
 use Rattle.judy_many.proofs.Beside.{stays_past}
 use Rattle.judy_many.proofs.Journals.{is_quiet, keeps_quiet}
+use Rattle.judy_many.proofs.Limiting.{foreign_quiet, limited_quiet}
 use Rattle.judy_many.proofs.Owning.{own-append}
 use Rattle.judy_many.proofs.Chaining.{Stays, kept_alone, runs_alone}
 use Rattle.judy_many.proofs.Seeing.{IsUnseen, KeepsApart}
@@ -67,6 +68,7 @@ crowd_ends view rules apart unseen stays goes_on one equal steps first start mid
       fair = told.fair;
       awake = told.awake;
       each = told.each;
+      limited = told.limited;
       few = told.few;
       total = let e = told.total in let f = told.capped in omega (arith, e, f);
       within = told.within;
@@ -95,16 +97,17 @@ module _ {B S : Type 0} (view : B → View) (rules : Rules S) (apart : KeepsApar
     (first : S) (start : Acts) (limits : Limits) (writer : Option Writing) where
   told_on : (phase : Phase) (had : Queued) (waits : ℕ) (journal : Option Journal) (lost : ℕ) (mid log : Acts) (slots : List (Option B)) (count : ℕ) (now : S)
       (h : Crowd view rules limits first start phase had (past_of waits (opened limits.journal writer) journal) mid slots count now) (more : Story)
-      → DidLog mid (acts_in more) log → Passes rules h.story now more now → Lasts rules (is_some limits.journal) now more now → came_in (acts_in more) ≡ 0 → closed_in (acts_in more) ≡ 0 → AreWithin limits (acts_in more)
+      → ((n : ℕ) → own n more ≡ []) → DidLog mid (acts_in more) log → Passes rules h.story now more now → Lasts rules (is_some limits.journal) now more now → came_in (acts_in more) ≡ 0 → closed_in (acts_in more) ≡ 0 → AreWithin limits (acts_in more)
       → ((wrote : Bool) → IsPhased wrote more × (writes_since wrote more ≡ wrote)) → ((share : Share) → times share more ≡ 0)
       → lost ≡ lost_in (acts_in more) → waits_in (acts_in more) ≡ 0 → is_quiet more ≡ true → ((last : Option (List ℕ)) → AreRead limits last more)
       → IsTold rules limits first start phase lost (past_of waits (opened limits.journal writer) journal) log slots count now (h.story ++ more)
-  told_on phase had waits journal lost mid log slots count now h more k r l came closed within phases silent lose wait quiet reads =
+  told_on phase had waits journal lost mid log slots count now h more none k r l came closed within phases silent lose wait quiet reads =
       told_more rules limits first start phase phase 0 lost (past_of waits (opened limits.journal writer) journal) (past_of waits (opened limits.journal writer) journal) mid log slots slots count count now now h.story more h.is_told k r l
       (omega (arith, came)) h.is_told.capped (omega (arith, came, closed))
       (let a = taken_most slots in let b = h.is_told.sized in omega (arith, a, b, came)) (omega arith) within
       (phases (writes_since false h.story)).0 (λ e. (phases (writes_since false h.story)).1 ∙ h.is_told.quiet e)
       (still h.story more h.is_told.fair silent) (omega (arith, lose)) (stays_past phase (past_of waits (opened limits.journal writer) journal) more wait (keeps_quiet journal more quiet) h.is_told.settled) reads (no_looks h.story more wait)
+      (limited_quiet limits.tenant_clients h.story more (foreign_quiet more none))
 
   pub ends_here : (log : Acts) (phase : Phase) (had : Queued) (waits : ℕ) (journal : Option Journal) (slots : List (Option B)) (count : ℕ) (now : S) (how : Ending)
       → (how ≡ ending.Done → (limits.connections ≤ count) × AreFree slots)
@@ -112,7 +115,7 @@ module _ {B S : Type 0} (view : B → View) (rules : Rules S) (apart : KeepsApar
       → IsCaused how (h.story ++ []) → HasServedMany rules limits writer how start log first now
   ends_here log phase had waits journal slots count now how done h cause =
       crowd_ends view rules apart unseen stays goes_on one equal steps first start log log writer phase had waits journal 0 slots count now limits how [] done h (λ n. refl)
-      (told_on phase had waits journal 0 log log slots count now h [] (no_log log) refl refl refl refl tt (λ wrote. (tt, refl)) (λ share. refl) refl refl refl (λ last. tt)) cause
+      (told_on phase had waits journal 0 log log slots count now h [] (λ n. refl) (no_log log) refl refl refl refl tt (λ wrote. (tt, refl)) (λ share. refl) refl refl refl (λ last. tt)) cause
 
   -- before anything was asked of the system
   pub ends_first : (line : Line) (slots : List (Option B)) → AreFree slots → length slots ≤ limits.clients → length slots ≤ 1024 → HasServedMany rules limits writer ending.Memory start start first first
@@ -147,7 +150,7 @@ module _ {B S : Type 0} (view : B → View) (rules : Rules S) (apart : KeepsApar
       → HasServedMany rules limits writer ending.Socket start log first now
   ends_lost mid log phase had waits journal slots count now k h =
       crowd_ends view rules apart unseen stays goes_on one equal steps first start mid log writer phase had waits journal 1 slots count now limits ending.Socket (Did Lost ∷ []) (λ e. absurd (socket_not e)) h (λ n. refl)
-      (told_on phase had waits journal 1 mid log slots count now h (Did Lost ∷ []) k (tt, refl) refl refl refl (tt, tt) (λ wrote. ((tt, tt), refl)) (λ share. refl) refl refl refl (λ last. tt))
+      (told_on phase had waits journal 1 mid log slots count now h (Did Lost ∷ []) (λ n. refl) k (tt, refl) refl refl refl (tt, tt) (λ wrote. ((tt, tt), refl)) (λ share. refl) refl refl refl (λ last. tt))
       (inl (record { before = h.story; last = refl; once = h.is_told.unlost }))
     where
       socket_not : ending.Socket ≡ ending.Done → ⊥
@@ -160,7 +163,7 @@ module _ {B S : Type 0} (view : B → View) (rules : Rules S) (apart : KeepsApar
   ends_stopped mid log phase had waits journal slots count now false e bad h = absurd bad
   ends_stopped mid log phase had waits journal slots count now true e k h =
       crowd_ends view rules apart unseen stays goes_on one equal steps first start mid log writer phase had waits journal 1 slots count now limits ending.Stopped (Did (Questioned question.Stop) ∷ []) (λ e. absurd (stopped_not e)) h (λ n. refl)
-      (told_on phase had waits journal 1 mid log slots count now h (Did (Questioned question.Stop) ∷ []) k (tt, refl) refl refl refl (e, tt) (λ wrote. ((tt, tt), refl)) (λ share. refl) refl refl refl (λ last. tt))
+      (told_on phase had waits journal 1 mid log slots count now h (Did (Questioned question.Stop) ∷ []) (λ n. refl) k (tt, refl) refl refl refl (e, tt) (λ wrote. ((tt, tt), refl)) (λ share. refl) refl refl refl (λ last. tt))
       (record { before = h.story; last = refl; once = h.is_told.unlost })
     where
       stopped_not : ending.Stopped ≡ ending.Done → ⊥
@@ -190,7 +193,7 @@ module _ {B S : Type 0} (view : B → View) (rules : Rules S) (apart : KeepsApar
           → HasServedMany rules limits writer ending.Journal start log first now
       ended a fails lost within k none came closed phases silent wait quiet passes =
           crowd_ends view rules apart unseen stays goes_on one equal steps first start f.mid log writer Phase.Reads unqueued f.waits f.journal 1 slots count now limits ending.Journal (Did a ∷ []) (λ e. absurd (journal_not e)) f.crowd none
-          (told_on Phase.Reads unqueued f.waits f.journal 1 f.mid log slots count now f.crowd (Did a ∷ []) k passes refl came closed within phases silent (sym lost) wait quiet (λ last. tt))
+          (told_on Phase.Reads unqueued f.waits f.journal 1 f.mid log slots count now f.crowd (Did a ∷ []) none k passes refl came closed within phases silent (sym lost) wait quiet (λ last. tt))
           (record { before = f.crowd.story; act = a; fails = fails; last = refl; once = f.crowd.is_told.unlost })
 
       failed : (a : Act) → IsFailure a → DidLog f.mid (a ∷ []) log → HasServedMany rules limits writer ending.Journal start log first now

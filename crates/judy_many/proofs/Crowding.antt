@@ -13,6 +13,7 @@ use Rattle.judy_many.specs.Nets.{Act, Acts, DidLog}
 use Rattle.judy_many.specs.Nets.Act.{Came, Closed, Named, Questioned, Replied, Reported, Tabled, Untabled, Waited, Warned}
 use Rattle.std.specs.List.{list_any}
 use Rattle.judy_many.specs.Arrivals.{Arrives, IsArrival}
+use Rattle.judy_many.specs.Others.{AreLimited, IsLimited}
 use Rattle.judy_many.specs.Present.{speakers_at}
 use Rattle.judy_many.specs.Rules.{Rules}
 use Rattle.judy_many.specs.Sessions.{AreTurns, records_in}
@@ -30,6 +31,7 @@ use Rattle.judy_many.proofs.Looking.{closed_in_slot}
 use Rattle.judy_many.proofs.Queueing.{before_later, before_none, before_only}
 use Rattle.judy_many.proofs.Seats.{At-here, At-index, At-keep, At-only, At-set, At-some, At-within, free_at, long_set, taken_at, taken_free, taken_most, taken_none}
 use Rattle.judy_many.proofs.Turning.{GoOn, fair-append, lost-append, mine_plain, since-append, since_fresh, since_most, since_other, since_quiet, still, takes_turn, waits-append}
+use Rattle.judy_many.proofs.Limiting.{IsLimited-append, foreign_quiet, limited_quiet, limited_turn}
 use Rattle.judy_many.proofs.Presence.{present}
 use Rattle.judy_many.proofs.Passing.{AreRead-append, Lasts-append, Passes-append, lasts_plain, passes_plain, reads_plain}
 use Rattle.judy_many.proofs.Beside.{IsAside, IsBeside, Passed, after_lines, beside, keeping, keeping_passes, later, reads_not_writes, stays_past, told_lasts}
@@ -52,9 +54,9 @@ module _ {B S : Type 0} (rules : Rules S) (limits : Limits) (first : S) (start :
       → AreWithin limits (acts_in more)
       → IsPhased (writes_since false story) more
       → (phase' ≡ Phase.Reads → writes_since (writes_since false story) more ≡ false)
-      → GoOn story more → lost' ≡ lost + lost_in (acts_in more) → Passed phase' past more past' → ((last : Option (List ℕ)) → AreRead limits last more) → Looks story more
+      → GoOn story more → lost' ≡ lost + lost_in (acts_in more) → Passed phase' past more past' → ((last : Option (List ℕ)) → AreRead limits last more) → Looks story more → IsLimited limits.tenant_clients story more
       → IsTold rules limits first start phase' lost' past' log' slots' count' after (story ++ more)
-  told_more phase phase' lost lost' past past' log log' slots slots' count count' now after story more h k r l counts capped sums room sized within phases quiet turns lose passed reads looks = record {
+  told_more phase phase' lost lost' past past' log log' slots slots' count count' now after story more h k r l counts capped sums room sized within phases quiet turns lose passed reads looks limited = record {
     logged = subst (λ a. DidLog start a log') (sym (acts_in-append story more)) (then_log start log log' (acts_in story) (acts_in more) h.logged k);
     run = Passes-append rules [] first now after story more h.run r;
     lasts = Lasts-append rules (is_some limits.journal) first now after story more h.lasts l;
@@ -79,6 +81,7 @@ module _ {B S : Type 0} (rules : Rules S) (limits : Limits) (first : S) (start :
     settled = passed.settled;
     awake = awake-append story more h.awake looks;
     each = each-append story more h.each looks;
+    limited = IsLimited-append limits.tenant_clients [] story more h.limited limited;
   }
     where
       at_end : (p q r : Story) → p ≡ story ++ r → more ≡ r ++ q → came_in (acts_in p) ≤ closed_in (acts_in p) + limits.clients
@@ -320,7 +323,7 @@ module _ {B S : Type 0} (view : B → View) (rules : Rules S) (limits : Limits) 
       (told_more rules limits first start phase phase 0 0 past past' log log' slots slots count count now after h.story more h.is_told k (r h) l (omega (arith, came)) h.is_told.capped
       (omega (arith, came, closed)) (let a = taken_most slots in let b = h.is_told.sized in omega (arith, a, b, came)) (omega arith) a.within
       (a.phases (writes_since false h.story)).0 (λ e. (a.phases (writes_since false h.story)).1 ∙ h.is_told.quiet e)
-      (still h.story more h.is_told.fair a.silent) (omega (arith, lost)) passed a.reads (no_looks h.story more a.waited))
+      (still h.story more h.is_told.fair a.silent) (omega (arith, lost)) passed a.reads (no_looks h.story more a.waited) (limited_quiet limits.tenant_clients h.story more (foreign_quiet more a.foreign)))
       (λ j c at. at) (λ j c at. at) (open_still phase had had past log slots count now h more (λ j k. k) a.silent)
       (λ j c at. alert_keep phase had j (view c) h.story more (a.foreign (view c).number) a.waited (h.alert j c at))
 
@@ -384,7 +387,7 @@ module _ {B S : Type 0} (view : B → View) (rules : Rules S) (limits : Limits) 
       (let a = taken_most slots in let b = h.is_told.sized in omega (arith, a, b)) (omega arith) (tt, tt) (tt, tt) (λ e. refl)
       (still h.story last h.is_told.fair (λ share. refl)) refl
       (record { waited = refl; began = refl; keeps = keeps_quiet past.journal last refl; settled = λ e. absurd (reads_not_writes e) }) (λ last. tt)
-      (looks_waits line past log slots count now sleeps slots_told asleep h))
+      (looks_waits line past log slots count now sleeps slots_told asleep h) tt)
       (λ j c at. at) (λ j c at. at) (λ j c at not share.
       let e : turns_since (view c).number share 0 (h.story ++ last) ≡ 0 = since-append (view c).number share 0 h.story last in
       let f = reads_most share in
@@ -551,6 +554,7 @@ module _ {B S : Type 0} (view : B → View) (rules : Rules S) (limits : Limits) 
       settled = settled;
       awake = h.is_told.awake;
       each = h.is_told.each;
+      limited = h.is_told.limited;
     };
     below = h.below;
     live = h.live;
@@ -676,12 +680,13 @@ module _ {B S : Type 0} (view : B → View) (rules : Rules S) (limits : Limits) 
   pub crowd_turn : (phase : Phase) (had had' : Queued) (past : Past) (log log' : Acts) (slots : List (Option B)) (count : ℕ) (now after : S) (i : ℕ) (d s' : Option B) (more : Story)
       → ((j : ℕ) → had.had j → had'.had j) → (had.had i → ⊥) → had'.had i
       → Now phase had past log slots count now → i < length slots → d ≡ slice_index_or slots i d → DidLog log (acts_in more) log' → AreTurns rules now (turns_in more) after
+      → AreLimited limits.tenant_clients (speakers_at view (slice_set slots i None)) (turns_in more)
       → SlotDid limits phase (option_map view d) (option_map view s') more
       → ((j : ℕ) → j ≢ i → (v : View) (s : Story) → Alert phase had j v s → Alert phase had' j v s)
       → ((b c : B) (s : Story) → d ≡ Some b → s' ≡ Some c → (view c).number ≡ (view b).number → Mine (view b).number more → came_in (acts_in more) ≡ 0 → waits_in (acts_in more) ≡ 0
       → Alert phase had i (view b) s → Alert phase had' i (view c) (s ++ more))
       → Now phase had' (after_lines (records_in (turns_in more)) past) log' (slice_set slots i s') count after
-  crowd_turn phase had had' past log log' slots count now after i None None more wider new done h within is k r did beside turn =
+  crowd_turn phase had had' past log log' slots count now after i None None more wider new done h within is k r l did beside turn =
       let same : after ≡ now = subst (λ m. AreTurns rules now (turns_in m) after) did.1 r in
       let quiet : DidLog log [] log' = subst (λ m. DidLog log (acts_in m) log') did.1 k in
       let free : (b : B) → At slots i b → ⊥ = λ b there. nobody_is b (At-some slots i None b is there) in
@@ -694,7 +699,7 @@ module _ {B S : Type 0} (view : B → View) (rules : Rules S) (limits : Limits) 
       (let a = count_is.0 in omega (arith, a))
       (let a = taken_most slots in let b = h.is_told.sized in omega (arith, a, b))
       (let a = long_set slots i None in omega (arith, a)) tt tt h.is_told.quiet
-      (still h.story [] h.is_told.fair (λ share. refl)) refl (stays_past phase past [] refl (keeps_quiet past.journal [] refl) h.is_told.settled) (λ last. tt) (no_looks h.story [] refl))
+      (still h.story [] h.is_told.fair (λ share. refl)) refl (stays_past phase past [] refl (keeps_quiet past.journal [] refl) h.is_told.settled) (λ last. tt) (no_looks h.story [] refl) tt)
       (λ j c there. others j c (At-set slots i None j c there))
       (λ j c there. At-keep slots i None j c (λ e. free c (subst (λ j. At slots j c) e there)) there)
       (open_still phase had had' past log slots count now h [] wider (λ share. refl))
@@ -706,12 +711,13 @@ module _ {B S : Type 0} (view : B → View) (rules : Rules S) (limits : Limits) 
       others : (j : ℕ) (c : B) → ((j ≡ i) × (None ≡ Some c)) ⊎ ((j ≢ i) × At slots j c) → At slots j c
       others j c (inl p) = absurd (nobody_is c p.1)
       others j c (inr p) = p.1
-  crowd_turn phase had had' past log log' slots count now after i None (Some b) more wider new done h within is k r did beside turn = absurd (none (view b) did.0)
+  crowd_turn phase had had' past log log' slots count now after i None (Some b) more wider new done h within is k r l did beside turn = absurd (none (view b) did.0)
     where
       none : (v : View) → Some v ≡ None → ⊥
       none v e = cc
-  crowd_turn phase had had' past log log' slots count now after i (Some b) None more wider new done h within is k r (mine, came, closing, part, once, (close, goes)) beside turn =
+  crowd_turn phase had had' past log log' slots count now after i (Some b) None more wider new done h within is k r l (mine, came, closing, part, once, (close, goes)) beside turn =
       let at = At-index slots i (Some b) b within is refl in
+      let limited = limited_turn view rules limits first start phase had past log slots count now h i b at limits.tenant_clients more mine came l in
       let n = (view b).number in
       let fits = told_phase rules limits first start phase 0 past log slots count now h.story more h.is_told part in
       let count_is = taken_at slots i b None at in
@@ -728,10 +734,11 @@ module _ {B S : Type 0} (view : B → View) (rules : Rules S) (limits : Limits) 
       (omega (arith, came)) h.is_told.capped (omega (arith, came, close, count_is))
       (let a = taken_most slots in let b = h.is_told.sized in omega (arith, a, b, came))
       (let a = long_set slots i None in omega (arith, a)) closing fits.0 fits.1
-      (takes_turn h.story more n (most phase) h.is_told.fair mine once (h.ready i b at new)) (omega (arith, lost)) passed (reads_plain limits more plain.3) (no_looks h.story more waited))
+      (takes_turn h.story more n (most phase) h.is_told.fair mine once (h.ready i b at new)) (omega (arith, lost)) passed (reads_plain limits more plain.3) (no_looks h.story more waited) limited)
       (omega (arith, all, unclosed, close)) (goes (own n h.story) (h.live i b at))
-  crowd_turn phase had had' past log log' slots count now after i (Some b) (Some s) more wider new done h within is k r (mine, came, closing, part, once, (same, close, goes)) beside turn =
+  crowd_turn phase had had' past log log' slots count now after i (Some b) (Some s) more wider new done h within is k r l (mine, came, closing, part, once, (same, close, goes)) beside turn =
       let at = At-index slots i (Some b) b within is refl in
+      let limited = limited_turn view rules limits first start phase had past log slots count now h i b at limits.tenant_clients more mine came l in
       let n = (view b).number in
       let fits = told_phase rules limits first start phase 0 past log slots count now h.story more h.is_told part in
       let count_is = taken_at slots i b (Some s) at in
@@ -749,7 +756,7 @@ module _ {B S : Type 0} (view : B → View) (rules : Rules S) (limits : Limits) 
       (omega (arith, came)) h.is_told.capped (omega (arith, came, close, count_is))
       (let a = taken_most slots in let b = h.is_told.sized in omega (arith, a, b, came))
       (let a = long_set slots i (Some s) in omega (arith, a)) closing fits.0 fits.1
-      (takes_turn h.story more n (most phase) h.is_told.fair mine once (h.ready i b at new)) (omega (arith, lost)) passed (reads_plain limits more plain.3) (no_looks h.story more waited))
+      (takes_turn h.story more n (most phase) h.is_told.fair mine once (h.ready i b at new)) (omega (arith, lost)) passed (reads_plain limits more plain.3) (no_looks h.story more waited) limited)
       (λ not. absurd (not done))
       (goes (own n h.story) (h.live i b at))
 
@@ -764,7 +771,8 @@ module _ {B S : Type 0} (view : B → View) (rules : Rules S) (limits : Limits) 
       → Now phase had' past log' (slice_set slots i s') count now
   crowd_still phase had had' past log log' slots count now i d s' more wider new done h within is k none did beside turn =
       subst (λ p. Now phase had' p log' (slice_set slots i s') count now) (ap (λ t. after_lines (records_in t) past) none ∙ sym (ap (λ j. record past { journal = j }) (noted_none past.journal)))
-      (crowd_turn phase had had' past log log' slots count now now i d s' more wider new done h within is k (subst (λ t. AreTurns rules now t now) (sym none) refl) did beside turn)
+      (crowd_turn phase had had' past log log' slots count now now i d s' more wider new done h within is k (subst (λ t. AreTurns rules now t now) (sym none) refl)
+      (subst (AreLimited limits.tenant_clients (speakers_at view (slice_set slots i None))) (sym none) tt) did beside turn)
 
   -- a client was closed after the turns, or is as it was
   pub crowd_closed : (line line' : Line) (past : Past) (log log' : Acts) (slots : List (Option B)) (count : ℕ) (now : S) (i : ℕ) (d s' : Option B) (more : Story) (closed : Bool)
@@ -807,7 +815,7 @@ module _ {B S : Type 0} (view : B → View) (rules : Rules S) (limits : Limits) 
       (omega (arith, came_is)) capped (let e = count_is.0 in omega (arith, came_is, closed_is, sums, e))
       (let e = count_is.1 in omega (arith, came_is, one, e, sized))
       (let e = long_set slots i s in omega (arith, e)) (a.within limits) fits.0 fits.1
-      (still h.story more h.is_told.fair a.silent) (omega (arith, lost)) (stays_past Phase.Reads past more waited (a.unkept past.journal) (λ e. absurd (reads_not_writes e))) (reads_plain limits more a.unchanged) (no_looks h.story more waited)
+      (still h.story more h.is_told.fair a.silent) (omega (arith, lost)) (stays_past Phase.Reads past more waited (a.unkept past.journal) (λ e. absurd (reads_not_writes e))) (reads_plain limits more a.unchanged) (no_looks h.story more waited) (limited_quiet limits.tenant_clients h.story more a.none)
 
   pub crowd_seat : (line line' : Line) (past : Past) (log log' : Acts) (slots : List (Option B)) (count : ℕ) (now : S) (i : ℕ) (came : Bool) (s : Option B) (more : Story)
       → StayAwake line line' → (came ≡ true → i < 1024 → awake_in line' i ≡ true)
@@ -964,6 +972,7 @@ crowd_first line view rules limits first start began slots free sized small allo
       settled = λ e. absurd (sweeps_not_writes e);
       awake = awake_none;
       each = each_none;
+      limited = tt;
     };
     below = λ i b there. absurd (free_at slots i b free there);
     live = λ i b there. absurd (free_at slots i b free there);

@@ -1,6 +1,7 @@
 mod Accepting
 mod Beside
 pub mod Chaining
+mod Claims
 mod Closing
 mod Crowding
 pub mod Journals
@@ -8,6 +9,7 @@ mod Disk
 mod Kicking
 mod Known
 mod Looking
+mod Limiting
 mod Living
 pub mod Logins
 mod OneSlot

@@ -9,7 +9,7 @@ use Rattle.judy_model.specs.Speakers.{Speaker}
 use Rattle.judy_model.specs.Stream.{Login, answer, event_of, events_from, answer_from, speaker_after}
 use Rattle.judy_many.specs.Lives.{IsWhole, read_in, wrote_in}
 use Rattle.judy_many.specs.Nets.{Act}
-use Rattle.judy_many.specs.Sessions.{Speaks, Turn, UseLogin, lines_in, replies_in, text_of, texts}
+use Rattle.judy_many.specs.Sessions.{AreLetIn, ComeByLogin, Speaks, Turn, UseLogin, crowded_answer, lines_in, replies_in, text_of, texts, unless_crowded}
 use Rattle.judy_many.specs.Stories.{Story, belongs, own, turns_in}
 use Rattle.judy_many.specs.Stories.Moment.{Changed, Did, Ran}
 use Rattle.judy_many.proofs.Stepping.{answer_is}
@@ -21,11 +21,13 @@ texts_are login who last [] kept h = refl
 texts_are login who last (t ∷ ts) kept h =
     let one : length t.replies ≡ length (events_from login who (t.line ∷ []))
     = h.1 ∙ ap (λ w. length (event_of t.line w)) h.0 ∙ ap length (sym (append-nil (event_of t.line who))) in
+    let (let_in, by, more) = kept in
     let text : text_of t ≡ answer_from login t.who (t.line ∷ []) t.replies
-    = ap (λ w. answer_from (λ name token. w) t.who (t.line ∷ []) t.replies) kept.0 ∙ sym (answer_is login t.who t.line t.replies) in
-    let later : t.after ≡ speaker_after login who t.line = kept.0 ∙ ap (λ w. speaker_after login w t.line) h.0 in
+    = ap (λ b. if b then crowded_answer else answer_from (λ name token. t.after) t.who (t.line ∷ []) t.replies) let_in
+    ∙ ap (λ w. answer_from (λ name token. w) t.who (t.line ∷ []) t.replies) by ∙ sym (answer_is login t.who t.line t.replies) in
+    let later : t.after ≡ speaker_after login who t.line = by ∙ ap (λ w. speaker_after login w t.line) h.0 in
     ap (λ v. v ++ texts ts) (text ∙ ap (λ w. answer_from login w (t.line ∷ []) t.replies) h.0)
-    ∙ ap (λ v. answer_from login who (t.line ∷ []) t.replies ++ v) (texts_are login (speaker_after login who t.line) last ts kept.1 (subst (λ w. Speaks w ts last) later h.2))
+    ∙ ap (λ v. answer_from login who (t.line ∷ []) t.replies ++ v) (texts_are login (speaker_after login who t.line) last ts more (subst (λ w. Speaks w ts last) later h.2))
     ∙ sym (answer_from-append login who (t.line ∷ []) (lines_in ts) t.replies (replies_in ts) one)
 
 -- what was written to a connection that was closed in order
@@ -35,26 +37,34 @@ whole_is login acts turns kept w = w.text ∙ texts_are login None w.last_who tu
 
 -- ---- the lines of one connection are among all lines
 
-UseLogin-append : (login : Login) (ts us : List Turn) → UseLogin login ts → UseLogin login us → UseLogin login (ts ++ us)
-UseLogin-append login [] us h k = k
-UseLogin-append login (t ∷ ts) us h k = (h.0, UseLogin-append login ts us h.1 k)
+ComeByLogin-append : (login : Login) (ts us : List Turn) → ComeByLogin login ts → ComeByLogin login us → ComeByLogin login (ts ++ us)
+ComeByLogin-append login [] us h k = k
+ComeByLogin-append login (t ∷ ts) us h k = (h.0, ComeByLogin-append login ts us h.1 k)
 
-first_use : (login : Login) (ts us : List Turn) → UseLogin login (ts ++ us) → UseLogin login ts × UseLogin login us
-first_use login [] us h = (tt, h)
-first_use login (t ∷ ts) us h = let rest = first_use login ts us h.1 in ((h.0, rest.0), rest.1)
+first_come : (login : Login) (ts us : List Turn) → ComeByLogin login (ts ++ us) → ComeByLogin login ts × ComeByLogin login us
+first_come login [] us h = (tt, h)
+first_come login (t ∷ ts) us h = let rest = first_come login ts us h.1 in ((h.0, rest.0), rest.1)
 
 -- those of one connection
-pub own_use : (login : Login) (n : ℕ) (story : Story) → UseLogin login (turns_in story) → UseLogin login (turns_in (own n story))
-own_use login n [] h = tt
-own_use login n (Did a ∷ story) h =
-    elim (belongs n (Did a)) as (λ b. UseLogin login (turns_in (if b then Did a ∷ own n story else own n story))) [
-      | true ↦ own_use login n story h
-      | false ↦ own_use login n story h
+own_come : (login : Login) (n : ℕ) (story : Story) → ComeByLogin login (turns_in story) → ComeByLogin login (turns_in (own n story))
+own_come login n [] h = tt
+own_come login n (Did a ∷ story) h =
+    elim (belongs n (Did a)) as (λ b. ComeByLogin login (turns_in (if b then Did a ∷ own n story else own n story))) [
+      | true ↦ own_come login n story h
+      | false ↦ own_come login n story h
     ]
-own_use login n (Changed text ∷ story) h = own_use login n story h
-own_use login n (Ran m turns ∷ story) h =
-    let parts = first_use login turns (turns_in story) h in
-    elim (belongs n (Ran m turns)) as (λ b. UseLogin login (turns_in (if b then Ran m turns ∷ own n story else own n story))) [
-      | true ↦ UseLogin-append login turns (turns_in (own n story)) parts.0 (own_use login n story parts.1)
-      | false ↦ own_use login n story parts.1
+own_come login n (Changed text ∷ story) h = own_come login n story h
+own_come login n (Ran m turns ∷ story) h =
+    let parts = first_come login turns (turns_in story) h in
+    elim (belongs n (Ran m turns)) as (λ b. ComeByLogin login (turns_in (if b then Ran m turns ∷ own n story else own n story))) [
+      | true ↦ ComeByLogin-append login turns (turns_in (own n story)) parts.0 (own_come login n story parts.1)
+      | false ↦ own_come login n story parts.1
     ]
+
+-- where no log-in was refused since its tenant has enough connections
+come_use : (login : Login) (ts : List Turn) → ComeByLogin login ts → AreLetIn ts → UseLogin login ts
+come_use login [] h k = tt
+come_use login (t ∷ ts) h k = (k.0, h.0 ∙ ap (λ b. unless_crowded b (speaker_after login t.who t.line)) k.0, come_use login ts h.1 k.1)
+
+pub own_use : (login : Login) (n : ℕ) (story : Story) → ComeByLogin login (turns_in story) → AreLetIn (turns_in (own n story)) → UseLogin login (turns_in (own n story))
+own_use login n story h k = come_use login (turns_in (own n story)) (own_come login n story h) k

@@ -138,7 +138,7 @@ closed_speaker test mine closed came = ap (λ b. count_by test (if b then speake
     not_below : (m n : ℕ) → m ≡ 1 → n ≡ 1 → nat_lt m n ≡ false
     not_below m n e f = ap (λ k. nat_lt k n) e ∙ ap (λ k. nat_lt 1 k) f
 
-open_speaker : (test : Option Speaker → Bool) (mine : Story) (v : View) → Lives mine v → count_by test (speaker_of mine) ≡ cond (test v.who) 1 0
+pub open_speaker : (test : Option Speaker → Bool) (mine : Story) (v : View) → Lives mine v → count_by test (speaker_of mine) ≡ cond (test v.who) 1 0
 open_speaker test mine v l =
     ap (λ b. count_by test (if b then speaker_since None (turns_in mine) ∷ [] else [])) (below (closed_in (acts_in mine)) (came_in (acts_in mine)) l.unclosed l.came)
     ∙ ap (λ w. count_by test (w ∷ [])) (sym (speaks_since None (turns_in mine) v.who l.live.speaks))

@@ -48,7 +48,7 @@ is_record names call who bare true e =
     let (line, is, spells) = asked_line bare call e in
     subst (λ b. IsRecord true (names who.tenant) call (records_of true names (Some who) b)) (sym is) (line, refl, spells)
 
-unrecorded : (names : ℕ → List ℕ) (who : Option Speaker) (bare : Option (List ℕ)) (changed : Bool) → changed ≡ false → records_of changed names who bare ≡ []
+pub unrecorded : (names : ℕ → List ℕ) (who : Option Speaker) (bare : Option (List ℕ)) (changed : Bool) → changed ≡ false → records_of changed names who bare ≡ []
 unrecorded names who bare changed e = rw e refl
 
 pub recorded : (login : Login) (names : ℕ → List ℕ) (line : Heard) (bare : Option (List ℕ)) (who who' : Option Speaker) (replies : List Reply) (changed : Bool)

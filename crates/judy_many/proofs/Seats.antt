@@ -52,6 +52,13 @@ module _ {B : Type 0} where
   At-within (s ∷ slots) zero b h = omega arith
   At-within (s ∷ slots) (suc i) b h = let e = At-within slots i b h in omega (arith, e)
 
+-- a slot is changed twice
+module _ {B : Type 0} where
+  pub set_twice : (slots : List (Option B)) (i : ℕ) (s t : Option B) → slice_set (slice_set slots i s) i t ≡ slice_set slots i t
+  set_twice [] i s t = refl
+  set_twice (r ∷ slots) zero s t = refl
+  set_twice (r ∷ slots) (suc i) s t = ap (λ l. r ∷ l) (set_twice slots i s t)
+
 -- how many slots are taken
 module _ {B : Type 0} where
   pub taken_most : (slots : List (Option B)) → taken slots ≤ length slots

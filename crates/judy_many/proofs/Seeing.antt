@@ -1,6 +1,6 @@
 -- What lines do to what is seen of a service.
 --     turns_seen       the calls of lines, one after another
---     turns_use        the names and tokens stay, and each speaker is by them
+--     turns_use        the names and tokens stay, and each speaker is by them, unless its tenant has enough connections
 use Rattle.std.proofs.Common.{◌≡◌, ℕ, List, [], ◌∷◌, ◌+◌, length, sym, ◌∙◌, ap, subst, refl}
 use Rattle.std.specs.Prelude.{zip}
 use Rattle.std.proofs.lemmas.List.{length-append}
@@ -10,7 +10,7 @@ use Rattle.judy_model.specs.Stream.{Heard, event_of}
 use Rattle.judy_protocol.specs.Services.{AreMade, IsCalled, Seen}
 use Rattle.judy_protocol.proofs.Talking.{AreMade-append, zip-append}
 use Rattle.judy_many.specs.Rules.{Rules}
-use Rattle.judy_many.specs.Sessions.{AreTurns, IsTurn, Turn, UseLogin, events_in, replies_in}
+use Rattle.judy_many.specs.Sessions.{AreTurns, IsTurn, Turn, ComeByLogin, events_in, replies_in}
 
 -- a call, as it is seen
 abbrev pub Called : Seen → Event → Reply → Seen → Type 0
@@ -52,9 +52,9 @@ module _ {S : Type 0} (rules : Rules S) (apart : KeepsApart rules) (unseen : IsU
       )
 
   pub turns_use : (before after : S) (ts : List Turn) → AreTurns rules before ts after
-      → UseLogin (rules.seen before).logins ts × ((rules.seen after).logins ≡ (rules.seen before).logins)
+      → ComeByLogin (rules.seen before).logins ts × ((rules.seen after).logins ≡ (rules.seen before).logins)
   turns_use before after [] h = (tt, ap (λ s. (rules.seen s).logins) h)
   turns_use before after (t ∷ ts) (mid, turn, rest) =
       let stay = logins_stay (rules.seen before) (rules.seen mid) (zip (event_of t.line t.who) t.replies) (turn_seen before mid t turn) in
       let later = turns_use mid after ts rest in
-      ((turn.speaks, subst (λ l. UseLogin l ts) stay later.0), later.1 ∙ stay)
+      ((turn.speaks, subst (λ l. ComeByLogin l ts) stay later.0), later.1 ∙ stay)

@@ -2,21 +2,25 @@
 --     table_stays              without a status socket the table stays
 --     run_is                   where it stayed, all lines are one run of the service
 --     one_run                  over it each tenant's replies are those that it would get alone
---     one_login                each speaker is by the names and tokens of the table
+--     one_login                each speaker of a connection is by the names and tokens of the table, if none
+--                              of its log-ins was refused since its tenant has enough connections
+--     let_in                   without a limit of a tenant's connections none was
 --     keeps_all                it kept each tenant's quota and arrays
-use Rattle.std.proofs.Common.{◌≡◌, ℕ, false, List, [], ◌∷◌, ◌++◌, Option, ap, subst, refl}
+use Rattle.std.proofs.Common.{◌≡◌, ℕ, false, List, [], ◌∷◌, ◌++◌, Option, None, ap, subst, refl}
 use Rattle.judy_journal.specs.Writes.{Writing}
 use Rattle.judy_many.specs.Changes.{Chain, IsAlone}
 use Rattle.judy_many.specs.Crowds.{HasServedMany}
 use Rattle.judy_many.specs.Nets.{Acts}
+use Rattle.judy_many.specs.Others.{IsLimited}
 use Rattle.judy_many.specs.Rules.{Rules}
-use Rattle.judy_many.specs.Sessions.{AreTurns, UseLogin}
+use Rattle.judy_many.specs.Sessions.{AreLetIn, AreTurns, UseLogin}
 use Rattle.judy_many.specs.Statuses.{Keeps, Passes}
 use Rattle.judy_many.specs.Stories.{Story, changes_in, first_with, own, runs_in, turns_in}
 use Rattle.judy_many.specs.Stories.Moment.{Changed, Did, Ran}
 use Rattle.judy_many.specs.declared.serve.Ending.{Ending}
 use Rattle.judy_many.specs.declared.serve.Limits.{Limits}
 use Rattle.judy_many.proofs.Logins.{own_use}
+use Rattle.judy_many.proofs.Limiting.{own_let_in}
 use Rattle.judy_many.proofs.Passing.{passes_run, unasked}
 use Rattle.judy_many.proofs.Seeing.{IsUnseen, KeepsApart, turns_use}
 
@@ -42,9 +46,12 @@ module _ {S : Type 0} (rules : Rules S) (limits : Limits) (writer : Option Writi
   one_run same = subst (λ runs. Chain IsAlone (rules.seen before) runs (rules.seen after)) (runs_are h.story same) h.alone
 
   -- of the lines of each connection
-  pub one_login : KeepsApart rules → IsUnseen rules → changes_in h.story ≡ [] → (n : ℕ) → UseLogin (rules.seen before).logins (turns_in (own n h.story))
-  one_login apart unseen same n =
-      own_use (rules.seen before).logins n h.story (turns_use rules apart unseen before after (turns_in h.story) (run_is same)).0
+  pub one_login : KeepsApart rules → IsUnseen rules → changes_in h.story ≡ [] → (n : ℕ) → AreLetIn (turns_in (own n h.story)) → UseLogin (rules.seen before).logins (turns_in (own n h.story))
+  one_login apart unseen same n none =
+      own_use (rules.seen before).logins n h.story (turns_use rules apart unseen before after (turns_in h.story) (run_is same)).0 none
+
+  pub let_in : limits.tenant_clients ≡ None → (n : ℕ) → AreLetIn (turns_in (own n h.story))
+  let_in none n = own_let_in n [] h.story (subst (λ most. IsLimited most [] h.story) none h.limited)
 
 -- a story in which the table stays keeps each tenant's quota and arrays
 pub keeps_all : {S : Type 0} (rules : Rules S) (t : ℕ) (past : Story) (before : S) (story : Story) (after : S) → changes_in story ≡ [] → (h : Passes rules past before story after)

@@ -12,6 +12,7 @@ use Rattle.judy_many.specs.Endings.{IsCaused, lost_in, waits_in}
 use Rattle.judy_many.specs.Journaling.{AreKept, AreSettled, Carries, IsFailure, MayKeep}
 use Rattle.judy_many.specs.Lives.{IsPart, IsServed, Lives, View}
 use Rattle.judy_many.specs.Nets.{Act, Acts, DidLog}
+use Rattle.judy_many.specs.Others.{IsLimited}
 use Rattle.judy_many.specs.Rules.{Rules}
 use Rattle.judy_many.specs.Statuses.{Keeps, Lasts, Passes}
 use Rattle.judy_many.specs.Stories.{AreRead, AreWithin, HasTurns, IsPhased, Phase, Share, Story, acts_in, came_in, closed_in, most, own, runs_in, turns_in, turns_since, writes_since}
@@ -81,6 +82,7 @@ pub record IsTold {B S : Type 0} (rules : Rules S) (limits : Limits) (first : S)
   pub settled : phase ≡ Phase.Writes → AreSettled past.journal
   pub awake : IsAwake story
   pub each : HasEach story
+  pub limited : IsLimited limits.tenant_clients [] story
 
 -- So far this happened. Each client in a slot is one of its own number, below the count of connections,
 -- and every connection is served so far. Each connection that came is in a slot or was closed. Those
@@ -135,6 +137,9 @@ pub record HasServedMany {S : Type 0} (rules : Rules S) (limits : Limits) (write
   -- at each moment at most so many connections were open, and at most so many came
   pub few : HasFew limits.clients story
   pub total : came_in (acts_in story) ≤ limits.connections
+  -- A log-in is refused since its tenant has enough connections exactly where there is a limit, the name
+  -- and the token are right, and the tenant speaks on as many of the other open connections.
+  pub limited : IsLimited limits.tenant_clients [] story
   -- connections were closed for their time only where it has a limit, there are questions only where
   -- there is a status socket, and nothing else was asked
   pub within : AreWithin limits (acts_in story)

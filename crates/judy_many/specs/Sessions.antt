@@ -5,7 +5,8 @@
 --     AreTurns rules s turns s'    the service ran these lines, one after another
 --     Steps ..                     these bytes were heard, and the lines that they complete were run
 --     UseLogin login turns         each speaker of these lines comes from these names and tokens
-use Rattle.std.specs.Prelude.{◌≡◌, ℕ, Bool, List, [], ◌∷◌, ◌++◌, map, zip, length, Option}
+--     AreLetIn turns               no log-in was refused since its tenant has enough connections
+use Rattle.std.specs.Prelude.{◌≡◌, ℕ, Bool, true, false, List, [], ◌∷◌, ◌++◌, codes, if◌then◌else◌, is_some, map, zip, length, Option, None}
 use Rattle.judy_journal.specs.Journals.{Commit}
 use Rattle.judy_model.specs.declared.replies.Reply.{Reply}
 use Rattle.judy_model.specs.Speakers.{Event, Speaker}
@@ -27,6 +28,10 @@ pub record Turn : Type 0 where
   pub after : Option Speaker
   -- its record in a journal, if its call may have changed arrays
   pub records : Commit
+  -- the speaker with its name and token, if the line is a log-in and there is one
+  pub claim : Option Speaker
+  -- whether it is a log-in that was refused since its tenant has enough connections
+  pub crowded : Bool
 
 -- the lines
 abbrev pub lines_in : List Turn → List Heard
@@ -47,9 +52,13 @@ abbrev pub records_in : List Turn → Commit
 records_in [] = []
 records_in (t ∷ turns) = t.records ++ records_in turns
 
--- the answer to a line; a log-in is answered by who speaks after it
+-- the answer to a log-in whose tenant has enough connections
+abbrev pub crowded_answer : List ℕ
+crowded_answer = codes "ERR CLIENTS\n"
+
+-- the answer to a line; any other log-in is answered by who speaks after it
 abbrev pub text_of : Turn → List ℕ
-text_of t = answer_from (λ name token. t.after) t.who (t.line ∷ []) t.replies
+text_of t = if t.crowded then crowded_answer else answer_from (λ name token. t.after) t.who (t.line ∷ []) t.replies
 
 -- the answers
 abbrev pub texts : List Turn → List ℕ
@@ -61,13 +70,20 @@ abbrev pub Speaks : Option Speaker → List Turn → Option Speaker → Type 0
 Speaks who [] last = last ≡ who
 Speaks who (t ∷ turns) last = (t.who ≡ who) × (length t.replies ≡ length (event_of t.line t.who)) × Speaks t.after turns last
 
+-- nobody speaks after a log-in whose tenant has enough connections
+abbrev pub unless_crowded : Bool → Option Speaker → Option Speaker
+unless_crowded crowded who = if crowded then None else who
+
 -- One line was run: its speaker may speak, by the table in force; its speaker afterwards is by the names
--- and tokens in force; its call was made, if it makes one, and then it was counted, with its answer. Its
+-- and tokens in force, unless its tenant has enough connections. Only a log-in with a right name and token
+-- is refused for that. Its call was made, if it makes one, and then it was counted, with its answer. Its
 -- record is that of its call, if that may have changed arrays.
 pub record IsTurn {S : Type 0} (rules : Rules S) (before : S) (t : Turn) (after : S) : Type 0 where
   pub mid : S
   pub known : HasLoggedIn (rules.seen before).speakers t.who
-  pub speaks : t.after ≡ speaker_after (rules.seen before).logins t.who t.line
+  pub claims : t.claim ≡ speaker_after (rules.seen before).logins None t.line
+  pub right : t.crowded ≡ true → is_some t.claim ≡ true
+  pub speaks : t.after ≡ unless_crowded t.crowded (speaker_after (rules.seen before).logins t.who t.line)
   pub count : length t.replies ≡ length (event_of t.line t.who)
   pub calls : AreMade rules.made before (zip (event_of t.line t.who) t.replies) mid
   pub noted : rules.noted mid t.line (text_of t) after
@@ -78,10 +94,20 @@ abbrev pub AreTurns : {S : Type 0} → Rules S → S → List Turn → S → Typ
 AreTurns rules before [] after = after ≡ before
 AreTurns {S} rules before (t ∷ turns) after = (mid : S) × IsTurn rules before t mid × AreTurns rules mid turns after
 
--- the speakers after these lines are by these names and tokens
+-- no log-in was refused since its tenant has enough connections
+abbrev pub AreLetIn : List Turn → Type 0
+AreLetIn [] = Unit {0}
+AreLetIn (t ∷ turns) = (t.crowded ≡ false) × AreLetIn turns
+
+-- the speakers after these lines are by these names and tokens, unless their tenants have enough connections
+abbrev pub ComeByLogin : Login → List Turn → Type 0
+ComeByLogin login [] = Unit {0}
+ComeByLogin login (t ∷ turns) = (t.after ≡ unless_crowded t.crowded (speaker_after login t.who t.line)) × ComeByLogin login turns
+
+-- the speakers after these lines are by these names and tokens, and no log-in was refused for that
 abbrev pub UseLogin : Login → List Turn → Type 0
 UseLogin login [] = Unit {0}
-UseLogin login (t ∷ turns) = (t.after ≡ speaker_after login t.who t.line) × UseLogin login turns
+UseLogin login (t ∷ turns) = (t.crowded ≡ false) × (t.after ≡ speaker_after login t.who t.line) × UseLogin login turns
 
 -- after any stream whose rest is held, these bytes complete these lines, and hold what is left
 pub record Hears (held : Held) (bytes : List ℕ) (ls : List Heard) (held' : Held) : Type 0 where

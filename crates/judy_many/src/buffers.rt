@@ -3,12 +3,15 @@ ghost use Rattle.std.specs.Prelude.{◌≡◌, ◌<◌, ◌≤◌, ◌++◌, ℕ
 ghost use Rattle.judy_protocol.specs.Services.{HasLoggedIn};
 ghost use Rattle.judy_many.specs.Nets.{Act, DidLog, gives};
 ghost use Rattle.judy_many.specs.Books.{has_room};
-ghost use Rattle.judy_many.specs.Lives.{read_in, wrote_in};
+ghost use Rattle.judy_many.specs.Lives.{read_in, view_of, wrote_in};
+ghost use Rattle.judy_many.specs.Others.{AreLimited};
+ghost use Rattle.judy_many.specs.Present.{speakers_at};
 ghost use Rattle.judy_many.specs.Rules.{rules_of};
 ghost use Rattle.judy_many.specs.Sessions.{Steps, Turn};
 ghost use Rattle.judy_many.specs.Stories.{AreReads, AreWrites, TellsRead, TellsWrite};
 ghost use Rattle.judy_many.specs.Watches.{HasLine, LeavesLine, TellsMore};
 
+use crate::client::Client;
 use crate::keeping::Keeper;
 use crate::network::{Got, Network, Put};
 use crate::session::{Ran, Rooms, Session, run_lines};
@@ -168,14 +171,16 @@ impl Answers {
     }
 
     /// Runs the lines that the bytes complete, as `run_lines` does, if everything is written.
-    pub fn run<S: Shows>(
+    pub fn run<S: Shows, N: Network>(
         &mut self,
         alloc: Global,
         session: &mut Session<S::Speaker>,
         service: &mut S,
         rooms: &mut Rooms,
         bytes: &[u8],
+        others: &[Option<Box<Client<S::Speaker, N::Connection>>>],
         keeper: &mut Keeper,
+        most: Option<u32>,
     ) -> Ran
         requires empty { self.old ≡ [] }
         requires known { HasLoggedIn (S.seen service.old).speakers
@@ -183,6 +188,7 @@ impl Answers {
         ensures steps { (used : List ℕ) × (rest : List ℕ) × (turns : List Turn)
             × (used ++ rest ≡ bytes.now) × (length rest ≡ result.left)
             × LeavesLine result.quit rest × ((HasLine bytes.now × IsTrue (has_room keeper.old)) → 0 < length turns)
+            × AreLimited most (speakers_at (λ b. view_of S.who N.number b.value) others.now) turns
             × Steps (rules_of S.made S.seen S.noted S.status S.changed) used turns result.quit
             session.old.held session.new.held
             (option_map S.who session.old.speaker) (option_map S.who session.new.speaker)
@@ -195,14 +201,16 @@ impl Answers {
     {
         self.bytes.clear();
         self.written = 0;
-        run_lines(
+        run_lines::<S, N>(
             alloc,
             session,
             service,
             rooms,
             bytes,
+            others,
             &mut self.bytes,
             keeper,
+            most,
         )
     }
 

@@ -5,6 +5,8 @@ ghost use Rattle.judy_many.specs.Books.{has_room, noted_by};
 ghost use Rattle.judy_many.specs.Fates.{FateGoes, HeardGoes};
 ghost use Rattle.judy_many.specs.Lives.{IsLive, view_of};
 ghost use Rattle.judy_many.specs.Nets.{Act, DidLog};
+ghost use Rattle.judy_many.specs.Others.{AreLimited};
+ghost use Rattle.judy_many.specs.Present.{speakers_at};
 ghost use Rattle.judy_many.specs.Rules.{rules_of};
 ghost use Rattle.judy_many.specs.Sessions.{AreTurns, Turn, records_in};
 ghost use Rattle.judy_many.specs.Stories.{IsPiece, Story, acts_in, turns_in};
@@ -70,7 +72,9 @@ fn hear<S: Shows, N: Network>(
     service: &mut S,
     rooms: &mut Rooms,
     client: &mut Client<S::Speaker, N::Connection>,
+    others: &[Option<Box<Client<S::Speaker, N::Connection>>>],
     keeper: &mut Keeper,
+    most: Option<u32>,
 )
     requires unasked { client.old.quits ≡ false }
     requires empty { client.old.answers ≡ [] }
@@ -82,6 +86,7 @@ fn hear<S: Shows, N: Network>(
         → IsLive acts ran (view_of S.who N.number client.old)
         → IsLive acts (ran ++ turns) (view_of S.who N.number client.new))
         × (keeper.new ≡ noted_by (records_in turns) keeper.old)
+        × AreLimited most (speakers_at (λ b. view_of S.who N.number b.value) others.now) turns
         × HearsAll (IsTrue (has_room keeper.old)) (view_of S.who N.number client.old)
         (view_of S.who N.number client.new) turns }
     ensures same { N.number client.new.connection ≡ N.number client.old.connection }
@@ -90,28 +95,32 @@ fn hear<S: Shows, N: Network>(
     ensures known { HasLoggedIn (S.seen service.new).speakers
         (option_map S.who client.new.session.speaker) }
 {
-    let ran = client.answers.run(
+    let ran = client.answers.run::<S, N>(
         alloc,
         &mut client.session,
         service,
         rooms,
         client.input.as_slice(),
+        others,
         keeper,
+        most,
     );
     client.input.keep(ran.left);
     client.quits = ran.quit;
 }
 
 /// The first half of a client's turn: at most one read, then the lines for whose answers and records
-/// there is room. While answers wait to be written nothing is read. Returns why the client has to be closed, if
-/// it is.
+/// there is room. While answers wait to be written nothing is read. The other clients are in these slots.
+/// Returns why the client has to be closed, if it is.
 pub fn listen<S: Shows, N: Network>(
     alloc: Global,
     network: &mut N,
     service: &mut S,
     rooms: &mut Rooms,
     client: &mut Client<S::Speaker, N::Connection>,
+    others: &[Option<Box<Client<S::Speaker, N::Connection>>>],
     keeper: &mut Keeper,
+    most: Option<u32>,
     now: u64,
 ) -> Option<How>
     requires known { HasLoggedIn (S.seen service.old).speakers
@@ -123,6 +132,7 @@ pub fn listen<S: Shows, N: Network>(
         × HeardGoes result (view_of S.who N.number client.old)
         (view_of S.who N.number client.new) more
         × (keeper.new ≡ noted_by (records_in (turns_in more)) keeper.old)
+        × AreLimited most (speakers_at (λ b. view_of S.who N.number b.value) others.now) (turns_in more)
         × Listens (view_of S.who N.number client.old) (view_of S.who N.number client.new) more }
     ensures same { N.number client.new.connection ≡ N.number client.old.connection }
     ensures logins { (S.seen service.new).logins ≡ (S.seen service.old).logins }
@@ -137,13 +147,13 @@ pub fn listen<S: Shows, N: Network>(
         return None;
     }
     if !client.input.is_empty() {
-        hear::<S, N>(alloc, service, rooms, client, keeper);
+        hear::<S, N>(alloc, service, rooms, client, others, keeper, most);
         return None;
     }
     match client.input.fill(network, &mut client.connection) {
         Got::Bytes(_) => {
             client.since = now;
-            hear::<S, N>(alloc, service, rooms, client, keeper);
+            hear::<S, N>(alloc, service, rooms, client, others, keeper, most);
             None
         }
         Got::Nothing => None,

@@ -14,6 +14,7 @@ mod laws;
 mod limits;
 mod lines;
 mod network;
+mod others;
 mod queue;
 mod reloads;
 mod rounds;

@@ -3,6 +3,8 @@ ghost use Rattle.std.specs.Prelude.{◌≡◌, ◌<◌, ◌+◌, ℕ, Bool, IsTr
 ghost use Rattle.judy_model.specs.Speakers.{Speaker};
 ghost use Rattle.judy_many.specs.Books.{Journal, has_room, noted_by};
 ghost use Rattle.judy_many.specs.Crowds.{Crowd, HasFailed, Past, past_of};
+ghost use Rattle.judy_many.specs.Others.{AreLimited};
+ghost use Rattle.judy_many.specs.Present.{speakers_at};
 ghost use Rattle.judy_many.specs.Queues.{AreApart, stands_in};
 ghost use Rattle.judy_many.specs.Slots.{AreKnown, IsKnownSlot};
 ghost use Rattle.judy_many.specs.Lives.{SlotDid, view_of};
@@ -24,14 +26,17 @@ use crate::shows::Shows;
 use judy_protocol::Served;
 use std::alloc::Global;
 
-/// The first half of the turn of the client in a slot, if there is one. Returns whether it was closed.
+/// The first half of the turn of the client in a slot, if there is one, while the others are in these
+/// slots. Returns whether it was closed.
 fn listen_at<S: Shows, N: Network>(
     alloc: Global,
     network: &mut N,
     service: &mut S,
     rooms: &mut Rooms,
     slot: &mut Option<Box<Client<S::Speaker, N::Connection>>>,
+    others: &[Option<Box<Client<S::Speaker, N::Connection>>>],
     keeper: &mut Keeper,
+    most: Option<u32>,
     now: u64,
 ) -> bool
     requires known { IsKnownSlot (λ b. option_map S.who b.value.session.speaker)
@@ -43,6 +48,7 @@ fn listen_at<S: Shows, N: Network>(
         (option_map (λ b. view_of S.who N.number b.value) slot.old)
         (option_map (λ b. view_of S.who N.number b.value) slot.new) more)
         × (keeper.new ≡ noted_by (records_in (turns_in more)) keeper.old)
+        × AreLimited most (speakers_at (λ b. view_of S.who N.number b.value) others.now) (turns_in more)
         × SlotListens (option_map (λ b. view_of S.who N.number b.value) slot.old)
         (option_map (λ b. view_of S.who N.number b.value) slot.new) more }
     ensures logins { (S.seen service.new).logins ≡ (S.seen service.old).logins }
@@ -53,7 +59,17 @@ fn listen_at<S: Shows, N: Network>(
     let Some(mut client) = slot.take() else {
         return false;
     };
-    if let Some(how) = listen(alloc, network, service, rooms, &mut client, keeper, now) {
+    if let Some(how) = listen(
+        alloc,
+        network,
+        service,
+        rooms,
+        &mut client,
+        others,
+        keeper,
+        most,
+        now,
+    ) {
         network.close(&mut client.connection, how);
         return true;
     }
@@ -69,6 +85,7 @@ fn listen_to<S: Shows, N: Network>(
     rooms: &mut Rooms,
     clients: &mut Clients<S, N>,
     keeper: &mut Keeper,
+    most: Option<u32>,
     place: usize,
     now: u64,
 )
@@ -78,6 +95,7 @@ fn listen_to<S: Shows, N: Network>(
     requires apart { AreApart clients.old.queue.order }
     requires room { IsTrue (has_room keeper.old) }
     ensures crowd { (limits : Limits) (first : S) (start : Acts) (waits : ℕ) (began : Option Journal)
+        → limits.tenant_clients ≡ most
         → Crowd (λ b. view_of S.who N.number b.value) (rules_of S.made S.seen S.noted S.status S.changed) limits first
         start Reads (those_before clients.old.queue place) (past_of waits began keeper.old)
         (N.log network.old) clients.old.slots.items clients.old.accepted service.old
@@ -94,15 +112,19 @@ fn listen_to<S: Shows, N: Network>(
     if at >= clients.slots.len() {
         return;
     }
+    let mut slot = clients.slots[at].take();
     let closed = listen_at(
         alloc,
         network,
         service,
         rooms,
-        &mut clients.slots[at],
+        &mut slot,
+        clients.slots.as_slice(),
         keeper,
+        most,
         now,
     );
+    clients.slots[at] = slot;
     clients.listening = clients.listening.after_close(closed);
 }
 
@@ -116,19 +138,20 @@ pub fn listen_all<S: Shows, N: Network>(
     rooms: &mut Rooms,
     clients: &mut Clients<S, N>,
     keeper: &mut Keeper,
+    most: Option<u32>,
     now: u64,
 ) -> bool
     requires known { AreKnown (λ b. option_map S.who b.value.session.speaker)
         (S.seen service.old).speakers clients.old.slots.items }
     ensures crowd { (limits : Limits) (first : S) (start : Acts) (waits : ℕ) (began : Option Journal)
-        → result ≡ true → Crowd (λ b. view_of S.who N.number b.value) (rules_of S.made S.seen S.noted S.status S.changed) limits first
+        → result ≡ true → limits.tenant_clients ≡ most → Crowd (λ b. view_of S.who N.number b.value) (rules_of S.made S.seen S.noted S.status S.changed) limits first
         start Reads (nobody clients.old.queue) (past_of waits began keeper.old)
         (N.log network.old) clients.old.slots.items clients.old.accepted service.old
         → Crowd (λ b. view_of S.who N.number b.value) (rules_of S.made S.seen S.noted S.status S.changed) limits first
         start Reads (everybody clients.new.queue) (past_of waits began keeper.new)
         (N.log network.new) clients.new.slots.items clients.new.accepted service.new }
     ensures failed { (limits : Limits) (first : S) (start : Acts) (waits : ℕ) (began : Option Journal)
-        → result ≡ false → Crowd (λ b. view_of S.who N.number b.value) (rules_of S.made S.seen S.noted S.status S.changed) limits first
+        → result ≡ false → limits.tenant_clients ≡ most → Crowd (λ b. view_of S.who N.number b.value) (rules_of S.made S.seen S.noted S.status S.changed) limits first
         start Reads (nobody clients.old.queue) (past_of waits began keeper.old)
         (N.log network.old) clients.old.slots.items clients.old.accepted service.old
         → HasFailed (λ b. view_of S.who N.number b.value) (rules_of S.made S.seen S.noted S.status S.changed) limits first
@@ -143,7 +166,9 @@ pub fn listen_all<S: Shows, N: Network>(
         if !keeper.make_room(network) {
             return false;
         }
-        listen_to(alloc, network, service, rooms, clients, keeper, place, now);
+        listen_to(
+            alloc, network, service, rooms, clients, keeper, most, place, now,
+        );
     }
     true
 }

@@ -37,6 +37,9 @@ use std::alloc::Global;
 pub struct Limits {
     /// The most clients at once: 1 to 1,024.
     pub clients: u32,
+    /// The most connections on which one tenant may be logged in at once: 1 to 1,024. Without this there
+    /// is no limit.
+    pub tenant_clients: Option<u32>,
     /// How many connections are accepted before the server ends.
     pub connections: u64,
     /// How many seconds a connection may last on which nobody is logged in.
@@ -169,7 +172,16 @@ fn take_turns<S: Shows, N: Network>(
         (S.seen service.new).speakers clients.new.slots.items }
 {
     let second = now.unwrap_or(0);
-    if !listen_all(alloc, network, service, rooms, clients, keeper, second) {
+    if !listen_all(
+        alloc,
+        network,
+        service,
+        rooms,
+        clients,
+        keeper,
+        limits.tenant_clients,
+        second,
+    ) {
         return false;
     }
     if !keeper.settle(network) {

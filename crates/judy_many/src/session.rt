@@ -3,12 +3,18 @@ ghost use Rattle.std.specs.Prelude.{◌≡◌, ◌<◌, ◌≤◌, ◌+◌, ◌+
 ghost use Rattle.judy_protocol.specs.Services.{HasLoggedIn};
 ghost use Rattle.judy_protocol.specs.Talks.{HasNoLf, Holds};
 ghost use Rattle.judy_many.specs.Books.{has_room, noted_by};
+ghost use Rattle.judy_many.specs.Lives.{view_of};
+ghost use Rattle.judy_many.specs.Others.{AreLimited};
+ghost use Rattle.judy_many.specs.Present.{speakers_at};
 ghost use Rattle.judy_many.specs.Records.{records_of};
 ghost use Rattle.judy_many.specs.Rules.{rules_of};
 ghost use Rattle.judy_many.specs.Sessions.{Steps, Turn};
 ghost use Rattle.judy_many.specs.Watches.{HasLine, LeavesLine};
 
+use crate::client::Client;
 use crate::keeping::Keeper;
+use crate::network::Network;
+use crate::others::limit_login;
 use crate::shows::Shows;
 use arrayvec::ArrayVec;
 use judy_model::{KEY_LIMIT, LINE_LIMIT};
@@ -107,21 +113,25 @@ fn note_line<S: Shows>(
 }
 
 /// Runs the line that is held and ends with the chunk, counts it, notes its record, and appends its
-/// answer. Returns whether the line asked to quit.
-pub fn run_line<S: Shows>(
+/// answer. A log-in is refused if its tenant speaks on `most` of the other connections. Returns whether
+/// the line asked to quit.
+pub fn run_line<S: Shows, N: Network>(
     alloc: Global,
     session: &mut Session<S::Speaker>,
     service: &mut S,
     rooms: &mut Rooms,
     chunk: &[u8],
+    others: &[Option<Box<Client<S::Speaker, N::Connection>>>],
     answers: &mut ArrayVec<u8, ANSWERS_LIMIT>,
     keeper: &mut Keeper,
+    most: Option<u32>,
 ) -> bool
     requires line { HasNoLf chunk.now }
     requires journal { IsTrue (has_room keeper.old) }
     requires room { length answers.old.items + REPLY_LIMIT ≤ ANSWERS_LIMIT }
     requires known { HasLoggedIn (S.seen service.old).speakers (option_map S.who session.old.speaker) }
     ensures steps { (turn : Turn)
+        × AreLimited most (speakers_at (λ b. view_of S.who N.number b.value) others.now) (turn ∷ [])
         × Steps (rules_of S.made S.seen S.noted S.status S.changed) (chunk.now ++ 10 ∷ []) (turn ∷ []) result
         session.old.held session.new.held
         (option_map S.who session.old.speaker) (option_map S.who session.new.speaker)
@@ -141,6 +151,14 @@ pub fn run_line<S: Shows>(
         &mut rooms.found,
         &mut rooms.reply,
     );
+    limit_login::<S, N>(
+        &*service,
+        &asked,
+        &mut session.speaker,
+        others,
+        most,
+        &mut rooms.reply,
+    );
     service.note(&asked, rooms.reply.as_slice());
     note_line(keeper, &*service, session.speaker, line, changed);
     append(answers, rooms.reply.as_slice());
@@ -151,20 +169,23 @@ pub fn run_line<S: Shows>(
 
 /// Runs the lines that the bytes complete, as long as there is room for the longest answer and for the
 /// longest record, and up to a line that asks to quit. Holds what comes after the last line feed.
-pub fn run_lines<S: Shows>(
+pub fn run_lines<S: Shows, N: Network>(
     alloc: Global,
     session: &mut Session<S::Speaker>,
     service: &mut S,
     rooms: &mut Rooms,
     bytes: &[u8],
+    others: &[Option<Box<Client<S::Speaker, N::Connection>>>],
     answers: &mut ArrayVec<u8, ANSWERS_LIMIT>,
     keeper: &mut Keeper,
+    most: Option<u32>,
 ) -> Ran
     requires known { HasLoggedIn (S.seen service.old).speakers (option_map S.who session.old.speaker) }
     ensures steps { (used : List ℕ) × (rest : List ℕ) × (turns : List Turn)
         × (used ++ rest ≡ bytes.now) × (length rest ≡ result.left)
         × LeavesLine result.quit rest
         × ((HasLine bytes.now × IsTrue (has_room keeper.old) × (answers.old.items ≡ [])) → 0 < length turns)
+        × AreLimited most (speakers_at (λ b. view_of S.who N.number b.value) others.now) turns
         × Steps (rules_of S.made S.seen S.noted S.status S.changed) used turns result.quit
         session.old.held session.new.held
         (option_map S.who session.old.speaker) (option_map S.who session.new.speaker)
@@ -184,7 +205,9 @@ pub fn run_lines<S: Shows>(
             };
         }
         rest = after;
-        if run_line(alloc, session, service, rooms, chunk, answers, keeper) {
+        if run_line::<S, N>(
+            alloc, session, service, rooms, chunk, others, answers, keeper, most,
+        ) {
             return Ran {
                 left: rest.len(),
                 quit: true,

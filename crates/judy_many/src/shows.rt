@@ -58,6 +58,10 @@ pub trait Shows: Served {
     fn knows(&self, speaker: Self::Speaker) -> bool
         ensures { result ≡ (Self.seen self.now).speakers (Self.who speaker) };
 
+    /// The number of a speaker's tenant.
+    fn tenant(&self, speaker: Self::Speaker) -> usize
+        ensures { result ≡ (Self.who speaker).tenant };
+
     /// Whether a tenant has this name.
     fn has(&self, name: &[u8]) -> bool
         ensures yes { result ≡ true → HasName (Self.seen self.now).names name.now }

@@ -38,9 +38,10 @@ connections_of n = if n == 4294967295 then 18446744073709551615 else n
 
 -- the limits of the command line; there are questions if a status socket or a control socket was asked
 -- for
-abbrev pub limits_of : ℕ → ℕ → ℕ → Option ℕ → Option ℕ → Desks → Option (List ℕ) → When → Limits
-limits_of clients connections login idle turn desks directory w = record {
+abbrev pub limits_of : ℕ → Option ℕ → ℕ → ℕ → Option ℕ → Option ℕ → Desks → Option (List ℕ) → When → Limits
+limits_of clients tenant_clients connections login idle turn desks directory w = record {
   clients = clients;
+  tenant_clients = tenant_clients;
   connections = connections_of connections;
   login = Some login;
   idle = idle;
@@ -52,7 +53,7 @@ limits_of clients connections login idle turn desks directory w = record {
 -- the job is one of the two programs
 abbrev pub IsProgram : Job → Type 0
 IsProgram (job.Run words) = Unit {0}
-IsProgram (job.Serve config socket watch control clients connections login idle turn reserve directory w check) = Unit {0}
+IsProgram (job.Serve config socket watch control clients tenant_clients connections login idle turn reserve directory w check) = Unit {0}
 IsProgram (job.Compact directory) = ⊥
 IsProgram (job.Journal directory tenant) = ⊥
 
@@ -90,9 +91,9 @@ module _ (has : List ℕ → Kept → Type 0) where
   HasDone secret (job.Run words) status text from to log log' = (ran : Ran)
       × HasRun IsServedStep seen_of held_words (IsNewService secret None) words ran from to
       × (status ≡ run_status ran) × (text ≡ run_text ran) × (log' ≡ log)
-  HasDone secret (job.Serve config socket watch control clients connections login idle turn reserve directory w check) status text from to log log' = (hosted : Hosted)
+  HasDone secret (job.Serve config socket watch control clients tenant_clients connections login idle turn reserve directory w check) status text from to log log' = (hosted : Hosted)
       × ServesBy check directory secret reserve hosted config socket (desks_at watch control)
-      (limits_of clients connections login idle turn (desks_at watch control) directory w) log log'
+      (limits_of clients tenant_clients connections login idle turn (desks_at watch control) directory w) log log'
       × (status ≡ host_status hosted) × (text ≡ host_text hosted) × (to ≡ from)
   HasDone secret (job.Compact directory) status text from to log log' = ⊥
   HasDone secret (job.Journal directory tenant) status text from to log log' = ⊥

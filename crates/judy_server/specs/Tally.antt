@@ -5,7 +5,7 @@
 --     no_counts                        nothing was counted yet
 --     counted tenants line answer t    the counts after one more line
 --     Tallied                          a service with its counts
-use Rattle.std.specs.Prelude.{ℕ, List, [], ◌∷◌, Option, Some, None, codes, if◌then◌else◌, replicate, slice_index, slice_set, unwrap_or, ◌==◌}
+use Rattle.std.specs.Prelude.{◌||◌, ℕ, Bool, List, [], ◌∷◌, Option, Some, None, codes, if◌then◌else◌, replicate, slice_index, slice_set, unwrap_or, ◌==◌}
 use Rattle.judy_arena.specs.Blocks.{count_up}
 use Rattle.judy_model.specs.Grammar.{at_command}
 use Rattle.judy_model.specs.Replies.{line}
@@ -116,22 +116,26 @@ call_place TooLong = 46
 
 -- each refusal is a kind, and any other reply is `ok`
 unfoldable pub reply_kinds : List (List ℕ)
-reply_kinds = codes "ok" ∷ codes "full" ∷ codes "memory" ∷ codes "auth" ∷ codes "readonly" ∷ codes "syntax" ∷ codes "long" ∷ []
+reply_kinds = codes "ok" ∷ codes "full" ∷ codes "memory" ∷ codes "auth" ∷ codes "readonly" ∷ codes "syntax" ∷ codes "long" ∷ codes "clients" ∷ []
 
 -- the answers of the refusals, and the places of their kinds there
 abbrev pub refusal_places : List (List ℕ × ℕ)
 refusal_places =
     (line (codes "FULL"), 1) ∷ (line (codes "ERR MEMORY"), 2) ∷ (line (codes "ERR AUTH"), 3)
-    ∷ (line (codes "ERR READONLY"), 4) ∷ (line (codes "ERR SYNTAX"), 5) ∷ (line (codes "ERR LONG"), 6) ∷ []
+    ∷ (line (codes "ERR READONLY"), 4) ∷ (line (codes "ERR SYNTAX"), 5) ∷ (line (codes "ERR LONG"), 6) ∷ (line (codes "ERR CLIENTS"), 7) ∷ []
 
 unfoldable pub reply_place : List ℕ → ℕ
 reply_place answer = unwrap_or (at_command answer refusal_places) 0
 
 -- ---- log-ins
 
+-- whether answers of this kind refuse a log-in: its name or its token is wrong, or its tenant has enough connections
+abbrev pub refuses_login : ℕ → Bool
+refuses_login place = (place == 3) || (place == 7)
+
 -- the name of the log-in that the line asked for, if it was refused
 abbrev pub refused_name : Heard → List ℕ → Option (List ℕ)
-refused_name (Asked (request.Auth name token)) answer = if reply_place answer == 3 then Some name else None
+refused_name (Asked (request.Auth name token)) answer = if refuses_login (reply_place answer) then Some name else None
 refused_name (Asked request.Quit) answer = None
 refused_name (Asked (request.Call call)) answer = None
 refused_name Unclear answer = None
@@ -141,7 +145,7 @@ refused_name TooLong answer = None
 
 -- nothing was counted yet; there is a counter for each call, for each kind of reply, and for each place of a tenant
 unfoldable pub no_counts : Tally
-no_counts = record { lines = replicate 47 0; replies = replicate 7 0; refused = replicate 128 0; unknown = 0 }
+no_counts = record { lines = replicate 47 0; replies = replicate 8 0; refused = replicate 128 0; unknown = 0 }
 
 -- the counter at a place goes up, unless it is at its most
 abbrev pub bumped : List ℕ → ℕ → List ℕ

@@ -132,6 +132,7 @@ fn do_job_with<K: Chosen, R: Source, W: Sink, H: Journals>(
             status,
             control,
             clients,
+            tenant_clients,
             connections,
             login,
             idle,
@@ -149,6 +150,7 @@ fn do_job_with<K: Chosen, R: Source, W: Sink, H: Journals>(
             }
             let limits = Limits {
                 clients: *clients,
+                tenant_clients: *tenant_clients,
                 connections: connections_of(*connections),
                 login: Some(*login),
                 idle: *idle,

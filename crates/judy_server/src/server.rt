@@ -190,6 +190,10 @@ impl<H: Chosen> Shows for Server<H> {
         self.service.knows(speaker)
     }
 
+    fn tenant(&self, speaker: Speaker) -> usize {
+        speaker.tenant.place() as usize
+    }
+
     fn has(&self, name: &[u8]) -> bool {
         self.service.find(name).is_some()
     }

@@ -5,7 +5,7 @@ ghost use Rattle.std.specs.Ordering.{eq_by_cmp};
 ghost use Rattle.judy_arena.specs.Blocks.{count_up};
 ghost use Rattle.judy_model.specs.Contents.{string_order};
 ghost use Rattle.judy_protocol.specs.Talks.{as_heard};
-ghost use Rattle.judy_server.specs.Tally.{bumped, call_place, no_counts, refused_at, refused_name, reply_place, with_line};
+ghost use Rattle.judy_server.specs.Tally.{bumped, call_place, no_counts, refused_at, refused_name, refuses_login, reply_place, with_line};
 
 use crate::calls::place_of_call;
 use judy_protocol::{Line, Refusal};
@@ -15,7 +15,7 @@ use judy_table::TenantId;
 pub const CALLS: usize = 47;
 
 /// How many kinds of replies there are.
-pub const KINDS: usize = 7;
+pub const KINDS: usize = 8;
 
 /// How many places for tenants there are.
 pub const PLACES: usize = 128;
@@ -112,7 +112,17 @@ fn reply_place(answer: &[u8]) -> usize
     if is_text(answer, b"ERR LONG\n") {
         return 6;
     }
+    if is_text(answer, b"ERR CLIENTS\n") {
+        return 7;
+    }
     0
+}
+
+/// Whether answers of this kind refuse a log-in.
+fn refuses_login(place: usize) -> bool
+    ensures { result ≡ refuses_login place }
+{
+    place == 3 || place == 7
 }
 
 /// The name of the log-in that a line asked for, if the answer refused it.
@@ -121,7 +131,7 @@ pub fn refused_name<'a>(asked: &'a Result<Line<'_>, Refusal>, answer: &[u8]) -> 
 {
     match asked {
         Ok(Line::Auth(name, _)) => {
-            if reply_place(answer) == 3 {
+            if refuses_login(reply_place(answer)) {
                 return Some(name.as_bytes());
             }
             None

@@ -10,6 +10,8 @@ mod journals;
 #[cfg(test)]
 mod kicks;
 #[cfg(test)]
+mod limited;
+#[cfg(test)]
 mod questions;
 #[cfg(test)]
 mod reloads;

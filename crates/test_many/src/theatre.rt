@@ -11,6 +11,7 @@ use std::test::Fail;
 
 const TABLE: &[u8] = b"[alice]
 sha256 = \"ba7816bf8f01cfea414140de5dae2223b00361a396177a9cb410ff61f20015ad\"
+read_sha256 = \"3c01eba119e00d79c82b6f65d70bc5f1044d568618bf41377e6d1432023fc2b8\"
 quota = 2
 [bob]
 sha256 = \"2cf24dba5fb0a30e26e83b2ac5b9e29e1b161e5c1fa7425e73043362938b9824\"
@@ -45,6 +46,7 @@ pub fn giving<'a>(bytes: &'a [u8]) -> Part<'a> {
 pub fn limits(clients: u32, connections: u32) -> Limits {
     Limits {
         clients,
+        tenant_clients: None,
         connections: u64::from(connections),
         login: None,
         idle: None,

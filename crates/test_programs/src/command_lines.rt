@@ -18,6 +18,7 @@ fn answer(alloc: Global, line: &str) -> Result<String, AllocError> {
                 status,
                 control,
                 clients,
+                tenant_clients,
                 connections,
                 login,
                 idle,
@@ -38,6 +39,10 @@ fn answer(alloc: Global, line: &str) -> Result<String, AllocError> {
                 Some(control) => format!(in alloc; "/{}", control.0)?,
                 None => String::new(alloc),
             };
+            let tenant_clients = match tenant_clients {
+                Some(n) => format!(in alloc; "/{n}")?,
+                None => String::new(alloc),
+            };
             let idle = idle.unwrap_or(0);
             let turn = turn.unwrap_or(0);
             let reserve = reserve.unwrap_or(0);
@@ -46,7 +51,7 @@ fn answer(alloc: Global, line: &str) -> Result<String, AllocError> {
                 None => String::new(alloc),
             };
             format!(in alloc;
-                "serve {config} {socket}{status}{control} {clients} {connections} {login} {idle} {turn} {reserve} {check}{journal}"
+                "serve {config} {socket}{status}{control} {clients}{tenant_clients} {connections} {login} {idle} {turn} {reserve} {check}{journal}"
             )
         }
         Ok(Job::Compact { directory }) => format!(in alloc; "compact {}", directory.0),
@@ -221,6 +226,18 @@ fn limits_of_serve(rt: HostRuntime) -> Result<(), Fail> {
             "serve --config c --socket s --clients 2 --clients 2",
             "usage",
         ),
+        (
+            "serve --config c --socket s --tenant-clients 1",
+            "serve c s 64/1 4294967295 10 0 0 0 false",
+        ),
+        (
+            "serve --tenant-clients=1024 --config c --socket s --clients 2",
+            "serve c s 2/1024 4294967295 10 0 0 0 false",
+        ),
+        ("serve --config c --socket s --tenant-clients 0", "usage"),
+        ("serve --config c --socket s --tenant-clients 1025", "usage"),
+        ("serve --config c --socket s --tenant-clients -1", "usage"),
+        ("serve --config c --socket s --tenant-clients", "usage"),
         ("serve --config c --socket s --login 0", "usage"),
         ("serve --config c --socket s --login 4294967296", "usage"),
         (

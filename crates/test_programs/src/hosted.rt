@@ -236,6 +236,7 @@ fn with_callers<'a>(rt: &HostRuntime, callers: &[Caller<'a>]) -> Result<Play<'a>
 fn limits(clients: u32, connections: u64) -> Limits {
     Limits {
         clients,
+        tenant_clients: None,
         connections,
         login: None,
         idle: None,

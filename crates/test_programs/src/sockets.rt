@@ -66,6 +66,7 @@ fn check_all(
 fn limits(connections: u64, idle: Option<u32>, turn: Option<u32>) -> Limits {
     Limits {
         clients: 2,
+        tenant_clients: None,
         connections,
         login: None,
         idle,

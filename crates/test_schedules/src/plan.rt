@@ -120,13 +120,14 @@ fn draw_time(draw: &mut Draw) -> Option<u32> {
 }
 
 /// The limits of a server to which this number of clients comes. In a crowd there is one place, for which
-/// the others wait.
+/// the others wait. Each client has a tenant of its own, so that one connection a tenant is enough.
 pub fn draw_limits(draw: &mut Draw, peers: usize, crowd: bool) -> Limits {
     let places = draw.one_of(&[1, 2, 3, PEERS_LIMIT, PEERS_LIMIT, PEERS_LIMIT]);
     let places = if crowd { 1 } else { places };
     let ends = draw.happens(1, 2);
     Limits {
         clients: places.min(PEERS_LIMIT) as u32,
+        tenant_clients: if ends { Some(1) } else { None },
         connections: if ends {
             peers.min(PEERS_LIMIT) as u64
         } else {

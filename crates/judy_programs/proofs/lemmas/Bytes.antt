@@ -2,7 +2,7 @@
 --     CallsBy t n story    the calls of this tenant are those of the lines of this connection
 --     hosted-bytes         equal bytes read, quotas, arrays and refusals give equal bytes written,
 --                          whatever the other connections of the two servers do, as long as the tables
---                          stay
+--                          stay and no log-in is refused since its tenant has enough connections
 --     hosted-bytes-by-logins   the same for lines whose log-ins are by the same names and tokens, and
 --                          for tenants that each new table keeps
 use Rattle.std.proofs.Common.{◌≡◌, ◌∙◌, ℕ, true, List, [], ◌∷◌, ◌++◌, map, length, Option, None, ap, ap₂, subst, sym, refl, arith}
@@ -13,7 +13,7 @@ use Rattle.judy_journal.specs.Writes.{Writing}
 use Rattle.judy_many.specs.Crowds.{HasServedMany}
 use Rattle.judy_many.specs.Lives.{IsWhole, end_well, read_in, wrote_in}
 use Rattle.judy_many.specs.Rules.{Rules}
-use Rattle.judy_many.specs.Sessions.{Speaks, Turn, UseLogin, events_in, lines_in, replies_in}
+use Rattle.judy_many.specs.Sessions.{AreLetIn, Speaks, Turn, UseLogin, events_in, lines_in, replies_in}
 use Rattle.judy_many.specs.Statuses.{Keeps}
 use Rattle.judy_many.specs.Stories.{Story, acts_in, changes_in, turns_in, own as moments_of}
 use Rattle.judy_many.specs.declared.serve.Ending.{Ending}
@@ -45,7 +45,7 @@ CallsBy t n story = exchanges t (turns_in story) ≡ exchanges_of (turns_in (mom
 calls-are : (login : Login) (who : Option Speaker) (turns : List Turn) (last : Option Speaker) → UseLogin login turns → Speaks who turns last
     → events_in turns ≡ events_from login who (lines_in turns)
 calls-are login who [] last used s = refl
-calls-are login who (t ∷ turns) last (by, used) (same, count, more) =
+calls-are login who (t ∷ turns) last (let_in, by, used) (same, count, more) =
     let after : t.after ≡ speaker_after login who t.line = by ∙ ap (λ w. speaker_after login w t.line) same in
     ap₂ (λ a b. a ++ b) (ap (event_of t.line) same)
     (calls-are login (speaker_after login who t.line) turns last used (subst (λ w. Speaks w turns last) after more))
@@ -112,12 +112,14 @@ hosted-bytes-by-logins rules rules' limits limits' writer writer' how how' log l
     ∙ sym (whole_is login (acts_in mine) (turns_in mine) used w)
 
 -- So it is if the two services begin with equal names and tokens, and their tables stay: calls and counts
--- change none.
+-- change none. No log-in on the two connections was refused since its tenant has enough connections; without
+-- `--tenant-clients` none is (judy_many's `let_in`).
 pub hosted-bytes : {S T : Type 0} (rules : Rules S) (rules' : Rules T)
     → KeepsApart rules → IsUnseen rules → KeepsApart rules' → IsUnseen rules'
     → (limits limits' : Limits) (writer writer' : Option Writing) (how how' : Ending) (log last log' last' : Log) (before after : S) (before' after' : T)
     (h : HasServedMany rules limits writer how log last before after) (k : HasServedMany rules' limits' writer' how' log' last' before' after')
-    (t u n m : ℕ) → changes_in h.story ≡ [] → changes_in k.story ≡ [] → (rules'.seen before').logins ≡ (rules.seen before).logins
+    (t u n m : ℕ) → changes_in h.story ≡ [] → changes_in k.story ≡ []
+    → AreLetIn (turns_in (moments_of n h.story)) → AreLetIn (turns_in (moments_of m k.story)) → (rules'.seen before').logins ≡ (rules.seen before).logins
     → (rules'.seen before').quotas u ≡ (rules.seen before).quotas t → (rules'.seen before').states u ≡ (rules.seen before).states t
     → CallsBy t n h.story → CallsBy u m k.story
     → let mine = moments_of n h.story in let theirs = moments_of m k.story in
@@ -125,10 +127,10 @@ pub hosted-bytes : {S T : Type 0} (rules : Rules S) (rules' : Rules T)
     → read_in (acts_in theirs) ≡ read_in (acts_in mine)
     → refusals (exchanges_of (turns_in theirs)) ≡ refusals (exchanges_of (turns_in mine))
     → wrote_in (acts_in theirs) ≡ wrote_in (acts_in mine)
-hosted-bytes rules rules' apart unseen apart' unseen' limits limits' writer writer' how how' log last log' last' before after before' after' h k t u n m same same' logins =
+hosted-bytes rules rules' apart unseen apart' unseen' limits limits' writer writer' how how' log last log' last' before after before' after' h k t u n m same same' none none' logins =
     let login = (rules.seen before).logins in
-    let used = one_login rules limits writer how log last before after h apart unseen same n in
+    let used = one_login rules limits writer how log last before after h apart unseen same n none in
     let used' = subst (λ l. UseLogin l (turns_in (moments_of m k.story))) logins
-    (one_login rules' limits' writer' how' log' last' before' after' k apart' unseen' same' m) in
+    (one_login rules' limits' writer' how' log' last' before' after' k apart' unseen' same' m none') in
     hosted-bytes-by-logins rules rules' limits limits' writer writer' how how' log last log' last' before after before' after' h k t u n m login used used'
     (keeps_all rules t [] before h.story after same h.told) (keeps_all rules' u [] before' k.story after' same' k.told)

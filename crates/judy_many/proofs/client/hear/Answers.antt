@@ -8,13 +8,14 @@ use Rattle.judy_many.proofs.client.hear.Goals as goal
 
 pub returns-clause-turns : goal.returns-clause-turns
 returns-clause-turns g c =
-    let (used, rest, turns, cut, few, leaves, some, steps) = c.run-ran.ensures.steps in
+    let (used, rest, turns, cut, few, leaves, some, limited, steps) = c.run-ran.ensures.steps in
     let is = c.keep.ensures.waiting used rest (cut ∙ c.as_slice.ensures) few in (
       turns,
       steps.run,
       λ acts ran live. live_hear acts ran (view_of g.S.Served.who g.N.Network.number c.args.client.now) live (rules_of g.S.Served.made g.S.Served.seen g.S.Shows.noted g.S.Shows.status g.S.Shows.changed) used rest turns _ _ _ _ _ _ _ _ _ _
           c.requires.unasked c.requires.empty (cut ∙ c.as_slice.ensures) is steps,
       steps.noted,
+      limited,
       record {
         some = λ room line. some (subst HasLine (sym c.as_slice.ensures) line, room);
         left = λ w. c.keep.ensures.more (some_left rest _ few (λ e. w (is ∙ e)));

@@ -3,6 +3,8 @@ use Rattle.judy_many.specs.declared.network.How.TheVariants as how
 use Rattle.judy_many.specs.Lives.{view_of}
 use Rattle.judy_many.specs.Nets.{DidLog}
 use Rattle.judy_many.specs.Books.{noted_by}
+use Rattle.judy_many.specs.Others.{AreLimited}
+use Rattle.judy_many.specs.Present.{speakers_at}
 use Rattle.judy_many.specs.Sessions.{AreTurns, records_in}
 use Rattle.judy_many.specs.Stories.{is_end, is_fault, told}
 use Rattle.judy_many.specs.Stories.Moment.{Ran}
@@ -17,23 +19,24 @@ use Rattle.judy_many.proofs.client.listen.Goals as goal
 pub returns-then-client-clause-goes : goal.returns-then-client-clause-goes
 returns-then-client-clause-goes g c =
     let v = view_of g.S.Served.who g.N.Network.number c.args.client.now in
-    ([], no_log _, piece_none v.number Reads, refl, stays_none v, noted_none c.args.keeper.now, listens_not v (inr c.if-client.true))
+    ([], no_log _, piece_none v.number Reads, refl, stays_none v, noted_none c.args.keeper.now, tt, listens_not v (inr c.if-client.true))
 
 pub returns-then-not-is_empty-clause-goes : goal.returns-then-not-is_empty-clause-goes
 returns-then-not-is_empty-clause-goes g c =
     let v = view_of g.S.Served.who g.N.Network.number c.args.client.now in
-    ([], no_log _, piece_none v.number Reads, refl, stays_none v, noted_none c.args.keeper.now, listens_not v (inl (c.is_empty.ensures.some c.if-not-is_empty.true)))
+    ([], no_log _, piece_none v.number Reads, refl, stays_none v, noted_none c.args.keeper.now, tt, listens_not v (inl (c.is_empty.ensures.some c.if-not-is_empty.true)))
 
 pub returns-then-not-is_empty-2-clause-goes : goal.returns-then-not-is_empty-2-clause-goes
 returns-then-not-is_empty-2-clause-goes g c =
     let n = g.N.Network.number c.args.client.now.connection in
-    let (turns, run, stays, noted, hears) = c.hear.ensures.turns in (
+    let (turns, run, stays, noted, limited, hears) = c.hear.ensures.turns in (
       Ran n turns ∷ [],
       no_log _,
       piece_heard n [] turns tt (omega arith),
       subst (λ t. AreTurns (rules_of g.S.Served.made g.S.Served.seen g.S.Shows.noted g.S.Shows.status g.S.Shows.changed) c.args.service.now t c.hear.new.service) (sym (turns_heard n [] turns)) run,
       stays_ran _ _ n turns stays,
       subst (λ t. c.hear.new.keeper ≡ noted_by (records_in t) c.args.keeper.now) (sym (turns_heard n [] turns)) noted,
+      subst (AreLimited c.args.most (speakers_at (λ b. view_of g.S.Served.who g.N.Network.number b.value) c.args.others.now)) (sym (turns_heard n [] turns)) limited,
       listens_held (view_of g.S.Served.who g.N.Network.number c.args.client.now) _ n turns _ c.requires.room refl c.if-client.false (c.is_empty-2.ensures.some c.if-not-is_empty-2.true) hears,
     )
 
@@ -43,7 +46,7 @@ returns-in-Bytes-clause-goes g c =
     let v = view_of g.S.Served.who g.N.Network.number c.args.client.now in
     let n = g.N.Network.number c.args.client.now.connection in
     let empty = c.is_empty-2.ensures.none c.if-not-is_empty-2.false in
-    let (turns, run, stays, noted, hears) = c.hear-in-Bytes.ensures.turns in (
+    let (turns, run, stays, noted, limited, hears) = c.hear-in-Bytes.ensures.turns in (
       told acts ++ Ran n turns ∷ [],
       subst (λ a. DidLog (g.N.Network.log c.args.network.now) a (g.N.Network.log c.fill.new.network)) (sym (acts_heard n acts turns)) log,
       piece_heard n acts turns mine few,
@@ -52,6 +55,7 @@ returns-in-Bytes-clause-goes g c =
           (stays_read v n (g.N.Network.number c.fill.new.connection) acts c.fill.new.self.waiting c.fill.new.self.more empty mine few read wrote)
           (stays_ran _ _ n turns stays),
       subst (λ t. c.hear-in-Bytes.new.keeper ≡ noted_by (records_in t) c.args.keeper.now) (sym (turns_heard n acts turns)) noted,
+      subst (AreLimited c.args.most (speakers_at (λ b. view_of g.S.Served.who g.N.Network.number b.value) c.args.others.now)) (sym (turns_heard n acts turns)) limited,
       listens_read v _ _ n acts turns _ refl mine few told_more hears,
     )
 
@@ -67,6 +71,7 @@ returns-in-Nothing-clause-goes g c =
       subst (λ t. AreTurns (rules_of g.S.Served.made g.S.Served.seen g.S.Shows.noted g.S.Shows.status g.S.Shows.changed) c.args.service.now t c.args.service.now) (sym (turns_in-told acts)) refl,
       stays_read v n (g.N.Network.number c.fill.new.connection) acts c.fill.new.self.waiting c.fill.new.self.more empty mine few read wrote,
       subst (λ t. c.args.keeper.now ≡ noted_by (records_in t) c.args.keeper.now) (sym (turns_in-told acts)) (noted_none c.args.keeper.now),
+      subst (AreLimited c.args.most (speakers_at (λ b. view_of g.S.Served.who g.N.Network.number b.value) c.args.others.now)) (sym (turns_in-told acts)) tt,
       listens_dry v _ n acts refl mine few told_more (c.in-Nothing.ensures.none refl),
     )
 
@@ -86,6 +91,7 @@ returns-in-End-clause-goes g c =
             (stays_read v n (g.N.Network.number c.fill.new.connection) acts c.fill.new.self.waiting c.fill.new.self.more empty mine few read wrote),
       ),
       subst (λ t. c.args.keeper.now ≡ noted_by (records_in t) c.args.keeper.now) (sym (turns_in-told acts)) (noted_none c.args.keeper.now),
+      subst (AreLimited c.args.most (speakers_at (λ b. view_of g.S.Served.who g.N.Network.number b.value) c.args.others.now)) (sym (turns_in-told acts)) tt,
       listens_dry v _ n acts refl mine few told_more (c.in-End.ensures.none refl),
     )
 
@@ -105,5 +111,6 @@ returns-in-Fault-clause-goes g c =
             (stays_read v n (g.N.Network.number c.fill.new.connection) acts c.fill.new.self.waiting c.fill.new.self.more empty mine few read wrote),
       ),
       subst (λ t. c.args.keeper.now ≡ noted_by (records_in t) c.args.keeper.now) (sym (turns_in-told acts)) (noted_none c.args.keeper.now),
+      subst (AreLimited c.args.most (speakers_at (λ b. view_of g.S.Served.who g.N.Network.number b.value) c.args.others.now)) (sym (turns_in-told acts)) tt,
       listens_dry v _ n acts refl mine few told_more (c.in-Fault.ensures.none refl),
     )

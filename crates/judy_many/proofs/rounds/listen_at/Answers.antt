@@ -4,6 +4,8 @@ use Rattle.judy_many.specs.Lives.{view_of}
 use Rattle.judy_many.specs.Nets.{DidLog}
 use Rattle.judy_many.specs.Nets.Act.{Closed}
 use Rattle.judy_many.specs.Books.{noted_by}
+use Rattle.judy_many.specs.Others.{AreLimited}
+use Rattle.judy_many.specs.Present.{speakers_at}
 use Rattle.judy_many.specs.Sessions.{AreTurns, records_in}
 use Rattle.judy_many.specs.Stories.{IsPiece, acts_in}
 use Rattle.judy_many.specs.Stories.Phase.{Reads}
@@ -24,12 +26,13 @@ returns-in_default-clause-did g c = (
   refl,
   λ limits. did_none (λ b. view_of g.S.Served.who g.N.Network.number b.value) limits Reads c.args.slot.now c.take.new.self (sym c.take.ensures.value ∙ c.in_default.is) c.take.ensures.after,
   noted_none c.args.keeper.now,
+  tt,
   listens_none (λ b. view_of g.S.Served.who g.N.Network.number b.value) c.args.slot.now _ [] (sym c.take.ensures.value ∙ c.in_default.is),
 )
 
 pub returns-in-Some-listen-clause-did : goal.returns-in-Some-listen-clause-did
 returns-in-Some-listen-clause-did g c =
-    let (more, log, piece, run, ends, noted, looks) = c.in-Some-listen.ensures.goes in
+    let (more, log, piece, run, ends, noted, limited, looks) = c.in-Some-listen.ensures.goes in
     let n = g.N.Network.number c.in-Some.client.value.connection in
     let first = ap (λ x. g.N.Network.number x.connection) c.deref_mut.ensures.value in
     let back = ap (λ x. g.N.Network.number x.connection) c.deref_mut-in-Some-listen.ensures.value ∙ c.in-Some-listen.ensures.same ∙ first in
@@ -44,12 +47,13 @@ returns-in-Some-listen-clause-did g c =
           (subst (λ x. Leaves c.in-Some-listen.how (view_of g.S.Served.who g.N.Network.number x) more)
           c.deref_mut.ensures.value ends.1),
       subst (λ t. c.listen.new.keeper ≡ noted_by (records_in t) c.args.keeper.now) (sym (turns_in-append more (Did (Closed n c.in-Some-listen.how) ∷ []) ∙ append-nil _)) noted,
+      subst (AreLimited c.args.most (speakers_at (λ b. view_of g.S.Served.who g.N.Network.number b.value) c.args.others.now)) (sym (turns_in-append more (Did (Closed n c.in-Some-listen.how) ∷ []) ∙ append-nil _)) limited,
       listens_left (λ b. view_of g.S.Served.who g.N.Network.number b.value) c.args.slot.now c.take.new.self c.in-Some.client _ c.in-Some.ensures.value c.take.ensures.after,
     )
 
 pub returns-clause-did : goal.returns-clause-did
 returns-clause-did g c =
-    let (more, log, piece, run, stays, noted, looks) = c.in_default-listen.ensures.goes in
+    let (more, log, piece, run, stays, noted, limited, looks) = c.in_default-listen.ensures.goes in
     let first = ap (λ x. g.N.Network.number x.connection) c.deref_mut.ensures.value in (
       more,
       log,
@@ -59,6 +63,7 @@ returns-clause-did g c =
           (subst (λ x. Stays (view_of g.S.Served.who g.N.Network.number x) (view_of g.S.Served.who g.N.Network.number c.listen.new.client) more)
           c.deref_mut.ensures.value stays),
       noted,
+      limited,
       listens_stay (λ b. view_of g.S.Served.who g.N.Network.number b.value) c.args.slot.now c.in-Some.client (view_of g.S.Served.who g.N.Network.number c.listen.new.client) more c.in-Some.ensures.value
           (subst (λ x. Listens (view_of g.S.Served.who g.N.Network.number x) (view_of g.S.Served.who g.N.Network.number c.listen.new.client) more) c.deref_mut.ensures.value looks),
     )

@@ -4,6 +4,7 @@ use Rattle.std.specs.Prelude.{length}
 use Rattle.judy_many.specs.Sessions.{Turn}
 use Rattle.judy_many.proofs.Stepping.{Steps-none, Steps-held, Steps-append}
 use Rattle.judy_many.proofs.Looking.{no_line}
+use Rattle.judy_many.proofs.Limiting.{AreLimited-append}
 use Rattle.judy_many.proofs.session.run_lines.Goals as goal
 
 -- one more line was heard
@@ -17,7 +18,7 @@ one_more turns t = let e = length-append turns (t ∷ []) in omega (arith, e)
 
 pub loop-chunk-init : goal.loop-chunk-init
 loop-chunk-init g c = record {
-  steps = ([], [], refl, Steps-none _ _ _ _ _ _, inr (refl, refl, refl));
+  steps = ([], [], refl, tt, Steps-none _ _ _ _ _ _, inr (refl, refl, refl));
   left = omega arith;
   more = omega arith;
   logins = refl;
@@ -27,7 +28,7 @@ loop-chunk-init g c = record {
 
 pub returns-clause-steps : goal.returns-clause-steps
 returns-clause-steps g c =
-    let (used, turns, cut, steps, first) = c.loop-chunk.invariant.steps in (
+    let (used, turns, cut, limited, steps, first) = c.loop-chunk.invariant.steps in (
       used ++ c.loop-chunk.rest.now,
       [],
       turns ++ [],
@@ -38,15 +39,16 @@ returns-clause-steps g c =
         | inl one ↦ subst (λ t. 0 < length t) (sym (append-nil turns)) one
         | inr none ↦ absurd (no_line c.loop-chunk.rest.now c.args.bytes.now none.0 starts.0 c.in_default.ensures)
       ],
+      AreLimited-append _ _ turns [] limited tt,
       Steps-append _ used c.loop-chunk.rest.now turns [] false _ _ _ _ _ _ _ _ _ _ _ _ _ _ _ steps
           (Steps-held _ c.loop-chunk.rest.now _ _ _ _ _ _ c.in_default.ensures c.hold.ensures),
     )
 
 pub returns-then-run_line-clause-steps : goal.returns-then-run_line-clause-steps
 returns-then-run_line-clause-steps g c =
-    let (used, turns, cut, steps, first) = c.loop-chunk.invariant.steps in
+    let (used, turns, cut, limited, steps, first) = c.loop-chunk.invariant.steps in
     let k = c.run_line.ensures.steps in
-    let more = rw c.if-run_line.true at k.1 in
+    let more = rw c.if-run_line.true at k.2 in
     let line = c.in-Some.chunk.now ++ 10 ∷ [] in (
       used ++ line,
       c.in-Some.after.now,
@@ -55,6 +57,7 @@ returns-then-run_line-clause-steps g c =
       omega arith,
       λ some quit. absurd (never quit),
       λ starts. one_more turns k.0,
+      AreLimited-append _ _ turns (k.0 ∷ []) limited k.1,
       Steps-append _ used line turns (k.0 ∷ []) _ _ _ _ _ _ _ _ _ _ _ _ _ _ _ _ steps more,
     )
   where
@@ -63,9 +66,9 @@ returns-then-run_line-clause-steps g c =
 
 pub loop-chunk-preserved : goal.loop-chunk-preserved
 loop-chunk-preserved g c =
-    let (used, turns, cut, steps, first) = c.loop-chunk.invariant.steps in
+    let (used, turns, cut, limited, steps, first) = c.loop-chunk.invariant.steps in
     let k = c.run_line.ensures.steps in
-    let more = rw c.if-run_line.false at k.1 in
+    let more = rw c.if-run_line.false at k.2 in
     let line = c.in-Some.chunk.now ++ 10 ∷ [] in
     let longer = ap length more.text in
     record {
@@ -73,6 +76,7 @@ loop-chunk-preserved g c =
         used ++ line,
         turns ++ k.0 ∷ [],
         cut_more used c.in-Some.chunk.now c.in-Some.after.now c.loop-chunk.rest.now c.args.bytes.now cut c.in-Some.ensures.1,
+        AreLimited-append _ _ turns (k.0 ∷ []) limited k.1,
         Steps-append _ used line turns (k.0 ∷ []) _ _ _ _ _ _ _ _ _ _ _ _ _ _ _ _ steps more,
         inl (one_more turns k.0),
       );

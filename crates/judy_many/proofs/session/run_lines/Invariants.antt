@@ -2,12 +2,16 @@ use Rattle.std.proofs.Common.{◌≡◌, ◌<◌, ◌≤◌, ◌⊎◌, ◌++◌
 use Rattle.std.specs.Prelude.{option_map}
 use Rattle.judy_protocol.specs.Services.{HasLoggedIn}
 use Rattle.judy_many.specs.Sessions.{Steps, Turn}
+use Rattle.judy_many.specs.Lives.{view_of}
+use Rattle.judy_many.specs.Others.{AreLimited}
+use Rattle.judy_many.specs.Present.{speakers_at}
 use Rattle.judy_many.specs.Rules.{rules_of}
 use Rattle.judy_many.proofs.session.run_lines.Given as goal
 
 abbrev pub invariant-loop-chunk : goal.invariant-loop-chunk
 invariant-loop-chunk g l = record {
   steps : (used : List ℕ) × (turns : List Turn) × (used ++ l.rest ≡ l.bytes)
+      × AreLimited l.most (speakers_at (λ b. view_of g.S.Served.who g.N.Network.number b.value) l.others) turns
       × Steps (rules_of g.S.Served.made g.S.Served.seen g.S.Shows.noted g.S.Shows.status g.S.Shows.changed) used turns false l.fn.session.held l.session.held
       (option_map g.S.Served.who l.fn.session.speaker) (option_map g.S.Served.who l.session.speaker)
       l.fn.service l.service l.fn.answers.items l.answers.items l.fn.keeper l.keeper
