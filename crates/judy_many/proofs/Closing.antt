@@ -24,6 +24,7 @@ use Rattle.judy_many.specs.declared.serve.Ending.{Ending}
 use Rattle.judy_many.specs.declared.serve.Ending.TheVariants as ending
 use Rattle.judy_many.specs.declared.network.Sync.{Sync}
 use Rattle.judy_many.specs.declared.serve.Limits.{Limits}
+use Rattle.judy_many.proofs.Beginning.{crowd_first}
 use Rattle.judy_many.proofs.Beside.{stays_past}
 use Rattle.judy_many.proofs.Journals.{is_quiet, keeps_quiet}
 use Rattle.judy_many.proofs.Limiting.{foreign_quiet, limited_quiet}
@@ -34,7 +35,7 @@ use Rattle.judy_many.proofs.Seats.{free_at, taken_most}
 use Rattle.judy_many.proofs.Turning.{still}
 use Rattle.judy_many.proofs.Watching.{no_looks}
 use Rattle.judy_many.proofs.Living.{no_log}
-use Rattle.judy_many.proofs.Crowding.{crowd_first, told_more}
+use Rattle.judy_many.proofs.Crowding.{told_more}
 
 -- there is a journal only where there is a rule when it is synced
 pub opened_allowed : (limits : Limits) (writer : Option Writing) → MayKeep limits (opened limits.journal writer)

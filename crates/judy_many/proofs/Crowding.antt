@@ -4,11 +4,11 @@ use Rattle.std.specs.Prelude.{if◌then◌else◌, is_some, option_map}
 use Rattle.std.proofs.lemmas.Bool.Decides.{eqb_tells}
 use Rattle.judy_many.specs.Books.{Journal}
 use Rattle.judy_many.specs.Changes.{HasChanged, KeepsTenants}
-use Rattle.judy_many.specs.Crowds.{AreFree, At, Crowd, HasFailed, IsThere, IsTold, Past, past_of, taken, taken_by}
+use Rattle.judy_many.specs.Crowds.{At, Crowd, HasFailed, IsThere, IsTold, Past, past_of, taken, taken_by}
 use Rattle.judy_many.specs.Endings.{lost_in, waits_in}
 use Rattle.judy_many.specs.Journaling.{AreSettled, AreWritten, Carries, MayKeep, Writes}
 use Rattle.judy_many.specs.Queues.{AreAwake, IsBefore, IsPlaced, Line, StayAwake, awake_in, is_awake, mark_in, slot_in, stands, stands_in}
-use Rattle.judy_many.specs.Lives.{IsPart, IsServed, Lives, SlotDid, View}
+use Rattle.judy_many.specs.Lives.{IsServed, Lives, SlotDid, View}
 use Rattle.judy_many.specs.Nets.{Act, Acts, DidLog}
 use Rattle.judy_many.specs.Nets.Act.{Came, Closed, Named, Questioned, Replied, Reported, Tabled, Untabled, Waited, Warned}
 use Rattle.std.specs.List.{list_any}
@@ -29,7 +29,7 @@ use Rattle.judy_many.specs.declared.network.Question.TheVariants as question
 use Rattle.judy_many.proofs.Owning.{own-append, own-mine, own-other}
 use Rattle.judy_many.proofs.Looking.{closed_in_slot}
 use Rattle.judy_many.proofs.Queueing.{before_later, before_none, before_only}
-use Rattle.judy_many.proofs.Seats.{At-here, At-index, At-keep, At-only, At-set, At-some, At-within, free_at, long_set, taken_at, taken_free, taken_most, taken_none}
+use Rattle.judy_many.proofs.Seats.{At-here, At-index, At-keep, At-only, At-set, At-some, At-within, long_set, taken_at, taken_free, taken_most}
 use Rattle.judy_many.proofs.Turning.{GoOn, fair-append, lost-append, mine_plain, since-append, since_fresh, since_most, since_other, since_quiet, still, takes_turn, waits-append}
 use Rattle.judy_many.proofs.Limiting.{IsLimited-append, foreign_quiet, limited_quiet, limited_turn}
 use Rattle.judy_many.proofs.Presence.{present}
@@ -38,7 +38,7 @@ use Rattle.judy_many.proofs.Beside.{IsAside, IsBeside, Passed, after_lines, besi
 use Rattle.judy_many.proofs.Journals.{Carries-append, keeps_allowed, keeps_quiet, keeps_turn, settled_turn}
 use Rattle.judy_many.proofs.Recording.{noted_none}
 use Rattle.judy_many.proofs.Living.{cut_log, no_log, then_log}
-use Rattle.judy_many.proofs.Watching.{alert_anew, alert_beside, alert_comes, alert_keep, alert_looks, alert_read, alert_swept, alert_told, alert_turned, alert_waits, awake-append, awake_none, each-append, each_none, no_looks}
+use Rattle.judy_many.proofs.Watching.{alert_anew, alert_beside, alert_comes, alert_keep, alert_looks, alert_read, alert_swept, alert_told, alert_turned, alert_waits, awake-append, each-append, no_looks}
 use Rattle.judy_many.proofs.Telling.{AreWithin-append, IsPhased-append, acts_in-append, acts_in-told, came-append, closed-append, lives_served, split, writes_since-append}
 
 -- ---- the whole story
@@ -923,86 +923,3 @@ module _ {B S : Type 0} (view : B → View) (rules : Rules S) (limits : Limits) 
       → Now Phase.Sweeps (nobody line) past log slots count now → Now Phase.Reads (nobody line') (later past) log' slots' count' now
   waited line line' past log log' slots slots' count count' now sleeps slots_told asleep stay wakes k e f h =
       subst (λ s. Now Phase.Reads (nobody line') (later past) log' s count' now) (sym e) (subst (λ n. Now Phase.Reads (nobody line') (later past) log' slots n now) (sym f) (has_waited line line' past log log' slots count now sleeps slots_told asleep stay wakes k h))
-
--- ---- the beginning
-
-unserved : IsServed []
-unserved = record {
-  order = λ p q cut. at_start p q (sym cut);
-  whole = λ yes. absurd (never yes);
-  why = λ p q n how cut. absurd (no_close p q n how (sym cut));
-  once = (omega arith, omega arith);
-}
-  where
-    no_close : (p q : Story) (n : ℕ) (how : How) → p ++ Did (Closed n how) ∷ q ≡ [] → ⊥
-    no_close [] q n how e = cc
-    no_close (m ∷ p) q n how e = cc
-
-    at_start : (p q : Story) → p ++ q ≡ [] → IsPart (acts_in p) (turns_in p)
-    at_start [] q e = record { heard = []; unheard = []; missing = []; last_who = None; read = refl; ran = refl; speaks = refl; text = refl; last = refl }
-    at_start (m ∷ p) q e = absurd (some e)
-      where
-        some : m ∷ (p ++ q) ≡ [] → ⊥
-        some e = cc
-
-pub crowd_first : {B S : Type 0} (line : Line) (view : B → View) (rules : Rules S) (limits : Limits) (first : S) (start : Acts) (began : Option Journal) (slots : List (Option B)) → AreFree slots
-    → length slots ≤ limits.clients → length slots ≤ 1024 → MayKeep limits began → (h : Crowd view rules limits first start Phase.Sweeps (nobody line) (past_of 0 began began) start slots 0 first) × (h.story ≡ [])
-crowd_first line view rules limits first start began slots free sized small allowed = (
-  record {
-    story = [];
-    is_told = record {
-      logged = no_log start;
-      run = refl;
-      lasts = refl;
-      total = refl;
-      capped = omega arith;
-      opened = let e = taken_none slots free in omega (arith, e);
-      sized = sized;
-      small = small;
-      few = λ p q cut. at_start p q (sym cut);
-      within = tt;
-      phases = tt;
-      quiet = λ e. refl;
-      fair = λ p q cut n share. unturned p q n share (sym cut);
-      unlost = refl;
-      waited = refl;
-      reads = tt;
-      keeps = keeps_quiet began [] refl;
-      allowed = allowed;
-      settled = λ e. absurd (sweeps_not_writes e);
-      awake = awake_none;
-      each = each_none;
-      limited = tt;
-    };
-    below = λ i b there. absurd (free_at slots i b free there);
-    live = λ i b there. absurd (free_at slots i b free there);
-    apart = λ i j b c there too e. absurd (free_at slots i b free there);
-    fresh = λ n over. refl;
-    served = λ n. unserved;
-    ready = λ i b there. absurd (free_at slots i b free there);
-    ends = λ n few. absurd (omega (arith, few));
-    alert = λ i b there. absurd (free_at slots i b free there);
-  },
-  refl,
-)
-  where
-    sweeps_not_writes : Phase.Sweeps ≡ Phase.Writes → ⊥
-    sweeps_not_writes e = cc
-
-    unturned : (p q : Story) (n : ℕ) (share : Share) → p ++ q ≡ [] → turns_since n share 0 p ≤ 1
-    unturned [] q n share e = omega arith
-    unturned (m ∷ p) q n share e = absurd (some e)
-      where
-        some : m ∷ (p ++ q) ≡ [] → ⊥
-        some e = cc
-
-    at_start : (p q : Story) → p ++ q ≡ [] → came_in (acts_in p) ≤ closed_in (acts_in p) + limits.clients
-    at_start [] q e = omega arith
-    at_start (m ∷ p) q e = absurd (some e)
-      where
-        some : m ∷ (p ++ q) ≡ [] → ⊥
-        some e = cc
-
-pub crowd_none : {B S : Type 0} (line : Line) (view : B → View) (rules : Rules S) (limits : Limits) (first : S) (start : Acts) (began : Option Journal) (slots : List (Option B)) → AreFree slots
-    → length slots ≤ limits.clients → length slots ≤ 1024 → MayKeep limits began → Crowd view rules limits first start Phase.Sweeps (nobody line) (past_of 0 began began) start slots 0 first
-crowd_none line view rules limits first start began slots free sized small allowed = (crowd_first line view rules limits first start began slots free sized small allowed).0

@@ -1,4 +1,5 @@
 mod Accepting
+mod Beginning
 mod Beside
 pub mod Chaining
 mod Claims

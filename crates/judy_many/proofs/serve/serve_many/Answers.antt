@@ -7,7 +7,8 @@ use Rattle.judy_many.specs.Lives.{View, view_of}
 use Rattle.judy_many.specs.Watches.{nobody}
 use Rattle.judy_many.specs.Stories.Phase.{Reads, Sweeps}
 use Rattle.judy_many.proofs.Closing.{ends_done, ends_first, ends_lost, ends_spent, ends_stopped, ends_unkept, opened_allowed}
-use Rattle.judy_many.proofs.Crowding.{crowd_none, idle, shown, swept, waited, warned}
+use Rattle.judy_many.proofs.Beginning.{crowd_none}
+use Rattle.judy_many.proofs.Crowding.{idle, shown, swept, waited, warned}
 use Rattle.judy_many.proofs.Known.{known-free}
 use Rattle.judy_many.specs.Rules.{rules_of}
 use Rattle.judy_many.proofs.serve.serve_many.Goals as goal
