@@ -1,6 +1,7 @@
 //! Scripts that are too long to write down.
-use crate::rows::{TABLE, check, check_bob};
-use std::alloc::Global;
+use crate::rows::{TABLE, add, check, check_bob};
+use std::alloc::{AllocError, Global};
+use std::process::Abort;
 use std::test::Fail;
 
 // Appends `count` lines `J1S a i`, where i begins at `from` and grows by `step`, and the reply `1`
@@ -25,7 +26,9 @@ fn set_all(
 
 // Sets these indexes as bob, then sends these lines and expects these replies.
 fn check_sets(
+    rt: &impl Abort,
     alloc: Global,
+    name: &str,
     from: u64,
     step: u64,
     count: u64,
@@ -37,13 +40,15 @@ fn check_sets(
     set_all(alloc, &mut script, &mut want, from, step, count)?;
     script.push_str(lines)?;
     want.push_str(replies)?;
-    check_bob(alloc, script.as_str(), want.as_str())
+    check_bob(rt, alloc, name, script.as_str(), want.as_str())
 }
 
 #[test]
 fn a_full_leaf(rt: HostRuntime) -> Result<(), Fail> {
     check_sets(
+        &rt,
         rt.alloc(),
+        "a full leaf",
         0,
         1,
         256,
@@ -55,7 +60,9 @@ fn a_full_leaf(rt: HostRuntime) -> Result<(), Fail> {
 #[test]
 fn shared_bytes(rt: HostRuntime) -> Result<(), Fail> {
     check_sets(
+        &rt,
         rt.alloc(),
+        "shared bytes",
         4096,
         1,
         32,
@@ -67,7 +74,9 @@ fn shared_bytes(rt: HostRuntime) -> Result<(), Fail> {
 #[test]
 fn a_wide_branch(rt: HostRuntime) -> Result<(), Fail> {
     check_sets(
+        &rt,
         rt.alloc(),
+        "a wide branch",
         0,
         256,
         129,
@@ -79,7 +88,9 @@ fn a_wide_branch(rt: HostRuntime) -> Result<(), Fail> {
 #[test]
 fn the_top_of_the_range(rt: HostRuntime) -> Result<(), Fail> {
     check_sets(
+        &rt,
         rt.alloc(),
+        "the top of the range",
         18446744073709551360,
         1,
         256,
@@ -88,71 +99,103 @@ fn the_top_of_the_range(rt: HostRuntime) -> Result<(), Fail> {
     )
 }
 
+// Appends a line for each of 300 sets, which sets an index, and the reply `1` for each.
+fn set_each(alloc: Global, script: &mut String, want: &mut String) -> Result<(), Fail> {
+    for n in 0..300u64 {
+        let line = format!(in alloc; "J1S n{n} 1\n")?;
+        script.push_str(line.as_str())?;
+        want.push_str("1\n")?;
+    }
+    Ok(())
+}
+
 #[test]
 fn many_names(rt: HostRuntime) -> Result<(), Fail> {
     let mut script = String::new(rt.alloc());
     let mut want = String::new(rt.alloc());
-    for n in 0..300u64 {
-        let line = format!(in rt.alloc(); "J1S n{n} 1\n")?;
-        script.push_str(line.as_str())?;
-        want.push_str("1\n")?;
-    }
+    set_each(rt.alloc(), &mut script, &mut want)?;
     script.push_str("J1T n299 1\nJ1FA n0\nJ1S n0 1\n")?;
     want.push_str("1\nN 1\n1\nWORDS 1200\n")?;
-    check_bob(rt.alloc(), script.as_str(), want.as_str())
+    check_bob(
+        &rt,
+        rt.alloc(),
+        "many names",
+        script.as_str(),
+        want.as_str(),
+    )
 }
 
-// A line of 4,096 letters, and a line that is one letter longer.
+// Appends a line of this many letters.
+fn add_letters(script: &mut String, len: usize) -> Result<(), AllocError> {
+    for _ in 0..len {
+        script.push('A')?;
+    }
+    script.push('\n')
+}
+
+// A line of 4,096 letters, and lines that are longer.
 #[test]
 fn long_lines(rt: HostRuntime) -> Result<(), Fail> {
     let mut script = String::new(rt.alloc());
     for len in [4096usize, 4097, 9000] {
-        for _ in 0..len {
-            script.push('A')?;
-        }
-        script.push('\n')?;
+        add_letters(&mut script, len)?;
     }
     script.push_str("USED\n")?;
     check_bob(
+        &rt,
         rt.alloc(),
+        "long lines",
         script.as_str(),
         "ERR SYNTAX\nERR LONG\nERR LONG\nQ 0 1000 0 126000\nWORDS 0\n",
     )
 }
 
+// The lines of alice, each with its reply.
+const OF_ALICE: &str = "J1S a 1 -> 1
+J1S a 2 -> 1
+J1S a 3 -> 1
+J1S a 4 -> 1
+J1S a 9 -> FULL
+J1S a 1 -> 0
+JLI l 1 7 -> FULL
+J1U a 1 -> 1
+JLI l 1 7 -> V 0
+USED -> Q 4 4 4 504";
+
+// Appends a line of alice, and then 100 lines of bob, whose first index is this one.
+fn take_turn(
+    alloc: Global,
+    script: &mut String,
+    want: &mut String,
+    row: &str,
+    from: u64,
+) -> Result<(), Fail> {
+    add(script, want, "AUTH alice abc -> OK")?;
+    add(script, want, row)?;
+    add(script, want, "AUTH bob hello -> OK")?;
+    set_all(alloc, script, want, from, 1, 100)
+}
+
 // Two tenants use the same name for an array, and take turns to call it.
 #[test]
 fn a_noisy_neighbour(rt: HostRuntime) -> Result<(), Fail> {
-    let alice = [
-        ("J1S a 1", "1"),
-        ("J1S a 2", "1"),
-        ("J1S a 3", "1"),
-        ("J1S a 4", "1"),
-        ("J1S a 9", "FULL"),
-        ("J1S a 1", "0"),
-        ("JLI l 1 7", "FULL"),
-        ("J1U a 1", "1"),
-        ("JLI l 1 7", "V 0"),
-        ("USED", "Q 4 4 4 504"),
-    ];
     let mut script = String::new(rt.alloc());
     let mut want = String::new(rt.alloc());
-    for turn in 0..10usize {
-        let (call, reply) = alice[turn];
-        script.push_str("AUTH alice abc\n")?;
-        script.push_str(call)?;
-        script.push_str("\nAUTH bob hello\n")?;
-        want.push_str("OK\n")?;
-        want.push_str(reply)?;
-        want.push_str("\nOK\n")?;
-        for n in 0..100usize {
-            let index = turn * 100 + n;
-            let line = format!(in rt.alloc(); "J1S a {index}\n")?;
-            script.push_str(line.as_str())?;
-            want.push_str("1\n")?;
-        }
+    let mut from: u64 = 0;
+    for row in OF_ALICE.lines() {
+        take_turn(rt.alloc(), &mut script, &mut want, row, from)?;
+        from = from.saturating_add(100);
     }
-    script.push_str("J1S a 1000\n")?;
-    want.push_str("FULL\n")?;
-    check(rt.alloc(), TABLE, false, script.as_str(), want.as_str())
+    assert_eq!(rt; from, 1000);
+    add(&mut script, &mut want, "J1S a 1000 -> FULL")?;
+    let name = "a noisy neighbour";
+    check(
+        &rt,
+        rt.alloc(),
+        name,
+        TABLE,
+        false,
+        script.as_str(),
+        want.as_str(),
+    )
 }

@@ -13,6 +13,7 @@ use judy_stream::{Page, Pull, Push, Refusal, Sink, Source, Tape};
 use judy_table::TableFault;
 use judy_tenants::Sha256Hash;
 use std::alloc::{AllocError, Global};
+use std::process::Abort;
 use std::test::Fail;
 
 /// A connection that will come: what it sends, and where a read of it fails.
@@ -29,6 +30,18 @@ struct Call {
     at: usize,
 }
 
+/// How often a system was asked for each thing.
+#[derive(Clone, Copy, Debug, PartialEq, Eq)]
+struct Counts {
+    drawn: usize,
+    opened: usize,
+    shut: usize,
+    bound: usize,
+    watched: usize,
+    accepted: usize,
+    closed: usize,
+}
+
 /// Random bytes or none, a file, a path where a socket can be made or not, and connections that come
 /// in order. When all have come, the listener is broken.
 #[derive(Drop)]
@@ -38,13 +51,7 @@ struct Play<'a> {
     binds: bool,
     watches: bool,
     controls: bool,
-    drawn: usize,
-    opened: usize,
-    shut: usize,
-    bound: usize,
-    watched: usize,
-    accepted: usize,
-    closed: usize,
+    counts: Counts,
     tapes: Vec<Tape<'a>>,
     pages: Vec<Page<256>>,
 }
@@ -66,11 +73,11 @@ impl<'a> Network for Play<'a> {
     ghost number = { λ c. c.id };
 
     fn accept(&mut self, id: u64, _slot: usize) -> Accept<Call> {
-        if self.accepted >= self.tapes.len() {
+        if self.counts.accepted >= self.tapes.len() {
             return Accept::Fault;
         }
-        let at = self.accepted;
-        self.accepted += 1;
+        let at = self.counts.accepted;
+        self.counts.accepted += 1;
         Accept::Came(Call { id, at })
     }
 
@@ -101,7 +108,7 @@ impl<'a> Network for Play<'a> {
     }
 
     fn close(&mut self, _connection: &mut Call, _how: How) {
-        self.closed = self.closed.saturating_add(1);
+        self.counts.closed = self.counts.closed.saturating_add(1);
     }
 
     fn seconds(&mut self) -> Option<u64> {
@@ -109,7 +116,7 @@ impl<'a> Network for Play<'a> {
     }
 
     fn ask(&mut self) -> Question {
-        if self.accepted < self.tapes.len() || self.closed < self.accepted {
+        if self.counts.accepted < self.tapes.len() || self.counts.closed < self.counts.accepted {
             return Question::Nothing;
         }
         Question::Stop
@@ -146,32 +153,32 @@ impl<'a> Hosts for Play<'a> {
     type File = Tape<'a>;
 
     fn secret(&mut self) -> Option<[u8; 16]> {
-        self.drawn = self.drawn.saturating_add(1);
+        self.counts.drawn = self.counts.drawn.saturating_add(1);
         self.secret
     }
 
     fn open(&mut self, _path: &str) -> Option<Tape<'a>> {
-        self.opened = self.opened.saturating_add(1);
+        self.counts.opened = self.counts.opened.saturating_add(1);
         let file = self.file?;
         Some(Tape::new(file, &[], 4096, None))
     }
 
     fn shut(&mut self, _file: Tape<'a>) {
-        self.shut = self.shut.saturating_add(1);
+        self.counts.shut = self.counts.shut.saturating_add(1);
     }
 
     fn bind(&mut self, _alloc: Global, _path: &str) -> bool {
-        self.bound = self.bound.saturating_add(1);
+        self.counts.bound = self.counts.bound.saturating_add(1);
         self.binds
     }
 
     fn watch(&mut self, _path: &str) -> bool {
-        self.watched = self.watched.saturating_add(1);
+        self.counts.watched = self.counts.watched.saturating_add(1);
         self.watches
     }
 
     fn control(&mut self, _path: &str) -> bool {
-        self.watched = self.watched.saturating_add(1);
+        self.counts.watched = self.counts.watched.saturating_add(1);
         self.controls
     }
 }
@@ -207,9 +214,21 @@ const LOOK: Caller<'static> = Caller {
     fails_at: None,
 };
 
-fn with_callers<'a>(rt: &HostRuntime, callers: &[Caller<'a>]) -> Result<Play<'a>, AllocError> {
-    let mut tapes = Vec::new(rt.alloc());
-    let mut pages = Vec::new(rt.alloc());
+/// Nothing was asked for.
+const NOTHING: Counts = Counts {
+    drawn: 0,
+    opened: 0,
+    shut: 0,
+    bound: 0,
+    watched: 0,
+    accepted: 0,
+    closed: 0,
+};
+
+/// A system where everything can be made, and to which these callers come.
+fn with_callers<'a>(alloc: Global, callers: &[Caller<'a>]) -> Result<Play<'a>, AllocError> {
+    let mut tapes = Vec::new(alloc);
+    let mut pages = Vec::new(alloc);
     for caller in callers {
         tapes.push(Tape::new(caller.script, &[], 7, caller.fails_at))?;
         pages.push(Page::new(256, Refusal::Fails, None, None))?;
@@ -220,265 +239,319 @@ fn with_callers<'a>(rt: &HostRuntime, callers: &[Caller<'a>]) -> Result<Play<'a>
         binds: true,
         watches: true,
         controls: true,
-        drawn: 0,
-        opened: 0,
-        shut: 0,
-        bound: 0,
-        watched: 0,
-        accepted: 0,
-        closed: 0,
+        counts: NOTHING,
         tapes,
         pages,
     })
 }
 
-// This many clients at once, and connections.
-fn limits(clients: u32, connections: u64) -> Limits {
-    Limits {
-        clients,
+/// A server that is started, and what comes of it.
+#[derive(Clone, Copy)]
+struct Start {
+    socket: &'static str,
+    status: Option<&'static str>,
+    reserve: Option<u32>,
+    clients: u32,
+    connections: u64,
+    hosted: Hosted,
+    counts: Counts,
+}
+
+/// A server of one client at a time and one connection, which ends well.
+const PLAIN: Start = Start {
+    socket: "s",
+    status: None,
+    reserve: None,
+    clients: 1,
+    connections: 1,
+    hosted: Hosted::Done,
+    counts: NOTHING,
+};
+
+/// How a server ends on this system.
+fn host(alloc: Global, system: &mut Play<'_>, start: &Start) -> Hosted {
+    let limits = Limits {
+        clients: start.clients,
         tenant_clients: None,
-        connections,
+        connections: start.connections,
         login: None,
         idle: None,
         turn: None,
-        status: false,
+        status: start.status.is_some(),
         journal: None,
+    };
+    host_on::<Tenants, _>(
+        alloc,
+        b"secret",
+        system,
+        "c",
+        start.socket,
+        start.status,
+        None,
+        start.reserve,
+        limits,
+    )
+}
+
+/// Starts a server on this system, and compares how it ends, and how often each thing was asked for
+/// since the system is there.
+fn check(rt: &impl Abort, alloc: Global, system: &mut Play<'_>, start: &Start) {
+    let hosted = host(alloc, system, start);
+    assert_eq!(rt; hosted, start.hosted);
+    assert_eq!(rt; system.counts, start.counts);
+}
+
+/// Compares what each caller read.
+fn compare_pages(rt: &impl Abort, system: &Play<'_>, wanted: &[&[u8]]) {
+    assert_eq!(rt; system.pages.len(), wanted.len());
+    for (page, want) in system.pages.iter().zip(wanted) {
+        assert_eq!(rt; page.bytes(), *want);
     }
 }
+
+static IN_ORDER: Start = Start {
+    connections: 4,
+    counts: Counts {
+        opened: 1,
+        shut: 1,
+        bound: 1,
+        accepted: 4,
+        closed: 4,
+        ..NOTHING
+    },
+    ..PLAIN
+};
 
 // Four connections, one after another. A failed read ends the second. Arrays stay, logins do not, and
 // the next connection is served.
 #[test]
 fn connections_in_order(rt: HostRuntime) -> Result<(), Fail> {
-    let mut system = with_callers(&rt, &[SET, CUT, NOBODY, LOOK])?;
-    let hosted = host_on::<Tenants, _>(
-        rt.alloc(),
-        b"secret",
-        &mut system,
-        "c",
-        "s",
-        None,
-        None,
-        None,
-        limits(1, 4),
-    );
-    assert_eq!(rt; hosted, Hosted::Done);
-    assert_eq!(rt;
-        (
-            system.opened,
-            system.shut,
-            system.bound,
-            system.accepted,
-            system.closed
-        ),
-        (1, 1, 1, 4, 4)
-    );
+    let mut system = with_callers(rt.alloc(), &[SET, CUT, NOBODY, LOOK])?;
+    check(&rt, rt.alloc(), &mut system, &IN_ORDER);
     let want: [&[u8]; 4] = [
         b"OK\n1\n",
         b"OK\n1\n",
         b"ERR AUTH\nOK\n0\nBYE\n",
         b"OK\n1\n1\n0\nBYE\n",
     ];
-    for (page, want) in system.pages.iter().zip(want) {
-        assert_eq!(rt; page.bytes(), want);
-    }
+    compare_pages(&rt, &system, &want);
     Ok(())
 }
+
+static AT_ONCE: Start = Start {
+    reserve: Some(2),
+    clients: 8,
+    connections: 3,
+    counts: Counts {
+        opened: 1,
+        shut: 1,
+        bound: 1,
+        accepted: 3,
+        closed: 3,
+        ..NOTHING
+    },
+    ..PLAIN
+};
 
 // Three connections at once, each with its own log-in.
 #[test]
 fn connections_at_once(rt: HostRuntime) -> Result<(), Fail> {
-    let mut system = with_callers(&rt, &[SET, NOBODY, CUT])?;
-    let hosted = host_on::<Tenants, _>(
-        rt.alloc(),
-        b"secret",
-        &mut system,
-        "c",
-        "s",
-        None,
-        None,
-        Some(2),
-        limits(8, 3),
-    );
-    assert_eq!(rt; hosted, Hosted::Done);
-    assert_eq!(rt; (system.accepted, system.closed), (3, 3));
+    let mut system = with_callers(rt.alloc(), &[SET, NOBODY, CUT])?;
+    check(&rt, rt.alloc(), &mut system, &AT_ONCE);
     let want: [&[u8]; 3] = [b"OK\n1\n", b"ERR AUTH\nOK\n0\nBYE\n", b"OK\n1\n"];
-    for (page, want) in system.pages.iter().zip(want) {
-        assert_eq!(rt; page.bytes(), want);
-    }
+    compare_pages(&rt, &system, &want);
     Ok(())
 }
+
+static BROKEN: Start = Start {
+    connections: 70000,
+    hosted: Hosted::Socket,
+    counts: Counts {
+        opened: 1,
+        shut: 1,
+        bound: 1,
+        accepted: 2,
+        closed: 2,
+        ..NOTHING
+    },
+    ..PLAIN
+};
 
 // The listener breaks after the connections before were served.
 #[test]
 fn a_broken_listener(rt: HostRuntime) -> Result<(), Fail> {
-    let mut system = with_callers(&rt, &[SET, LOOK])?;
-    let hosted = host_on::<Tenants, _>(
-        rt.alloc(),
-        b"secret",
-        &mut system,
-        "c",
-        "s",
-        None,
-        None,
-        None,
-        limits(1, 70000),
-    );
-    assert_eq!(rt; hosted, Hosted::Socket);
-    assert_eq!(rt; system.accepted, 2);
+    let mut system = with_callers(rt.alloc(), &[SET, LOOK])?;
+    check(&rt, rt.alloc(), &mut system, &BROKEN);
     Ok(())
 }
 
-// A stop after all connections were served, and a status socket that cannot be made: then no connection
-// is accepted.
+static STOPPED: Start = Start {
+    status: Some("t"),
+    clients: 2,
+    connections: 2,
+    hosted: Hosted::Stopped,
+    counts: Counts {
+        opened: 1,
+        shut: 1,
+        bound: 1,
+        watched: 1,
+        accepted: 2,
+        closed: 2,
+        ..NOTHING
+    },
+    ..PLAIN
+};
+
+// A stop after all connections were served.
 #[test]
 fn a_stop(rt: HostRuntime) -> Result<(), Fail> {
-    let mut system = with_callers(&rt, &[SET, LOOK])?;
-    let limits = Limits {
-        status: true,
-        ..limits(2, 2)
-    };
-    let more = Limits {
-        connections: 3,
-        ..limits
-    };
-    let status = Some("t");
-    let hosted = host_on::<Tenants, _>(
-        rt.alloc(),
-        b"s",
-        &mut system,
-        "c",
-        "s",
-        status,
-        None,
-        None,
-        limits,
-    );
-    assert_eq!(rt; hosted, Hosted::Stopped);
-    assert_eq!(rt; (system.bound, system.watched, system.closed), (1, 1, 2));
-    let mut system = with_callers(&rt, &[SET])?;
-    system.watches = false;
-    let hosted = host_on::<Tenants, _>(
-        rt.alloc(),
-        b"s",
-        &mut system,
-        "c",
-        "s",
-        status,
-        None,
-        None,
-        more,
-    );
-    assert_eq!(rt; hosted, Hosted::Socket);
-    assert_eq!(rt; (system.bound, system.watched, system.accepted), (1, 1, 0));
-    let hosted = host_on::<Tenants, _>(
-        rt.alloc(),
-        b"s",
-        &mut system,
-        "c",
-        "s",
-        Some(""),
-        None,
-        None,
-        more,
-    );
-    assert_eq!(rt; hosted, Hosted::Socket);
-    assert_eq!(rt; (system.bound, system.watched, system.accepted), (2, 1, 0));
+    let mut system = with_callers(rt.alloc(), &[SET, LOOK])?;
+    check(&rt, rt.alloc(), &mut system, &STOPPED);
     Ok(())
+}
+
+static UNWATCHED: Start = Start {
+    status: Some("t"),
+    clients: 2,
+    connections: 3,
+    hosted: Hosted::Socket,
+    counts: Counts {
+        opened: 1,
+        shut: 1,
+        bound: 1,
+        watched: 1,
+        ..NOTHING
+    },
+    ..PLAIN
+};
+
+static OF_NO_STATUS_PATH: Start = Start {
+    status: Some(""),
+    clients: 2,
+    connections: 3,
+    hosted: Hosted::Socket,
+    counts: Counts {
+        opened: 2,
+        shut: 2,
+        bound: 2,
+        watched: 1,
+        ..NOTHING
+    },
+    ..PLAIN
+};
+
+// No status socket can be made, first in this system, then at an empty path. No connection is accepted.
+#[test]
+fn no_status_socket(rt: HostRuntime) -> Result<(), Fail> {
+    let mut system = with_callers(rt.alloc(), &[SET])?;
+    system.watches = false;
+    check(&rt, rt.alloc(), &mut system, &UNWATCHED);
+    check(&rt, rt.alloc(), &mut system, &OF_NO_STATUS_PATH);
+    Ok(())
+}
+
+/// What a check of the table comes to on this system.
+fn look(alloc: Global, system: &mut Play<'_>, reserve: Option<u32>) -> Hosted {
+    check_on::<Tenants, _>(alloc, b"secret", system, "c", reserve)
 }
 
 // A check of the table: no socket is made, and no connection is accepted.
 #[test]
 fn a_look_at_the_table(rt: HostRuntime) -> Result<(), Fail> {
-    let mut system = with_callers(&rt, &[SET])?;
-    let hosted = check_on::<Tenants, _>(rt.alloc(), b"secret", &mut system, "c", Some(1));
-    assert_eq!(rt; hosted, Hosted::Done);
+    let mut system = with_callers(rt.alloc(), &[SET])?;
+    assert_eq!(rt; look(rt.alloc(), &mut system, Some(1)), Hosted::Done);
     system.file = Some(b"alice = 1\n");
-    let hosted = check_on::<Tenants, _>(rt.alloc(), b"secret", &mut system, "c", None);
+    let hosted = look(rt.alloc(), &mut system, None);
     assert_eq!(rt; hosted, Hosted::Table(TableFault::Shape));
     system.file = None;
-    let hosted = check_on::<Tenants, _>(rt.alloc(), b"secret", &mut system, "c", None);
-    assert_eq!(rt; hosted, Hosted::Config);
-    assert_eq!(rt;
-        (system.opened, system.shut, system.bound, system.accepted),
-        (3, 2, 0, 0)
-    );
+    assert_eq!(rt; look(rt.alloc(), &mut system, None), Hosted::Config);
+    let counts = Counts {
+        opened: 3,
+        shut: 2,
+        ..NOTHING
+    };
+    assert_eq!(rt; system.counts, counts);
     Ok(())
 }
 
-// What is not asked for: a socket if the file gives no service, and connections if there is no
-// socket.
+static OF_NO_FILE: Start = Start {
+    hosted: Hosted::Config,
+    counts: Counts {
+        opened: 1,
+        ..NOTHING
+    },
+    ..PLAIN
+};
+
+// Without a file there is no service, and no socket is asked for.
 #[test]
-fn faults_in_order(rt: HostRuntime) -> Result<(), Fail> {
-    let mut system = with_callers(&rt, &[SET])?;
+fn no_file(rt: HostRuntime) -> Result<(), Fail> {
+    let mut system = with_callers(rt.alloc(), &[SET])?;
     system.file = None;
-    let hosted = host_on::<Tenants, _>(
-        rt.alloc(),
-        b"secret",
-        &mut system,
-        "c",
-        "s",
-        None,
-        None,
-        None,
-        limits(1, 1),
-    );
-    assert_eq!(rt; hosted, Hosted::Config);
-    assert_eq!(rt; (system.opened, system.bound, system.accepted), (1, 0, 0));
-    let mut system = with_callers(&rt, &[SET])?;
-    let hosted = host_on::<Tenants, _>(
-        rt.alloc(),
-        b"secret",
-        &mut system,
-        "c",
-        "",
-        None,
-        None,
-        None,
-        limits(1, 1),
-    );
-    assert_eq!(rt; hosted, Hosted::Socket);
-    assert_eq!(rt; (system.opened, system.bound, system.accepted), (1, 0, 0));
+    check(&rt, rt.alloc(), &mut system, &OF_NO_FILE);
+    Ok(())
+}
+
+static OF_NO_PATH: Start = Start {
+    socket: "",
+    hosted: Hosted::Socket,
+    counts: Counts {
+        opened: 1,
+        shut: 1,
+        ..NOTHING
+    },
+    ..PLAIN
+};
+
+static UNBOUND: Start = Start {
+    hosted: Hosted::Socket,
+    counts: Counts {
+        opened: 2,
+        shut: 2,
+        bound: 1,
+        ..NOTHING
+    },
+    ..PLAIN
+};
+
+// Without a socket no connection is accepted: first at an empty path, then where none can be made.
+#[test]
+fn no_socket(rt: HostRuntime) -> Result<(), Fail> {
+    let mut system = with_callers(rt.alloc(), &[SET])?;
+    check(&rt, rt.alloc(), &mut system, &OF_NO_PATH);
     system.binds = false;
-    let hosted = host_on::<Tenants, _>(
-        rt.alloc(),
-        b"secret",
-        &mut system,
-        "c",
-        "s",
-        None,
-        None,
-        None,
-        limits(1, 1),
-    );
-    assert_eq!(rt; hosted, Hosted::Socket);
-    assert_eq!(rt; (system.opened, system.bound, system.accepted), (2, 1, 0));
+    check(&rt, rt.alloc(), &mut system, &UNBOUND);
+    Ok(())
+}
+
+// A run that draws this secret: its status, its line on standard error, and what it writes.
+fn run_drawn(
+    rt: &impl Abort,
+    alloc: Global,
+    secret: Option<[u8; 16]>,
+    status: u8,
+    line: Option<&str>,
+    replies: &[u8],
+) -> Result<(), Fail> {
+    let script = input(alloc, TABLE, "AUTH alice abc\nJ1S a 1\n")?;
+    let mut system = with_callers(alloc, &[])?;
+    system.secret = secret;
+    let mut tape = Tape::new(script.as_str().as_bytes(), &[], 4096, None);
+    let mut page: Page<256> = Page::new(256, Refusal::Fails, None, None);
+    let job = Job::Run { words: false };
+    let ended = do_job_on::<Sha256Hash, _, _, _>(alloc, &job, &mut tape, &mut page, &mut system);
+    assert_eq!(rt; (ended.0, ended.1, page.bytes()), (status, line, replies));
+    let counts = Counts {
+        drawn: 1,
+        ..NOTHING
+    };
+    assert_eq!(rt; system.counts, counts);
     Ok(())
 }
 
 // A run draws one secret. Without random bytes nothing is read or written.
 #[test]
 fn a_run_draws_a_secret(rt: HostRuntime) -> Result<(), Fail> {
-    let script = input(rt.alloc(), TABLE, "AUTH alice abc\nJ1S a 1\n")?;
-    for secret in [Some([7; 16]), None] {
-        let mut system = with_callers(&rt, &[])?;
-        system.secret = secret;
-        let mut tape = Tape::new(script.as_str().as_bytes(), &[], 4096, None);
-        let mut page: Page<256> = Page::new(256, Refusal::Fails, None, None);
-        let job = Job::Run { words: false };
-        let ended = do_job_on::<Sha256Hash, _, _, _>(
-            rt.alloc(),
-            &job,
-            &mut tape,
-            &mut page,
-            &mut system,
-        );
-        let want: (u8, Option<&'static str>, &[u8]) = match secret {
-            Some(_) => (0, None, b"OK\n1\n"),
-            None => (4, Some("judyd: random fault"), b""),
-        };
-        assert_eq!(rt; (ended.0, ended.1, page.bytes()), want);
-        assert_eq!(rt; (system.drawn, system.opened, system.bound), (1, 0, 0));
-    }
-    Ok(())
+    run_drawn(&rt, rt.alloc(), Some([7; 16]), 0, None, b"OK\n1\n")?;
+    run_drawn(&rt, rt.alloc(), None, 4, Some("judyd: random fault"), b"")
 }

@@ -27,7 +27,7 @@ struct Row {
 }
 
 // One row for each kind of array.
-const ROWS: [Row; 4] = [
+static ROWS: [Row; 4] = [
     Row {
         line: "J1S a 5",
         question: "J1T a 5",

@@ -43,10 +43,10 @@ sha256 = "2cf24dba5fb0a30e26e83b2ac5b9e29e1b161e5c1fa7425e73043362938b9824"
 quota = 900
 "#;
 
-const TENANTS: [&str; 3] = ["ann", "bob", "cid"];
+static TENANTS: [&str; 3] = ["ann", "bob", "cid"];
 
 /// Commands that change arrays, each with the fields before a number from 0 to 9, and what follows it.
-const CHANGES: [(&str, &str); 16] = [
+static CHANGES: [(&str, &str); 16] = [
     ("J1S a ", ""),
     ("J1S b 25", ""),
     ("J1S a 1", ""),
@@ -66,7 +66,7 @@ const CHANGES: [(&str, &str); 16] = [
 ];
 
 /// Lines that read all that those commands can change, each before a number from 0 to 9.
-const LOOKS: [&str; 11] = [
+static LOOKS: [&str; 11] = [
     "J1T a ",
     "J1T a 1",
     "J1T b 25",
@@ -81,7 +81,7 @@ const LOOKS: [&str; 11] = [
 ];
 
 /// Records that are not played by a service of `LATER` where abe has all that it may have, and why.
-const REFUSED: [(&str, Unplayed); 15] = [
+static REFUSED: [(&str, Unplayed); 15] = [
     ("abe J1S a 5", Unplayed::Full),
     ("abe JLI l 1 1", Unplayed::Full),
     ("eve J1S a 5", Unplayed::Tenant),
@@ -183,6 +183,22 @@ fn compare(
     Ok(())
 }
 
+/// Checks that a tenant gets the same replies from both services to a line that ends in each digit.
+fn compare_looks(
+    rt: &impl Abort,
+    alloc: Global,
+    first: &mut Service<Sha256Hash>,
+    second: &mut Service<Sha256Hash>,
+    name: &str,
+    look: &str,
+) -> Result<(), Fail> {
+    for number in 0..10u64 {
+        let line = format!(in alloc; "{look}{number}")?;
+        compare(rt, alloc, first, second, name, line.as_str())?;
+    }
+    Ok(())
+}
+
 /// Checks that each tenant has the same in both services.
 fn compare_all(
     rt: &impl Abort,
@@ -190,12 +206,9 @@ fn compare_all(
     first: &mut Service<Sha256Hash>,
     second: &mut Service<Sha256Hash>,
 ) -> Result<(), Fail> {
-    for name in TENANTS {
-        for look in LOOKS {
-            for number in 0..10u64 {
-                let line = format!(in alloc; "{look}{number}")?;
-                compare(rt, alloc, first, second, name, line.as_str())?;
-            }
+    for name in &TENANTS {
+        for look in &LOOKS {
+            compare_looks(rt, alloc, first, second, name, look)?;
         }
     }
     assert_eq!(rt; first.live_words(), second.live_words(), "words");
@@ -212,6 +225,24 @@ fn draw(alloc: Global, dice: &mut Dice) -> Result<String, Fail> {
     Ok(format!(in alloc; "{front}{number}{back}")?)
 }
 
+/// Adds a random line of a random tenant to the records, if it is recorded. Returns whether it is.
+fn record(
+    alloc: Global,
+    service: &mut Service<Sha256Hash>,
+    dice: &mut Dice,
+    records: &mut String,
+) -> Result<bool, Fail> {
+    let name = TENANTS[dice.roll(3) as usize];
+    let line = draw(alloc, dice)?;
+    let mut text = ArrayVec::new();
+    let kept = ask(alloc, service, name, line.as_str(), &mut text)?;
+    if kept {
+        let record = format!(in alloc; "{name} {line}\n")?;
+        records.push_str(record.as_str())?;
+    }
+    Ok(kept)
+}
+
 /// A run of random lines of three tenants is recorded, and its records are played on another service,
 /// where the tenants have other places and other quotas.
 #[test]
@@ -222,12 +253,7 @@ fn random_lines(rt: HostRuntime) -> Result<(), Fail> {
     let mut dice = Dice { seed: 5 };
     let mut kept: u64 = 0;
     for _ in 0..300 {
-        let name = TENANTS[dice.roll(3) as usize];
-        let line = draw(alloc, &mut dice)?;
-        let mut text = ArrayVec::new();
-        if ask(alloc, &mut service, name, line.as_str(), &mut text)? {
-            let record = format!(in alloc; "{name} {line}\n")?;
-            records.push_str(record.as_str())?;
+        if record(alloc, &mut service, &mut dice, &mut records)? {
             kept = kept.saturating_add(1);
         }
     }
@@ -247,8 +273,8 @@ fn reasons(rt: HostRuntime) -> Result<(), Fail> {
         let record = format!(in alloc; "abe J1S a {number}")?;
         assert_eq!(rt; play(alloc, &mut service, record.as_str()), Ok(()));
     }
-    for (record, why) in REFUSED {
-        assert_eq!(rt; play(alloc, &mut service, record), Err(why), "{record}");
+    for (record, why) in &REFUSED {
+        assert_eq!(rt; play(alloc, &mut service, record), Err(*why), "{record}");
     }
     let mut text = ArrayVec::new();
     ask(alloc, &mut service, "abe", "USED", &mut text)?;

@@ -9,6 +9,7 @@ use judy_server::Server;
 use judy_stream::{Page, Refusal, Sink, Source, Tape};
 use judy_tenants::Sha256Hash;
 use std::alloc::{AllocError, Global};
+use std::process::Abort;
 use std::test::Fail;
 
 /// The service of the program.
@@ -36,9 +37,11 @@ pub fn input(alloc: Global, table: &str, script: &str) -> Result<String, AllocEr
     format!(in alloc; "{table}---\n{script}")
 }
 
-/// Serves the script, and compares what was written.
+/// Serves a script of this name, and compares what was written.
 pub fn check(
+    rt: &impl Abort,
     alloc: Global,
+    name: &str,
     table: &str,
     words: bool,
     script: &str,
@@ -48,195 +51,329 @@ pub fn check(
     let mut tape = Tape::new(whole.as_str().as_bytes(), &[], 4096, None);
     let mut page: Page<4096> = Page::new(4096, Refusal::Fails, None, None);
     let ran = run(alloc, &mut tape, &mut page, words);
-    match ran {
-        Ran::Served(End::End) => {}
-        Ran::Served(End::Quit) => {}
-        _ => return Err(Fail::from("it was not served")),
+    assert!(rt;
+        matches!(ran, Ran::Served(End::End | End::Quit)),
+        "{name} is not served: {ran:?}"
+    );
+    assert_eq!(rt; page.bytes(), want.as_bytes(), "{name}");
+    Ok(())
+}
+
+/// The same as bob, with the words at the end. The reply to his login comes first.
+pub fn check_bob(
+    rt: &impl Abort,
+    alloc: Global,
+    name: &str,
+    script: &str,
+    want: &str,
+) -> Result<(), Fail> {
+    let script = format!(in alloc; "AUTH bob hello\n{script}")?;
+    let want = format!(in alloc; "OK\n{want}")?;
+    check(rt, alloc, name, TABLE, true, script.as_str(), want.as_str())
+}
+
+/// Adds a row to a script and to the replies: a line and its reply, with ` -> ` between them. A line
+/// after `QUIT` gets no reply, and the words are written without a line.
+pub fn add(script: &mut String, want: &mut String, row: &str) -> Result<(), AllocError> {
+    if let Some(reply) = row.strip_prefix("-> ") {
+        want.push_str(reply)?;
+        return want.push('\n');
     }
-    if page.bytes() != want.as_bytes() {
-        return Err(Fail::from("other replies"));
+    let (line, reply) = match row.split_once(" -> ") {
+        Some((line, reply)) => (line, Some(reply)),
+        None => (row, None),
+    };
+    script.push_str(line)?;
+    script.push('\n')?;
+    if let Some(reply) = reply {
+        want.push_str(reply)?;
+        want.push('\n')?;
     }
     Ok(())
 }
 
-/// The same as alice. The reply to her login comes first.
-pub fn check_alice(alloc: Global, script: &str, want: &str) -> Result<(), Fail> {
-    let script = format!(in alloc; "AUTH alice abc\n{script}")?;
-    let want = format!(in alloc; "OK\n{want}")?;
-    check(alloc, TABLE, false, script.as_str(), want.as_str())
-}
-
-/// The same as bob, with the words at the end.
-pub fn check_bob(alloc: Global, script: &str, want: &str) -> Result<(), Fail> {
-    let script = format!(in alloc; "AUTH bob hello\n{script}")?;
-    let want = format!(in alloc; "OK\n{want}")?;
-    check(alloc, TABLE, true, script.as_str(), want.as_str())
-}
-
-#[test]
-fn a_first_run(rt: HostRuntime) -> Result<(), Fail> {
-    check_alice(
-        rt.alloc(),
-        "J1S a 5\nJ1S a 5\nJ1T a 5\nJ1U a 5\nJ1T a 5\nUSED\n",
-        "1\n0\n1\n1\n0\nQ 0 4 0 504\n",
-    )
-}
-
-#[test]
-fn empty_arrays(rt: HostRuntime) -> Result<(), Fail> {
-    check_alice(
-        rt.alloc(),
-        "J1C a 0 -1\nJ1FE a 0\nJLG l 0\nJ1FA a\n",
-        "N 0\n1 0\nNULL\nN 0\n",
-    )
-}
-
-#[test]
-fn ends_of_the_range(rt: HostRuntime) -> Result<(), Fail> {
-    check_alice(
-        rt.alloc(),
-        "J1S a 0\nJ1S a 18446744073709551615\nJ1N a 0\nJ1N a -1\nJ1P a 0\nJ1LE a -1\nJ1PE a 0\nJ1NE a -1\nJ1C a 0 -1\n",
-        "1\n1\n1 18446744073709551615\n0\n0\n1 18446744073709551614\n0\n0\nN 2\n",
-    )
-}
-
-#[test]
-fn the_edge_of_the_quota(rt: HostRuntime) -> Result<(), Fail> {
-    check_alice(
-        rt.alloc(),
-        "J1S a 1\nJ1S a 2\nJ1S a 3\nJ1S a 4\nJ1S a 9\nJ1S a 1\nJLI l 1 7\nJ1U a 1\nJLI l 1 7\nUSED\n",
-        "1\n1\n1\n1\nFULL\n0\nFULL\n1\nV 0\nQ 4 4 4 504\n",
-    )
-}
-
-#[test]
-fn ranks_and_values(rt: HostRuntime) -> Result<(), Fail> {
-    check_alice(
-        rt.alloc(),
-        "J1S a 3\nJ1S a 5\nJ1S a 9\nJ1C a 9 3\nJ1C a 3 9\nJ1BC a 0\nJ1BC a 1\nJ1BC a 3\nJ1BC a 4\n",
-        "1\n1\n1\nN 0\nN 3\n0\n1 3\n1 9\n0\n",
-    )?;
-    check_alice(
-        rt.alloc(),
-        "JLI l 5 8\nJLI l 5\nJLI l 5 9\nJLG l 5\nJLBC l 1\nJLN l 5\nJLFE l 5\nJLD l 5\nJLD l 5\n",
-        "V 0\nV 8\nV 8\nV 9\nV 9 5\nNULL\n1 6\n1\n0\n",
-    )
-}
-
-#[test]
-fn counters(rt: HostRuntime) -> Result<(), Fail> {
-    check_alice(
-        rt.alloc(),
-        "JLA l 5 3\nJLA l 5 4\nJLA l 5 -1\nJLI l 5 -1\nJLA l 5 2\nJSLA s x61 3\nJSLA s x61 4\nJHSA h x61 3\nJHSA h x61 4\nUSED\n",
-        "V 3\nV 7\nV 6\nV 6\nV 1\nV 3\nV 7\nV 3\nV 7\nQ 3 4 3 504\n",
-    )?;
-    check_alice(
-        rt.alloc(),
-        "J1S a 1\nJ1S a 2\nJ1S a 3\nJLA l 1 7\nJLA l 2 7\nJSLA s x61 7\nJHSA h x61 7\nJLA l 1 7\nUSED\n",
-        "1\n1\n1\nV 7\nFULL\nFULL\nFULL\nV 14\nQ 4 4 4 504\n",
-    )?;
+/// Serves the script of these rows, and compares the replies.
+fn check_rows(
+    rt: &impl Abort,
+    alloc: Global,
+    table: &str,
+    words: bool,
+    section: &str,
+) -> Result<(), Fail> {
+    let (name, rows) = section.split_once('\n').ok_or("a name and rows")?;
+    let mut script = String::new(alloc);
+    let mut want = String::new(alloc);
+    for row in rows.lines() {
+        add(&mut script, &mut want, row)?;
+    }
     check(
-        rt.alloc(),
-        TABLE,
-        false,
-        "AUTH alice abc\nJLA l 1 7\nAUTH alice hello\nJLA l 1 7\nAUTH bob hello\nJLA l 1 5\n",
-        "OK\nV 7\nOK\nERR READONLY\nOK\nV 5\n",
+        rt,
+        alloc,
+        name,
+        table,
+        words,
+        script.as_str(),
+        want.as_str(),
     )
 }
 
-#[test]
-fn strings_and_byte_keys(rt: HostRuntime) -> Result<(), Fail> {
-    check_alice(
-        rt.alloc(),
-        "JSLI s x7f 1\nJSLI s x80 2\nJSLI s x7f01 3\nJSLF s x\nJSLN s x7f\nJSLL s xff\nJSLP s x7f\n",
-        "V 0\nV 0\nV 0\nV 1 x7f\nV 3 x7f01\nV 2 x80\nNULL\n",
-    )?;
-    check_alice(
-        rt.alloc(),
-        "JHSI h x 1\nJHSI h x00 2\nJHSG h x\nJHSG h x0000\nJHSD h x\nJHSFA h\n",
-        "V 0\nV 0\nV 1\nNULL\n1\nN 1\n",
-    )?;
-    check_bob(
-        rt.alloc(),
-        "JSLI s x 1\nJSLI s x61626364656667 2\nJSLI s x6162636465666768 3\nJSLI s x616263646566676869 4\nJSLF s x\nJSLN s x\nJSLN s x61626364656667\nJSLN s x6162636465666768\nJSLN s x616263646566676869\nJSLD s x6162636465666768\nJSLN s x61626364656667\nJSLFA s\n",
-        "V 0\nV 0\nV 0\nV 0\nV 1 x\nV 2 x61626364656667\nV 3 x6162636465666768\nV 4 x616263646566676869\nNULL\n1\nV 4 x616263646566676869\nN 3\nWORDS 0\n",
-    )
+/// Checks each section of a text: its first line is a name, and the others are rows. An empty line is
+/// between two sections.
+fn check_sections(
+    rt: &impl Abort,
+    alloc: Global,
+    table: &str,
+    words: bool,
+    text: &str,
+) -> Result<(), Fail> {
+    for section in text.split("\n\n") {
+        check_rows(rt, alloc, table, words, section)?;
+    }
+    Ok(())
 }
 
-#[test]
-fn logins(rt: HostRuntime) -> Result<(), Fail> {
-    check(
-        rt.alloc(),
-        TABLE,
-        false,
-        "J1T a 1\nAUTH alice abc\nAUTH alice abd\nJ1T a 1\nAUTH nobody abc\nAUTH alice\nQUIT\nUSED\n",
-        "ERR AUTH\nOK\nERR AUTH\nERR AUTH\nERR AUTH\nERR SYNTAX\nBYE\n",
-    )
-}
+const OF_TENANTS: &str = "a first run
+AUTH alice abc -> OK
+J1S a 5 -> 1
+J1S a 5 -> 0
+J1T a 5 -> 1
+J1U a 5 -> 1
+J1T a 5 -> 0
+USED -> Q 0 4 0 504
+
+empty arrays
+AUTH alice abc -> OK
+J1C a 0 -1 -> N 0
+J1FE a 0 -> 1 0
+JLG l 0 -> NULL
+J1FA a -> N 0
+
+ends of the range
+AUTH alice abc -> OK
+J1S a 0 -> 1
+J1S a 18446744073709551615 -> 1
+J1N a 0 -> 1 18446744073709551615
+J1N a -1 -> 0
+J1P a 0 -> 0
+J1LE a -1 -> 1 18446744073709551614
+J1PE a 0 -> 0
+J1NE a -1 -> 0
+J1C a 0 -1 -> N 2
+
+the edge of the quota
+AUTH alice abc -> OK
+J1S a 1 -> 1
+J1S a 2 -> 1
+J1S a 3 -> 1
+J1S a 4 -> 1
+J1S a 9 -> FULL
+J1S a 1 -> 0
+JLI l 1 7 -> FULL
+J1U a 1 -> 1
+JLI l 1 7 -> V 0
+USED -> Q 4 4 4 504
+
+ranks and values
+AUTH alice abc -> OK
+J1S a 3 -> 1
+J1S a 5 -> 1
+J1S a 9 -> 1
+J1C a 9 3 -> N 0
+J1C a 3 9 -> N 3
+J1BC a 0 -> 0
+J1BC a 1 -> 1 3
+J1BC a 3 -> 1 9
+J1BC a 4 -> 0
+
+ranks and values, again
+AUTH alice abc -> OK
+JLI l 5 8 -> V 0
+JLI l 5 -> V 8
+JLI l 5 9 -> V 8
+JLG l 5 -> V 9
+JLBC l 1 -> V 9 5
+JLN l 5 -> NULL
+JLFE l 5 -> 1 6
+JLD l 5 -> 1
+JLD l 5 -> 0
+
+counters
+AUTH alice abc -> OK
+JLA l 5 3 -> V 3
+JLA l 5 4 -> V 7
+JLA l 5 -1 -> V 6
+JLI l 5 -1 -> V 6
+JLA l 5 2 -> V 1
+JSLA s x61 3 -> V 3
+JSLA s x61 4 -> V 7
+JHSA h x61 3 -> V 3
+JHSA h x61 4 -> V 7
+USED -> Q 3 4 3 504
+
+counters, again
+AUTH alice abc -> OK
+J1S a 1 -> 1
+J1S a 2 -> 1
+J1S a 3 -> 1
+JLA l 1 7 -> V 7
+JLA l 2 7 -> FULL
+JSLA s x61 7 -> FULL
+JHSA h x61 7 -> FULL
+JLA l 1 7 -> V 14
+USED -> Q 4 4 4 504
+
+counters, by both
+AUTH alice abc -> OK
+JLA l 1 7 -> V 7
+AUTH alice hello -> OK
+JLA l 1 7 -> ERR READONLY
+AUTH bob hello -> OK
+JLA l 1 5 -> V 5
+
+strings and byte keys
+AUTH alice abc -> OK
+JSLI s x7f 1 -> V 0
+JSLI s x80 2 -> V 0
+JSLI s x7f01 3 -> V 0
+JSLF s x -> V 1 x7f
+JSLN s x7f -> V 3 x7f01
+JSLL s xff -> V 2 x80
+JSLP s x7f -> NULL
+
+strings and byte keys, again
+AUTH alice abc -> OK
+JHSI h x 1 -> V 0
+JHSI h x00 2 -> V 0
+JHSG h x -> V 1
+JHSG h x0000 -> NULL
+JHSD h x -> 1
+JHSFA h -> N 1
+
+logins
+J1T a 1 -> ERR AUTH
+AUTH alice abc -> OK
+AUTH alice abd -> ERR AUTH
+J1T a 1 -> ERR AUTH
+AUTH nobody abc -> ERR AUTH
+AUTH alice -> ERR SYNTAX
+QUIT -> BYE
+USED
+
+a token for looking
+AUTH alice hello -> OK
+J1S a 1 -> ERR READONLY
+J1T a 1 -> 0
+J1FA a -> ERR READONLY
+JLI l -> ERR SYNTAX
+AUTH alice abc -> OK
+J1S a 1 -> 1
+AUTH alice hello -> OK
+J1T a 1 -> 1
+J1U a 1 -> ERR READONLY
+USED -> Q 1 4 1 504
+AUTH alice abd -> ERR AUTH
+J1T a 1 -> ERR AUTH
+
+spaces and carriage returns
+AUTH alice abc -> OK
+  J1S   a 5 \r -> 1
+J1T\ta 5 -> ERR SYNTAX
+J1T a 5\r\r -> ERR SYNTAX
+J1T a 005 -> 1
+j1t a 7 -> ERR SYNTAX
+ -> ERR SYNTAX
+J1S a 18446744073709551616 -> ERR SYNTAX
+JSLI s x00 -> ERR SYNTAX
+JSLI s x616 -> ERR SYNTAX
+J1T a -2 -> ERR SYNTAX
+";
 
 #[test]
-fn a_token_for_looking(rt: HostRuntime) -> Result<(), Fail> {
-    let script =
-        "AUTH alice hello\nJ1S a 1\nJ1T a 1\nJ1FA a\nJLI l\nAUTH alice abc\nJ1S a 1\nAUTH alice hello\nJ1T a 1\nJ1U a 1\nUSED\nAUTH alice abd\nJ1T a 1\n";
-    check(
-        rt.alloc(),
-        TABLE,
-        false,
-        script,
-        "OK\nERR READONLY\n0\nERR READONLY\nERR SYNTAX\nOK\n1\nOK\n1\nERR READONLY\nQ 1 4 1 504\nERR AUTH\nERR AUTH\n",
-    )?;
-    check(
-        rt.alloc(),
-        SMALL,
-        false,
-        "AUTH alice hello\nJ1S a 1\nAUTH alice abc\nJ1S a 1\n",
-        "OK\nERR READONLY\nOK\nFULL\n",
-    )
+fn scripts(rt: HostRuntime) -> Result<(), Fail> {
+    check_sections(&rt, rt.alloc(), TABLE, false, OF_TENANTS)
 }
 
-#[test]
-fn small_quotas(rt: HostRuntime) -> Result<(), Fail> {
-    check(
-        rt.alloc(),
-        SMALL,
-        false,
-        "AUTH alice abc\nJ1S a 1\nJ1U a 1\nJ1FE a 0\nUSED\n",
-        "OK\nFULL\n0\n1 0\nQ 0 0 0 0\n",
-    )?;
-    check(
-        rt.alloc(),
-        SMALL,
-        false,
-        "AUTH bob hello\nJSLI s x6162636465666768 1\nJ1S a 1\nJ1S a 2\nJSLI s x6162636465666768 9\nUSED\nJSLD s x6162636465666768\nJSLI s x616263646566676869 5\nUSED\nJSLFA s\nUSED\n",
-        "OK\nV 0\n1\nFULL\nV 1\nQ 2 4 3 3\n1\nV 0\nQ 2 4 3 3\nN 1\nQ 1 4 1 3\n",
-    )
-}
+const OF_SMALL_QUOTAS: &str = "a token for looking, again
+AUTH alice hello -> OK
+J1S a 1 -> ERR READONLY
+AUTH alice abc -> OK
+J1S a 1 -> FULL
+
+small quotas
+AUTH alice abc -> OK
+J1S a 1 -> FULL
+J1U a 1 -> 0
+J1FE a 0 -> 1 0
+USED -> Q 0 0 0 0
+
+small quotas, again
+AUTH bob hello -> OK
+JSLI s x6162636465666768 1 -> V 0
+J1S a 1 -> 1
+J1S a 2 -> FULL
+JSLI s x6162636465666768 9 -> V 1
+USED -> Q 2 4 3 3
+JSLD s x6162636465666768 -> 1
+JSLI s x616263646566676869 5 -> V 0
+USED -> Q 2 4 3 3
+JSLFA s -> N 1
+USED -> Q 1 4 1 3
+";
 
 #[test]
-fn one_name_and_two_kinds(rt: HostRuntime) -> Result<(), Fail> {
-    check_bob(
-        rt.alloc(),
-        "JLI a 1\nJLI a 2 9\nJ1C a 0 -1\nJLL a -1\nJLP a 1\nJLFA a\nJLC a 0 -1\n",
-        "V 0\nV 0\nN 0\nV 9 2\nNULL\nN 2\nN 0\nWORDS 0\n",
-    )
+fn scripts_with_small_quotas(rt: HostRuntime) -> Result<(), Fail> {
+    check_sections(&rt, rt.alloc(), SMALL, false, OF_SMALL_QUOTAS)
 }
 
-#[test]
-fn freed_and_cut(rt: HostRuntime) -> Result<(), Fail> {
-    check_bob(
-        rt.alloc(),
-        "J1S a 1\nJ1FA a\nQUIT\nJ1S a 2\n",
-        "1\nN 1\nBYE\nWORDS 0\n",
-    )?;
-    check_bob(rt.alloc(), "J1S a 1", "WORDS 0\n")?;
-    check_bob(rt.alloc(), "J1S a 1\n", "1\nWORDS 4\n")
-}
+// Scripts with the words at the end.
+const WITH_WORDS: &str = "strings and byte keys, once more
+AUTH bob hello -> OK
+JSLI s x 1 -> V 0
+JSLI s x61626364656667 2 -> V 0
+JSLI s x6162636465666768 3 -> V 0
+JSLI s x616263646566676869 4 -> V 0
+JSLF s x -> V 1 x
+JSLN s x -> V 2 x61626364656667
+JSLN s x61626364656667 -> V 3 x6162636465666768
+JSLN s x6162636465666768 -> V 4 x616263646566676869
+JSLN s x616263646566676869 -> NULL
+JSLD s x6162636465666768 -> 1
+JSLN s x61626364656667 -> V 4 x616263646566676869
+JSLFA s -> N 3
+-> WORDS 0
+
+one name and two kinds
+AUTH bob hello -> OK
+JLI a 1 -> V 0
+JLI a 2 9 -> V 0
+J1C a 0 -1 -> N 0
+JLL a -1 -> V 9 2
+JLP a 1 -> NULL
+JLFA a -> N 2
+JLC a 0 -1 -> N 0
+-> WORDS 0
+
+freed and cut
+AUTH bob hello -> OK
+J1S a 1 -> 1
+J1FA a -> N 1
+QUIT -> BYE
+J1S a 2
+-> WORDS 0
+
+freed and cut, once more
+AUTH bob hello -> OK
+J1S a 1 -> 1
+-> WORDS 4
+";
 
 #[test]
-fn spaces_and_carriage_returns(rt: HostRuntime) -> Result<(), Fail> {
-    check_alice(
-        rt.alloc(),
-        "  J1S   a 5 \r\nJ1T\ta 5\nJ1T a 5\r\r\nJ1T a 005\nj1t a 7\n\nJ1S a 18446744073709551616\nJSLI s x00\nJSLI s x616\nJ1T a -2\n",
-        "1\nERR SYNTAX\nERR SYNTAX\n1\nERR SYNTAX\nERR SYNTAX\nERR SYNTAX\nERR SYNTAX\nERR SYNTAX\nERR SYNTAX\n",
-    )
+fn scripts_with_words(rt: HostRuntime) -> Result<(), Fail> {
+    check_sections(&rt, rt.alloc(), TABLE, true, WITH_WORDS)
+}
+
+// A line without its end is not answered.
+#[test]
+fn a_cut_line(rt: HostRuntime) -> Result<(), Fail> {
+    check_bob(&rt, rt.alloc(), "a cut line", "J1S a 1", "WORDS 0\n")
 }

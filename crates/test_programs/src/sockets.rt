@@ -5,7 +5,7 @@ use judy_disk::Locks;
 use judy_many::{Ending, Limits, serve_many};
 use judy_programs::{Hosted, Hosts, Opens, System, Unopened, host_on, read_secret};
 use judy_table::TableFault;
-use std::alloc::Global;
+use std::alloc::{AllocError, Global};
 use std::fs;
 use std::io::{self, Eprint, Write};
 use std::net::{Net, Shutdown};
@@ -76,6 +76,20 @@ fn limits(connections: u64, idle: Option<u32>, turn: Option<u32>) -> Limits {
     }
 }
 
+// Serves this many connections, within these limits.
+fn serve_all<R: Abort + Locks + Net + Clock + Eprint + Clone + Drop>(
+    rt: &R,
+    alloc: Global,
+    system: &mut System<'_, R>,
+    limits: Limits,
+    want: Ending,
+) -> Result<(), Fail> {
+    let mut tenants = open(alloc)?;
+    let ending = serve_many(alloc, system, &mut tenants, limits, None);
+    assert_eq!(rt; ending, want);
+    Ok(())
+}
+
 // Serves as many clients as there are scripts, with these limits in seconds. Compares what each
 // client reads.
 fn check_served<R: Abort + Locks + Net + Clock + Eprint + Clone + Drop>(
@@ -91,10 +105,8 @@ fn check_served<R: Abort + Locks + Net + Clock + Eprint + Clone + Drop>(
     assert!(rt; system.bind(alloc, path));
     let count = scripts.len() as u64;
     let mut clients = clients(rt, alloc, path, scripts)?;
-    let mut tenants = open(alloc)?;
     let limits = limits(count, idle, turn);
-    let ending = serve_many(alloc, &mut system, &mut tenants, limits, None);
-    assert_eq!(rt; ending, Ending::Done);
+    serve_all(rt, alloc, &mut system, limits, Ending::Done)?;
     check_all(rt, alloc, &mut clients, wanted)?;
     fs::remove_file(rt, path)?;
     Ok(())
@@ -125,10 +137,8 @@ fn clients_that_leave(rt: HostRuntime) -> Result<(), Fail> {
     let _ = client(&rt, path, b"AUTH alice abc\nJ1S a", false)?;
     let _ = client(&rt, path, b"AUTH alice abc\nJ1S a 1\nJ1S a 2\n", false)?;
     let mut three = client(&rt, path, b"AUTH alice abc\nJ1T a 7\nQUIT\n", true)?;
-    let mut tenants = open(rt.alloc())?;
     let limits = limits(3, None, None);
-    let ending = serve_many(rt.alloc(), &mut system, &mut tenants, limits, None);
-    assert_eq!(rt; ending, Ending::Done);
+    serve_all(&rt, rt.alloc(), &mut system, limits, Ending::Done)?;
     assert_eq!(rt;
         io::read_to_string(rt.alloc(), &mut three)?.as_str(),
         "OK\n0\nBYE\n"
@@ -140,12 +150,9 @@ fn clients_that_leave(rt: HostRuntime) -> Result<(), Fail> {
 // Without a socket nobody is served.
 #[test]
 fn no_socket(rt: HostRuntime) -> Result<(), Fail> {
-    let mut system = System::new(&rt);
-    let mut tenants = open(rt.alloc())?;
     let limits = limits(1, None, None);
-    let ending = serve_many(rt.alloc(), &mut system, &mut tenants, limits, None);
-    assert_eq!(rt; ending, Ending::Socket);
-    Ok(())
+    let mut system = System::new(&rt);
+    serve_all(&rt, rt.alloc(), &mut system, limits, Ending::Socket)
 }
 
 // A client that sends nothing and a client that sends a part of a line lose their connections, by
@@ -167,84 +174,48 @@ fn idle_clients(rt: HostRuntime) -> Result<(), Fail> {
     Ok(())
 }
 
-// The faults, in the order in which they are checked.
+// Starts a server with the table of this file and a socket at this path, which serves no connection.
+// Compares how it ends.
+fn check_hosted<R: Abort + Locks + Net + Clock + Eprint + Clone + Drop>(
+    rt: &R,
+    alloc: Global,
+    system: &mut System<'_, R>,
+    (config, path): (&str, &str),
+    want: Hosted,
+) {
+    let limits = limits(0, None, None);
+    let hosted = host_on::<Tenants, _>(alloc, b"", system, config, path, None, None, None, limits);
+    assert_eq!(rt; hosted, want);
+}
+
+// A text of this many signs `#`.
+fn signs(alloc: Global, count: usize) -> Result<String, AllocError> {
+    let mut text = String::new(alloc);
+    for _ in 0..count {
+        text.push('#')?;
+    }
+    Ok(text)
+}
+
+// The faults, in the order in which they are checked. The socket is there after the first server.
 #[test]
 fn faults_of_hosting(rt: HostRuntime) -> Result<(), Fail> {
+    let alloc = rt.alloc();
     let path = "faults_of_hosting.sock";
     let config = "faults_of_hosting.toml";
+    let files = (config, path);
     let _ = fs::remove_file(&rt, path);
     let _ = fs::remove_file(&rt, config);
     let mut system = System::new(&rt);
-    let none = limits(0, None, None);
-    let hosted = host_on::<Tenants, _>(
-        rt.alloc(),
-        b"",
-        &mut system,
-        config,
-        path,
-        None,
-        None,
-        None,
-        none,
-    );
-    assert_eq!(rt; hosted, Hosted::Config);
-    let mut text = String::new(rt.alloc());
-    for _ in 0..65536usize {
-        text.push('#')?;
-    }
-    fs::write(&rt, config, text.as_str().as_bytes())?;
-    let hosted = host_on::<Tenants, _>(
-        rt.alloc(),
-        b"",
-        &mut system,
-        config,
-        path,
-        None,
-        None,
-        None,
-        none,
-    );
-    assert_eq!(rt; hosted, Hosted::Table(TableFault::Count));
-    text.push('#')?;
-    fs::write(&rt, config, text.as_str().as_bytes())?;
-    let hosted = host_on::<Tenants, _>(
-        rt.alloc(),
-        b"",
-        &mut system,
-        config,
-        path,
-        None,
-        None,
-        None,
-        none,
-    );
-    assert_eq!(rt; hosted, Hosted::Long);
+    check_hosted(&rt, alloc, &mut system, files, Hosted::Config);
+    fs::write(&rt, config, signs(alloc, 65536)?.as_str().as_bytes())?;
+    let count = Hosted::Table(TableFault::Count);
+    check_hosted(&rt, alloc, &mut system, files, count);
+    fs::write(&rt, config, signs(alloc, 65537)?.as_str().as_bytes())?;
+    check_hosted(&rt, alloc, &mut system, files, Hosted::Long);
     fs::write(&rt, config, TABLE.as_bytes())?;
-    let hosted = host_on::<Tenants, _>(
-        rt.alloc(),
-        b"",
-        &mut system,
-        config,
-        path,
-        None,
-        None,
-        None,
-        none,
-    );
-    assert_eq!(rt; hosted, Hosted::Done);
-    // The socket exists now.
-    let hosted = host_on::<Tenants, _>(
-        rt.alloc(),
-        b"",
-        &mut system,
-        config,
-        path,
-        None,
-        None,
-        None,
-        none,
-    );
-    assert_eq!(rt; hosted, Hosted::Socket);
+    check_hosted(&rt, alloc, &mut system, files, Hosted::Done);
+    check_hosted(&rt, alloc, &mut system, files, Hosted::Socket);
     fs::remove_file(&rt, path)?;
     fs::remove_file(&rt, config)?;
     Ok(())

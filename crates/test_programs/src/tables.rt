@@ -5,6 +5,7 @@ use judy_protocol::End;
 use judy_stream::{Page, Refusal, Tape};
 use judy_table::TableFault;
 use std::alloc::{AllocError, Global};
+use std::process::Abort;
 use std::test::Fail;
 
 // How a run of this input ends.
@@ -14,62 +15,81 @@ fn run_bytes(alloc: Global, bytes: &[u8]) -> Ran {
     run(alloc, &mut tape, &mut page, false)
 }
 
+static FAULTY: [(&str, TableFault); 9] = [
+    ("", TableFault::Count),
+    ("alice = 1\n", TableFault::Shape),
+    ("[alice\n", TableFault::Toml),
+    (
+        "[\"a b\"]\nsha256 = \"ba7816bf8f01cfea414140de5dae2223b00361a396177a9cb410ff61f20015ad\"\nquota = 4\n",
+        TableFault::Name,
+    ),
+    (
+        "[alice]\nsha256 = \"ba78\"\nquota = 4\n",
+        TableFault::Digest,
+    ),
+    (
+        "[alice]\nsha256 = \"ba7816bf8f01cfea414140de5dae2223b00361a396177a9cb410ff61f20015ad\"\nquota = 16777217\n",
+        TableFault::Quota,
+    ),
+    (
+        "[alice]\nsha256 = \"ba7816bf8f01cfea414140de5dae2223b00361a396177a9cb410ff61f20015ad\"\nquota = -1\n",
+        TableFault::Quota,
+    ),
+    (
+        "[alice]\nsha256 = \"ba7816bf8f01cfea414140de5dae2223b00361a396177a9cb410ff61f20015ad\"\nquota = \"4\"\n",
+        TableFault::Shape,
+    ),
+    (
+        "[alice]\nsha256 = \"ba7816bf8f01cfea414140de5dae2223b00361a396177a9cb410ff61f20015ad\"\nquota = 4\npieces = 2113929217\n",
+        TableFault::Pieces,
+    ),
+];
+
 #[test]
 fn faulty_tables(rt: HostRuntime) -> Result<(), Fail> {
-    let rows = [
-        ("", TableFault::Count),
-        ("alice = 1\n", TableFault::Shape),
-        ("[alice\n", TableFault::Toml),
-        (
-            "[\"a b\"]\nsha256 = \"ba7816bf8f01cfea414140de5dae2223b00361a396177a9cb410ff61f20015ad\"\nquota = 4\n",
-            TableFault::Name,
-        ),
-        (
-            "[alice]\nsha256 = \"ba78\"\nquota = 4\n",
-            TableFault::Digest,
-        ),
-        (
-            "[alice]\nsha256 = \"ba7816bf8f01cfea414140de5dae2223b00361a396177a9cb410ff61f20015ad\"\nquota = 16777217\n",
-            TableFault::Quota,
-        ),
-        (
-            "[alice]\nsha256 = \"ba7816bf8f01cfea414140de5dae2223b00361a396177a9cb410ff61f20015ad\"\nquota = -1\n",
-            TableFault::Quota,
-        ),
-        (
-            "[alice]\nsha256 = \"ba7816bf8f01cfea414140de5dae2223b00361a396177a9cb410ff61f20015ad\"\nquota = \"4\"\n",
-            TableFault::Shape,
-        ),
-        (
-            "[alice]\nsha256 = \"ba7816bf8f01cfea414140de5dae2223b00361a396177a9cb410ff61f20015ad\"\nquota = 4\npieces = 2113929217\n",
-            TableFault::Pieces,
-        ),
-    ];
-    for (table, fault) in rows {
+    for (table, fault) in &FAULTY {
         let whole = input(rt.alloc(), table, "USED\n")?;
         let ran = run_bytes(rt.alloc(), whole.as_str().as_bytes());
-        assert_eq!(rt; ran, Ran::Table(fault), "{table}");
+        assert_eq!(rt; ran, Ran::Table(*fault), "{table}");
     }
-    assert_eq!(rt; run_bytes(rt.alloc(), TABLE.as_bytes()), Ran::Cut);
-    assert_eq!(rt; run_bytes(rt.alloc(), b""), Ran::Cut);
-    assert_eq!(rt; run_bytes(rt.alloc(), b"---"), Ran::Cut);
     Ok(())
 }
 
 #[test]
+fn tables_without_their_end(rt: HostRuntime) {
+    for table in [TABLE, "", "---"] {
+        assert_eq!(rt;
+            run_bytes(rt.alloc(), table.as_bytes()),
+            Ran::Cut,
+            "{table}"
+        );
+    }
+}
+
+static FINISHED: [(Ran, u8, Option<&str>); 4] = [
+    (
+        Ran::Table(TableFault::Count),
+        3,
+        Some("judyd: table: Count"),
+    ),
+    (Ran::Cut, 3, Some("judyd: table: Cut")),
+    (Ran::Served(End::Quit), 0, None),
+    (Ran::Write, 4, Some("judyd: write fault")),
+];
+
+static FINISHED_HOSTED: [(Hosted, u8, Option<&str>); 2] = [
+    (Hosted::Done, 0, None),
+    (Hosted::Socket, 4, Some("judyd: socket fault")),
+];
+
+#[test]
 fn statuses_and_texts(rt: HostRuntime) {
-    assert_eq!(rt;
-        finish(Ran::Table(TableFault::Count)),
-        (3, Some("judyd: table: Count"))
-    );
-    assert_eq!(rt; finish(Ran::Cut), (3, Some("judyd: table: Cut")));
-    assert_eq!(rt; finish(Ran::Served(End::Quit)), (0, None));
-    assert_eq!(rt; finish(Ran::Write), (4, Some("judyd: write fault")));
-    assert_eq!(rt; finish_hosted(Hosted::Done), (0, None));
-    assert_eq!(rt;
-        finish_hosted(Hosted::Socket),
-        (4, Some("judyd: socket fault"))
-    );
+    for (ran, status, text) in &FINISHED {
+        assert_eq!(rt; finish(*ran), (*status, *text), "{ran:?}");
+    }
+    for (hosted, status, text) in &FINISHED_HOSTED {
+        assert_eq!(rt; finish_hosted(*hosted), (*status, *text), "{hosted:?}");
+    }
 }
 
 // The table with a comment after it, this many bytes in all. Then `mark` and a line `QUIT`.
@@ -86,32 +106,39 @@ fn long_table(alloc: Global, len: usize, mark: &str) -> Result<String, AllocErro
     Ok(text)
 }
 
+// How many bytes the table has, the end after it, and how the run ends. A line of four dashes is not
+// TOML.
+static LONGEST: [(usize, &str, Ran); 5] = [
+    (65536, "---\n", Ran::Served(End::Quit)),
+    (65536, "---\r\n", Ran::Served(End::Quit)),
+    (65537, "---\n", Ran::Long),
+    (65536, "--- \n---\n", Ran::Long),
+    (65000, "----\n---\n", Ran::Table(TableFault::Toml)),
+];
+
 #[test]
 fn the_longest_table(rt: HostRuntime) -> Result<(), Fail> {
-    let rows = [
-        (65536usize, "---\n", Ran::Served(End::Quit)),
-        (65536, "---\r\n", Ran::Served(End::Quit)),
-        (65537, "---\n", Ran::Long),
-        (65536, "--- \n---\n", Ran::Long),
-        (65000, "----\n---\n", Ran::Served(End::Quit)),
-    ];
-    for (len, mark, want) in rows {
-        // A line of four dashes is not TOML.
-        let want = if mark == "----\n---\n" {
-            Ran::Table(TableFault::Toml)
-        } else {
-            want
-        };
-        let text = long_table(rt.alloc(), len, mark)?;
-        assert_eq!(rt;
-            run_bytes(rt.alloc(), text.as_str().as_bytes()),
-            want,
-            "{len} {mark}"
-        );
+    for (len, mark, want) in &LONGEST {
+        let text = long_table(rt.alloc(), *len, mark)?;
+        let ran = run_bytes(rt.alloc(), text.as_str().as_bytes());
+        assert_eq!(rt; ran, *want, "{len} {mark}");
     }
     Ok(())
 }
 
+// Runs an input of the two tenants that comes in these parts, and compares the replies.
+fn check_parts(rt: &impl Abort, alloc: Global, tape: &mut Tape<'_>, name: usize) {
+    let mut page: Page<64> = Page::new(64, Refusal::Fails, None, None);
+    let ran = run(alloc, tape, &mut page, false);
+    assert_eq!(rt; ran, Ran::Served(End::End), "{name}");
+    assert_eq!(rt;
+        page.bytes(),
+        b"OK\n1\nERR SYNTAX\nERR SYNTAX\nQ 1 4 1 504\n".as_slice(),
+        "{name}"
+    );
+}
+
+// An input that is cut at each place, and one of which each read takes a byte.
 #[test]
 fn in_any_pieces(rt: HostRuntime) -> Result<(), Fail> {
     let whole = input(
@@ -123,23 +150,10 @@ fn in_any_pieces(rt: HostRuntime) -> Result<(), Fail> {
     for place in 0..bytes.len() {
         let cuts = [place];
         let mut tape = Tape::new(bytes, &cuts, 4096, None);
-        let mut page: Page<64> = Page::new(64, Refusal::Fails, None, None);
-        let ran = run(rt.alloc(), &mut tape, &mut page, false);
-        assert_eq!(rt; ran, Ran::Served(End::End));
-        assert_eq!(rt;
-            page.bytes(),
-            b"OK\n1\nERR SYNTAX\nERR SYNTAX\nQ 1 4 1 504\n".as_slice(),
-            "{place}"
-        );
+        check_parts(&rt, rt.alloc(), &mut tape, place);
     }
     let mut tape = Tape::new(bytes, &[], 1, None);
-    let mut page: Page<64> = Page::new(64, Refusal::Fails, None, None);
-    let ran = run(rt.alloc(), &mut tape, &mut page, false);
-    assert_eq!(rt; ran, Ran::Served(End::End));
-    assert_eq!(rt;
-        page.bytes(),
-        b"OK\n1\nERR SYNTAX\nERR SYNTAX\nQ 1 4 1 504\n".as_slice()
-    );
+    check_parts(&rt, rt.alloc(), &mut tape, bytes.len());
     Ok(())
 }
 

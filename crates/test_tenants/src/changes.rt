@@ -50,44 +50,56 @@ fn one_stays(rt: HostRuntime) -> Result<(), Fail> {
 }
 
 /// The arrays of a tenant that is gone are freed, also for a tenant of its name in a later table.
+fn one_goes_in(rt: &impl Abort, house: &mut House) -> Result<(), Fail> {
+    let alice = house.speaker("alice", "abc")?;
+    let bob = house.speaker("bob", "abc")?;
+    ids(rt, house, &alice, OneCall::Set(5), Reply::Int(true))?;
+    let words = house.live_words();
+    ids(rt, house, &bob, OneCall::Set(7), Reply::Int(true))?;
+    assert_eq!(rt; house.change(rt, ALICE)?, true);
+    assert_eq!(rt; house.live_words(), words);
+    assert_eq!(rt; house.change(rt, BOTH)?, true);
+    let again = house.speaker("bob", "abc")?;
+    ids(rt, house, &again, OneCall::Test(7), Reply::Int(false))
+}
+
 #[test]
 fn one_goes(rt: HostRuntime) -> Result<(), Fail> {
     let mut house = House::new(&rt, rt.alloc(), BOTH)?;
-    let alice = house.speaker("alice", "abc")?;
-    let bob = house.speaker("bob", "abc")?;
-    ids(&rt, &mut house, &alice, OneCall::Set(5), Reply::Int(true))?;
-    let words = house.live_words();
-    ids(&rt, &mut house, &bob, OneCall::Set(7), Reply::Int(true))?;
-    assert_eq!(rt; house.change(&rt, ALICE)?, true);
-    assert_eq!(rt; house.live_words(), words);
-    assert_eq!(rt; house.change(&rt, BOTH)?, true);
-    let again = house.speaker("bob", "abc")?;
-    ids(&rt, &mut house, &again, OneCall::Test(7), Reply::Int(false))
+    one_goes_in(&rt, &mut house)
 }
 
 /// A tenant that is gone may not log in, and who had logged in as it may not speak.
-#[test]
-fn who_may_speak(rt: HostRuntime) -> Result<(), Fail> {
-    let mut house = House::new(&rt, rt.alloc(), BOTH)?;
+fn who_may_speak_in(rt: &impl Abort, house: &mut House) -> Result<(), Fail> {
     let alice = house.speaker("alice", "abc")?;
     let bob = house.speaker("bob", "abc")?;
-    assert_eq!(rt; house.change(&rt, ALICE)?, true);
+    assert_eq!(rt; house.change(rt, ALICE)?, true);
     assert_eq!(rt; house.login("bob", "abc"), None);
     assert_eq!(rt; house.login("alice", "abc"), Some(alice));
     assert!(rt; house.knows(&alice) && !house.knows(&bob));
     Ok(())
 }
 
+#[test]
+fn who_may_speak(rt: HostRuntime) -> Result<(), Fail> {
+    let mut house = House::new(&rt, rt.alloc(), BOTH)?;
+    who_may_speak_in(&rt, &mut house)
+}
+
 /// A quota below what is held changes nothing.
+fn a_quota_below_what_is_held_in(rt: &impl Abort, house: &mut House) -> Result<(), Fail> {
+    let alice = house.speaker("alice", "abc")?;
+    let bob = house.speaker("bob", "abc")?;
+    ids(rt, house, &alice, OneCall::Set(5), Reply::Int(true))?;
+    ids(rt, house, &bob, OneCall::Set(7), Reply::Int(true))?;
+    assert_eq!(rt; house.change(rt, NOTHING)?, false);
+    assert_eq!(rt; house.knows(&bob), true);
+    ids(rt, house, &bob, OneCall::Test(7), Reply::Int(true))?;
+    ids(rt, house, &alice, OneCall::Set(6), Reply::Int(true))
+}
+
 #[test]
 fn a_quota_below_what_is_held(rt: HostRuntime) -> Result<(), Fail> {
     let mut house = House::new(&rt, rt.alloc(), BOTH)?;
-    let alice = house.speaker("alice", "abc")?;
-    let bob = house.speaker("bob", "abc")?;
-    ids(&rt, &mut house, &alice, OneCall::Set(5), Reply::Int(true))?;
-    ids(&rt, &mut house, &bob, OneCall::Set(7), Reply::Int(true))?;
-    assert_eq!(rt; house.change(&rt, NOTHING)?, false);
-    assert_eq!(rt; house.knows(&bob), true);
-    ids(&rt, &mut house, &bob, OneCall::Test(7), Reply::Int(true))?;
-    ids(&rt, &mut house, &alice, OneCall::Set(6), Reply::Int(true))
+    a_quota_below_what_is_held_in(&rt, &mut house)
 }

@@ -7,7 +7,7 @@ use std::test::Fail;
 const MAX: u64 = 18_446_744_073_709_551_615;
 
 /// The words to draw from: both ends, the edges of bytes, and consecutive words.
-const WORDS: [u64; 16] = [
+static WORDS: [u64; 16] = [
     0,
     1,
     2,
@@ -28,7 +28,7 @@ const WORDS: [u64; 16] = [
 
 /// The strings to draw from: prefixes of one another, the edges of words of 8 bytes, and both ends
 /// of the order.
-const STRINGS: [&[u8]; 16] = [
+static STRINGS: [&[u8]; 16] = [
     b"",
     b"\x01",
     b"a",
@@ -49,7 +49,7 @@ const STRINGS: [&[u8]; 16] = [
 
 /// The byte keys to draw from: zeros of different lengths, the edges of words, and keys that are
 /// also strings.
-const KEYS: [&[u8]; 8] = [
+static KEYS: [&[u8]; 8] = [
     b"",
     b"\x00",
     b"\x00\x00",

@@ -1,5 +1,5 @@
 //! Directories of many names. Each request for memory may be refused once.
-ghost use Rattle.std.specs.Prelude.{◌<◌, OnOk, IsTrue};
+ghost use Rattle.std.specs.Prelude.{OnOk, IsTrue};
 ghost use Rattle.std.specs.FinMap as map;
 
 use judy_arena::NoMemory;
@@ -32,15 +32,30 @@ fn take(rt: &impl Abort, directory: &mut Directory, spot: &Spot) -> Result<Place
     directory.place(spot)
 }
 
-/// The place of an array at a reference.
-fn place(number: u64) -> Result<Place, Fail>
-    requires { number < 1000 }
-{
-    let root = Ref::read(4_294_967_296 + number).ok_or("a reference")?;
+/// Puts a place at a name. Returns the place before.
+fn keep(
+    rt: &impl Abort,
+    directory: &mut Directory,
+    spot: &Spot,
+    place: Place,
+) -> Result<Place, NoMemory> {
+    let before = take(rt, directory, spot)?;
+    directory.put(spot, place);
+    Ok(before)
+}
+
+/// The place of a name, if it has one.
+fn found(directory: &Directory, spot: &Spot) -> Option<Place> {
+    directory.find(spot)
+}
+
+/// The place of the n-th array.
+fn place(n: u64) -> Result<Place, Fail> {
+    let root = Ref::read(4_294_967_296u64.wrapping_add(n)).ok_or("a reference")?;
     Ok(Place {
         root,
-        entries: number + 1,
-        pieces: 2 * number,
+        entries: n.wrapping_add(1),
+        pieces: n.wrapping_mul(2),
     })
 }
 
@@ -56,85 +71,125 @@ fn spot(tenant: u8, kind: ArrayKind, n: u64) -> Result<Spot, Fail> {
     Ok(Spot::new(tenant, kind, name))
 }
 
+/// Gives the n-th of this many names the n-th place. They have none before.
+fn keep_all(
+    rt: &impl Abort,
+    directory: &mut Directory,
+    tenant: u8,
+    kind: ArrayKind,
+    names: u64,
+) -> Result<(), Fail> {
+    for n in 0..names {
+        let before = keep(rt, directory, &spot(tenant, kind, n)?, place(n)?)?;
+        assert_eq!(rt; before, Place::nothing(), "name {n}");
+    }
+    Ok(())
+}
+
+/// Checks whether each of this many names has its place, or none has one.
+fn compare_all(
+    rt: &impl Abort,
+    directory: &Directory,
+    tenant: u8,
+    kind: ArrayKind,
+    names: u64,
+    is_kept: bool,
+) -> Result<(), Fail> {
+    for n in 0..names {
+        let want = if is_kept { Some(place(n)?) } else { None };
+        let place = found(directory, &spot(tenant, kind, n)?);
+        assert_eq!(rt; place, want, "name {n} of {tenant}");
+    }
+    Ok(())
+}
+
+/// Takes the place of each of this many names.
+fn clear_all(
+    rt: &impl Abort,
+    directory: &mut Directory,
+    tenant: u8,
+    kind: ArrayKind,
+    names: u64,
+) -> Result<(), Fail> {
+    for n in 0..names {
+        let spot = spot(tenant, kind, n)?;
+        let before = keep(rt, directory, &spot, Place::nothing())?;
+        assert_eq!(rt; before, place(n)?, "name {n}");
+    }
+    Ok(())
+}
+
 #[test]
 fn many_names_are_found_again(rt: HostRuntime) -> Result<(), Fail> {
     let mut directory = empty(rt.alloc())?;
-    for n in 0..600 {
-        let spot = spot(3, ArrayKind::Long, n)?;
-        assert_eq!(rt; take(&rt, &mut directory, &spot)?.root.word(), 0);
-        directory.put(&spot, place(n)?);
-    }
+    keep_all(&rt, &mut directory, 3, ArrayKind::Long, 600)?;
     assert_eq!(rt; directory.count(), 600);
-    for n in 0..600 {
-        let found = directory
-            .find(&spot(3, ArrayKind::Long, n)?)
-            .ok_or("it is there")?;
-        assert_eq!(rt; found.root.word(), 4_294_967_296 + n);
-        assert_eq!(rt; found.entries, n + 1);
-        assert_eq!(rt; found.pieces, 2 * n);
-    }
-    for n in 0..600 {
-        let spot = spot(3, ArrayKind::Long, n)?;
-        assert_eq!(rt; directory.place(&spot)?.entries, n + 1);
-        directory.put(&spot, Place::nothing());
-    }
+    compare_all(&rt, &directory, 3, ArrayKind::Long, 600, true)?;
+    clear_all(&rt, &mut directory, 3, ArrayKind::Long, 600)?;
     assert_eq!(rt; directory.count(), 0);
     Ok(())
 }
+
+/// Names beside the seventh of sets of the first tenant: of another tenant or kind, or other names.
+static OTHERS: [(u8, ArrayKind, u64); 5] = [
+    (1, ArrayKind::One, 7),
+    (0, ArrayKind::Long, 7),
+    (0, ArrayKind::Str, 7),
+    (0, ArrayKind::Bytes, 7),
+    (0, ArrayKind::One, 8),
+];
 
 #[test]
 fn tenants_and_kinds_have_their_own_names(rt: HostRuntime) -> Result<(), Fail> {
     let mut directory = empty(rt.alloc())?;
     let mine = spot(0, ArrayKind::One, 7)?;
-    directory.place(&mine)?;
-    directory.put(&mine, place(7)?);
-    assert!(rt; directory.find(&mine.copied()).is_some());
-    assert!(rt; directory.find(&spot(1, ArrayKind::One, 7)?).is_none());
-    assert!(rt; directory.find(&spot(0, ArrayKind::Long, 7)?).is_none());
-    assert!(rt; directory.find(&spot(0, ArrayKind::Str, 7)?).is_none());
-    assert!(rt; directory.find(&spot(0, ArrayKind::Bytes, 7)?).is_none());
-    assert!(rt; directory.find(&spot(0, ArrayKind::One, 8)?).is_none());
+    keep(&rt, &mut directory, &mine, place(7)?)?;
+    assert!(rt; found(&directory, &mine.copied()).is_some());
+    for (tenant, kind, n) in &OTHERS {
+        let other = spot(*tenant, *kind, *n)?;
+        assert!(rt;
+            found(&directory, &other).is_none(),
+            "{tenant} {kind:?} {n}"
+        );
+    }
     directory.forget(&mine);
-    assert!(rt; directory.find(&mine).is_none());
+    assert!(rt; found(&directory, &mine).is_none());
     Ok(())
 }
 
-/// Gives an array a place.
-fn keep(rt: &impl Abort, directory: &mut Directory, spot: &Spot, n: u64) -> Result<(), Fail>
-    requires { n < 1000 }
-{
-    let kept = place(n)?;
-    take(rt, directory, spot)?;
-    directory.put(spot, kept);
+/// A directory of 200 names of each of three owners.
+fn of_three_owners(rt: &impl Abort, alloc: Global) -> Result<Directory, Fail> {
+    let mut directory = empty(alloc)?;
+    keep_all(rt, &mut directory, 63, ArrayKind::Str, 200)?;
+    keep_all(rt, &mut directory, 127, ArrayKind::Bytes, 200)?;
+    keep_all(rt, &mut directory, 127, ArrayKind::Long, 200)?;
+    assert_eq!(rt; directory.count(), 600);
+    Ok(directory)
+}
+
+#[test]
+fn names_are_listed(rt: HostRuntime) -> Result<(), Fail> {
+    assert!(rt; empty(rt.alloc())?.list().next().is_none());
+    let directory = of_three_owners(&rt, rt.alloc())?;
+    let mut names = directory.list();
+    for n in 0..600 {
+        let spot = names.next().ok_or("one more")?;
+        assert!(rt; found(&directory, &spot).is_some(), "name {n}");
+    }
+    assert!(rt; names.next().is_none());
     Ok(())
 }
 
 #[test]
-fn names_are_listed_and_forgotten(rt: HostRuntime) -> Result<(), Fail> {
-    let mut directory = empty(rt.alloc())?;
-    assert!(rt; directory.list().next().is_none());
-    for n in 0..200 {
-        keep(&rt, &mut directory, &spot(63, ArrayKind::Str, n)?, n)?;
-        keep(&rt, &mut directory, &spot(127, ArrayKind::Bytes, n)?, n)?;
-        keep(&rt, &mut directory, &spot(127, ArrayKind::Long, n)?, n)?;
-    }
-    assert_eq!(rt; directory.count(), 600);
-    let mut names = directory.list();
-    for _ in 0..600 {
-        let spot = names.next().ok_or("one more")?;
-        assert!(rt; directory.find(&spot).is_some());
-    }
-    assert!(rt; names.next().is_none());
+fn names_are_forgotten(rt: HostRuntime) -> Result<(), Fail> {
+    let mut directory = of_three_owners(&rt, rt.alloc())?;
     let mut gone = [false; 128];
     directory.forget_gone(gone.as_slice());
     assert_eq!(rt; directory.count(), 600);
     gone[127] = true;
     directory.forget_gone(gone.as_slice());
     assert_eq!(rt; directory.count(), 200);
-    for n in 0..200 {
-        assert!(rt; directory.find(&spot(63, ArrayKind::Str, n)?).is_some());
-        assert!(rt; directory.find(&spot(127, ArrayKind::Bytes, n)?).is_none());
-        assert!(rt; directory.find(&spot(127, ArrayKind::Long, n)?).is_none());
-    }
-    Ok(())
+    compare_all(&rt, &directory, 63, ArrayKind::Str, 200, true)?;
+    compare_all(&rt, &directory, 127, ArrayKind::Bytes, 200, false)?;
+    compare_all(&rt, &directory, 127, ArrayKind::Long, 200, false)
 }

@@ -121,6 +121,17 @@ impl House {
         u128::from(self.service.refusals()) + u128::from(self.service.unplaced())
     }
 
+    fn call(&mut self, rt: &impl Abort, speaker: &Speaker, call: &Call<'_>) -> OwnedReply {
+        assert!(rt; is_callable(call), "a byte 0 in a string");
+        assert!(rt;
+            self.service.has(speaker.tenant),
+            "a tenant of another table"
+        );
+        let mut found = ArrayVec::new();
+        let reply = self.service.call(self.alloc, *speaker, call, &mut found);
+        OwnedReply::of(&reply)
+    }
+
     /// The reply, which may be `ERR MEMORY`. Such a refusal is counted once and changes nothing,
     /// and nothing else is counted.
     pub(crate) fn try_ask(
@@ -129,22 +140,16 @@ impl House {
         speaker: &Speaker,
         call: &Call<'_>,
     ) -> OwnedReply {
-        assert!(rt; is_callable(call), "a byte 0 in a string");
         let before = self.figures(rt, speaker);
         let refused = self.refused();
-        assert!(rt;
-            self.service.has(speaker.tenant),
-            "a tenant of another table"
-        );
-        let mut found = ArrayVec::new();
-        let reply = self.service.call(self.alloc, *speaker, call, &mut found);
-        if reply == Reply::Memory {
+        let reply = self.call(rt, speaker, call);
+        if reply.reply() == Reply::Memory {
             assert_eq!(rt; self.figures(rt, speaker), before, "after a refusal");
             assert_eq!(rt; Some(self.refused()), refused.checked_add(1), "refusals");
         } else {
             assert_eq!(rt; self.refused(), refused, "refusals");
         }
-        OwnedReply::of(&reply)
+        reply
     }
 
     /// The reply. If memory is refused, a second try succeeds.

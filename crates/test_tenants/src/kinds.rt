@@ -1,72 +1,212 @@
 //! An array of each kind by hand, from no array to no array. Each request for memory may be refused
 //! once.
-ghost use Rattle.std.specs.Prelude.{ℕ, List, IsTrue};
-ghost use Rattle.judy_directory.specs.declared.spot.ArrayKind.{ArrayKind};
+ghost use Rattle.std.specs.Prelude.{◌≡◌, true};
 ghost use Rattle.judy_kinds.specs.Calls.{is_of_array, kind_of_call};
-ghost use Rattle.judy_kinds.specs.Kinds.{IsPlaceOf};
 
+use crate::spelled::{call_of, compare};
 use arrayvec::ArrayVec;
-use judy_arena::Arena;
+use judy_arena::{Arena, NoMemory};
 use judy_bytes::{KeyHash, Sha256Hash};
 use judy_directory::{ArrayKind, Place};
 use judy_kinds::{answer, array_of, asks, is_callable, is_insertion, laws};
-use judy_model::{BytesCall, Call, Given, Key, LongCall, Name, OneCall, Reply, StrCall};
+use judy_model::{Call, KEY_LIMIT, Key, Name, OwnedReply, StrCall};
 use std::alloc::Global;
+use std::marker::Model;
 use std::process::Abort;
 use std::test::Fail;
 
-/// An array at its place, and its arena.
+/// Whether the call is of an array of this kind.
+fn is_of(call: &Call<'_>, kind: ArrayKind) -> bool
+    ensures array { result ≡ true → is_of_array call.now ≡ true }
+    ensures kind { result ≡ true → kind_of_call call.now ≡ kind }
+{
+    match (call, kind) {
+        (Call::One(..), ArrayKind::One) => true,
+        (Call::Long(..), ArrayKind::Long) => true,
+        (Call::Str(..), ArrayKind::Str) => true,
+        (Call::Bytes(..), ArrayKind::Bytes) => true,
+        _ => false,
+    }
+}
+
+/// An array of one kind at its place, and its arena.
 #[derive(Drop)]
-struct Held {
+struct Held<H: KeyHash> {
     arena: Arena,
+    hash: H,
+    kind: ArrayKind,
     place: Place,
 }
 
-/// No array, of any kind.
-fn none(alloc: Global) -> Held
-    ensures { (H : List ℕ → ℕ) (kind : ArrayKind)
-        → IsPlaceOf H kind result.arena.blocks result.place }
-{
-    laws::arrays_are_kept();
-    laws::keys_tell_kinds();
-    Held {
-        arena: Arena::new(alloc),
-        place: Place::nothing(),
+/// Callers see how many requests for a block the arena refused.
+impl<H: KeyHash> Model for Held<H> {
+    ghost use Rattle.std.specs.Prelude.{ℕ};
+    ghost use Rattle.judy_kinds.specs.Kinds.{IsPlaceOf};
+
+    ghost Value = { ℕ };
+
+    ghost view = { λ h. h.arena.refusals };
+
+    ghost invariant = { λ h. IsPlaceOf H.hashed h.kind h.arena.blocks h.place };
+}
+
+impl<H: KeyHash> Held<H> {
+    /// No array, of this kind.
+    fn new(alloc: Global, hash: H, kind: ArrayKind) -> Held<H> {
+        laws::arrays_are_kept();
+        laws::keys_tell_kinds();
+        Held {
+            arena: Arena::new(alloc),
+            hash,
+            kind,
+            place: Place::nothing(),
+        }
+    }
+
+    /// Whether the call asks for a new entry.
+    fn asks(&self, rt: &impl Abort, call: &Call<'_>) -> bool {
+        assert!(rt; is_of(call, self.kind));
+        assert!(rt; is_callable(call));
+        asks(&self.arena, self.hash, &self.place, call)
+    }
+
+    /// Makes a call. Err: out of memory.
+    fn call(
+        &mut self,
+        rt: &impl Abort,
+        alloc: Global,
+        call: &Call<'_>,
+    ) -> Result<OwnedReply, NoMemory> {
+        assert!(rt; is_of(call, self.kind));
+        assert!(rt; is_callable(call));
+        assert!(rt; self.place.pieces < 1_000_000);
+        let mut found = ArrayVec::new();
+        let (reply, place) = answer(
+            alloc,
+            &mut self.arena,
+            self.hash,
+            self.place,
+            call,
+            &mut found,
+        )?;
+        self.place = place;
+        Ok(OwnedReply::of(&reply))
+    }
+
+    /// How many entries and pieces it has.
+    fn counts(&self) -> (u64, u64) {
+        (self.place.entries, self.place.pieces)
+    }
+
+    /// The words of all live blocks.
+    fn words(&self) -> u64 {
+        self.arena.live_words()
+    }
+
+    /// Whether there is no array.
+    fn is_nothing(&self) -> bool {
+        self.place.is_nothing()
     }
 }
 
-/// Checks that a call gets this reply. If memory is refused, nothing has changed, and a second try
-/// succeeds.
+/// The reply. If memory is refused, nothing has changed, and a second try succeeds.
 fn ask<H: KeyHash>(
     rt: &impl Abort,
     alloc: Global,
-    hash: H,
-    held: &mut Held,
+    held: &mut Held<H>,
     call: &Call<'_>,
-    want: &Reply<'_>,
-)
-    requires array { IsTrue (is_of_array call.now) }
-    requires place { IsPlaceOf H.hashed (kind_of_call call.now) held.old.arena.blocks held.old.place }
-    ensures { IsPlaceOf H.hashed (kind_of_call call.now) held.new.arena.blocks held.new.place }
-{
-    assert!(rt; is_callable(call));
-    assert!(rt; held.place.pieces < 1_000_000);
-    let asked = asks(&held.arena, hash, &held.place, call);
+) -> Result<OwnedReply, NoMemory> {
+    let asked = held.asks(rt, call);
     assert!(rt; is_insertion(call) || !asked);
-    let words = held.arena.live_words();
-    let mut found = ArrayVec::new();
-    if let Ok((reply, place)) = answer(alloc, &mut held.arena, hash, held.place, call, &mut found) {
-        assert!(rt; !is_insertion(call) || (held.place.entries < place.entries) == asked);
-        assert_eq!(rt; reply, *want);
-        held.place = place;
-        return;
+    let before = (held.counts(), held.words());
+    if let Ok(reply) = held.call(rt, alloc, call) {
+        let is_new = before.0.0 < held.counts().0;
+        assert!(rt; !is_insertion(call) || is_new == asked);
+        return Ok(reply);
     }
     assert!(rt; asked, "only a new entry is refused");
-    assert_eq!(rt; held.arena.live_words(), words, "words after a refusal");
-    let again = answer(alloc, &mut held.arena, hash, held.place, call, &mut found);
-    let (reply, place) = again.expect(rt, "one request at most is refused");
-    assert_eq!(rt; reply, *want);
-    held.place = place;
+    assert_eq!(rt; (held.counts(), held.words()), before, "after a refusal");
+    held.call(rt, alloc, call)
+}
+
+/// Makes the calls of these rows of one kind, from no array to no array. Each row has a line, the text
+/// of its reply, and how many entries and pieces the array has then.
+fn check(
+    rt: &impl Abort,
+    alloc: Global,
+    kind: ArrayKind,
+    rows: &[(&str, &str, u64, u64)],
+) -> Result<(), Fail> {
+    let mut held = Held::new(alloc, Sha256Hash, kind);
+    for (line, want, entries, pieces) in rows {
+        let mut room = [0; KEY_LIMIT];
+        let call = call_of(line, &mut room)?;
+        let reply = ask(rt, alloc, &mut held, &call)?;
+        compare(rt, line, &reply, want);
+        assert_eq!(rt; held.counts(), (*entries, *pieces), "{line}");
+    }
+    assert!(rt; held.is_nothing());
+    assert_eq!(rt; held.words(), 0);
+    Ok(())
+}
+
+static OF_A_SET: [(&str, &str, u64, u64); 6] = [
+    ("J1S visits 7", "1", 1, 1),
+    ("J1S visits 7", "0", 1, 1),
+    ("J1S visits -1", "1", 2, 2),
+    ("J1N visits 7", "1 18446744073709551615", 2, 2),
+    ("J1U visits 7", "1", 1, 1),
+    ("J1FA visits", "N 1", 0, 0),
+];
+
+#[test]
+fn a_set(rt: HostRuntime) -> Result<(), Fail> {
+    check(&rt, rt.alloc(), ArrayKind::One, &OF_A_SET)
+}
+
+static OF_A_WORD_MAP: [(&str, &str, u64, u64); 5] = [
+    ("JLI visits 7 70", "V 0", 1, 1),
+    ("JLI visits 7 70", "V 70", 1, 1),
+    ("JLA visits 7 1", "V 71", 1, 1),
+    ("JLF visits 0", "V 71 7", 1, 1),
+    ("JLFA visits", "N 1", 0, 0),
+];
+
+#[test]
+fn a_word_map(rt: HostRuntime) -> Result<(), Fail> {
+    check(&rt, rt.alloc(), ArrayKind::Long, &OF_A_WORD_MAP)
+}
+
+static OF_A_STRING_MAP: [(&str, &str, u64, u64); 9] = [
+    ("JSLI visits x3132333435363738 1", "V 0", 1, 2),
+    ("JSLI visits x", "V 0", 2, 3),
+    ("JSLI visits x", "V 0", 2, 3),
+    ("JSLA visits x 4", "V 4", 2, 3),
+    ("JSLA visits x 4", "V 8", 2, 3),
+    ("JSLL visits x32", "V 1 x3132333435363738", 2, 3),
+    ("JSLD visits x3132333435363738", "1", 1, 1),
+    ("JSLD visits x3132333435363738", "0", 1, 1),
+    ("JSLFA visits", "N 1", 0, 0),
+];
+
+#[test]
+fn a_string_map(rt: HostRuntime) -> Result<(), Fail> {
+    check(&rt, rt.alloc(), ArrayKind::Str, &OF_A_STRING_MAP)
+}
+
+static OF_A_BYTE_MAP: [(&str, &str, u64, u64); 7] = [
+    ("JHSI visits x0000000000000000 1", "V 0", 1, 2),
+    ("JHSI visits x0000000000000000 2", "V 1", 1, 2),
+    ("JHSA visits x0000000000000000 5", "V 7", 1, 2),
+    ("JHSA visits x0000000000000000 5", "V 12", 1, 2),
+    ("JHSG visits x00", "NULL", 1, 2),
+    ("JHSD visits x00", "0", 1, 2),
+    ("JHSFA visits", "N 1", 0, 0),
+];
+
+#[test]
+fn a_byte_map(rt: HostRuntime) -> Result<(), Fail> {
+    check(&rt, rt.alloc(), ArrayKind::Bytes, &OF_A_BYTE_MAP)
 }
 
 fn name() -> Result<Name, Fail> {
@@ -75,130 +215,6 @@ fn name() -> Result<Name, Fail> {
 
 fn key(bytes: &[u8]) -> Result<Key<'_>, Fail> {
     Ok(Key::read(bytes).ok_or("a key")?)
-}
-
-/// Whether the array has this many entries and pieces.
-fn holds(held: &Held, entries: u64, pieces: u64) -> bool {
-    held.place.entries == entries && held.place.pieces == pieces
-}
-
-#[test]
-fn a_set(rt: HostRuntime) -> Result<(), Fail> {
-    let a = rt.alloc();
-    let mut held = none(a);
-    let call = Call::One(name()?, OneCall::Set(7));
-    ask(&rt, a, Sha256Hash, &mut held, &call, &Reply::Int(true));
-    ask(&rt, a, Sha256Hash, &mut held, &call, &Reply::Int(false));
-    let call = Call::One(name()?, OneCall::Set(u64::MAX));
-    ask(&rt, a, Sha256Hash, &mut held, &call, &Reply::Int(true));
-    assert!(rt; holds(&held, 2, 2));
-    let call = Call::One(name()?, OneCall::Next(7));
-    ask(
-        &rt,
-        a,
-        Sha256Hash,
-        &mut held,
-        &call,
-        &Reply::Index(u64::MAX),
-    );
-    let call = Call::One(name()?, OneCall::Unset(7));
-    ask(&rt, a, Sha256Hash, &mut held, &call, &Reply::Int(true));
-    assert!(rt; holds(&held, 1, 1));
-    let call = Call::One(name()?, OneCall::Free);
-    ask(&rt, a, Sha256Hash, &mut held, &call, &Reply::Count(1));
-    assert!(rt; holds(&held, 0, 0));
-    assert!(rt; held.place.is_nothing());
-    assert_eq!(rt; held.arena.live_words(), 0);
-    Ok(())
-}
-
-#[test]
-fn a_word_map(rt: HostRuntime) -> Result<(), Fail> {
-    let a = rt.alloc();
-    let mut held = none(a);
-    let call = Call::Long(name()?, LongCall::Insert(7, Given::Value(70)));
-    ask(&rt, a, Sha256Hash, &mut held, &call, &Reply::Value(0));
-    ask(&rt, a, Sha256Hash, &mut held, &call, &Reply::Value(70));
-    let call = Call::Long(name()?, LongCall::Insert(7, Given::Plus(1)));
-    ask(&rt, a, Sha256Hash, &mut held, &call, &Reply::Value(71));
-    let call = Call::Long(name()?, LongCall::First(0));
-    ask(&rt, a, Sha256Hash, &mut held, &call, &Reply::ValueAt(71, 7));
-    assert!(rt; holds(&held, 1, 1));
-    let call = Call::Long(name()?, LongCall::Free);
-    ask(&rt, a, Sha256Hash, &mut held, &call, &Reply::Count(1));
-    assert!(rt; holds(&held, 0, 0));
-    assert!(rt; held.place.is_nothing());
-    assert_eq!(rt; held.arena.live_words(), 0);
-    Ok(())
-}
-
-#[test]
-fn a_string_map(rt: HostRuntime) -> Result<(), Fail> {
-    let a = rt.alloc();
-    let mut held = none(a);
-    let call = Call::Str(name()?, StrCall::Insert(key(b"12345678")?, Given::Value(1)));
-    ask(&rt, a, Sha256Hash, &mut held, &call, &Reply::Value(0));
-    assert!(rt; holds(&held, 1, 2));
-    let call = Call::Str(name()?, StrCall::Insert(key(b"")?, Given::Nothing));
-    ask(&rt, a, Sha256Hash, &mut held, &call, &Reply::Value(0));
-    ask(&rt, a, Sha256Hash, &mut held, &call, &Reply::Value(0));
-    assert!(rt; holds(&held, 2, 3));
-    let call = Call::Str(name()?, StrCall::Insert(key(b"")?, Given::Plus(4)));
-    ask(&rt, a, Sha256Hash, &mut held, &call, &Reply::Value(4));
-    ask(&rt, a, Sha256Hash, &mut held, &call, &Reply::Value(8));
-    let call = Call::Str(name()?, StrCall::Last(key(b"2")?));
-    ask(
-        &rt,
-        a,
-        Sha256Hash,
-        &mut held,
-        &call,
-        &Reply::ValueKey(1, key(b"12345678")?),
-    );
-    let call = Call::Str(name()?, StrCall::Delete(key(b"12345678")?));
-    ask(&rt, a, Sha256Hash, &mut held, &call, &Reply::Int(true));
-    ask(&rt, a, Sha256Hash, &mut held, &call, &Reply::Int(false));
-    assert!(rt; holds(&held, 1, 1));
-    let call = Call::Str(name()?, StrCall::Free);
-    ask(&rt, a, Sha256Hash, &mut held, &call, &Reply::Count(1));
-    assert!(rt; holds(&held, 0, 0));
-    assert!(rt; held.place.is_nothing());
-    assert_eq!(rt; held.arena.live_words(), 0);
-    Ok(())
-}
-
-#[test]
-fn a_byte_map(rt: HostRuntime) -> Result<(), Fail> {
-    let a = rt.alloc();
-    let mut held = none(a);
-    let call = Call::Bytes(
-        name()?,
-        BytesCall::Insert(key(b"\0\0\0\0\0\0\0\0")?, Given::Value(1)),
-    );
-    ask(&rt, a, Sha256Hash, &mut held, &call, &Reply::Value(0));
-    let call = Call::Bytes(
-        name()?,
-        BytesCall::Insert(key(b"\0\0\0\0\0\0\0\0")?, Given::Value(2)),
-    );
-    ask(&rt, a, Sha256Hash, &mut held, &call, &Reply::Value(1));
-    assert!(rt; holds(&held, 1, 2));
-    let call = Call::Bytes(
-        name()?,
-        BytesCall::Insert(key(b"\0\0\0\0\0\0\0\0")?, Given::Plus(5)),
-    );
-    ask(&rt, a, Sha256Hash, &mut held, &call, &Reply::Value(7));
-    ask(&rt, a, Sha256Hash, &mut held, &call, &Reply::Value(12));
-    let call = Call::Bytes(name()?, BytesCall::Get(key(b"\0")?));
-    ask(&rt, a, Sha256Hash, &mut held, &call, &Reply::Null);
-    let call = Call::Bytes(name()?, BytesCall::Delete(key(b"\0")?));
-    ask(&rt, a, Sha256Hash, &mut held, &call, &Reply::Int(false));
-    assert!(rt; holds(&held, 1, 2));
-    let call = Call::Bytes(name()?, BytesCall::Free);
-    ask(&rt, a, Sha256Hash, &mut held, &call, &Reply::Count(1));
-    assert!(rt; holds(&held, 0, 0));
-    assert!(rt; held.place.is_nothing());
-    assert_eq!(rt; held.arena.live_words(), 0);
-    Ok(())
 }
 
 #[test]

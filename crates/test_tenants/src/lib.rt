@@ -19,6 +19,8 @@ mod replays;
 #[cfg(test)]
 mod rows;
 #[cfg(test)]
+mod spelled;
+#[cfg(test)]
 mod tables;
 #[cfg(test)]
 mod walk;

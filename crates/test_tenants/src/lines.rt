@@ -1,8 +1,7 @@
 //! Worked rows: the calls of lines, each with the text of the reply that it should get.
 use crate::house::House;
-use arrayvec::ArrayVec;
+use crate::spelled::{call_of, compare};
 use judy_model::{Call, KEY_LIMIT, Name, OneCall, Reply};
-use judy_protocol::{Line, read_line, write_reply};
 use judy_tenants::Speaker;
 use std::alloc::Global;
 use std::process::Abort;
@@ -39,34 +38,18 @@ quota = 4
 pieces = 3
 "#;
 
-/// The text of the reply to the line's call, with its LF.
-fn text(
-    rt: &impl Abort,
-    house: &mut House,
-    speaker: &Speaker,
-    line: &str,
-) -> Result<ArrayVec<u8, 4096>, Fail> {
-    let mut text = ArrayVec::new();
-    let mut room = [0; KEY_LIMIT];
-    match read_line(line.as_bytes(), &mut room) {
-        Ok(Line::Call(call)) => write_reply(&house.ask(rt, speaker, &call).reply(), &mut text),
-        _ => return Err("a call")?,
-    }
-    Ok(text)
-}
-
-/// Checks that the calls get these replies, one after another.
-fn ask(
+/// Checks that the calls of these lines get these replies, one after another.
+pub(crate) fn ask(
     rt: &impl Abort,
     house: &mut House,
     speaker: &Speaker,
     rows: &[(&str, &str)],
 ) -> Result<(), Fail> {
-    for row in rows {
-        let (line, reply) = *row;
-        let mut got = text(rt, house, speaker, line)?;
-        let _line_feed = got.pop();
-        assert_eq!(rt; got.as_slice(), reply.as_bytes(), "{line}");
+    for (line, want) in rows {
+        let mut room = [0; KEY_LIMIT];
+        let call = call_of(line, &mut room)?;
+        let reply = house.ask(rt, speaker, &call);
+        compare(rt, line, &reply, want);
     }
     Ok(())
 }
@@ -89,7 +72,7 @@ fn fill(
 }
 
 /// alice's calls at the edge of her quota.
-const EDGE: [(&str, &str); 10] = [
+static EDGE: [(&str, &str); 10] = [
     ("J1S a 1", "1"),
     ("J1S a 2", "1"),
     ("J1S a 3", "1"),
@@ -102,27 +85,31 @@ const EDGE: [(&str, &str); 10] = [
     ("USED", "Q 4 4 4 504"),
 ];
 
+static OF_BOB_AT_THE_END: [(&str, &str); 1] = [("USED", "Q 1000 1000 1000 126000")];
+
+static OF_ALICE_AT_THE_END: [(&str, &str); 2] = [("J1C a 0 -1", "N 3"), ("J1N a 4", "0")];
+
 /// alice comes to the edge of her quota while bob comes to the edge of his, in a set of this name.
-fn neighbours(rt: &impl Abort, alloc: Global, theirs: &str) -> Result<(), Fail> {
-    let mut house = House::new(rt, alloc, TABLE)?;
+fn meet_in(rt: &impl Abort, house: &mut House, theirs: &str) -> Result<(), Fail> {
     let alice = house.speaker("alice", "abc")?;
     let bob = house.speaker("bob", "hello")?;
     let mut next: u64 = 1;
-    for row in EDGE {
-        fill(rt, &mut house, &bob, theirs, next, next.saturating_add(99))?;
+    for row in &EDGE {
+        fill(rt, house, &bob, theirs, next, next.saturating_add(99))?;
         next = next.saturating_add(100);
-        ask(rt, &mut house, &alice, &[row])?;
+        ask(rt, house, &alice, &[*row])?;
     }
     let name = Name::read(theirs.as_bytes()).ok_or("a name")?;
     let last = house.ask(rt, &bob, &Call::One(name, OneCall::Set(1_001)));
     assert_eq!(rt; last.reply(), Reply::Full);
-    ask(rt, &mut house, &bob, &[("USED", "Q 1000 1000 1000 126000")])?;
-    ask(
-        rt,
-        &mut house,
-        &alice,
-        &[("J1C a 0 -1", "N 3"), ("J1N a 4", "0")],
-    )
+    ask(rt, house, &bob, &OF_BOB_AT_THE_END)?;
+    ask(rt, house, &alice, &OF_ALICE_AT_THE_END)
+}
+
+/// The same in a service of the two tenants.
+fn neighbours(rt: &impl Abort, alloc: Global, theirs: &str) -> Result<(), Fail> {
+    let mut house = House::new(rt, alloc, TABLE)?;
+    meet_in(rt, &mut house, theirs)
 }
 
 #[test]
@@ -135,41 +122,79 @@ fn noisy_neighbour_of_one_name(rt: HostRuntime) -> Result<(), Fail> {
     neighbours(&rt, rt.alloc(), "a")
 }
 
+/// Checks the calls of one speaker of a table.
+fn check(
+    rt: &impl Abort,
+    alloc: Global,
+    table: &str,
+    (name, token): (&str, &str),
+    rows: &[(&str, &str)],
+) -> Result<(), Fail> {
+    let mut house = House::new(rt, alloc, table)?;
+    let speaker = house.speaker(name, token)?;
+    ask(rt, &mut house, &speaker, rows)
+}
+
+static WITH_QUOTA_ZERO: [(&str, &str); 4] = [
+    ("J1S a 1", "FULL"),
+    ("J1U a 1", "0"),
+    ("J1FE a 0", "1 0"),
+    ("USED", "Q 0 0 0 0"),
+];
+
+static LOOKING_WITH_QUOTA_ZERO: [(&str, &str); 1] = [("J1S a 1", "ERR READONLY")];
+
 #[test]
 fn quota_zero(rt: HostRuntime) -> Result<(), Fail> {
     let mut house = House::new(&rt, rt.alloc(), NOTHING)?;
     let alice = house.speaker("alice", "abc")?;
     let looker = house.speaker("alice", "hello")?;
-    let rows = [
-        ("J1S a 1", "FULL"),
-        ("J1U a 1", "0"),
-        ("J1FE a 0", "1 0"),
-        ("USED", "Q 0 0 0 0"),
-    ];
-    ask(&rt, &mut house, &alice, &rows)?;
-    ask(&rt, &mut house, &looker, &[("J1S a 1", "ERR READONLY")])
+    ask(&rt, &mut house, &alice, &WITH_QUOTA_ZERO)?;
+    ask(&rt, &mut house, &looker, &LOOKING_WITH_QUOTA_ZERO)
 }
+
+static WITH_A_QUOTA_OF_PIECES: [(&str, &str); 12] = [
+    ("JSLI s x6162636465666768 1", "V 0"),
+    ("J1S a 1", "1"),
+    ("J1S a 2", "FULL"),
+    ("JSLI s x6162636465666768 9", "V 1"),
+    ("JSLA s x6162636465666768 9", "V 18"),
+    ("JSLA s x 9", "FULL"),
+    ("USED", "Q 2 4 3 3"),
+    ("JSLD s x6162636465666768", "1"),
+    ("JSLI s x616263646566676869 5", "V 0"),
+    ("USED", "Q 2 4 3 3"),
+    ("JSLFA s", "N 1"),
+    ("USED", "Q 1 4 1 3"),
+];
 
 #[test]
 fn quota_of_pieces(rt: HostRuntime) -> Result<(), Fail> {
-    let mut house = House::new(&rt, rt.alloc(), PIECES)?;
-    let alice = house.speaker("alice", "abc")?;
-    let rows = [
-        ("JSLI s x6162636465666768 1", "V 0"),
-        ("J1S a 1", "1"),
-        ("J1S a 2", "FULL"),
-        ("JSLI s x6162636465666768 9", "V 1"),
-        ("JSLA s x6162636465666768 9", "V 18"),
-        ("JSLA s x 9", "FULL"),
-        ("USED", "Q 2 4 3 3"),
-        ("JSLD s x6162636465666768", "1"),
-        ("JSLI s x616263646566676869 5", "V 0"),
-        ("USED", "Q 2 4 3 3"),
-        ("JSLFA s", "N 1"),
-        ("USED", "Q 1 4 1 3"),
-    ];
-    ask(&rt, &mut house, &alice, &rows)
+    check(
+        &rt,
+        rt.alloc(),
+        PIECES,
+        ("alice", "abc"),
+        &WITH_A_QUOTA_OF_PIECES,
+    )
 }
+
+static LOOKING: [(&str, &str); 6] = [
+    ("J1S a 1", "ERR READONLY"),
+    ("J1T a 1", "0"),
+    ("J1FA a", "ERR READONLY"),
+    ("JLA l 1 1", "ERR READONLY"),
+    ("JSLA s x61 1", "ERR READONLY"),
+    ("JHSA h x61 1", "ERR READONLY"),
+];
+
+static CHANGING: [(&str, &str); 1] = [("J1S a 1", "1")];
+
+static LOOKING_AGAIN: [(&str, &str); 3] = [
+    ("J1T a 1", "1"),
+    ("J1U a 1", "ERR READONLY"),
+    ("USED", "Q 1 4 1 504"),
+];
 
 #[test]
 fn reading_token(rt: HostRuntime) -> Result<(), Fail> {
@@ -177,33 +202,15 @@ fn reading_token(rt: HostRuntime) -> Result<(), Fail> {
     let alice = house.speaker("alice", "abc")?;
     let looker = house.speaker("alice", "hello")?;
     assert_eq!(rt; house.login("alice", "abd"), None);
-    let first = [
-        ("J1S a 1", "ERR READONLY"),
-        ("J1T a 1", "0"),
-        ("J1FA a", "ERR READONLY"),
-        ("JLA l 1 1", "ERR READONLY"),
-        ("JSLA s x61 1", "ERR READONLY"),
-        ("JHSA h x61 1", "ERR READONLY"),
-    ];
-    ask(&rt, &mut house, &looker, &first)?;
-    ask(&rt, &mut house, &alice, &[("J1S a 1", "1")])?;
-    let second = [
-        ("J1T a 1", "1"),
-        ("J1U a 1", "ERR READONLY"),
-        ("USED", "Q 1 4 1 504"),
-    ];
-    ask(&rt, &mut house, &looker, &second)
+    ask(&rt, &mut house, &looker, &LOOKING)?;
+    ask(&rt, &mut house, &alice, &CHANGING)?;
+    ask(&rt, &mut house, &looker, &LOOKING_AGAIN)
 }
+
+static WITH_ONE_TOKEN: [(&str, &str); 2] = [("J1S a 1", "1"), ("J1S a 2", "FULL")];
 
 /// A tenant whose two tokens are equal may change its arrays.
 #[test]
 fn one_token_for_both(rt: HostRuntime) -> Result<(), Fail> {
-    let mut house = House::new(&rt, rt.alloc(), NOTHING)?;
-    let bob = house.speaker("bob", "hello")?;
-    ask(
-        &rt,
-        &mut house,
-        &bob,
-        &[("J1S a 1", "1"), ("J1S a 2", "FULL")],
-    )
+    check(&rt, rt.alloc(), NOTHING, ("bob", "hello"), &WITH_ONE_TOKEN)
 }

@@ -1,10 +1,12 @@
 //! Worked rows: two tenants at once, many names of both, and a first entry when memory runs out. Each
 //! row may be run with any one request for memory refused.
 use crate::house::House;
+use crate::lines::ask;
 use arrayvec::ArrayString;
 use judy_model::{Call, Given, LongCall, NAME_LIMIT, Name, OneCall, Reply};
 use judy_tenants::{Event, Speaker};
 use std::fmt::Write;
+use std::io::Print;
 use std::process::Abort;
 use std::test::Fail;
 
@@ -25,129 +27,90 @@ fn numbered(number: u32) -> Result<Name, Fail> {
     Ok(Name::read(text.as_str().as_bytes()).ok_or("no name")?)
 }
 
-/// The reply that a set of this number should give.
-fn set(
+/// A call of bob's sets of 300 names, more than are guaranteed a place. Each gets this reply.
+fn each(
     rt: &impl Abort,
     house: &mut House,
-    speaker: &Speaker,
-    number: u32,
+    bob: &Speaker,
     call: OneCall,
-    want: Reply<'_>,
+    want: &Reply<'_>,
 ) -> Result<(), Fail> {
-    let reply = house.ask(rt, speaker, &Call::One(numbered(number)?, call));
-    assert_eq!(rt; reply.reply(), want, "{call:?} of the name {number}");
+    for i in 0..300u32 {
+        let reply = house.ask(rt, bob, &Call::One(numbered(i)?, call));
+        assert_eq!(rt; reply.reply(), *want, "{call:?} of the name {i}");
+    }
     Ok(())
 }
 
-/// 300 names of one tenant, more than are guaranteed a place. One of them is the other tenant's
-/// first name.
-#[test]
-fn many_names(rt: HostRuntime) -> Result<(), Fail> {
-    let mut house = House::new(&rt, rt.alloc(), TABLE)?;
+/// alice uses the name of one of bob's sets.
+static OF_ALICE: [(&str, &str); 2] = [("J1T n299 1", "0"), ("J1S n299 7", "1")];
+
+static OF_BOB: [(&str, &str); 3] = [("J1T n299 1", "1"), ("J1FA n0", "N 1"), ("J1S n0 1", "1")];
+
+static OF_ALICE_AT_THE_END: [(&str, &str); 2] = [("J1F n299 0", "1 7"), ("J1FA n299", "N 1")];
+
+fn many_names_in(rt: &impl Abort, house: &mut House) -> Result<(), Fail> {
     let alice = house.speaker("alice", "abc")?;
     let bob = house.speaker("bob", "hello")?;
-    for i in 0..300u32 {
-        set(&rt, &mut house, &bob, i, OneCall::Set(1), Reply::Int(true))?;
-    }
-    set(
-        &rt,
-        &mut house,
-        &alice,
-        299,
-        OneCall::Test(1),
-        Reply::Int(false),
-    )?;
-    set(
-        &rt,
-        &mut house,
-        &alice,
-        299,
-        OneCall::Set(7),
-        Reply::Int(true),
-    )?;
-    set(
-        &rt,
-        &mut house,
-        &bob,
-        299,
-        OneCall::Test(1),
-        Reply::Int(true),
-    )?;
-    set(&rt, &mut house, &bob, 0, OneCall::Free, Reply::Count(1))?;
-    set(&rt, &mut house, &bob, 0, OneCall::Set(1), Reply::Int(true))?;
+    each(rt, house, &bob, OneCall::Set(1), &Reply::Int(true))?;
+    ask(rt, house, &alice, &OF_ALICE)?;
+    ask(rt, house, &bob, &OF_BOB)?;
     assert_eq!(rt; house.live_words(), 1_204);
-    for i in 0..300u32 {
-        set(&rt, &mut house, &bob, i, OneCall::Free, Reply::Count(1))?;
-    }
-    set(
-        &rt,
-        &mut house,
-        &alice,
-        299,
-        OneCall::First(0),
-        Reply::Index(7),
-    )?;
-    set(&rt, &mut house, &alice, 299, OneCall::Free, Reply::Count(1))?;
+    each(rt, house, &bob, OneCall::Free, &Reply::Count(1))?;
+    ask(rt, house, &alice, &OF_ALICE_AT_THE_END)?;
     assert_eq!(rt; house.live_words(), 0);
     Ok(())
 }
 
+#[test]
+fn many_names(rt: HostRuntime) -> Result<(), Fail> {
+    let mut house = House::new(&rt, rt.alloc(), TABLE)?;
+    many_names_in(&rt, &mut house)
+}
+
+static REFUSED: [(&str, &str); 2] = [("J1T n1 1", "0"), ("USED", "Q 0 4 0 504")];
+
+static THERE: [(&str, &str); 2] = [("J1T n1 1", "1"), ("USED", "Q 1 4 1 504")];
+
 /// The first entry is refused if its request for memory is, and succeeds once there is memory
 /// again. Nothing else differs.
+fn no_memory_in<R: Abort + Print>(rt: &R, house: &mut House) -> Result<(), Fail> {
+    let alice = house.speaker("alice", "abc")?;
+    let first = Call::One(numbered(1)?, OneCall::Set(1));
+    if house.try_ask(rt, &alice, &first).reply() == Reply::Memory {
+        println!(rt; "ERR MEMORY")?;
+        ask(rt, house, &alice, &REFUSED)?;
+        let again = house.try_ask(rt, &alice, &first);
+        assert_eq!(rt; again.reply(), Reply::Int(true));
+    }
+    ask(rt, house, &alice, &THERE)
+}
+
 #[test]
 fn no_memory(rt: HostRuntime) -> Result<(), Fail> {
     let mut house = House::new(&rt, rt.alloc(), TABLE)?;
-    let alice = house.speaker("alice", "abc")?;
-    let first = Call::One(numbered(1)?, OneCall::Set(1));
-    if house.try_ask(&rt, &alice, &first).reply() == Reply::Memory {
-        println!(rt; "ERR MEMORY")?;
-        set(
-            &rt,
-            &mut house,
-            &alice,
-            1,
-            OneCall::Test(1),
-            Reply::Int(false),
-        )?;
-        assert_eq!(rt;
-            house.ask(&rt, &alice, &Call::Used).reply(),
-            Reply::Used(0, 4, 0, 504)
-        );
-        assert_eq!(rt;
-            house.try_ask(&rt, &alice, &first).reply(),
-            Reply::Int(true)
-        );
-    }
-    set(
-        &rt,
-        &mut house,
-        &alice,
-        1,
-        OneCall::Test(1),
-        Reply::Int(true),
-    )?;
-    assert_eq!(rt;
-        house.ask(&rt, &alice, &Call::Used).reply(),
-        Reply::Used(1, 4, 1, 504)
-    );
-    Ok(())
+    no_memory_in(&rt, &mut house)
 }
 
 /// An addition that is refused adds nothing, and succeeds once there is memory again. One to a
 /// present entry is never refused.
+fn no_memory_for_a_counter_in<R: Abort + Print>(rt: &R, house: &mut House) -> Result<(), Fail> {
+    let alice = house.speaker("alice", "abc")?;
+    let add = Call::Long(numbered(1)?, LongCall::Insert(1, Given::Plus(5)));
+    if house.try_ask(rt, &alice, &add).reply() == Reply::Memory {
+        println!(rt; "ERR MEMORY")?;
+        let get = Call::Long(numbered(1)?, LongCall::Get(1));
+        assert_eq!(rt; house.ask(rt, &alice, &get).reply(), Reply::Null);
+        assert_eq!(rt; house.try_ask(rt, &alice, &add).reply(), Reply::Value(5));
+    }
+    assert_eq!(rt; house.try_ask(rt, &alice, &add).reply(), Reply::Value(10));
+    Ok(())
+}
+
 #[test]
 fn no_memory_for_a_counter(rt: HostRuntime) -> Result<(), Fail> {
     let mut house = House::new(&rt, rt.alloc(), TABLE)?;
-    let alice = house.speaker("alice", "abc")?;
-    let add = Call::Long(numbered(1)?, LongCall::Insert(1, Given::Plus(5)));
-    if house.try_ask(&rt, &alice, &add).reply() == Reply::Memory {
-        println!(rt; "ERR MEMORY")?;
-        let get = Call::Long(numbered(1)?, LongCall::Get(1));
-        assert_eq!(rt; house.ask(&rt, &alice, &get).reply(), Reply::Null);
-        assert_eq!(rt; house.try_ask(&rt, &alice, &add).reply(), Reply::Value(5));
-    }
-    assert_eq!(rt; house.try_ask(&rt, &alice, &add).reply(), Reply::Value(10));
-    Ok(())
+    no_memory_for_a_counter_in(&rt, &mut house)
 }
 
 /// The event of a call of the array `n1`.
@@ -157,9 +120,7 @@ fn event(speaker: Speaker, call: OneCall) -> Result<Event<'static>, Fail> {
 }
 
 /// Calls of two tenants with the same name, made at once. Neither sees the other's array.
-#[test]
-fn two_tenants_at_once(rt: HostRuntime) -> Result<(), Fail> {
-    let mut house = House::new(&rt, rt.alloc(), TABLE)?;
+fn two_tenants_at_once_in<R: Abort + Print>(rt: &R, house: &mut House) -> Result<(), Fail> {
     let alice = house.speaker("alice", "abc")?;
     let bob = house.speaker("bob", "hello")?;
     let events = [
@@ -171,7 +132,7 @@ fn two_tenants_at_once(rt: HostRuntime) -> Result<(), Fail> {
         event(alice, OneCall::First(0))?,
     ];
     let wants = [true, false, true, true, true, false];
-    let replies = house.replay(&rt, &events)?;
+    let replies = house.replay(rt, &events)?;
     assert_eq!(rt; replies.len(), wants.len());
     for (reply, want) in replies.iter().zip(wants) {
         if reply.reply() == Reply::Memory {
@@ -181,4 +142,10 @@ fn two_tenants_at_once(rt: HostRuntime) -> Result<(), Fail> {
         assert_eq!(rt; reply.reply(), Reply::Int(want));
     }
     Ok(())
+}
+
+#[test]
+fn two_tenants_at_once(rt: HostRuntime) -> Result<(), Fail> {
+    let mut house = House::new(&rt, rt.alloc(), TABLE)?;
+    two_tenants_at_once_in(&rt, &mut house)
 }

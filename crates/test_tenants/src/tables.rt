@@ -34,7 +34,7 @@ type Part = (
     Result<usize, TableFault>,
 );
 
-const FAULTY: [Part; 9] = [
+static FAULTY: [Part; 9] = [
     ("[alice]", ABC, "4", Ok(1)),
     ("[alice]", UPPER, "0", Ok(1)),
     ("[alice]", ABC, "16777216", Ok(1)),
@@ -91,7 +91,7 @@ fn compare(rt: &impl Abort, alloc: Global, rows: &[Row]) -> Result<(), Fail> {
     Ok(())
 }
 
-const TEXTS_AND_NAMES: [Row; 21] = [
+static TEXTS_AND_NAMES: [Row; 21] = [
     ("", Err(TableFault::Count)),
     ("alice = 1", Err(TableFault::Shape)),
     ("# only a comment\n", Err(TableFault::Count)),
@@ -129,7 +129,7 @@ fn texts_and_names(rt: HostRuntime) -> Result<(), Fail> {
     compare(&rt, rt.alloc(), &TEXTS_AND_NAMES)
 }
 
-const OPTIONAL_KEYS: [Row; 12] = [
+static OPTIONAL_KEYS: [Row; 12] = [
     (
         "[alice]\nsha256 = D\nquota = 4\nnote = 1",
         Err(TableFault::Shape),
@@ -176,7 +176,7 @@ fn optional_keys(rt: HostRuntime) -> Result<(), Fail> {
     compare(&rt, rt.alloc(), &OPTIONAL_KEYS)
 }
 
-const SHAPES: [Row; 9] = [
+static SHAPES: [Row; 9] = [
     ("[alice]\nsha256 = D", Err(TableFault::Shape)),
     ("[alice]\nquota = 4", Err(TableFault::Shape)),
     ("[alice]\nsha257 = D\nquota = 4", Err(TableFault::Shape)),
@@ -196,7 +196,7 @@ fn shapes(rt: HostRuntime) -> Result<(), Fail> {
     compare(&rt, rt.alloc(), &SHAPES)
 }
 
-const NUMBERS: [Row; 9] = [
+static NUMBERS: [Row; 9] = [
     ("[alice]\nsha256 = D\nquota = 0x10", Ok(1)),
     ("[alice]\nsha256 = D\nquota = 1_000", Ok(1)),
     ("[alice]\nsha256 = D\nquota = +4", Ok(1)),
@@ -225,7 +225,7 @@ fn numbers(rt: HostRuntime) -> Result<(), Fail> {
     compare(&rt, rt.alloc(), &NUMBERS)
 }
 
-const DIGESTS_AND_ORDER: [Row; 6] = [
+static DIGESTS_AND_ORDER: [Row; 6] = [
     ("[alice]\nsha256 = \"\"\nquota = 4", Err(TableFault::Digest)),
     (
         "[alice]\nsha256 = \"\"\"\nab\"\"\"\nquota = 4",
@@ -254,7 +254,7 @@ fn digests_and_order(rt: HostRuntime) -> Result<(), Fail> {
     compare(&rt, rt.alloc(), &DIGESTS_AND_ORDER)
 }
 
-const NO_TEXTS: [(&[u8], TableFault); 6] = [
+static NO_TEXTS: [(&[u8], TableFault); 6] = [
     (b"# \xff\n", TableFault::Toml),
     (b"[\xc3\xa9]", TableFault::Toml),
     (b"[\"\xc3\xa9\"]", TableFault::Shape),
@@ -322,9 +322,9 @@ fn compare_logins(rt: &impl Abort, table: &Table, rows: &[Login]) {
     }
 }
 
-const PLACES_OF_TWO: [Seat; 3] = [(b"alice", Some(0)), (b"bob", Some(1)), (b"carol", None)];
+static PLACES_OF_TWO: [Seat; 3] = [(b"alice", Some(0)), (b"bob", Some(1)), (b"carol", None)];
 
-const LOGINS_OF_TWO: [Login; 7] = [
+static LOGINS_OF_TWO: [Login; 7] = [
     (b"alice", b"abc", Some((0, Right::Change))),
     (b"alice", b"hello", Some((0, Right::Look))),
     (b"alice", b"abd", None),
@@ -363,21 +363,21 @@ fn seated(alloc: Global, rows: &Table, table: &Table) -> Result<Table, AllocErro
 }
 
 // The places after the tenants alice, bob and carol are replaced by bob and dave.
-const SECOND_PLACES: [Seat; 4] = [
+static SECOND_PLACES: [Seat; 4] = [
     (b"alice", None),
     (b"bob", Some(1)),
     (b"carol", None),
     (b"dave", Some(3)),
 ];
 
-const SECOND_LOGINS: [Login; 3] = [
+static SECOND_LOGINS: [Login; 3] = [
     (b"alice", b"abc", None),
     (b"", b"abc", None),
     (b"dave", b"abc", Some((3, Right::Change))),
 ];
 
 // The places after these are replaced by alice, dave, erin and fred.
-const THIRD_PLACES: [Seat; 5] = [
+static THIRD_PLACES: [Seat; 5] = [
     (b"alice", Some(0)),
     (b"bob", None),
     (b"erin", Some(2)),
@@ -428,9 +428,9 @@ fn full_table(alloc: Global, letter: char) -> Result<Table, Fail> {
 }
 
 // Places after all 64 tenants are replaced once, and once more.
-const REPLACED_ONCE: [Seat; 3] = [(b"b10", Some(64)), (b"b73", Some(127)), (b"a10", None)];
+static REPLACED_ONCE: [Seat; 3] = [(b"b10", Some(64)), (b"b73", Some(127)), (b"a10", None)];
 
-const REPLACED_TWICE: [Seat; 3] = [(b"c10", Some(0)), (b"c73", Some(63)), (b"b10", None)];
+static REPLACED_TWICE: [Seat; 3] = [(b"c10", Some(0)), (b"c73", Some(63)), (b"b10", None)];
 
 #[test]
 fn all_tenants_are_replaced(rt: HostRuntime) -> Result<(), Fail> {
@@ -475,7 +475,7 @@ fn two_equal_digests_may_change(rt: HostRuntime) -> Result<(), Fail> {
     Ok(())
 }
 
-const NAMES: [(TableFault, &str); 8] = [
+static NAMES: [(TableFault, &str); 8] = [
     (TableFault::Memory, "Memory"),
     (TableFault::Toml, "Toml"),
     (TableFault::Shape, "Shape"),
