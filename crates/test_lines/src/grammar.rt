@@ -2,7 +2,7 @@
 use judy_model::{is_name_letter, is_string, name_ok, token_ok};
 
 // Whether bytes are a name, a token and a string.
-const TEXTS: [(&[u8], bool, bool, bool); 5] = [
+static TEXTS: [(&[u8], bool, bool, bool); 5] = [
     (b"Az09_-.", true, true, true),
     (b"a b", false, false, true),
     (b"a/b", false, true, true),

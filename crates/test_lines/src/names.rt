@@ -4,7 +4,7 @@ use std::cmp::Ordering;
 use std::test::Fail;
 
 // Which bytes are a name, a key and a token.
-const TEXTS: [(&[u8], bool, bool, bool); 6] = [
+static TEXTS: [(&[u8], bool, bool, bool); 6] = [
     (b"alice", true, true, true),
     (b"al.ice", true, true, true),
     (b"al ice", false, true, false),

@@ -3,7 +3,7 @@ use crate::asks::{Want, reply_of};
 use arrayvec::ArrayVec;
 use judy_protocol::write_reply;
 
-const LINES: [(Want, &[u8]); 13] = [
+static LINES: [(Want, &[u8]); 13] = [
     (Want::Int(true), b"1\n"),
     (Want::Int(false), b"0\n"),
     (Want::Index(0), b"1 0\n"),

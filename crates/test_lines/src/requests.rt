@@ -18,7 +18,7 @@ fn compare(rt: &impl Abort, array: &str, rows: &[Row]) {
     }
 }
 
-const OF_A_SET: [Row; 14] = [
+static OF_A_SET: [Row; 14] = [
     (b"J1S a 5", Ask::Set(OneCall::Set(5))),
     (b"J1U a 5", Ask::Set(OneCall::Unset(5))),
     (b"J1T a 005", Ask::Set(OneCall::Test(5))),
@@ -43,7 +43,7 @@ fn each_request_of_a_set(rt: HostRuntime) {
     compare(&rt, "a", &OF_A_SET);
 }
 
-const OF_A_WORD_MAP: [Row; 16] = [
+static OF_A_WORD_MAP: [Row; 16] = [
     (
         b"JLI A_b-9.z 5",
         Ask::Map(LongCall::Insert(5, Given::Nothing)),
@@ -78,7 +78,7 @@ fn each_request_of_a_word_map(rt: HostRuntime) {
 
 const KEY: &[u8] = b"\x61\xff";
 
-const OF_STRINGS: [Row; 10] = [
+static OF_STRINGS: [Row; 10] = [
     (b"JSLI s x61fF", Ask::InsertString(KEY, Given::Nothing)),
     (b"JSLI s x61FF 8", Ask::InsertString(KEY, Given::Value(8))),
     (b"JSLA s x61FF 8", Ask::InsertString(KEY, Given::Plus(8))),
@@ -91,7 +91,7 @@ const OF_STRINGS: [Row; 10] = [
     (b"JSLFA s", Ask::FreeStrings),
 ];
 
-const OF_BYTE_KEYS: [Row; 6] = [
+static OF_BYTE_KEYS: [Row; 6] = [
     (
         b"JHSI s x00fe",
         Ask::InsertBytes(b"\x00\xfe", Given::Nothing),
@@ -128,7 +128,7 @@ fn requests_of_the_connection(rt: HostRuntime) -> Result<(), Fail> {
     Ok(())
 }
 
-const OF_NO_REQUEST: [&[u8]; 40] = [
+static OF_NO_REQUEST: [&[u8]; 40] = [
     b"",
     b"  ",
     b"J1S",

@@ -62,7 +62,7 @@ fn compare(rt: &impl Abort, tenant: &mut Tenant, rows: &[(Ask, Want)]) {
     compare_under(rt, tenant, Right::Change, rows);
 }
 
-const OF_EMPTY_ARRAYS: [(Ask, Want); 4] = [
+static OF_EMPTY_ARRAYS: [(Ask, Want); 4] = [
     (Ask::Set(OneCall::Count(0, MAX)), Want::Count(0)),
     (Ask::Set(OneCall::FirstEmpty(0)), Want::Index(0)),
     (Ask::Map(LongCall::Get(0)), Want::Null),
@@ -74,7 +74,7 @@ fn empty_arrays(rt: HostRuntime) {
     compare(&rt, &mut Tenant::new(rt.alloc(), 4), &OF_EMPTY_ARRAYS);
 }
 
-const AT_ENDS_OF_THE_RANGE: [(Ask, Want); 9] = [
+static AT_ENDS_OF_THE_RANGE: [(Ask, Want); 9] = [
     (Ask::Set(OneCall::Set(0)), Want::Int(true)),
     (Ask::Set(OneCall::Set(MAX)), Want::Int(true)),
     (
@@ -97,7 +97,7 @@ fn ends_of_the_range(rt: HostRuntime) {
     compare(&rt, &mut Tenant::new(rt.alloc(), 4), &AT_ENDS_OF_THE_RANGE);
 }
 
-const AT_EDGE_OF_THE_QUOTA: [(Ask, Want); 10] = [
+static AT_EDGE_OF_THE_QUOTA: [(Ask, Want); 10] = [
     (Ask::Set(OneCall::Set(1)), Want::Int(true)),
     (Ask::Set(OneCall::Set(2)), Want::Int(true)),
     (Ask::Set(OneCall::Set(3)), Want::Int(true)),
@@ -120,7 +120,7 @@ fn edge_of_the_quota(rt: HostRuntime) {
     assert_eq!(rt; alice.store.used(), 4);
 }
 
-const WITH_QUOTA_ZERO: [(Ask, Want); 4] = [
+static WITH_QUOTA_ZERO: [(Ask, Want); 4] = [
     (Ask::Set(OneCall::Set(1)), Want::Full),
     (Ask::Set(OneCall::Unset(1)), Want::Int(false)),
     (Ask::Set(OneCall::FirstEmpty(0)), Want::Index(0)),
@@ -132,7 +132,7 @@ fn quota_zero(rt: HostRuntime) {
     compare(&rt, &mut Tenant::new(rt.alloc(), 0), &WITH_QUOTA_ZERO);
 }
 
-const RANKS: [(Ask, Want); 9] = [
+static RANKS: [(Ask, Want); 9] = [
     (Ask::Set(OneCall::Set(9)), Want::Int(true)),
     (Ask::Set(OneCall::Set(3)), Want::Int(true)),
     (Ask::Set(OneCall::Set(5)), Want::Int(true)),
@@ -149,7 +149,7 @@ fn ranks(rt: HostRuntime) {
     compare(&rt, &mut Tenant::new(rt.alloc(), 4), &RANKS);
 }
 
-const OF_SHARED_BYTES: [(Ask, Want); 4] = [
+static OF_SHARED_BYTES: [(Ask, Want); 4] = [
     (Ask::Set(OneCall::Test(31)), Want::Int(false)),
     (Ask::Set(OneCall::First(0)), Want::Index(4096)),
     (Ask::Set(OneCall::Count(0, 4111)), Want::Count(16)),
@@ -169,7 +169,7 @@ fn shared_bytes(rt: HostRuntime) {
     compare(&rt, &mut bob, &OF_SHARED_BYTES);
 }
 
-const AT_TOP_OF_THE_RANGE: [(Ask, Want); 4] = [
+static AT_TOP_OF_THE_RANGE: [(Ask, Want); 4] = [
     (Ask::Set(OneCall::Count(0, MAX)), Want::Count(256)),
     (
         Ask::Set(OneCall::FirstEmpty(18446744073709551360)),
@@ -198,7 +198,7 @@ fn top_of_the_range(rt: HostRuntime) {
     compare(&rt, &mut bob, &AT_TOP_OF_THE_RANGE);
 }
 
-const VALUES: [(Ask, Want); 11] = [
+static VALUES: [(Ask, Want); 11] = [
     (
         Ask::Map(LongCall::Insert(5, Given::Value(8))),
         Want::Value(0),
@@ -232,7 +232,7 @@ fn values(rt: HostRuntime) {
     compare(&rt, &mut Tenant::new(rt.alloc(), 4), &VALUES);
 }
 
-const OF_ONE_NAME_AND_TWO_KINDS: [(Ask, Want); 7] = [
+static OF_ONE_NAME_AND_TWO_KINDS: [(Ask, Want); 7] = [
     (
         Ask::Map(LongCall::Insert(1, Given::Nothing)),
         Want::Value(0),
@@ -257,7 +257,7 @@ fn one_name_two_kinds(rt: HostRuntime) {
     );
 }
 
-const OF_UNSIGNED_BYTES: [(Ask, Want); 7] = [
+static OF_UNSIGNED_BYTES: [(Ask, Want); 7] = [
     (Ask::InsertString(b"\x7f", Given::Value(1)), Want::Value(0)),
     (Ask::InsertString(b"\x80", Given::Value(2)), Want::Value(0)),
     (
@@ -275,7 +275,7 @@ fn unsigned_bytes(rt: HostRuntime) {
     compare(&rt, &mut Tenant::new(rt.alloc(), 4), &OF_UNSIGNED_BYTES);
 }
 
-const ORDER_OF_STRINGS: [(Ask, Want); 12] = [
+static ORDER_OF_STRINGS: [(Ask, Want); 12] = [
     (Ask::InsertString(b"", Given::Value(1)), Want::Value(0)),
     (
         Ask::InsertString(b"abcdefg", Given::Value(2)),
@@ -307,7 +307,7 @@ fn order_of_strings(rt: HostRuntime) {
     compare(&rt, &mut Tenant::new(rt.alloc(), 1000), &ORDER_OF_STRINGS);
 }
 
-const BYTE_KEYS: [(Ask, Want); 7] = [
+static BYTE_KEYS: [(Ask, Want); 7] = [
     (Ask::InsertBytes(b"", Given::Value(1)), Want::Value(0)),
     (Ask::InsertBytes(b"\0", Given::Value(2)), Want::Value(0)),
     (Ask::InsertBytes(b"\0", Given::Plus(3)), Want::Value(5)),
@@ -326,7 +326,7 @@ const EIGHT: &[u8] = b"abcdefgh";
 
 const NINE: &[u8] = b"abcdefghi";
 
-const WITHIN_A_QUOTA_OF_PIECES: [(Ask, Want); 12] = [
+static WITHIN_A_QUOTA_OF_PIECES: [(Ask, Want); 12] = [
     (Ask::InsertString(EIGHT, Given::Value(1)), Want::Value(0)),
     (Ask::Set(OneCall::Set(1)), Want::Int(true)),
     (Ask::Set(OneCall::Set(2)), Want::Full),
