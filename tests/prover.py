@@ -13,6 +13,7 @@ from edits import CRATES, TOP, read, write
 
 VERDICT = re.compile(r"^fn (\S+): (.*)$", re.M)
 OPEN_GOAL, GOAL_IS_OPEN = ": it is not proved that ", "not proved; a goal of it is open"
+ANSWER_IS_REFUSED = "not proved; it has an answer which antt refuses"
 ERROR = re.compile(r"^(?:\./)?((?:src|specs|proofs)/\S+?):(\d+):(\d+): error(\S*) (.*)$", re.M)
 
 
@@ -46,12 +47,17 @@ class Ran:
 
     def verdicts(self):
         """What it said of each function, by its path below the crate. The lines above a verdict name the
-        goals of that function that are not proved."""
+        goals of that function that are not proved. An answer to a goal that is refused is an error in
+        the folder of the function's proof."""
         found, ended = {}, 0
+        refused = {"::".join(file.split("/")[1:-1]) for file, _, _, _ in self.errors() if file.startswith("proofs/")}
         for it in VERDICT.finditer(self.said):
-            has_goal = OPEN_GOAL in self.said[ended : it.start()]
-            found[it[1].partition("::")[2]] = GOAL_IS_OPEN if it[2].startswith("not proved") and has_goal else it[2]
-            ended = it.end()
+            name, said = it[1].partition("::")[2], it[2]
+            if said.startswith("not proved") and OPEN_GOAL in self.said[ended : it.start()]:
+                said = GOAL_IS_OPEN
+            elif said == "not proved" and name in refused:
+                said = ANSWER_IS_REFUSED
+            found[name], ended = said, it.end()
         return found
 
     def errors(self):
