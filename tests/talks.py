@@ -209,8 +209,11 @@ def refills(path, line, wanted, count, seconds):
     talk.say(b"JLI m -1 -1\n")
     talk.socket.settimeout(10)
     until = time.monotonic() + seconds
-    while flying or time.monotonic() < until:
-        if flying <= count // 2 and time.monotonic() < until:
+    while True:
+        is_over = time.monotonic() >= until
+        if is_over and not flying:
+            break
+        if flying <= count // 2 and not is_over:
             talk.socket.sendall(line * (count - flying))
             flying = count
         try:
