@@ -1,7 +1,8 @@
 """The wrong bodies of the crates: the files crates/NAME/wrong/*.edit and crates/NAME/must-fail/*.edit. Its
 lines are `file: PATH`, `old: TEXT` and `new: TEXT`: each text is one line, since the kit reads no more
-of it. A line `by: FUNCTION` names a function of the crate that the prover refuses with the edit. Only
-an edit of a definition needs it, so that not all functions are tried."""
+of it. A line `by: FUNCTION` or `by: proofs/FILE.antt` names a function of the crate, or a file of
+lemmas, that the prover refuses with the edit. Only an edit of a definition needs it, so that not all
+functions are tried."""
 
 import os
 
@@ -36,8 +37,8 @@ class Part:
 
 
 class Edit:
-    """A wrong body: the parts of its file, the function that refuses it if that is said, and the
-    lines that can't be read."""
+    """A wrong body: the parts of its file, who refuses it if that is said, and the lines that can't be
+    read."""
 
     def __init__(self, crate, path):
         self.crate, self.path = crate, path

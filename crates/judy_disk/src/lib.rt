@@ -18,6 +18,3 @@ pub use folder::Folder;
 pub use locks::Locks;
 pub use names::{Named, Place, read_name};
 pub use scan::{Found, arrange};
-
-#[cfg(test)]
-mod tests;

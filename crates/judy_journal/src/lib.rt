@@ -32,6 +32,3 @@ pub use replays::{
     replays_are_exact, unrecorded_calls_keep_all,
 };
 pub use writer::Writer;
-
-#[cfg(test)]
-mod tests;

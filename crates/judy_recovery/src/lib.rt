@@ -18,6 +18,3 @@ pub use faults::{Flaw, JournalFault, Reason};
 pub use player::{Halt, Player};
 pub use reading::{recover, recover_closed};
 pub use resuming::{Resumed, resume};
-
-#[cfg(test)]
-mod tests;

@@ -1,7 +1,7 @@
 //! A run over three tenants and three segments, torn at each byte, and damaged in each way.
 ghost use Rattle.std.specs.Prelude.{◌≡◌, ◌≤◌, []};
 
-use crate::{
+use judy_journal::{
     Damage, LAST_SEGMENT, Position, Read, Recovery, SUM_LEN, Writer, read_record, snapshot_sum,
 };
 use arrayvec::ArrayVec;

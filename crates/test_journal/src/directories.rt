@@ -1,5 +1,5 @@
 //! Names of files, and what a directory's files make.
-use crate::{DiskFault, Named, Place, arrange, read_name};
+use judy_disk::{DiskFault, Named, Place, arrange, read_name};
 use std::io;
 use std::test::Fail;
 

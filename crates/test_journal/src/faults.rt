@@ -1,7 +1,7 @@
 //! What an operator reads of a fault.
-use crate::{Flaw, JournalFault, Reason};
 use judy_disk::Place;
 use judy_journal::Damage;
+use judy_recovery::{Flaw, JournalFault, Reason};
 use std::test::Fail;
 
 #[test]
