@@ -6,6 +6,7 @@ use judy_journal::{
 };
 use arrayvec::ArrayVec;
 use std::process::Abort;
+use test_checks::{holds, same};
 
 /// The room for the text of a run.
 const ROOM: usize = 4096;
@@ -217,15 +218,15 @@ fn torn_at_each_byte(rt: HostRuntime) {
             commits = commits.saturating_add(1);
         }
         let found = recover(files.text.as_slice(), &files.starts, at, 37);
-        assert!(rt; found.right && found.damage.is_none());
-        assert_eq!(rt; found.records, records);
+        holds(&rt, found.right && found.damage.is_none());
+        same(&rt, found.records, records);
         if at % 5 == 0 {
-            assert!(rt; goes_on(&files, &found));
+            holds(&rt, goes_on(&files, &found));
         }
     }
-    assert_eq!(rt; commits, 12);
+    same(&rt, commits, 12);
     let all = recover(files.text.as_slice(), &files.starts, files.text.len(), 1);
-    assert_eq!(rt; all.records, COUNT);
+    same(&rt, all.records, COUNT);
 }
 
 /// Each byte of a run, turned into another one, is told as damage or cuts the run off there: a
@@ -243,14 +244,14 @@ fn each_byte_turned(rt: HostRuntime) {
         }
         text[at % ROOM] ^= 1;
         let found = recover(&text, &files.starts, len, 4096);
-        assert!(rt; found.right);
-        assert!(rt; found.records < COUNT);
+        holds(&rt, found.right);
+        holds(&rt, found.records < COUNT);
         if found.damage.is_some() {
             told = told.saturating_add(1);
         }
     }
     // The last commit is told as torn where its mark is no mark or no line any more: three bytes.
-    assert_eq!(rt; told.saturating_add(3), len);
+    same(&rt, told.saturating_add(3), len);
 }
 
 /// What is found without the bytes from one place to another, of the first file.
@@ -272,31 +273,29 @@ fn dropped(rt: HostRuntime) {
     let mut ends = [0usize; ROOM];
     let files = write(&mut ends);
     let record = without(&files, 35, 53);
-    assert!(rt; record.damage == Some(Damage::Mark) && record.records == 0);
+    holds(&rt, record.damage == Some(Damage::Mark) && record.records == 0);
     let mut first = 0usize;
     for at in 0..ROOM {
         if ends[at] == 8 {
             first = at;
         }
     }
-    assert_eq!(rt; record.place, (first as u64).saturating_sub(21 + 18));
+    same(&rt, record.place, (first as u64).saturating_sub(21 + 18));
     let commit = without(&files, 35, first);
-    assert!(rt; commit.damage == Some(Damage::Mark) && commit.records == 0);
+    holds(&rt, commit.damage == Some(Damage::Mark) && commit.records == 0);
     let end = without(&files, files.starts[1].saturating_sub(5), files.starts[1]);
-    assert!(rt; end.damage == Some(Damage::Torn) && end.records == 32);
+    holds(&rt, end.damage == Some(Damage::Torn) && end.records == 32);
     let starts = [0, files.starts[1], ROOM];
     let gap = [0, files.starts[2], ROOM];
     let well = recover(files.text.as_slice(), &starts, files.starts[2], 100);
-    assert!(rt; well.damage.is_none() && well.records == 80);
+    holds(&rt, well.damage.is_none() && well.records == 80);
     let missing = recover(
         part(files.text.as_slice(), files.starts[1], files.text.len()),
         &gap,
         500,
         100,
     );
-    assert!(rt;
-        missing.damage == Some(Damage::Header) && missing.records == 0 && missing.place == 0
-    );
+    holds(&rt, missing.damage == Some(Damage::Header) && missing.records == 0 && missing.place == 0);
 }
 
 /// Reads a snapshot of segment 7. Returns how many records it has, if it is whole.
@@ -338,10 +337,10 @@ fn snapshots(rt: HostRuntime) {
         keep(&mut files, &writer);
     }
     let text = files.text.as_slice();
-    assert!(rt; text.starts_with(b"judyd snapshot 1 7 0000000000"));
-    assert_eq!(rt; unpack(text), Some(2));
+    holds(&rt, text.starts_with(b"judyd snapshot 1 7 0000000000"));
+    same(&rt, unpack(text), Some(2));
     for at in 0..text.len() {
-        assert_eq!(rt; unpack(part(text, 0, at)), None);
+        same(&rt, unpack(part(text, 0, at)), None);
     }
 }
 
@@ -357,13 +356,13 @@ fn first_lines(rt: HostRuntime) {
     add(&mut writer, 0);
     commit(&mut files, &mut writer);
     let text = files.text.as_slice();
-    assert!(rt; text.starts_with(b"judyd journal 1 1 0000000000"));
-    assert_eq!(rt; part(text, 35, 57), b"alice 1S seats 12\n# 1 ".as_slice());
+    holds(&rt, text.starts_with(b"judyd journal 1 1 0000000000"));
+    same(&rt, part(text, 35, 57), b"alice 1S seats 12\n# 1 ".as_slice());
     // As by Python: reduce(lambda h, b: (h * 1099511628211 + b) % 2**64, b"0" * 16 + line, 0)
-    assert_eq!(rt; part(text, 57, 73), b"3a7dc39d97b681dd".as_slice());
-    assert!(rt; !writer.is_full());
+    same(&rt, part(text, 57, 73), b"3a7dc39d97b681dd".as_slice());
+    holds(&rt, !writer.is_full());
     let (tenant, request) = read_record(RECORDS[1]).unwrap_or((b"", b""));
-    assert_eq!(rt; tenant, b"bob".as_slice());
-    assert_eq!(rt; request, b"LI ages 7 40".as_slice());
-    assert!(rt; read_record(b"bob").is_none());
+    same(&rt, tenant, b"bob".as_slice());
+    same(&rt, request, b"LI ages 7 40".as_slice());
+    holds(&rt, read_record(b"bob").is_none());
 }

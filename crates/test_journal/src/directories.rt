@@ -2,6 +2,7 @@
 use judy_disk::{DiskFault, Named, Place, arrange, read_name};
 use std::io;
 use std::test::Fail;
+use test_checks::{holds, same};
 
 #[test]
 fn names_are_read(rt: HostRuntime) -> Result<(), Fail> {
@@ -22,7 +23,7 @@ fn names_are_read(rt: HostRuntime) -> Result<(), Fail> {
         ("lock~", Named::Other),
     ];
     for row in rows.iter() {
-        assert_eq!(rt; read_name(row.0), row.1);
+        same(&rt, read_name(row.0), row.1);
     }
     Ok(())
 }
@@ -39,7 +40,7 @@ fn names_are_written_as_they_are_read(rt: HostRuntime) -> Result<(), Fail> {
     for row in rows.iter() {
         let place = row.0;
         let text = format!(in rt.alloc(); "{place}")?;
-        assert_eq!(rt; text.as_str(), row.1);
+        same(&rt, text.as_str(), row.1);
     }
     Ok(())
 }
@@ -47,22 +48,13 @@ fn names_are_written_as_they_are_read(rt: HostRuntime) -> Result<(), Fail> {
 #[test]
 fn segments_after_the_snapshot_are_all_there(rt: HostRuntime) -> Result<(), Fail> {
     let found = arrange(rt.alloc(), &mut [3, 1, 2], &[])?;
-    assert_eq!(rt;
-        (found.snapshot, found.first, found.last),
-        (None, 1, Some(3))
-    );
-    assert!(rt; found.old.is_empty());
+    same(&rt, (found.snapshot, found.first, found.last), (None, 1, Some(3)));
+    holds(&rt, found.old.is_empty());
     let found = arrange(rt.alloc(), &mut [], &[])?;
-    assert_eq!(rt; (found.snapshot, found.first, found.last), (None, 1, None));
+    same(&rt, (found.snapshot, found.first, found.last), (None, 1, None));
     let found = arrange(rt.alloc(), &mut [9, 8, 6, 7], &[3, 7])?;
-    assert_eq!(rt;
-        (found.snapshot, found.first, found.last),
-        (Some(7), 8, Some(9))
-    );
-    assert_eq!(rt;
-        found.old.as_slice(),
-        &[Place::Snapshot(3), Place::Segment(6), Place::Segment(7)][..]
-    );
+    same(&rt, (found.snapshot, found.first, found.last), (Some(7), 8, Some(9)));
+    same(&rt, found.old.as_slice(), &[Place::Snapshot(3), Place::Segment(6), Place::Segment(7)][..]);
     Ok(())
 }
 
@@ -75,13 +67,13 @@ fn a_segment_that_is_missing_is_told(rt: HostRuntime) -> Result<(), Fail> {
             arrange(rt.alloc(), &mut row.0, &[]),
             Err(DiskFault::Missing(number)) if number == row.1
         );
-        assert!(rt; missing);
+        holds(&rt, missing);
     }
     let missing = matches!(
         arrange(rt.alloc(), &mut none, &[7]),
         Err(DiskFault::Missing(8))
     );
-    assert!(rt; missing);
+    holds(&rt, missing);
     Ok(())
 }
 
@@ -90,18 +82,12 @@ fn faults_tell_the_file(rt: HostRuntime) -> Result<(), Fail> {
     let reason = io::Error::from_raw_os_error(28);
     let fault = DiskFault::at(Place::Segment(3), reason);
     let text = format!(in rt.alloc(); "judyd: DIR{fault}")?;
-    assert_eq!(rt;
-        text.as_str(),
-        "judyd: DIR/000000000003.journal: No space left on device (os error 28)"
-    );
+    same(&rt, text.as_str(), "judyd: DIR/000000000003.journal: No space left on device (os error 28)");
     let fault = DiskFault::at(Place::Folder, io::Error::from_raw_os_error(2));
     let text = format!(in rt.alloc(); "judyd: DIR{fault}")?;
-    assert_eq!(rt;
-        text.as_str(),
-        "judyd: DIR: No such file or directory (os error 2)"
-    );
+    same(&rt, text.as_str(), "judyd: DIR: No such file or directory (os error 2)");
     let fault = DiskFault::Missing(2);
     let text = format!(in rt.alloc(); "judyd: DIR{fault}")?;
-    assert_eq!(rt; text.as_str(), "judyd: DIR/000000000002.journal: missing");
+    same(&rt, text.as_str(), "judyd: DIR/000000000002.journal: missing");
     Ok(())
 }

@@ -7,6 +7,7 @@ use judy_arena::{Arena, Block, NoMemory};
 use std::alloc::{AllocError, Global};
 use std::process::Abort;
 use std::test::Fail;
+use test_checks::{holds, same};
 
 /// How many places for a block the plain list has.
 const PLACES: usize = 500;
@@ -29,12 +30,12 @@ fn ask(rt: &impl Abort, alloc: Global, arena: &mut Arena, len: usize) -> Result<
 {
     let before = (arena.live_words(), arena.region(), arena.refusals());
     if let Ok(block) = arena.alloc(alloc, len) {
-        assert_eq!(rt; arena.refusals(), before.2);
+        same(rt, arena.refusals(), before.2);
         return Ok(block);
     }
-    assert_eq!(rt; arena.live_words(), before.0);
-    assert_eq!(rt; arena.region(), before.1);
-    assert_eq!(rt; arena.refusals(), before.2.saturating_add(1));
+    same(rt, arena.live_words(), before.0);
+    same(rt, arena.region(), before.1);
+    same(rt, arena.refusals(), before.2.saturating_add(1));
     arena.alloc(alloc, len)
 }
 
@@ -42,12 +43,12 @@ fn ask(rt: &impl Abort, alloc: Global, arena: &mut Arena, len: usize) -> Result<
 fn make_ready(rt: &impl Abort, alloc: Global, arena: &mut Arena) -> Result<(), NoMemory> {
     let before = (arena.live_words(), arena.region(), arena.refusals());
     if arena.reserve(alloc).is_ok() {
-        assert_eq!(rt; arena.refusals(), before.2);
+        same(rt, arena.refusals(), before.2);
         return Ok(());
     }
-    assert_eq!(rt; arena.live_words(), before.0);
-    assert_eq!(rt; arena.region(), before.1);
-    assert_eq!(rt; arena.refusals(), before.2.saturating_add(1));
+    same(rt, arena.live_words(), before.0);
+    same(rt, arena.region(), before.1);
+    same(rt, arena.refusals(), before.2.saturating_add(1));
     arena.reserve(alloc)
 }
 
@@ -72,8 +73,8 @@ fn take(
     let block = ask(rt, alloc, arena, len)?;
     let words = arena.words(block);
     let wanted = len.next_power_of_two().max(4);
-    assert_eq!(rt; words.len(), wanted);
-    assert!(rt; words.iter().all(|word| *word == 0));
+    same(rt, words.len(), wanted);
+    holds(rt, words.iter().all(|word| *word == 0));
     place.block = Some(block);
     place.len = wanted;
     place.words.fill(0);
@@ -89,7 +90,7 @@ fn write(
     word: u64,
 ) {
     let i = pick.checked_rem(place.len).unwrap_or(0);
-    assert!(rt; i < arena.size(block));
+    holds(rt, i < arena.size(block));
     arena.set(block, i, word);
     if let Some(kept) = place.words.get_mut(i) {
         *kept = word;
@@ -98,16 +99,16 @@ fn write(
 
 fn shrink(rt: &impl Abort, arena: &mut Arena, place: &mut Place, block: Block, pick: usize) {
     let len = pick.checked_rem(place.len).unwrap_or(0).saturating_add(1);
-    assert!(rt; len <= arena.size(block) && len <= 512);
+    holds(rt, len <= arena.size(block) && len <= 512);
     arena.shrink(block, len);
     place.len = len.next_power_of_two().max(4);
-    assert_eq!(rt; arena.size(block), place.len);
+    same(rt, arena.size(block), place.len);
 }
 
 fn release(rt: &impl Abort, arena: &mut Arena, place: &mut Place, block: Block) {
-    assert!(rt; 0 < arena.size(block));
+    holds(rt, 0 < arena.size(block));
     arena.release(block);
-    assert_eq!(rt; arena.size(block), 0);
+    same(rt, arena.size(block), 0);
     place.block = None;
 }
 
@@ -117,13 +118,13 @@ fn compare(rt: &impl Abort, arena: &Arena, places: &[Place]) -> usize {
     let mut count = 0usize;
     for place in places {
         if let Some(block) = place.block {
-            assert!(rt; 0 < arena.size(block));
-            assert_eq!(rt; Some(arena.words(block)), place.words.get(..place.len));
+            holds(rt, 0 < arena.size(block));
+            same(rt, Some(arena.words(block)), place.words.get(..place.len));
             total = total.saturating_add(place.len as u64);
             count = count.saturating_add(1);
         }
     }
-    assert_eq!(rt; arena.live_words(), total);
+    same(rt, arena.live_words(), total);
     count
 }
 
@@ -135,22 +136,22 @@ fn next(seed: u64) -> u64 {
 
 /// A fresh block of 8 words is written, cut and released.
 fn write_and_cut(rt: &impl Abort, arena: &mut Arena, block: Block) {
-    assert!(rt; arena.size(block) == 8);
+    holds(rt, arena.size(block) == 8);
     arena.set(block, 2, 7);
     arena.shrink(block, 3);
-    assert!(rt; arena.size(block) == 4);
-    assert_eq!(rt; arena.words(block), [0, 0, 7, 0].as_slice());
-    assert_eq!(rt; arena.live_words(), 4);
+    holds(rt, arena.size(block) == 4);
+    same(rt, arena.words(block), [0, 0, 7, 0].as_slice());
+    same(rt, arena.live_words(), 4);
     arena.release(block);
-    assert_eq!(rt; arena.live_words(), 0);
+    same(rt, arena.live_words(), 0);
 }
 
 /// A block is taken, while there is room for it, and given back.
 fn take_and_give_back(rt: &impl Abort, alloc: Global, arena: &mut Arena) -> Result<(), NoMemory> {
-    assert!(rt; arena.spare(512));
+    holds(rt, arena.spare(512));
     let block = arena.alloc(alloc, 5)?;
-    assert_eq!(rt; arena.words(block), [0, 0, 0, 0, 0, 0, 0, 0].as_slice());
-    assert_eq!(rt; arena.live_words(), 8);
+    same(rt, arena.words(block), [0, 0, 0, 0, 0, 0, 0, 0].as_slice());
+    same(rt, arena.live_words(), 8);
     write_and_cut(rt, arena, block);
     Ok(())
 }
@@ -158,15 +159,15 @@ fn take_and_give_back(rt: &impl Abort, alloc: Global, arena: &mut Arena) -> Resu
 /// The worked row. Returns how many requests were refused.
 fn row(rt: &impl Abort, alloc: Global) -> Result<u64, Fail> {
     let mut arena = Arena::new(alloc);
-    assert_eq!(rt; arena.live_words(), 0);
-    assert!(rt; !arena.spare(1));
+    same(rt, arena.live_words(), 0);
+    holds(rt, !arena.spare(1));
     make_ready(rt, alloc, &mut arena)?;
     let refused = arena.refusals();
     take_and_give_back(rt, alloc, &mut arena)?;
-    assert_eq!(rt; arena.refusals(), refused);
+    same(rt, arena.refusals(), refused);
     arena.blocks_are_sized();
-    assert_eq!(rt; arena.peak(), 8);
-    assert!(rt; arena.spare(512));
+    same(rt, arena.peak(), 8);
+    holds(rt, arena.spare(512));
     arena.the_region_is_bounded();
     arena.the_region_is_filled();
     Ok(refused)
@@ -178,7 +179,7 @@ fn row(rt: &impl Abort, alloc: Global) -> Result<u64, Fail> {
 fn the_worked_row(rt: HostRuntime) -> Result<(), Fail> {
     let refused = row(&rt, rt.alloc())?;
     let again = row(&rt, rt.alloc())?;
-    assert!(rt; refused.saturating_add(again) <= 1);
+    holds(&rt, refused.saturating_add(again) <= 1);
     Ok(())
 }
 
@@ -194,7 +195,7 @@ fn turn(
     let Some(block) = place.block else {
         let most = 4usize << (pick % 8);
         let less = (pick / 8).checked_rem(most / 2).unwrap_or(0);
-        assert!(rt; less < most && most <= 512);
+        holds(rt, less < most && most <= 512);
         return take(rt, alloc, arena, place, most - less);
     };
     match (seed >> 28) % 4 {
@@ -237,7 +238,7 @@ fn turns(
             let _ = compare(rt, arena, places);
         }
     }
-    assert!(rt; compare(rt, arena, places) > 300);
+    holds(rt, compare(rt, arena, places) > 300);
     Ok(())
 }
 
@@ -248,18 +249,18 @@ fn release_all(rt: &impl Abort, arena: &mut Arena, places: &mut Vec<Place>) {
             release(rt, arena, place, block);
         }
     }
-    assert_eq!(rt; arena.live_words(), 0);
+    same(rt, arena.live_words(), 0);
 }
 
 /// All released blocks have merged: each run is one free block.
 fn all_merged(rt: &impl Abort, alloc: Global, arena: &mut Arena) -> Result<(), NoMemory> {
     let region = arena.region();
     for _ in 0..region / 512 {
-        assert!(rt; arena.spare(512));
+        holds(rt, arena.spare(512));
         let _kept = arena.alloc(alloc, 512)?;
     }
-    assert!(rt; !arena.spare(1));
-    assert_eq!(rt; (arena.live_words(), arena.region()), (region, region));
+    holds(rt, !arena.spare(1));
+    same(rt, (arena.live_words(), arena.region()), (region, region));
     Ok(())
 }
 
@@ -277,7 +278,7 @@ fn walk(rt: &impl Abort, alloc: Global, many: u32) -> Result<u64, Fail> {
 fn as_a_plain_list_does(rt: HostRuntime) -> Result<(), Fail> {
     let refused = walk(&rt, rt.alloc(), 100_000)?;
     let again = walk(&rt, rt.alloc(), 10_000)?;
-    assert!(rt; refused.saturating_add(again) <= 1);
+    holds(&rt, refused.saturating_add(again) <= 1);
     Ok(())
 }
 
@@ -302,10 +303,10 @@ fn many_of(
 /// Releases the blocks.
 fn give_back(rt: &impl Abort, arena: &mut Arena, taken: &mut Vec<Block>) {
     for block in taken.iter() {
-        assert!(rt; 0 < arena.size(*block));
+        holds(rt, 0 < arena.size(*block));
         arena.release(*block);
     }
-    assert_eq!(rt; arena.live_words(), 0);
+    same(rt, arena.live_words(), 0);
     taken.clear();
 }
 
@@ -317,7 +318,7 @@ fn take_300(
     taken: &mut Vec<Block>,
 ) -> Result<(), Fail> {
     for _ in 0..300u32 {
-        assert!(rt; arena.spare(200));
+        holds(rt, arena.spare(200));
         taken.push(arena.alloc(alloc, 200)?)?;
     }
     Ok(())
@@ -335,7 +336,7 @@ fn take_again(
     for _ in 0..25u32 {
         give_back(rt, arena, taken);
         take_300(rt, alloc, arena, taken)?;
-        assert_eq!(rt; arena.region(), region);
+        same(rt, arena.region(), region);
     }
     Ok(())
 }
@@ -345,23 +346,23 @@ fn released_blocks_are_taken_again(rt: HostRuntime) -> Result<(), Fail> {
     let alloc = rt.alloc();
     let mut arena = Arena::new(alloc);
     let mut taken = many_of(&rt, alloc, &mut arena, 300, 200)?;
-    assert_eq!(rt; arena.region(), 300 / 2 * 512);
+    same(&rt, arena.region(), 300 / 2 * 512);
     take_again(&rt, alloc, &mut arena, &mut taken)?;
 
     // Also while a greater block is free. The released blocks merge, so one run is free at the end.
     make_ready(&rt, alloc, &mut arena)?;
     take_again(&rt, alloc, &mut arena, &mut taken)?;
-    assert!(rt; arena.spare(512));
-    assert_eq!(rt; arena.region(), 300 / 2 * 512 + 512);
-    assert!(rt; arena.refusals() <= 1);
+    holds(&rt, arena.spare(512));
+    same(&rt, arena.region(), 300 / 2 * 512 + 512);
+    holds(&rt, arena.refusals() <= 1);
     Ok(())
 }
 
 /// Releases each third block from this one on. No run is whole before the last of these is released.
 fn release_thirds(rt: &impl Abort, arena: &mut Arena, taken: &Vec<Block>, first: usize) {
     for block in taken.iter().skip(first).step_by(3) {
-        assert!(rt; !arena.spare(512));
-        assert!(rt; 0 < arena.size(*block));
+        holds(rt, !arena.spare(512));
+        holds(rt, 0 < arena.size(*block));
         arena.release(*block);
     }
 }
@@ -371,13 +372,13 @@ fn buddies_merge(rt: HostRuntime) -> Result<(), Fail> {
     let alloc = rt.alloc();
     let mut arena = Arena::new(alloc);
     let taken = many_of(&rt, alloc, &mut arena, 128, 4)?;
-    assert_eq!(rt; (arena.live_words(), arena.region()), (512, 512));
+    same(&rt, (arena.live_words(), arena.region()), (512, 512));
     for first in 0..3usize {
         release_thirds(&rt, &mut arena, &taken, first);
     }
-    assert!(rt; arena.spare(512));
+    holds(&rt, arena.spare(512));
     let _whole = arena.alloc(alloc, 512)?;
-    assert_eq!(rt; (arena.region(), arena.peak()), (512, 512));
+    same(&rt, (arena.region(), arena.peak()), (512, 512));
     Ok(())
 }
 
@@ -393,7 +394,7 @@ fn take_one_of_each(alloc: Global, arena: &mut Arena) -> Result<(), NoMemory> {
 fn cut_a_block(rt: &impl Abort, alloc: Global, arena: &mut Arena) -> Result<(), NoMemory> {
     let block = arena.alloc(alloc, 512)?;
     arena.reserve(alloc)?;
-    assert!(rt; arena.size(block) == 512);
+    holds(rt, arena.size(block) == 512);
     arena.shrink(block, 1);
     Ok(())
 }
@@ -407,14 +408,14 @@ fn no_half_is_lost(rt: HostRuntime) -> Result<(), Fail> {
     // below 512.
     let _least = ask(&rt, alloc, &mut arena, 4)?;
     take_one_of_each(alloc, &mut arena)?;
-    assert_eq!(rt; (arena.live_words(), arena.region()), (512, 512));
-    assert!(rt; !arena.spare(1));
+    same(&rt, (arena.live_words(), arena.region()), (512, 512));
+    holds(&rt, !arena.spare(1));
 
     // So do the halves of a block that is cut.
     cut_a_block(&rt, alloc, &mut arena)?;
     take_one_of_each(alloc, &mut arena)?;
-    assert_eq!(rt; (arena.live_words(), arena.region()), (1024, 1536));
-    assert!(rt; arena.spare(512));
+    same(&rt, (arena.live_words(), arena.region()), (1024, 1536));
+    holds(&rt, arena.spare(512));
     Ok(())
 }
 
@@ -425,15 +426,15 @@ fn fill(rt: &impl Abort, alloc: Global) -> u64 {
     for _ in 0..300u16 {
         let before = (arena.live_words(), arena.region());
         match arena.alloc(alloc, 512) {
-            Ok(_) => assert_eq!(rt; arena.live_words(), before.0.saturating_add(512)),
+            Ok(_) => same(rt, arena.live_words(), before.0.saturating_add(512)),
             Err(NoMemory) => {
                 refused = refused.saturating_add(1);
-                assert_eq!(rt; (arena.live_words(), arena.region()), before);
+                same(rt, (arena.live_words(), arena.region()), before);
             }
         }
-        assert_eq!(rt; arena.refusals(), refused);
+        same(rt, arena.refusals(), refused);
     }
-    assert_eq!(rt; arena.region(), arena.live_words());
+    same(rt, arena.region(), arena.live_words());
     refused
 }
 
@@ -441,37 +442,37 @@ fn fill(rt: &impl Abort, alloc: Global) -> u64 {
 fn each_refusal_is_counted(rt: HostRuntime) {
     let refused = fill(&rt, rt.alloc());
     let again = fill(&rt, rt.alloc());
-    assert!(rt; refused.saturating_add(again) <= 1);
+    holds(&rt, refused.saturating_add(again) <= 1);
 }
 
 /// Words are copied into a block of 8, and from there to another.
 fn copies(rt: &impl Abort, arena: &mut Arena, from: Block, to: Block) {
-    assert!(rt; from != to);
-    assert!(rt; arena.size(from) == 8 && arena.size(to) == 8);
+    holds(rt, from != to);
+    holds(rt, arena.size(from) == 8 && arena.size(to) == 8);
     arena.copy_in(from, 1, &[10, 20, 30, 40, 50]);
     arena.copy(from, 2, to, 0, 3);
-    assert_eq!(rt; arena.words(from), [0, 10, 20, 30, 40, 50, 0, 0].as_slice());
-    assert_eq!(rt; arena.words(to), [20, 30, 40, 0, 0, 0, 0, 0].as_slice());
-    assert_eq!(rt; arena.get(from, 5), 50);
+    same(rt, arena.words(from), [0, 10, 20, 30, 40, 50, 0, 0].as_slice());
+    same(rt, arena.words(to), [20, 30, 40, 0, 0, 0, 0, 0].as_slice());
+    same(rt, arena.get(from, 5), 50);
 }
 
 /// All words of a block are written, and none of another.
 fn writes(rt: &impl Abort, arena: &mut Arena, from: Block, to: Block) {
-    assert!(rt; from != to);
-    assert!(rt; arena.size(from) == 8 && arena.size(to) == 8);
+    holds(rt, from != to);
+    holds(rt, arena.size(from) == 8 && arena.size(to) == 8);
     arena.words_mut(from).fill(9);
-    assert!(rt; arena.size(from) == 8 && arena.size(to) == 8);
-    assert_eq!(rt; arena.words(from), [9, 9, 9, 9, 9, 9, 9, 9].as_slice());
-    assert_eq!(rt; arena.words(to), [20, 30, 40, 0, 0, 0, 0, 0].as_slice());
+    holds(rt, arena.size(from) == 8 && arena.size(to) == 8);
+    same(rt, arena.words(from), [9, 9, 9, 9, 9, 9, 9, 9].as_slice());
+    same(rt, arena.words(to), [20, 30, 40, 0, 0, 0, 0, 0].as_slice());
 }
 
 /// A block grows, and keeps its first two words.
 fn grows(rt: &impl Abort, alloc: Global, arena: &mut Arena, to: Block) -> Result<(), NoMemory> {
-    assert!(rt; arena.size(to) == 8);
+    holds(rt, arena.size(to) == 8);
     let wide = arena.grow(alloc, to, 2, 9)?;
-    assert!(rt; arena.size(wide) == 16);
-    assert_eq!(rt; &arena.words(wide)[..4], [20, 30, 0, 0].as_slice());
-    assert_eq!(rt; arena.live_words(), 24);
+    holds(rt, arena.size(wide) == 16);
+    same(rt, &arena.words(wide)[..4], [20, 30, 0, 0].as_slice());
+    same(rt, arena.live_words(), 24);
     Ok(())
 }
 

@@ -9,6 +9,7 @@ use judy_refs::Ref;
 use std::alloc::Global;
 use std::process::Abort;
 use std::test::Fail;
+use test_checks::{holds, holds_at, same, same_at};
 
 /// The order in which the bytes of the children come and go.
 #[derive(Clone, Copy, Debug, PartialEq, Eq)]
@@ -60,12 +61,9 @@ fn word(found: Option<(u8, Ref)>) -> (u16, u64) {
 
 /// Compares the head of a branch.
 fn compare_head(rt: &impl Abort, held: &Held, population: u64) {
-    let (head, same) = held.head();
-    assert!(rt; same);
-    assert_eq!(rt;
-        (head.level, head.prefix, head.population),
-        (3, PREFIX, population)
-    );
+    let (head, is_same) = held.head();
+    holds(rt, is_same);
+    same(rt, (head.level, head.prefix, head.population), (3, PREFIX, population));
 }
 
 /// Compares the child of each byte, and the child before it, with the table. Returns how many there are.
@@ -75,14 +73,14 @@ fn compare_rising(rt: &impl Abort, held: &Held, table: &Table) -> usize {
     for byte in 0..256usize {
         let here = table[byte];
         let found = held.child(byte as u8);
-        assert_eq!(rt; found.map_or(0, |child| child.word()), here, "child {byte}");
+        same_at(rt, found.map_or(0, |child| child.word()), here, ("child", byte));
         if here != 0 {
             below = (byte as u16, here);
             count = count.saturating_add(1);
         }
-        assert_eq!(rt; word(held.prev_child(byte as u8)), below, "prev {byte}");
+        same_at(rt, word(held.prev_child(byte as u8)), below, ("prev", byte));
     }
-    assert_eq!(rt; word(Some(held.last_child())), below);
+    same(rt, word(Some(held.last_child())), below);
     count
 }
 
@@ -94,7 +92,7 @@ fn compare_falling(rt: &impl Abort, held: &Held, table: &Table) {
         if table[byte] != 0 {
             above = (byte as u16, table[byte]);
         }
-        assert_eq!(rt; word(held.next_child(byte as u8)), above, "next {byte}");
+        same_at(rt, word(held.next_child(byte as u8)), above, ("next", byte));
     }
 }
 
@@ -102,8 +100,8 @@ fn compare_falling(rt: &impl Abort, held: &Held, table: &Table) {
 fn compare(rt: &impl Abort, held: &Held, table: &Table, population: u64) {
     compare_head(rt, held, population);
     let count = compare_rising(rt, held, table);
-    assert_eq!(rt; held.child_count(), count);
-    assert_eq!(rt; held.words(), size_of(count), "words of {count}");
+    same(rt, held.child_count(), count);
+    same_at(rt, held.words(), size_of(count), ("words of", count));
     compare_falling(rt, held, table);
 }
 
@@ -125,11 +123,11 @@ fn put(
     let refusals = held.refusals();
     let mut answer = held.put(alloc, byte, child, population);
     if matches!(answer, Some(Err(_))) {
-        assert_eq!(rt; held.refusals(), refusals.saturating_add(1));
+        same(rt, held.refusals(), refusals.saturating_add(1));
         compare(rt, held, table, population.wrapping_sub(1));
         answer = held.put(alloc, byte, child, population);
     }
-    assert!(rt; matches!(answer, Some(Ok(()))), "put {byte}");
+    holds_at(rt, matches!(answer, Some(Ok(()))), ("put", byte));
     table[usize::from(byte)] = child.word();
     Ok(())
 }
@@ -142,10 +140,10 @@ fn swap(rt: &impl Abort, held: &mut Held, table: &mut Table, byte: u8, populatio
     let Some(other) = reference_of(word_of(byte).wrapping_add(4_294_967_299)) else {
         return;
     };
-    assert!(rt; held.set(byte, other, population), "set {byte}");
+    holds_at(rt, held.set(byte, other, population), ("set", byte));
     table[usize::from(byte)] = other.word();
     compare(rt, held, table, population);
-    assert!(rt; held.set(byte, child, population), "set {byte}");
+    holds_at(rt, held.set(byte, child, population), ("set", byte));
     table[usize::from(byte)] = child.word();
 }
 
@@ -219,7 +217,7 @@ fn put_many(
 fn take_last(rt: &impl Abort, held: Held, table: &Table, byte: u8, other: u8) -> Result<(), Fail> {
     match held.take(byte, 1) {
         Some(Left::Only(child, words)) => {
-            assert_eq!(rt; (child, words), (table[usize::from(other)], 0));
+            same(rt, (child, words), (table[usize::from(other)], 0));
             Ok(())
         }
         _ => Err(Fail::from("one child is left")),
@@ -269,7 +267,7 @@ fn a_branch_is_given_up(rt: HostRuntime) -> Result<(), Fail> {
     let Some(held) = start(rt.alloc(), Order::Rising, &mut table)? else {
         return Err(Fail::from("two children"));
     };
-    assert_eq!(rt; held.words(), 8);
-    assert_eq!(rt; held.release(), 0);
+    same(&rt, held.words(), 8);
+    same(&rt, held.release(), 0);
     Ok(())
 }

@@ -2,6 +2,7 @@
 //! mixed set, compared with values found by hand.
 use judy_bitmap::Bits256;
 use std::process::Abort;
+use test_checks::{holds, holds_at, same, same_at};
 
 const PLACES: [u8; 6] = [0, 63, 64, 127, 128, 255];
 
@@ -48,38 +49,38 @@ fn found(set: &Bits256, byte: u8) -> Found {
 
 // Checks whether a byte is in the set, and how many are below it.
 fn has(rt: &impl Abort, set: &Bits256, byte: u8, is_there: bool, rank: u32) {
-    assert_eq!(rt; set.has(byte), is_there, "has {byte}");
-    assert_eq!(rt; set.rank(byte), rank, "rank of {byte}");
+    same_at(rt, set.has(byte), is_there, ("has", byte));
+    same_at(rt, set.rank(byte), rank, ("rank of", byte));
 }
 
 #[test]
 fn an_empty_set(rt: HostRuntime) {
     let set = Bits256::new();
-    assert_eq!(rt; *set.words(), [0; 4]);
-    assert!(rt; set.is_empty());
-    assert_eq!(rt; set.len(), 0);
-    assert_eq!(rt; set.select(0), None);
+    same(&rt, *set.words(), [0; 4]);
+    holds(&rt, set.is_empty());
+    same(&rt, set.len(), 0);
+    same(&rt, set.select(0), None);
     for byte in &PLACES {
         has(&rt, &set, *byte, false, 0);
         let want = [None, Some(*byte), None, Some(*byte)];
-        assert!(rt; found(&set, *byte) == want, "searches from {byte}");
+        holds_at(&rt, found(&set, *byte) == want, ("searches from", byte));
     }
 }
 
 #[test]
 fn a_full_set(rt: HostRuntime) {
     let set = Bits256::from_words(&[u64::MAX; 4]);
-    assert_eq!(rt; *set.words(), [u64::MAX; 4]);
-    assert!(rt; !set.is_empty());
-    assert_eq!(rt; set.len(), 256);
-    assert_eq!(rt; set.select(256), None);
-    assert_eq!(rt; set.select(u32::MAX), None);
+    same(&rt, *set.words(), [u64::MAX; 4]);
+    holds(&rt, !set.is_empty());
+    same(&rt, set.len(), 256);
+    same(&rt, set.select(256), None);
+    same(&rt, set.select(u32::MAX), None);
     for byte in &PLACES {
         let rank = u32::from(*byte);
         has(&rt, &set, *byte, true, rank);
-        assert_eq!(rt; set.select(rank), Some(*byte));
+        same(&rt, set.select(rank), Some(*byte));
         let want = [Some(*byte), None, Some(*byte), None];
-        assert!(rt; found(&set, *byte) == want, "searches from {byte}");
+        holds_at(&rt, found(&set, *byte) == want, ("searches from", byte));
     }
 }
 
@@ -88,19 +89,19 @@ fn set_alone(rt: &impl Abort, byte: u8, alone: &[u64; 4]) {
     let mut set = Bits256::new();
     set.set(byte);
     set.set(byte);
-    assert_eq!(rt; set.words(), alone);
+    same(rt, set.words(), alone);
     set.clear(byte);
     set.clear(byte);
-    assert_eq!(rt; *set.words(), [0; 4]);
+    same(rt, *set.words(), [0; 4]);
 }
 
 // Clears a byte of the full set, and sets it again.
 fn clear_alone(rt: &impl Abort, byte: u8, but_one: &[u64; 4]) {
     let mut set = Bits256::from_words(&[u64::MAX; 4]);
     set.clear(byte);
-    assert_eq!(rt; set.words(), but_one);
+    same(rt, set.words(), but_one);
     set.set(byte);
-    assert_eq!(rt; *set.words(), [u64::MAX; 4]);
+    same(rt, *set.words(), [u64::MAX; 4]);
 }
 
 #[test]
@@ -115,7 +116,7 @@ fn set_and_clear_write_one_bit(rt: HostRuntime) {
     for byte in [255, 0, 128, 63, 127, 64] {
         set.set(byte);
     }
-    assert_eq!(rt; *set.words(), EDGES);
+    same(&rt, *set.words(), EDGES);
 }
 
 // A byte, and how many bytes of a set are below it.
@@ -128,17 +129,17 @@ const BESIDE_EDGES: [Rank; 6] = [(1, 1), (62, 1), (65, 3), (126, 3), (129, 5), (
 #[test]
 fn rank_and_select_of_the_edges(rt: HostRuntime) {
     let set = Bits256::from_words(&EDGES);
-    assert_eq!(rt; set.len(), 6);
-    assert!(rt; !set.is_empty());
+    same(&rt, set.len(), 6);
+    holds(&rt, !set.is_empty());
     for (byte, rank) in &OF_EDGES {
         has(&rt, &set, *byte, true, *rank);
-        assert_eq!(rt; set.select(*rank), Some(*byte));
+        same(&rt, set.select(*rank), Some(*byte));
     }
     for (byte, rank) in &BESIDE_EDGES {
         has(&rt, &set, *byte, false, *rank);
     }
-    assert_eq!(rt; set.select(6), None);
-    assert_eq!(rt; set.select(u32::MAX), None);
+    same(&rt, set.select(6), None);
+    same(&rt, set.select(u32::MAX), None);
 }
 
 const INSIDE: [Rank; 5] = [(70, 0), (71, 1), (75, 2), (100, 3), (126, 4)];
@@ -148,15 +149,15 @@ fn members_inside_a_word(rt: HostRuntime) {
     // Bytes 70, 71, 75, 100 and 126.
     let set = Bits256::from_words(&[0, 0x4000_0010_0000_08c0, 0, 0]);
     for (byte, rank) in &INSIDE {
-        assert_eq!(rt; set.select(*rank), Some(*byte));
-        assert_eq!(rt; set.rank(*byte), *rank);
+        same(&rt, set.select(*rank), Some(*byte));
+        same(&rt, set.rank(*byte), *rank);
     }
-    assert_eq!(rt; set.select(5), None);
-    assert_eq!(rt; set.rank(255), 5);
-    assert_eq!(rt; set.next_set(72), Some(75));
-    assert_eq!(rt; set.prev_set(99), Some(75));
-    assert_eq!(rt; set.next_clear(70), Some(72));
-    assert_eq!(rt; set.prev_clear(71), Some(69));
+    same(&rt, set.select(5), None);
+    same(&rt, set.rank(255), 5);
+    same(&rt, set.next_set(72), Some(75));
+    same(&rt, set.prev_set(99), Some(75));
+    same(&rt, set.next_clear(70), Some(72));
+    same(&rt, set.prev_clear(71), Some(69));
 }
 
 const SEARCHES: [(u8, Found); 12] = [
@@ -178,16 +179,16 @@ const SEARCHES: [(u8, Found); 12] = [
 fn searches_of_the_edges(rt: HostRuntime) {
     let set = Bits256::from_words(&EDGES);
     for (byte, want) in &SEARCHES {
-        assert!(rt; found(&set, *byte) == *want, "searches from {byte}");
+        holds_at(&rt, found(&set, *byte) == *want, ("searches from", byte));
     }
 }
 
 #[test]
 fn searches_cross_empty_and_full_words(rt: HostRuntime) {
     let set = Bits256::from_words(&[1, 0, 0, 0x8000_0000_0000_0000]);
-    assert_eq!(rt; set.next_set(1), Some(255));
-    assert_eq!(rt; set.prev_set(254), Some(0));
+    same(&rt, set.next_set(1), Some(255));
+    same(&rt, set.prev_set(254), Some(0));
     let set = Bits256::from_words(&[u64::MAX - 1, u64::MAX, u64::MAX, u64::MAX >> 1]);
-    assert_eq!(rt; set.next_clear(1), Some(255));
-    assert_eq!(rt; set.prev_clear(254), Some(0));
+    same(&rt, set.next_clear(1), Some(255));
+    same(&rt, set.prev_clear(254), Some(0));
 }

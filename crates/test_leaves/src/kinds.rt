@@ -5,6 +5,7 @@ use judy_leaf::{Put, Removed};
 use judy_refs::Kind;
 use std::alloc::Global;
 use std::process::Abort;
+use test_checks::{holds, holds_at, same, same_at};
 
 /// The least size of a block that holds this many words.
 fn size_for(words: u64) -> u64 {
@@ -38,24 +39,20 @@ fn put(rt: &impl Abort, alloc: Global, leaf: &mut Held, key: u64, value: u64) {
     let population = leaf.population();
     let mut answer = leaf.insert(alloc, key, value);
     if answer == Put::NoMemory {
-        assert_eq!(rt; leaf.words(), words, "words after a refusal");
-        assert_eq!(rt; leaf.refusals(), refusals.saturating_add(1));
-        assert_eq!(rt; leaf.population(), population);
-        assert_eq!(rt; leaf.get(key), None);
+        same_at(rt, leaf.words(), words, "words after a refusal");
+        same(rt, leaf.refusals(), refusals.saturating_add(1));
+        same(rt, leaf.population(), population);
+        same(rt, leaf.get(key), None);
         answer = leaf.insert(alloc, key, value);
     }
-    assert!(rt; matches!(answer, Put::Done(_)), "insert {key}");
+    holds_at(rt, matches!(answer, Put::Done(_)), ("insert", key));
 }
 
 /// The leaf has this many keys, this kind, and a block of exactly the size for them.
 fn check_block(rt: &impl Abort, leaf: &Held, values: bool, kind: Option<Kind>, population: u64) {
-    assert_eq!(rt; leaf.population(), population);
-    assert_eq!(rt; leaf.kind(), kind, "with {population}");
-    assert_eq!(rt;
-        leaf.words(),
-        words_of(values, kind, population),
-        "with {population}"
-    );
+    same(rt, leaf.population(), population);
+    same_at(rt, leaf.kind(), kind, ("with", population));
+    same_at(rt, leaf.words(), words_of(values, kind, population), ("with", population));
 }
 
 /// The key that comes or goes at this step, from 512 to 767.
@@ -90,7 +87,7 @@ fn empty(rt: &impl Abort, leaf: &mut Held, values: bool) {
     for step in 0..256u16 {
         let population = 255 - u64::from(step);
         let answer = leaf.remove(key_of(step as u8));
-        assert!(rt; matches!(answer, Removed::Emptied(_)) == (population == 0));
+        holds(rt, matches!(answer, Removed::Emptied(_)) == (population == 0));
         let kind = if population > 7 {
             Some(Kind::BitmapLeaf)
         } else if population > 0 {
@@ -117,14 +114,14 @@ fn a_full_leaf_without_one_of_its_keys(rt: HostRuntime) {
     for key in 0..256u64 {
         put(&rt, rt.alloc(), &mut leaf, key, 0);
     }
-    assert_eq!(rt; leaf.kind(), Some(Kind::FullLeaf));
-    assert_eq!(rt; leaf.first_empty(0), Some(256));
-    assert!(rt; leaf.insert(rt.alloc(), 256, 0) == Put::Split);
-    assert!(rt; matches!(leaf.remove(128), Removed::Left(_, 0)));
-    assert_eq!(rt; leaf.kind(), Some(Kind::BitmapLeaf));
-    assert_eq!(rt; leaf.first_empty(0), Some(128));
-    assert_eq!(rt; leaf.population(), 255);
-    assert_eq!(rt; leaf.words(), 8);
+    same(&rt, leaf.kind(), Some(Kind::FullLeaf));
+    same(&rt, leaf.first_empty(0), Some(256));
+    holds(&rt, leaf.insert(rt.alloc(), 256, 0) == Put::Split);
+    holds(&rt, matches!(leaf.remove(128), Removed::Left(_, 0)));
+    same(&rt, leaf.kind(), Some(Kind::BitmapLeaf));
+    same(&rt, leaf.first_empty(0), Some(128));
+    same(&rt, leaf.population(), 255);
+    same(&rt, leaf.words(), 8);
 }
 
 /// A leaf gets 31 keys, each 1000 above the one before.
@@ -139,10 +136,10 @@ fn thirty_one_keys_that_stand_apart(rt: HostRuntime) {
     for values in [false, true] {
         let mut leaf = Held::new(rt.alloc(), values);
         fill_apart(&rt, rt.alloc(), &mut leaf);
-        assert!(rt; leaf.insert(rt.alloc(), 31000, 0) == Put::Split);
-        assert!(rt; leaf.insert(rt.alloc(), 30000, 0) == Put::Present(given(values, 30)));
-        assert_eq!(rt; leaf.get(31000), None);
-        assert_eq!(rt; leaf.first_empty(0), Some(1));
-        assert!(rt; leaf.last_entry(29999) == Some((29000, given(values, 29))));
+        holds(&rt, leaf.insert(rt.alloc(), 31000, 0) == Put::Split);
+        holds(&rt, leaf.insert(rt.alloc(), 30000, 0) == Put::Present(given(values, 30)));
+        same(&rt, leaf.get(31000), None);
+        same(&rt, leaf.first_empty(0), Some(1));
+        holds(&rt, leaf.last_entry(29999) == Some((29000, given(values, 29))));
     }
 }

@@ -2,6 +2,7 @@
 use judy_refs::{Kind, Ref};
 use std::process::Abort;
 use std::test::Fail;
+use test_checks::same;
 
 const KINDS: [(Kind, u64); 8] = [
     (Kind::LinearLeaf, 0x1_0000_0000),
@@ -19,11 +20,11 @@ fn refers(rt: &impl Abort, kind: Kind, above: u64, number: u32) -> Result<(), Fa
     let word = above | u64::from(number);
     let reference = Ref::read(word).ok_or("a reference")?;
     let block = reference.block().ok_or("a block")?;
-    assert_eq!(rt; block.number(), number);
-    assert_eq!(rt; Ref::of(kind, block), reference);
-    assert_eq!(rt; reference.word(), word);
-    assert_eq!(rt; Ref::known(word), reference);
-    assert_eq!(rt; reference.kind(), Some(kind));
+    same(rt, block.number(), number);
+    same(rt, Ref::of(kind, block), reference);
+    same(rt, reference.word(), word);
+    same(rt, Ref::known(word), reference);
+    same(rt, reference.kind(), Some(kind));
     Ok(())
 }
 
@@ -39,15 +40,15 @@ fn a_reference_is_its_kind_and_its_number(rt: HostRuntime) -> Result<(), Fail> {
 
 #[test]
 fn nothing_is_referred_to_by_0(rt: HostRuntime) {
-    assert_eq!(rt; Ref::read(0), Some(Ref::EMPTY));
-    assert_eq!(rt; Ref::EMPTY.word(), 0);
-    assert_eq!(rt; Ref::EMPTY.kind(), None);
-    assert_eq!(rt; Ref::EMPTY.block(), None);
+    same(&rt, Ref::read(0), Some(Ref::EMPTY));
+    same(&rt, Ref::EMPTY.word(), 0);
+    same(&rt, Ref::EMPTY.kind(), None);
+    same(&rt, Ref::EMPTY.block(), None);
 }
 
 #[test]
 fn other_words_are_no_references(rt: HostRuntime) {
     for word in [1, 4_294_967_295, 0x9_0000_0000, 0x10_0000_0000, u64::MAX] {
-        assert_eq!(rt; Ref::read(word), None);
+        same(&rt, Ref::read(word), None);
     }
 }

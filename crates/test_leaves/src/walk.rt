@@ -6,6 +6,7 @@ use judy_leaf::{Put, Removed};
 use std::alloc::Global;
 use std::process::Abort;
 use std::test::Fail;
+use test_checks::{holds, holds_at, same, same_at};
 
 /// The order in which the last bytes of the keys come and go.
 #[derive(Clone, Copy, Debug, PartialEq, Eq)]
@@ -26,30 +27,30 @@ fn byte_of(order: Order, step: u8) -> u8 {
 
 /// Compares the searches for an entry at a word.
 fn compare_entries(rt: &impl Abort, leaf: &Held, wanted: &Wanted, x: u64) {
-    assert_eq!(rt; leaf.get(x), wanted.get(x), "get {x}");
+    same_at(rt, leaf.get(x), wanted.get(x), ("get", x));
     let first = wanted.first_entry(x);
-    assert!(rt; leaf.first_entry(x) == first, "first entry {x}");
+    holds_at(rt, leaf.first_entry(x) == first, ("first entry", x));
     let last = wanted.last_entry(x);
-    assert!(rt; leaf.last_entry(x) == last, "last entry {x}");
+    holds_at(rt, leaf.last_entry(x) == last, ("last entry", x));
 }
 
 /// Compares the searches for a gap at a word.
 fn compare_gaps(rt: &impl Abort, leaf: &Held, wanted: &Wanted, x: u64) {
     let first = wanted.first_empty(x);
-    assert_eq!(rt; leaf.first_empty(x), first, "first_empty {x}");
+    same_at(rt, leaf.first_empty(x), first, ("first_empty", x));
     let last = wanted.last_empty(x);
-    assert_eq!(rt; leaf.last_empty(x), last, "last_empty {x}");
+    same_at(rt, leaf.last_empty(x), last, ("last_empty", x));
 }
 
 /// Compares the ranks and numbers of keys at a word.
 fn compare_ranks(rt: &impl Abort, leaf: &Held, wanted: &Wanted, x: u64) {
-    assert_eq!(rt; leaf.find(x), wanted.find(x), "find {x}");
-    assert_eq!(rt; leaf.count(0, x), wanted.count(0, x), "count to {x}");
+    same_at(rt, leaf.find(x), wanted.find(x), ("find", x));
+    same_at(rt, leaf.count(0, x), wanted.count(0, x), ("count to", x));
     let since = wanted.count(x, u64::MAX);
-    assert_eq!(rt; leaf.count(x, u64::MAX), since, "count from {x}");
+    same_at(rt, leaf.count(x, u64::MAX), since, ("count from", x));
     let nth = wanted.nth(x % 257);
-    assert_eq!(rt; leaf.nth(x % 257), nth, "nth {x}");
-    assert_eq!(rt; leaf.key_at(x % 257), nth, "key_at {x}");
+    same_at(rt, leaf.nth(x % 257), nth, ("nth", x));
+    same_at(rt, leaf.key_at(x % 257), nth, ("key_at", x));
 }
 
 /// Compares every query at a word.
@@ -62,14 +63,10 @@ fn compare(rt: &impl Abort, leaf: &Held, wanted: &Wanted, x: u64) {
 /// Compares every query at a key, next to it, around the 256 words from `base` on, and at both ends
 /// of the words.
 fn compare_all(rt: &impl Abort, leaf: &Held, wanted: &Wanted, base: u64, key: u64) {
-    assert_eq!(rt; leaf.population(), wanted.population());
+    same(rt, leaf.population(), wanted.population());
     let below = key.wrapping_sub(1);
     let above = key.wrapping_add(1);
-    assert_eq!(rt;
-        leaf.count(below, above),
-        wanted.count(below, above),
-        "count around {key}"
-    );
+    same_at(rt, leaf.count(below, above), wanted.count(below, above), ("count around", key));
     let points = [
         key,
         below,
@@ -99,7 +96,7 @@ fn compare_part(
     if seen.is_none() {
         seen = leaf.part(alloc, from, len);
     }
-    assert!(rt; seen == wanted.part(from, len), "part {from} {len}");
+    holds_at(rt, seen == wanted.part(from, len), ("part", from, len));
 }
 
 /// Compares a leaf of one key, which is then released.
@@ -114,7 +111,7 @@ fn compare_single(rt: &impl Abort, alloc: Global, leaf: &mut Held, from: u64, le
     if seen.is_none() {
         seen = leaf.single(alloc, len, from);
     }
-    assert!(rt; seen == Some(one), "single {len}");
+    holds_at(rt, seen == Some(one), ("single", len));
 }
 
 /// Compares a leaf of one key, and a leaf of some of the entries. Both are then released.
@@ -129,7 +126,7 @@ fn compare_parts(
     let words = leaf.words();
     compare_part(rt, alloc, leaf, wanted, from, len);
     compare_single(rt, alloc, leaf, from, len);
-    assert_eq!(rt; leaf.words(), words, "words after both were given up");
+    same_at(rt, leaf.words(), words, "words after both were given up");
 }
 
 /// Inserts an absent key. If memory is refused, nothing has changed, and a second try succeeds.
@@ -145,12 +142,12 @@ fn insert(
     let refusals = leaf.refusals();
     let mut answer = leaf.insert(alloc, key, key ^ 77);
     if answer == Put::NoMemory {
-        assert_eq!(rt; leaf.words(), words, "words after a refusal");
-        assert_eq!(rt; leaf.refusals(), refusals.saturating_add(1));
+        same_at(rt, leaf.words(), words, "words after a refusal");
+        same(rt, leaf.refusals(), refusals.saturating_add(1));
         compare_all(rt, leaf, wanted, base, key);
         answer = leaf.insert(alloc, key, key ^ 77);
     }
-    assert!(rt; matches!(answer, Put::Done(_)), "insert {key}");
+    holds_at(rt, matches!(answer, Put::Done(_)), ("insert", key));
     wanted.insert(key, given(leaf.has_values(), key ^ 77))
 }
 
@@ -163,9 +160,9 @@ fn write(
     key: u64,
 ) -> Result<(), Fail> {
     let value = given(leaf.has_values(), key ^ 99);
-    assert!(rt; leaf.insert(alloc, key, 5) == Put::Present(given(leaf.has_values(), key ^ 77)));
-    assert_eq!(rt; leaf.write(key, value), leaf.has_values());
-    assert!(rt; leaf.insert(alloc, key, 5) == Put::Present(value));
+    holds(rt, leaf.insert(alloc, key, 5) == Put::Present(given(leaf.has_values(), key ^ 77)));
+    same(rt, leaf.write(key, value), leaf.has_values());
+    holds(rt, leaf.insert(alloc, key, 5) == Put::Present(value));
     wanted.write(key, value)?;
     Ok(())
 }
@@ -175,12 +172,12 @@ fn remove(rt: &impl Abort, leaf: &mut Held, wanted: &mut Wanted, key: u64) {
     let value = wanted.get(key);
     wanted.remove(key);
     match leaf.remove(key) {
-        Removed::Left(_, was) => assert!(rt; Some(was) == value && wanted.population() > 0),
-        Removed::Emptied(was) => assert!(rt; Some(was) == value && wanted.population() == 0),
-        Removed::Absent => assert!(rt; false, "remove {key}"),
+        Removed::Left(_, was) => holds(rt, Some(was) == value && wanted.population() > 0),
+        Removed::Emptied(was) => holds(rt, Some(was) == value && wanted.population() == 0),
+        Removed::Absent => holds_at(rt, false, ("remove", key)),
     }
-    assert!(rt; leaf.remove(key) == Removed::Absent);
-    assert!(rt; !leaf.write(key, 1));
+    holds(rt, leaf.remove(key) == Removed::Absent);
+    holds(rt, !leaf.write(key, 1));
 }
 
 /// Inserts the 256 words from `base` on in this order, with all calls at each step.
@@ -201,7 +198,7 @@ fn fill(
         let len = u64::from(1 + step % 31);
         compare_parts(rt, alloc, leaf, wanted, from, len);
     }
-    assert!(rt; leaf.insert(alloc, base.wrapping_add(256), 1) == Put::Split);
+    holds(rt, leaf.insert(alloc, base.wrapping_add(256), 1) == Put::Split);
     Ok(())
 }
 
@@ -223,7 +220,7 @@ fn empty(
         let len = u64::from(1 + step % 31);
         compare_parts(rt, alloc, leaf, wanted, from, len);
     }
-    assert_eq!(rt; leaf.words(), 0);
+    same(rt, leaf.words(), 0);
 }
 
 /// One order of keys: up from none to 256 keys and down again.

@@ -1,5 +1,6 @@
 //! Bytes against the grammar of a line.
 use judy_model::{is_name_letter, is_string, name_ok, token_ok};
+use test_checks::{holds, same_at};
 
 // Whether bytes are a name, a token and a string.
 static TEXTS: [(&[u8], bool, bool, bool); 5] = [
@@ -14,7 +15,7 @@ static TEXTS: [(&[u8], bool, bool, bool); 5] = [
 fn bytes_of_the_grammar(rt: HostRuntime) {
     for (bytes, name, token, string) in &TEXTS {
         let found = (name_ok(bytes), token_ok(bytes), is_string(bytes));
-        assert_eq!(rt; found, (*name, *token, *string), "{bytes:?}");
+        same_at(&rt, found, (*name, *token, *string), bytes);
     }
-    assert!(rt; is_name_letter(b'-') && !is_name_letter(b'+'));
+    holds(&rt, is_name_letter(b'-') && !is_name_letter(b'+'));
 }

@@ -2,6 +2,7 @@
 use judy_model::{Key, Name, Token};
 use std::cmp::Ordering;
 use std::test::Fail;
+use test_checks::{holds, same, same_at};
 
 // Which bytes are a name, a key and a token.
 static TEXTS: [(&[u8], bool, bool, bool); 6] = [
@@ -21,16 +22,16 @@ fn which_bytes_they_are(rt: HostRuntime) {
             Key::read(bytes).is_some(),
             Token::read(bytes).is_some(),
         );
-        assert_eq!(rt; found, (*name, *key, *token), "{bytes:?}");
+        same_at(&rt, found, (*name, *key, *token), bytes);
     }
-    assert!(rt; Key::read(&[7; 1001]).is_none());
+    holds(&rt, Key::read(&[7; 1001]).is_none());
 }
 
 #[test]
 fn the_bytes_of_a_name(rt: HostRuntime) -> Result<(), Fail> {
     let alice = Name::read(b"alice").ok_or("alice is a name")?;
-    assert_eq!(rt; alice.as_bytes(), b"alice".as_slice());
-    assert_eq!(rt; alice.copied(), alice);
+    same(&rt, alice.as_bytes(), b"alice".as_slice());
+    same(&rt, alice.copied(), alice);
     Ok(())
 }
 
@@ -38,25 +39,25 @@ fn the_bytes_of_a_name(rt: HostRuntime) -> Result<(), Fail> {
 fn the_order_of_names(rt: HostRuntime) -> Result<(), Fail> {
     let alice = Name::read(b"alice").ok_or("alice is a name")?;
     let dotted = Name::read(b"al.ice").ok_or("al.ice is a name")?;
-    assert!(rt; alice != dotted);
-    assert_eq!(rt; dotted.cmp(&alice), Ordering::Less);
-    assert_eq!(rt; alice.partial_cmp(&dotted), Some(Ordering::Greater));
+    holds(&rt, alice != dotted);
+    same(&rt, dotted.cmp(&alice), Ordering::Less);
+    same(&rt, alice.partial_cmp(&dotted), Some(Ordering::Greater));
     Ok(())
 }
 
 #[test]
 fn the_bytes_of_a_key_and_of_a_token(rt: HostRuntime) -> Result<(), Fail> {
     let key = Key::read(b"\x00\xff").ok_or("two bytes are a key")?;
-    assert_eq!(rt; key.as_bytes(), b"\x00\xff".as_slice());
-    assert_eq!(rt; key.copied(), key);
+    same(&rt, key.as_bytes(), b"\x00\xff".as_slice());
+    same(&rt, key.copied(), key);
     let token = Token::read(b"abc").ok_or("abc is a token")?;
-    assert_eq!(rt; token.as_bytes(), b"abc".as_slice());
+    same(&rt, token.as_bytes(), b"abc".as_slice());
     Ok(())
 }
 
 #[test]
 fn tokens_are_not_shown(rt: HostRuntime) -> Result<(), Fail> {
     let token = Token::read(b"abc").ok_or("abc is a token")?;
-    assert_eq!(rt; format!(in rt.alloc(); "{token:?}")?.as_str(), "Token");
+    same(&rt, format!(in rt.alloc(); "{token:?}")?.as_str(), "Token");
     Ok(())
 }

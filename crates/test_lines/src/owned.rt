@@ -2,16 +2,17 @@
 use judy_model::{Key, OwnedKey, OwnedReply, Reply};
 use std::cmp::Ordering;
 use std::test::Fail;
+use test_checks::same;
 
 #[test]
 fn keys(rt: HostRuntime) -> Result<(), Fail> {
     let key = Key::read(b"\x00\xff").ok_or("two bytes are a key")?;
     let owned = OwnedKey::of(&key);
-    assert_eq!(rt; owned.key(), key);
-    assert_eq!(rt; owned, OwnedKey::of(&key));
+    same(&rt, &owned.key(), &key);
+    same(&rt, &owned, &OwnedKey::of(&key));
     let least = OwnedKey::of(&Key::of(&[]));
-    assert_eq!(rt; least.cmp(&owned), Ordering::Less);
-    assert_eq!(rt; owned.partial_cmp(&least), Some(Ordering::Greater));
+    same(&rt, least.cmp(&owned), Ordering::Less);
+    same(&rt, owned.partial_cmp(&least), Some(Ordering::Greater));
     Ok(())
 }
 
@@ -32,7 +33,7 @@ fn replies(rt: HostRuntime) -> Result<(), Fail> {
         Reply::Memory,
     ];
     for reply in &replies {
-        assert_eq!(rt; OwnedReply::of(reply).reply(), *reply);
+        same(&rt, &OwnedReply::of(reply).reply(), reply);
     }
     Ok(())
 }

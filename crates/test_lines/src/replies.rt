@@ -2,6 +2,7 @@
 use crate::asks::{Want, reply_of};
 use arrayvec::ArrayVec;
 use judy_protocol::write_reply;
+use test_checks::{holds, same};
 
 static LINES: [(Want, &[u8]); 13] = [
     (Want::Int(true), b"1\n"),
@@ -24,7 +25,7 @@ fn each_reply(rt: HostRuntime) {
     let mut line = ArrayVec::new();
     for (reply, want) in &LINES {
         write_reply(&reply_of(*reply), &mut line);
-        assert_eq!(rt; line.as_slice(), *want);
+        same(&rt, line.as_slice(), *want);
     }
 }
 
@@ -34,7 +35,7 @@ const LONGEST_KEY: &[u8] = &[255; 1000];
 fn the_longest_reply(rt: HostRuntime) {
     let mut line = ArrayVec::new();
     write_reply(&reply_of(Want::ValueKey(u64::MAX, LONGEST_KEY)), &mut line);
-    assert_eq!(rt; line.len(), 2025);
-    assert!(rt; line.starts_with(b"V 18446744073709551615 xffff"));
-    assert!(rt; line.ends_with(b"ffff\n"));
+    same(&rt, line.len(), 2025);
+    holds(&rt, line.starts_with(b"V 18446744073709551615 xffff"));
+    holds(&rt, line.ends_with(b"ffff\n"));
 }

@@ -5,6 +5,7 @@ use judy_model::{Call, Given, KEY_LIMIT, Line, LongCall, OneCall, Token};
 use judy_protocol::{Syntax, read_line};
 use std::process::Abort;
 use std::test::Fail;
+use test_checks::{holds, same, same_at};
 
 /// A line, and the call that it asks for.
 type Row = (&'static [u8], Ask);
@@ -14,7 +15,7 @@ fn compare(rt: &impl Abort, array: &str, rows: &[Row]) {
     let mut room = [0; KEY_LIMIT];
     for (line, ask) in rows {
         let want = Line::Call(call_of(array, *ask));
-        assert_eq!(rt; read_line(line, &mut room), Ok(want), "{line:?}");
+        same_at(rt, read_line(line, &mut room), Ok(want), line);
     }
 }
 
@@ -119,12 +120,9 @@ fn each_request_of_keys(rt: HostRuntime) {
 fn requests_of_the_connection(rt: HostRuntime) -> Result<(), Fail> {
     let mut room = [0; KEY_LIMIT];
     let token = Token::read(b"a~!").ok_or("no token")?;
-    assert_eq!(rt;
-        read_line(b"AUTH bob a~!", &mut room),
-        Ok(Line::Auth(name("bob"), token))
-    );
-    assert_eq!(rt; read_line(b"QUIT", &mut room), Ok(Line::Quit));
-    assert_eq!(rt; read_line(b" USED ", &mut room), Ok(Line::Call(Call::Used)));
+    same(&rt, read_line(b"AUTH bob a~!", &mut room), Ok(Line::Auth(name("bob"), token)));
+    same(&rt, read_line(b"QUIT", &mut room), Ok(Line::Quit));
+    same(&rt, read_line(b" USED ", &mut room), Ok(Line::Call(Call::Used)));
     Ok(())
 }
 
@@ -175,16 +173,16 @@ static OF_NO_REQUEST: [&[u8]; 40] = [
 fn lines_of_no_request(rt: HostRuntime) {
     let mut room = [0; KEY_LIMIT];
     for line in &OF_NO_REQUEST {
-        assert_eq!(rt; read_line(line, &mut room), Err(Syntax), "{line:?}");
+        same_at(&rt, read_line(line, &mut room), Err(Syntax), line);
     }
 }
 
 // A line with a key of this many bytes.
 fn line_of_key(rt: &impl Abort, bytes: u16) -> ArrayVec<u8, 2010> {
     let mut line = ArrayVec::new();
-    assert!(rt; line.try_extend_from_slice(b"JHSG s x").is_ok());
+    holds(rt, line.try_extend_from_slice(b"JHSG s x").is_ok());
     for _ in 0..bytes {
-        assert!(rt; line.try_extend_from_slice(b"0a").is_ok());
+        holds(rt, line.try_extend_from_slice(b"0a").is_ok());
     }
     line
 }
@@ -196,12 +194,12 @@ fn the_longest_key(rt: HostRuntime) {
     let mut room = [0; KEY_LIMIT];
     let want = Line::Call(call_of("s", Ask::GetBytes(LONGEST_KEY)));
     let line = line_of_key(&rt, 1000);
-    assert_eq!(rt; read_line(line.as_slice(), &mut room), Ok(want));
+    same(&rt, read_line(line.as_slice(), &mut room), Ok(want));
 }
 
 #[test]
 fn a_key_that_is_too_long(rt: HostRuntime) {
     let mut room = [0; KEY_LIMIT];
     let line = line_of_key(&rt, 1001);
-    assert_eq!(rt; read_line(line.as_slice(), &mut room), Err(Syntax));
+    same(&rt, read_line(line.as_slice(), &mut room), Err(Syntax));
 }

@@ -7,6 +7,7 @@ use judy_model::{
 use judy_reference::Store;
 use std::alloc::Global;
 use std::process::Abort;
+use test_checks::{same, same_at};
 
 const MAX: u64 = 18446744073709551615;
 
@@ -53,7 +54,7 @@ impl Tenant {
 fn compare_under(rt: &impl Abort, tenant: &mut Tenant, right: Right, rows: &[(Ask, Want)]) {
     for (ask, want) in rows {
         let call = call_of("a", *ask);
-        assert_eq!(rt; tenant.ask(right, &call), reply_of(*want), "{call:?}");
+        same_at(rt, tenant.ask(right, &call), reply_of(*want), call);
     }
 }
 
@@ -117,7 +118,7 @@ static AT_EDGE_OF_THE_QUOTA: [(Ask, Want); 10] = [
 fn edge_of_the_quota(rt: HostRuntime) {
     let mut alice = Tenant::new(rt.alloc(), 4);
     compare(&rt, &mut alice, &AT_EDGE_OF_THE_QUOTA);
-    assert_eq!(rt; alice.store.used(), 4);
+    same(&rt, alice.store.used(), 4);
 }
 
 static WITH_QUOTA_ZERO: [(Ask, Want); 4] = [

@@ -6,6 +6,7 @@ use crate::house::House;
 use judy_protocol::{End, serve};
 use judy_stream::{Page, Pull, Push, Refusal, Sink, Source, Tape};
 use std::test::Fail;
+use test_checks::same;
 
 /// A tape that may be pulled into at most 4,096 bytes.
 #[derive(Drop)]
@@ -89,19 +90,13 @@ fn one_push_and_one_flush_a_read(rt: HostRuntime) {
             pushes: 0,
             flushes: 0,
         };
-        assert_eq!(rt;
-            serve(rt.alloc(), &mut house, &mut source, &mut sink),
-            End::Quit
-        );
-        assert_eq!(rt; sink.page.bytes(), replies);
+        same(&rt, serve(rt.alloc(), &mut house, &mut source, &mut sink), End::Quit);
+        same(&rt, sink.page.bytes(), replies);
         let reads = reads_with_lines(script, step);
-        assert_eq!(rt; (sink.pushes, sink.flushes), (reads, reads));
+        same(&rt, (sink.pushes, sink.flushes), (reads, reads));
     }
     // Each line was a read of its own, and the whole script was one.
-    assert_eq!(rt;
-        (reads_with_lines(script, 1), reads_with_lines(script, 59)),
-        (6, 1)
-    );
+    same(&rt, (reads_with_lines(script, 1), reads_with_lines(script, 59)), (6, 1));
 }
 
 // Adds a line that begins with the text and goes on with the 1,000 bytes of a long key.
@@ -136,11 +131,8 @@ fn a_full_buffer_loses_no_line(rt: HostRuntime) -> Result<(), Fail> {
         pushes: 0,
         flushes: 0,
     };
-    assert_eq!(rt;
-        serve(rt.alloc(), &mut house, &mut source, &mut sink),
-        End::End
-    );
-    assert_eq!(rt; sink.page.bytes(), replies.as_slice());
-    assert_eq!(rt; (sink.pushes, sink.flushes), (3, 3));
+    same(&rt, serve(rt.alloc(), &mut house, &mut source, &mut sink), End::End);
+    same(&rt, sink.page.bytes(), replies.as_slice());
+    same(&rt, (sink.pushes, sink.flushes), (3, 3));
     Ok(())
 }

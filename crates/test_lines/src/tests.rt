@@ -10,6 +10,7 @@ use std::cell::Cell;
 use std::io::{self, ErrorKind, Read, Write};
 use std::process::Abort;
 use std::test::Fail;
+use test_checks::{same, same_at};
 
 // Odd and malformed lines between good ones, logins that fail and succeed, and bytes after the last
 // line that is run.
@@ -53,7 +54,7 @@ fn serves(
     let (mut tape, mut page) = (tape, page);
     let mut house = House::new(alloc);
     let end = serve(alloc, &mut house, &mut tape, &mut page);
-    assert_eq!(rt; (end, page.bytes()), want);
+    same(rt, (end, page.bytes()), want);
     house.used(Tenant::Alice)
 }
 
@@ -63,8 +64,8 @@ fn answers(rt: &impl Abort, alloc: Global, script: &[u8], replies: &[u8]) {
     let mut tape = Tape::new(script, &[], 5000, None);
     let mut page: Page<4096> = Page::new(4096, Refusal::Fails, None, None);
     let end = serve(alloc, &mut house, &mut tape, &mut page);
-    assert_eq!(rt; page.bytes(), replies);
-    assert_eq!(rt; end, End::End);
+    same(rt, page.bytes(), replies);
+    same(rt, end, End::End);
 }
 
 #[test]
@@ -74,7 +75,7 @@ fn every_cut_and_step(rt: HostRuntime) {
             let tape = Tape::new(SCRIPT, &cuts, step, None);
             let page = Page::new(512, Refusal::Fails, None, None);
             let used = serves(&rt, rt.alloc(), tape, page, (End::Quit, REPLIES));
-            assert_eq!(rt; used, 1, "at {place}");
+            same_at(&rt, used, 1, ("at", place));
         }
     }
 }
@@ -135,7 +136,7 @@ fn a_failed_write_runs_no_line_of_the_next_read(rt: HostRuntime) {
         let tape = Tape::new(THREE_SETS, &cuts, 5000, None);
         let page = Page::new(4, Refusal::Fails, None, None);
         let want = (End::WriteFault, b"OK\n1".as_slice());
-        assert_eq!(rt; serves(&rt, rt.alloc(), tape, page, want), used);
+        same(&rt, serves(&rt, rt.alloc(), tape, page, want), used);
     }
 }
 
@@ -144,12 +145,9 @@ fn as_many_reads_as_may(rt: HostRuntime) {
     let mut house = House::new(rt.alloc());
     let mut tape = Tape::new(b"AUTH alice abc\nJ1S a 1\nJ1S a 2\n", &[15, 23], 5000, None);
     let mut page: Page<512> = Page::new(512, Refusal::Fails, None, None);
-    assert_eq!(rt;
-        serve_up_to(rt.alloc(), &mut house, &mut tape, &mut page, 2),
-        End::Limit
-    );
-    assert_eq!(rt; page.bytes(), b"OK\n1\n".as_slice());
-    assert_eq!(rt; house.used(Tenant::Alice), 1);
+    same(&rt, serve_up_to(rt.alloc(), &mut house, &mut tape, &mut page, 2), End::Limit);
+    same(&rt, page.bytes(), b"OK\n1\n".as_slice());
+    same(&rt, house.used(Tenant::Alice), 1);
 }
 
 #[test]
@@ -174,8 +172,8 @@ fn the_next_connection_finds_what_was_stored(rt: HostRuntime) {
     ] {
         let mut tape = Tape::new(script, &[], 5000, None);
         let mut page: Page<512> = Page::new(512, Refusal::Fails, None, None);
-        assert_eq!(rt; serve(rt.alloc(), &mut house, &mut tape, &mut page), end);
-        assert_eq!(rt; page.bytes(), replies);
+        same(&rt, serve(rt.alloc(), &mut house, &mut tape, &mut page), end);
+        same(&rt, page.bytes(), replies);
     }
 }
 
@@ -338,18 +336,18 @@ fn flushes_of(rt: &impl Abort, alloc: Global, step: Option<usize>) -> u64 {
     });
     let mut sink = Writes::new(Hears { talk: &talk });
     let mut house = House::new(alloc);
-    assert_eq!(rt; serve(alloc, &mut house, &mut source, &mut sink), End::Quit);
+    same(rt, serve(alloc, &mut house, &mut source, &mut sink), End::Quit);
     talk.flushes.get()
 }
 
 #[test]
 fn each_reply_goes_out_before_the_next_read(rt: HostRuntime) {
     // There is exactly one flush after each of the 18 replies.
-    assert_eq!(rt; flushes_of(&rt, rt.alloc(), None), 18);
+    same(&rt, flushes_of(&rt, rt.alloc(), None), 18);
     // A read may end within a line: then the replies to the lines before it go out, with one flush.
     let until_quit = first_lines(SCRIPT, 18);
     for step in 1..SCRIPT.len() {
         let flushes = flushes_of(&rt, rt.alloc(), Some(step));
-        assert_eq!(rt; flushes, reads_with_lines(until_quit, step), "{step}");
+        same_at(&rt, flushes, reads_with_lines(until_quit, step), step);
     }
 }

@@ -3,6 +3,7 @@ use crate::stage::Offer;
 use crate::theatre::{Part, giving, limits, play, stage};
 use judy_many::{Ending, Limits};
 use std::test::Fail;
+use test_checks::same;
 
 // A client that sends nothing for 5 seconds is closed; one that sends bytes is not, though it ends no
 // line.
@@ -41,11 +42,8 @@ fn a_silent_client_is_closed(rt: HostRuntime) -> Result<(), Fail> {
         ..limits(2, 2)
     };
     let ending = play(alloc, &mut stage, limits)?;
-    assert_eq!(rt; ending, Ending::Done);
-    assert_eq!(rt;
-        stage.asked(),
-        b".a0a1r0r1w0:r0r1:r1:r1:r1:r1:r1c0I:r1:c1I".as_slice()
-    );
+    same(&rt, ending, Ending::Done);
+    same(&rt, stage.asked(), b".a0a1r0r1w0:r0r1:r1:r1:r1:r1:r1c0I:r1:c1I".as_slice());
     Ok(())
 }
 
@@ -76,8 +74,8 @@ fn a_client_without_a_log_in_is_closed(rt: HostRuntime) -> Result<(), Fail> {
         ..limits(2, 2)
     };
     let ending = play(alloc, &mut stage, limits)?;
-    assert_eq!(rt; ending, Ending::Done);
-    assert_eq!(rt; stage.asked(), b".a0a1r0r1w0w1:r0r1:c0L:c1I".as_slice());
+    same(&rt, ending, Ending::Done);
+    same(&rt, stage.asked(), b".a0a1r0r1w0w1:r0r1:c0L:c1I".as_slice());
     Ok(())
 }
 
@@ -97,8 +95,8 @@ fn a_long_connection_is_closed(rt: HostRuntime) -> Result<(), Fail> {
         ..limits(1, 1)
     };
     let ending = play(alloc, &mut stage, limits)?;
-    assert_eq!(rt; ending, Ending::Done);
-    assert_eq!(rt; stage.asked(), b".a0r0w0:r0w0:r0w0:r0w0c0O".as_slice());
+    same(&rt, ending, Ending::Done);
+    same(&rt, stage.asked(), b".a0r0w0:r0w0:r0w0:r0w0c0O".as_slice());
     Ok(())
 }
 
@@ -118,8 +116,8 @@ fn a_clock_that_fails(rt: HostRuntime) -> Result<(), Fail> {
         ..limits(1, 1)
     };
     let ending = play(alloc, &mut stage, limits)?;
-    assert_eq!(rt; ending, Ending::Done);
-    assert_eq!(rt; stage.asked(), b".a0r0w0:r0c0I".as_slice());
+    same(&rt, ending, Ending::Done);
+    same(&rt, stage.asked(), b".a0r0w0:r0c0I".as_slice());
     Ok(())
 }
 
@@ -133,8 +131,8 @@ fn accepts_again_after_a_close(rt: HostRuntime) -> Result<(), Fail> {
     stage.offers = &offers;
     stage.times = &times;
     let ending = play(alloc, &mut stage, limits(2, 2))?;
-    assert_eq!(rt; ending, Ending::Done);
-    assert_eq!(rt; stage.asked(), b".a0xr0w0c0Q.a1r1w1c1Q".as_slice());
+    same(&rt, ending, Ending::Done);
+    same(&rt, stage.asked(), b".a0xr0w0c0Q.a1r1w1c1Q".as_slice());
     Ok(())
 }
 
@@ -148,8 +146,8 @@ fn accepts_again_after_a_second(rt: HostRuntime) -> Result<(), Fail> {
     stage.offers = &offers;
     stage.times = &times;
     let ending = play(alloc, &mut stage, limits(2, 1))?;
-    assert_eq!(rt; ending, Ending::Done);
-    assert_eq!(rt; stage.asked(), b".x:x:::a0r0w0c0Q".as_slice());
+    same(&rt, ending, Ending::Done);
+    same(&rt, stage.asked(), b".x:x:::a0r0w0c0Q".as_slice());
     Ok(())
 }
 
@@ -161,6 +159,6 @@ fn a_broken_listener(rt: HostRuntime) -> Result<(), Fail> {
     let mut stage = stage(alloc, &[giving(b"QUIT\n")])?;
     stage.offers = &offers;
     let ending = play(alloc, &mut stage, limits(2, 2))?;
-    assert_eq!(rt; ending, Ending::Socket);
+    same(&rt, ending, Ending::Socket);
     Ok(())
 }

@@ -3,6 +3,7 @@ use crate::theatre::{Part, giving, limits, play, stage};
 use judy_many::Ending;
 use judy_stream::Refusal;
 use std::test::Fail;
+use test_checks::{holds, holds_at, same, same_at};
 
 const LINES: &[u8] = b"AUTH bob hello\nJ1S a 1\nJ1T a 1\nQUIT\n";
 
@@ -23,13 +24,10 @@ fn writes_cut_at_each_byte(rt: HostRuntime) -> Result<(), Fail> {
         let parts = [cut, giving(b"J1T a 1\nQUIT\n")];
         let mut stage = stage(alloc, &parts)?;
         let ending = play(alloc, &mut stage, limits(2, 2))?;
-        assert_eq!(rt; ending, Ending::Done);
-        assert_eq!(rt; stage.scripts.len(), 2);
-        assert_eq!(rt; stage.scripts[0].page.bytes(), TEXT, "cut at {place}");
-        assert_eq!(rt;
-            stage.scripts[1].page.bytes(),
-            b"ERR AUTH\nBYE\n".as_slice()
-        );
+        same(&rt, ending, Ending::Done);
+        same(&rt, stage.scripts.len(), 2);
+        same_at(&rt, stage.scripts[0].page.bytes(), TEXT, ("cut at", place));
+        same(&rt, stage.scripts[1].page.bytes(), b"ERR AUTH\nBYE\n".as_slice());
     }
     Ok(())
 }
@@ -46,11 +44,11 @@ fn writes_that_fail_at_each_byte(rt: HostRuntime) -> Result<(), Fail> {
         let parts = [giving(LINES), broken];
         let mut stage = stage(alloc, &parts)?;
         let ending = play(alloc, &mut stage, limits(2, 2))?;
-        assert_eq!(rt; ending, Ending::Done);
-        assert_eq!(rt; stage.scripts.len(), 2);
-        assert_eq!(rt; stage.scripts[0].page.bytes(), TEXT);
-        assert_eq!(rt; stage.scripts[1].page.bytes(), &LATER[..place]);
-        assert!(rt; stage.asked().ends_with(b"c1F"), "at {place}");
+        same(&rt, ending, Ending::Done);
+        same(&rt, stage.scripts.len(), 2);
+        same(&rt, stage.scripts[0].page.bytes(), TEXT);
+        same(&rt, stage.scripts[1].page.bytes(), &LATER[..place]);
+        holds_at(&rt, stage.asked().ends_with(b"c1F"), ("at", place));
     }
     Ok(())
 }
@@ -68,10 +66,10 @@ fn reads_that_fail_at_each_byte(rt: HostRuntime) -> Result<(), Fail> {
         let parts = [broken, giving(LINES)];
         let mut stage = stage(alloc, &parts)?;
         let ending = play(alloc, &mut stage, limits(2, 2))?;
-        assert_eq!(rt; ending, Ending::Done);
-        assert_eq!(rt; stage.scripts.len(), 2);
-        assert_eq!(rt; stage.scripts[0].page.bytes(), text, "fault at {place}");
-        assert_eq!(rt; stage.scripts[1].page.bytes().len(), TEXT.len());
+        same(&rt, ending, Ending::Done);
+        same(&rt, stage.scripts.len(), 2);
+        same_at(&rt, stage.scripts[0].page.bytes(), text, ("fault at", place));
+        same(&rt, stage.scripts[1].page.bytes().len(), TEXT.len());
     }
     Ok(())
 }
@@ -87,11 +85,8 @@ fn one_after_another(rt: HostRuntime) -> Result<(), Fail> {
     let parts = [giving(LINES), broken, giving(b"J1T a 1\nhalf")];
     let mut stage = stage(alloc, &parts)?;
     let ending = play(alloc, &mut stage, limits(1, 3))?;
-    assert_eq!(rt; ending, Ending::Done);
-    assert_eq!(rt;
-        stage.asked(),
-        b".a0r0w0c0Q.a1r1c1F.a2r2w2|r2c2E".as_slice()
-    );
+    same(&rt, ending, Ending::Done);
+    same(&rt, stage.asked(), b".a0r0w0c0Q.a1r1c1F.a2r2w2|r2c2E".as_slice());
     Ok(())
 }
 
@@ -106,16 +101,16 @@ fn without_memory_for_a_client(rt: HostRuntime) -> Result<(), Fail> {
     if ending == Ending::Memory {
         return Ok(());
     }
-    assert_eq!(rt; ending, Ending::Done);
+    same(&rt, ending, Ending::Done);
     let text = b"ERR AUTH\nBYE\n".as_slice();
     let mut served = false;
     for script in &stage.scripts {
         let bytes = script.page.bytes();
-        assert!(rt; bytes.is_empty() || bytes == text);
+        holds(&rt, bytes.is_empty() || bytes == text);
         if bytes == text {
             served = true;
         }
     }
-    assert!(rt; served);
+    holds(&rt, served);
     Ok(())
 }

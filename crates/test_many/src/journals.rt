@@ -4,6 +4,7 @@ use judy_many::{Ending, Limits, Sync};
 use judy_protocol::cut_line;
 use std::alloc::Global;
 use std::test::Fail;
+use test_checks::{holds, same};
 
 // A segment with this many bytes is full.
 const SEGMENT_LIMIT: u64 = 67_108_864;
@@ -66,13 +67,13 @@ fn two_clients_share_a_sync(rt: HostRuntime) -> Result<(), Fail> {
     ];
     let mut stage = stage(alloc, &parts)?;
     let ending = play_with(alloc, &mut stage, journaled(2, Sync::Round), 0)?;
-    assert_eq!(rt; ending, Ending::Done);
-    assert_eq!(rt; stage.asked(), b".a0a1r0r1ksw0c0Qw1c1Q".as_slice());
+    same(&rt, ending, Ending::Done);
+    same(&rt, stage.asked(), b".a0a1r0r1ksw0c0Qw1c1Q".as_slice());
     let text = stage.journal.as_slice();
-    assert!(rt; has_records(text, &[b"alice J1S a 1", b"bob JLI b 7 8"]));
-    assert_eq!(rt; count(text, b"# 2 "), 1);
-    assert_eq!(rt; stage.scripts.len(), 2);
-    assert_eq!(rt; stage.scripts[0].page.bytes(), b"OK\n1\nBYE\n".as_slice());
+    holds(&rt, has_records(text, &[b"alice J1S a 1", b"bob JLI b 7 8"]));
+    same(&rt, count(text, b"# 2 "), 1);
+    same(&rt, stage.scripts.len(), 2);
+    same(&rt, stage.scripts[0].page.bytes(), b"OK\n1\nBYE\n".as_slice());
     Ok(())
 }
 
@@ -86,19 +87,16 @@ fn only_changes_are_recorded(rt: HostRuntime) -> Result<(), Fail> {
     let parts = [giving(lines)];
     let mut stage = stage(alloc, &parts)?;
     let ending = play_with(alloc, &mut stage, journaled(1, Sync::Round), 0)?;
-    assert_eq!(rt; ending, Ending::Done);
-    assert_eq!(rt; stage.scripts.len(), 1);
-    assert_eq!(rt;
-        stage.scripts[0].page.bytes(),
-        b"ERR AUTH\nOK\n1\n1\nFULL\n1\nERR SYNTAX\n1\n0\nBYE\n".as_slice()
-    );
+    same(&rt, ending, Ending::Done);
+    same(&rt, stage.scripts.len(), 1);
+    same(&rt, stage.scripts[0].page.bytes(), b"ERR AUTH\nOK\n1\n1\nFULL\n1\nERR SYNTAX\n1\n0\nBYE\n".as_slice());
     let records: [&[u8]; 4] = [
         b"alice J1S a 1",
         b"alice J1S a 2",
         b"alice J1U a 1",
         b"alice J1U a 1",
     ];
-    assert!(rt; has_records(stage.journal.as_slice(), &records));
+    holds(&rt, has_records(stage.journal.as_slice(), &records));
     Ok(())
 }
 
@@ -109,13 +107,13 @@ fn no_change_costs_nothing(rt: HostRuntime) -> Result<(), Fail> {
     let parts = [giving(b"AUTH alice abc\nJ1T a 1\nQUIT\n")];
     let mut looking = stage(alloc, &parts)?;
     let ending = play_with(alloc, &mut looking, journaled(1, Sync::Round), 0)?;
-    assert_eq!(rt; ending, Ending::Done);
-    assert_eq!(rt; looking.asked(), b".a0r0w0c0Q".as_slice());
+    same(&rt, ending, Ending::Done);
+    same(&rt, looking.asked(), b".a0r0w0c0Q".as_slice());
     let parts = [giving(b"AUTH alice abc\nJ1S a 1\nQUIT\n")];
     let mut without = stage(alloc, &parts)?;
     let ending = play(alloc, &mut without, limits(1, 1))?;
-    assert_eq!(rt; ending, Ending::Done);
-    assert_eq!(rt; without.asked(), b".a0r0w0c0Q".as_slice());
+    same(&rt, ending, Ending::Done);
+    same(&rt, without.asked(), b".a0r0w0c0Q".as_slice());
     Ok(())
 }
 
@@ -128,15 +126,15 @@ fn a_journal_that_fails_ends_the_server(rt: HostRuntime) -> Result<(), Fail> {
         let mut stage = stage(alloc, &parts)?;
         stage.fails_at = place;
         let ending = play_with(alloc, &mut stage, journaled(1, Sync::Round), 0)?;
-        assert_eq!(rt; ending, Ending::Journal);
+        same(&rt, ending, Ending::Journal);
         let asked = if place == 0 {
             b".a0r0z".as_slice()
         } else {
             b".a0r0kz"
         };
-        assert_eq!(rt; stage.asked(), asked);
-        assert_eq!(rt; stage.scripts.len(), 1);
-        assert_eq!(rt; stage.scripts[0].page.bytes(), b"".as_slice());
+        same(&rt, stage.asked(), asked);
+        same(&rt, stage.scripts.len(), 1);
+        same(&rt, stage.scripts[0].page.bytes(), b"".as_slice());
     }
     Ok(())
 }
@@ -152,9 +150,9 @@ fn a_full_segment_is_followed_by_the_next(rt: HostRuntime) -> Result<(), Fail> {
     }];
     let mut stage = stage(alloc, &parts)?;
     let ending = play_with(alloc, &mut stage, journaled(1, Sync::Never), SEGMENT_LIMIT)?;
-    assert_eq!(rt; ending, Ending::Done);
-    assert_eq!(rt; stage.asked(), b".a0r0ksbksw0|r0kw0c0Q".as_slice());
-    assert_eq!(rt; count(stage.journal.as_slice(), b"judyd journal 1 2 "), 1);
+    same(&rt, ending, Ending::Done);
+    same(&rt, stage.asked(), b".a0r0ksbksw0|r0kw0c0Q".as_slice());
+    same(&rt, count(stage.journal.as_slice(), b"judyd journal 1 2 "), 1);
     for place in 0..5usize {
         let mut failing = crate::theatre::stage(alloc, &parts)?;
         failing.fails_at = place;
@@ -164,9 +162,9 @@ fn a_full_segment_is_followed_by_the_next(rt: HostRuntime) -> Result<(), Fail> {
             journaled(1, Sync::Never),
             SEGMENT_LIMIT,
         )?;
-        assert_eq!(rt; ending, Ending::Journal);
-        assert_eq!(rt; failing.scripts.len(), 1);
-        assert_eq!(rt; failing.scripts[0].page.bytes(), b"".as_slice());
+        same(&rt, ending, Ending::Journal);
+        same(&rt, failing.scripts.len(), 1);
+        same(&rt, failing.scripts[0].page.bytes(), b"".as_slice());
     }
     Ok(())
 }
@@ -187,8 +185,8 @@ fn syncs_by_seconds(rt: HostRuntime) -> Result<(), Fail> {
     let mut timed = stage(alloc, &parts)?;
     timed.times = &times;
     let ending = play_with(alloc, &mut timed, journaled(1, Sync::Seconds(5)), 0)?;
-    assert_eq!(rt; ending, Ending::Done);
-    assert_eq!(rt; timed.asked(), b".a0r0kw0:r0ksw0c0Q".as_slice());
+    same(&rt, ending, Ending::Done);
+    same(&rt, timed.asked(), b".a0r0kw0:r0ksw0c0Q".as_slice());
     Ok(())
 }
 
@@ -203,8 +201,8 @@ fn never_syncs(rt: HostRuntime) -> Result<(), Fail> {
     }];
     let mut never = stage(alloc, &parts)?;
     let ending = play_with(alloc, &mut never, journaled(1, Sync::Never), 0)?;
-    assert_eq!(rt; ending, Ending::Done);
-    assert_eq!(rt; never.asked(), b".a0r0kw0|r0kw0c0Q".as_slice());
+    same(&rt, ending, Ending::Done);
+    same(&rt, never.asked(), b".a0r0kw0|r0kw0c0Q".as_slice());
     Ok(())
 }
 
@@ -229,20 +227,17 @@ fn records_beyond_one_commit(rt: HostRuntime) -> Result<(), Fail> {
     let parts = [part, part, part, part, part];
     let mut stage = stage(alloc, &parts)?;
     let ending = play_with(alloc, &mut stage, journaled(5, Sync::Round), 0)?;
-    assert_eq!(rt; ending, Ending::Done);
-    assert_eq!(rt;
-        stage.asked(),
-        b".a0a1a2a3a4r0r1r2r3kr4ksw0c0Qw1c1Qw2c2Qw3w4c4Q.ksw3c3Q".as_slice()
-    );
+    same(&rt, ending, Ending::Done);
+    same(&rt, stage.asked(), b".a0a1a2a3a4r0r1r2r3kr4ksw0c0Qw1c1Qw2c2Qw3w4c4Q.ksw3c3Q".as_slice());
     let text = stage.journal.as_slice();
-    assert_eq!(rt; count(text, b"bob J1S a 1"), 1500);
-    assert_eq!(rt; count(text, b"# "), 3);
+    same(&rt, count(text, b"bob J1S a 1"), 1500);
+    same(&rt, count(text, b"# "), 3);
     for script in stage.scripts.iter() {
         let (zeros, ones) = (
             count(script.page.bytes(), b"0"),
             count(script.page.bytes(), b"1"),
         );
-        assert_eq!(rt; zeros.saturating_add(ones), 300);
+        same(&rt, zeros.saturating_add(ones), 300);
     }
     Ok(())
 }

@@ -2,6 +2,7 @@
 use crate::theatre::{giving, limits, play, stage};
 use judy_many::{Ending, Limits, Question};
 use std::test::Fail;
+use test_checks::{holds, same};
 
 // Three clients at once, with a control socket.
 fn watched() -> Limits {
@@ -25,11 +26,11 @@ fn those_of_a_tenant_are_closed(rt: HostRuntime) -> Result<(), Fail> {
     stage.questions = &questions;
     stage.name = b"alice";
     let ending = play(alloc, &mut stage, watched())?;
-    assert_eq!(rt; ending, Ending::Done);
+    same(&rt, ending, Ending::Done);
     let asked = stage.asked();
     let head = b".a0a1a2r0r1r2w0w1w2*c0Kc2K-".as_slice();
-    assert!(rt; asked.starts_with(head));
-    assert_eq!(rt; stage.reported.as_slice(), b"OK 2\nOK 0\n".as_slice());
+    holds(&rt, asked.starts_with(head));
+    same(&rt, stage.reported.as_slice(), b"OK 2\nOK 0\n".as_slice());
     Ok(())
 }
 
@@ -47,7 +48,7 @@ fn a_name_that_no_tenant_has_closes_nothing(rt: HostRuntime) -> Result<(), Fail>
         ..limits(1, 1)
     };
     let ending = play(alloc, &mut stage, limits)?;
-    assert_eq!(rt; ending, Ending::Done);
-    assert_eq!(rt; stage.reported.as_slice(), b"ERR TENANT\n".as_slice());
+    same(&rt, ending, Ending::Done);
+    same(&rt, stage.reported.as_slice(), b"ERR TENANT\n".as_slice());
     Ok(())
 }

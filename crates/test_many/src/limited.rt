@@ -3,6 +3,7 @@ use crate::theatre::{Part, giving, limits, play, stage};
 use judy_many::{Ending, Limits};
 use std::alloc::Global;
 use std::test::Fail;
+use test_checks::same;
 
 // One connection a tenant.
 fn limited(clients: u32) -> Limits {
@@ -42,7 +43,7 @@ fn a_second_connection_is_refused(rt: HostRuntime) -> Result<(), Fail> {
         b"OK\nERR CLIENTS\nERR AUTH\nERR AUTH\n",
         b"OK\n0\n",
     ];
-    assert_eq!(rt; differences(rt.alloc(), &parts, &wanted)?, 0);
+    same(&rt, differences(rt.alloc(), &parts, &wanted)?, 0);
     Ok(())
 }
 
@@ -57,7 +58,7 @@ fn a_connection_that_ended_does_not_count(rt: HostRuntime) -> Result<(), Fail> {
         },
     ];
     let wanted: [&[u8]; 2] = [b"OK\nBYE\n", b"ERR CLIENTS\nOK\nBYE\n"];
-    assert_eq!(rt; differences(rt.alloc(), &parts, &wanted)?, 0);
+    same(&rt, differences(rt.alloc(), &parts, &wanted)?, 0);
     Ok(())
 }
 
@@ -70,6 +71,6 @@ fn a_reading_connection_counts(rt: HostRuntime) -> Result<(), Fail> {
         giving(b"AUTH alice look\n"),
     ];
     let wanted: [&[u8]; 3] = [b"OK\n0\n", b"ERR CLIENTS\n", b"ERR CLIENTS\n"];
-    assert_eq!(rt; differences(rt.alloc(), &parts, &wanted)?, 0);
+    same(&rt, differences(rt.alloc(), &parts, &wanted)?, 0);
     Ok(())
 }

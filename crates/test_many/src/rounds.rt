@@ -3,6 +3,7 @@ use crate::theatre::{Part, giving, limits, play, stage};
 use judy_many::Ending;
 use judy_stream::Refusal;
 use std::test::Fail;
+use test_checks::{holds, same};
 
 // Clients have their turns in the order in which they became ready. All of a round read before any of
 // them writes. Who comes has a turn at once; the second wait says which of them are ready first then.
@@ -19,11 +20,8 @@ fn turns_go_by_readiness_in_two_halves(rt: HostRuntime) -> Result<(), Fail> {
     let mut stage = stage(alloc, &parts)?;
     stage.order = &order;
     let ending = play(alloc, &mut stage, limits(3, 3))?;
-    assert_eq!(rt; ending, Ending::Done);
-    assert_eq!(rt;
-        stage.asked(),
-        b".a0a1a2r0r1r2w0w1w2|r2r0r1w2c2Qw0c0Qw1c1Q".as_slice()
-    );
+    same(&rt, ending, Ending::Done);
+    same(&rt, stage.asked(), b".a0a1a2r0r1r2w0w1w2|r2r0r1w2c2Qw0c0Qw1c1Q".as_slice());
     Ok(())
 }
 
@@ -54,13 +52,11 @@ fn nobody_has_a_second_turn_first(rt: HostRuntime) -> Result<(), Fail> {
     let mut stage = stage(alloc, &parts)?;
     stage.order = &order;
     let ending = play(alloc, &mut stage, limits(3, 3))?;
-    assert_eq!(rt; ending, Ending::Done);
-    assert!(rt;
-        begin_with(
+    same(&rt, ending, Ending::Done);
+    holds(&rt, begin_with(
             stage.asked(),
             b".a0a1a2r0r1r2w0w1w2.r1r2w0w1w2.r2r1w0w2w1.r1c1Er2c2E"
-        )
-    );
+        ));
     Ok(())
 }
 
@@ -80,17 +76,11 @@ fn a_full_output_waits(rt: HostRuntime) -> Result<(), Fail> {
     ];
     let mut stage = stage(alloc, &parts)?;
     let ending = play(alloc, &mut stage, limits(2, 2))?;
-    assert_eq!(rt; ending, Ending::Done);
-    assert_eq!(rt; stage.scripts.len(), 2);
-    assert_eq!(rt; stage.scripts[0].page.bytes().len(), 2000 * 11);
-    assert_eq!(rt;
-        stage.scripts[1].page.bytes(),
-        b"ERR AUTH\nBYE\n".as_slice()
-    );
-    assert_eq!(rt;
-        stage.asked(),
-        b".a0a1r0r1w0w1c1Q|w0|w0.w0.r0c0E".as_slice()
-    );
+    same(&rt, ending, Ending::Done);
+    same(&rt, stage.scripts.len(), 2);
+    same(&rt, stage.scripts[0].page.bytes().len(), 2000 * 11);
+    same(&rt, stage.scripts[1].page.bytes(), b"ERR AUTH\nBYE\n".as_slice());
+    same(&rt, stage.asked(), b".a0a1r0r1w0w1c1Q|w0|w0.w0.r0c0E".as_slice());
     Ok(())
 }
 
@@ -109,12 +99,9 @@ fn a_blocked_client_is_not_read(rt: HostRuntime) -> Result<(), Fail> {
     let mut stage = stage(alloc, &parts)?;
     stage.order = &order;
     let ending = play(alloc, &mut stage, limits(1, 1))?;
-    assert_eq!(rt; ending, Ending::Done);
-    assert_eq!(rt; stage.asked(), b".a0r0w0|w0.r0w0|r0c0E".as_slice());
-    assert_eq!(rt; stage.scripts.len(), 1);
-    assert_eq!(rt;
-        stage.scripts[0].page.bytes(),
-        b"ERR AUTH\nERR AUTH\n".as_slice()
-    );
+    same(&rt, ending, Ending::Done);
+    same(&rt, stage.asked(), b".a0r0w0|w0.r0w0|r0c0E".as_slice());
+    same(&rt, stage.scripts.len(), 1);
+    same(&rt, stage.scripts[0].page.bytes(), b"ERR AUTH\nERR AUTH\n".as_slice());
     Ok(())
 }

@@ -3,6 +3,7 @@ use crate::theatre::{Part, giving, limits, play, stage};
 use judy_many::Ending;
 use judy_stream::Refusal;
 use std::test::Fail;
+use test_checks::same;
 
 // Two connections of alice and two of bob, by turns of a few bytes: each speaker is the one of its own
 // connection. The second of alice finds what the first has stored, and the quota full. One connection
@@ -54,16 +55,16 @@ fn by_turns(rt: HostRuntime) -> Result<(), Fail> {
     let mut stage = stage(alloc, &parts)?;
     stage.order = &order;
     let ending = play(alloc, &mut stage, limits(4, 4))?;
-    assert_eq!(rt; ending, Ending::Done);
+    same(&rt, ending, Ending::Done);
     let wanted: [&[u8]; 4] = [
         b"OK\n1\n1\nQ 2 2 2 252\nBYE\n",
         b"ERR AUTH\nOK\n0\n1\nN 1\n",
         b"OK\n1\nFULL\nERR SYNTAX\nBYE\n",
         b"OK\n1\n",
     ];
-    assert_eq!(rt; stage.scripts.len(), 4);
+    same(&rt, stage.scripts.len(), 4);
     for (script, text) in stage.scripts.iter().zip(wanted) {
-        assert_eq!(rt; script.page.bytes(), text);
+        same(&rt, script.page.bytes(), text);
     }
     Ok(())
 }
@@ -78,12 +79,9 @@ fn a_log_in_is_the_connections_own(rt: HostRuntime) -> Result<(), Fail> {
     ];
     let mut stage = stage(alloc, &parts)?;
     let ending = play(alloc, &mut stage, limits(2, 2))?;
-    assert_eq!(rt; ending, Ending::Done);
-    assert_eq!(rt; stage.scripts.len(), 2);
-    assert_eq!(rt; stage.scripts[0].page.bytes(), b"OK\n1\nBYE\n".as_slice());
-    assert_eq!(rt;
-        stage.scripts[1].page.bytes(),
-        b"ERR AUTH\nERR AUTH\nERR AUTH\nBYE\n".as_slice()
-    );
+    same(&rt, ending, Ending::Done);
+    same(&rt, stage.scripts.len(), 2);
+    same(&rt, stage.scripts[0].page.bytes(), b"OK\n1\nBYE\n".as_slice());
+    same(&rt, stage.scripts[1].page.bytes(), b"ERR AUTH\nERR AUTH\nERR AUTH\nBYE\n".as_slice());
     Ok(())
 }

@@ -3,6 +3,7 @@ use crate::rows::{TABLE, add, check, check_bob};
 use std::alloc::{AllocError, Global};
 use std::process::Abort;
 use std::test::Fail;
+use test_checks::same;
 
 // Appends `count` lines `J1S a i`, where i begins at `from` and grows by `step`, and the reply `1`
 // for each.
@@ -186,7 +187,7 @@ fn a_noisy_neighbour(rt: HostRuntime) -> Result<(), Fail> {
         take_turn(rt.alloc(), &mut script, &mut want, row, from)?;
         from = from.saturating_add(100);
     }
-    assert_eq!(rt; from, 1000);
+    same(&rt, from, 1000);
     add(&mut script, &mut want, "J1S a 1000 -> FULL")?;
     let name = "a noisy neighbour";
     check(

@@ -3,6 +3,7 @@ use judy_command::{Job, Refusal, Sync, Word, parse_words};
 use std::alloc::{AllocError, Global};
 use std::process::Abort;
 use std::test::Fail;
+use test_checks::same_at;
 
 // The job or the refusal of a command line.
 fn parsed(alloc: Global, line: &str) -> Result<Result<Job, Refusal>, AllocError> {
@@ -119,7 +120,7 @@ fn compare(rt: &impl Abort, alloc: Global, text: &str) -> Result<(), Fail> {
         let (line, want) = row
             .split_once(" -> ")
             .ok_or("a command line and its answer")?;
-        assert_eq!(rt; answer(alloc, line)?.as_str(), want, "{line:?}");
+        same_at(rt, answer(alloc, line)?.as_str(), want, line);
     }
     Ok(())
 }

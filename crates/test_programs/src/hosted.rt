@@ -15,6 +15,7 @@ use judy_tenants::Sha256Hash;
 use std::alloc::{AllocError, Global};
 use std::process::Abort;
 use std::test::Fail;
+use test_checks::same;
 
 /// A connection that will come: what it sends, and where a read of it fails.
 #[derive(Clone, Copy)]
@@ -297,15 +298,15 @@ fn host(alloc: Global, system: &mut Play<'_>, start: &Start) -> Hosted {
 /// since the system is there.
 fn check(rt: &impl Abort, alloc: Global, system: &mut Play<'_>, start: &Start) {
     let hosted = host(alloc, system, start);
-    assert_eq!(rt; hosted, start.hosted);
-    assert_eq!(rt; system.counts, start.counts);
+    same(rt, hosted, start.hosted);
+    same(rt, system.counts, start.counts);
 }
 
 /// Compares what each caller read.
 fn compare_pages(rt: &impl Abort, system: &Play<'_>, wanted: &[&[u8]]) {
-    assert_eq!(rt; system.pages.len(), wanted.len());
+    same(rt, system.pages.len(), wanted.len());
     for (page, want) in system.pages.iter().zip(wanted) {
-        assert_eq!(rt; page.bytes(), *want);
+        same(rt, page.bytes(), *want);
     }
 }
 
@@ -459,18 +460,18 @@ fn look(alloc: Global, system: &mut Play<'_>, reserve: Option<u32>) -> Hosted {
 #[test]
 fn a_look_at_the_table(rt: HostRuntime) -> Result<(), Fail> {
     let mut system = with_callers(rt.alloc(), &[SET])?;
-    assert_eq!(rt; look(rt.alloc(), &mut system, Some(1)), Hosted::Done);
+    same(&rt, look(rt.alloc(), &mut system, Some(1)), Hosted::Done);
     system.file = Some(b"alice = 1\n");
     let hosted = look(rt.alloc(), &mut system, None);
-    assert_eq!(rt; hosted, Hosted::Table(TableFault::Shape));
+    same(&rt, hosted, Hosted::Table(TableFault::Shape));
     system.file = None;
-    assert_eq!(rt; look(rt.alloc(), &mut system, None), Hosted::Config);
+    same(&rt, look(rt.alloc(), &mut system, None), Hosted::Config);
     let counts = Counts {
         opened: 3,
         shut: 2,
         ..NOTHING
     };
-    assert_eq!(rt; system.counts, counts);
+    same(&rt, system.counts, counts);
     Ok(())
 }
 
@@ -540,12 +541,12 @@ fn run_drawn(
     let mut page: Page<256> = Page::new(256, Refusal::Fails, None, None);
     let job = Job::Run { words: false };
     let ended = do_job_on::<Sha256Hash, _, _, _>(alloc, &job, &mut tape, &mut page, &mut system);
-    assert_eq!(rt; (ended.0, ended.1, page.bytes()), (status, line, replies));
+    same(rt, (ended.0, ended.1, page.bytes()), (status, line, replies));
     let counts = Counts {
         drawn: 1,
         ..NOTHING
     };
-    assert_eq!(rt; system.counts, counts);
+    same(rt, system.counts, counts);
     Ok(())
 }
 

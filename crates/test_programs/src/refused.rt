@@ -11,6 +11,7 @@ use std::alloc::Global;
 use std::fmt::Write;
 use std::process::Abort;
 use std::test::Fail;
+use test_checks::{holds_at, same};
 
 // A line that inserts something. It is sent twice, and a question follows each time.
 #[derive(Clone, Copy)]
@@ -132,14 +133,14 @@ fn a_run(rt: HostRuntime) -> Result<(), Fail> {
     input.write_str(script()?.as_str())?;
     let (ran, page) = run_once(rt.alloc(), input.as_bytes());
     if ran == Ran::Memory || ran == Ran::Table(TableFault::Memory) {
-        assert!(rt; page.bytes().is_empty(), "written without a service");
+        holds_at(&rt, page.bytes().is_empty(), "written without a service");
         let (ran, page) = run_once(rt.alloc(), input.as_bytes());
-        assert_eq!(rt; ran, Ran::Served(End::End));
-        assert_eq!(rt; page.bytes(), replies(NAMES + ROWS.len())?.as_bytes());
+        same(&rt, ran, Ran::Served(End::End));
+        same(&rt, page.bytes(), replies(NAMES + ROWS.len())?.as_bytes());
         return Ok(());
     }
-    assert_eq!(rt; ran, Ran::Served(End::End));
-    assert!(rt; is_answered(page.bytes())?, "other replies");
+    same(&rt, ran, Ran::Served(End::End));
+    holds_at(&rt, is_answered(page.bytes())?, "other replies");
     Ok(())
 }
 
@@ -147,10 +148,7 @@ fn a_run(rt: HostRuntime) -> Result<(), Fail> {
 fn open(rt: &impl Abort, alloc: Global) -> Result<Tenants, Fail> {
     match Tenants::open(alloc, b"secret", TABLE.as_bytes()) {
         Ok(tenants) => return Ok(tenants),
-        Err(why) => assert!(rt;
-            why == Unopened::Memory || why == Unopened::Table(TableFault::Memory),
-            "{why:?}"
-        ),
+        Err(why) => holds_at(rt, why == Unopened::Memory || why == Unopened::Table(TableFault::Memory), why),
     }
     match Tenants::open(alloc, b"secret", TABLE.as_bytes()) {
         Ok(tenants) => Ok(tenants),
@@ -165,7 +163,7 @@ fn a_connection(rt: HostRuntime) -> Result<(), Fail> {
     let mut tape = Tape::new(script.as_bytes(), &[], 4096, None);
     let mut page: Page<4096> = Page::new(4096, Refusal::Fails, None, None);
     let end = serve(rt.alloc(), &mut tenants, &mut tape, &mut page);
-    assert_eq!(rt; end, End::End);
-    assert!(rt; is_answered(page.bytes())?, "other replies");
+    same(&rt, end, End::End);
+    holds_at(&rt, is_answered(page.bytes())?, "other replies");
     Ok(())
 }

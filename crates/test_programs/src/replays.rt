@@ -10,6 +10,7 @@ use judy_tenants::{Right, Service, Sha256Hash, Speaker, Table, is_callable};
 use std::alloc::Global;
 use std::process::Abort;
 use std::test::Fail;
+use test_checks::{holds_at, same, same_at};
 
 /// ann may have 12 entries, bob and cid 1,000.
 const TABLE: &str = r#"
@@ -179,7 +180,7 @@ fn compare(
     let mut other = ArrayVec::new();
     ask(alloc, first, name, line, &mut one)?;
     ask(alloc, second, name, line, &mut other)?;
-    assert_eq!(rt; one.as_slice(), other.as_slice(), "{name} {line}");
+    same_at(rt, one.as_slice(), other.as_slice(), (name, line));
     Ok(())
 }
 
@@ -211,7 +212,7 @@ fn compare_all(
             compare_looks(rt, alloc, first, second, name, look)?;
         }
     }
-    assert_eq!(rt; first.live_words(), second.live_words(), "words");
+    same_at(rt, first.live_words(), second.live_words(), "words");
     Ok(())
 }
 
@@ -257,10 +258,10 @@ fn random_lines(rt: HostRuntime) -> Result<(), Fail> {
             kept = kept.saturating_add(1);
         }
     }
-    assert!(rt; kept > 150, "few lines are recorded: {kept}");
-    assert!(rt; kept < 290, "no line is refused: {kept}");
+    holds_at(&rt, kept > 150, ("few lines are recorded", kept));
+    holds_at(&rt, kept < 290, ("no line is refused", kept));
     let mut restored = open(alloc, LATER)?;
-    assert_eq!(rt; play_all(alloc, &mut restored, records.as_str()), Ok(()));
+    same(&rt, play_all(alloc, &mut restored, records.as_str()), Ok(()));
     compare_all(&rt, alloc, &mut service, &mut restored)
 }
 
@@ -271,14 +272,14 @@ fn reasons(rt: HostRuntime) -> Result<(), Fail> {
     let mut service = open(alloc, LATER)?;
     for number in 0..5u64 {
         let record = format!(in alloc; "abe J1S a {number}")?;
-        assert_eq!(rt; play(alloc, &mut service, record.as_str()), Ok(()));
+        same(&rt, play(alloc, &mut service, record.as_str()), Ok(()));
     }
     for (record, why) in &REFUSED {
-        assert_eq!(rt; play(alloc, &mut service, record), Err(*why), "{record}");
+        same_at(&rt, play(alloc, &mut service, record), Err(*why), record);
     }
     let mut text = ArrayVec::new();
     ask(alloc, &mut service, "abe", "USED", &mut text)?;
-    assert_eq!(rt; text.as_slice(), b"Q 5 5 5 630\n".as_slice());
+    same(&rt, text.as_slice(), b"Q 5 5 5 630\n".as_slice());
     Ok(())
 }
 
@@ -289,17 +290,14 @@ fn halts(rt: HostRuntime) -> Result<(), Fail> {
     let mut service = open(alloc, LATER)?;
     let text = "bob J1S a 1\nbob J1S a 2\neve J1S a 3\nbob J1S a 4\n";
     let why = Unplayed::Tenant;
-    assert_eq!(rt;
-        play_all(alloc, &mut service, text),
-        Err(Halt { played: 2, why })
-    );
+    same(&rt, play_all(alloc, &mut service, text), Err(Halt { played: 2, why }));
     let mut answer = ArrayVec::new();
     ask(alloc, &mut service, "bob", "J1C a 0 -1", &mut answer)?;
-    assert_eq!(rt; answer.as_slice(), b"N 2\n".as_slice());
-    assert_eq!(rt; play_all(alloc, &mut service, ""), Ok(()));
-    assert_eq!(rt; play_all(alloc, &mut service, "bob J1S a 9"), Ok(()));
+    same(&rt, answer.as_slice(), b"N 2\n".as_slice());
+    same(&rt, play_all(alloc, &mut service, ""), Ok(()));
+    same(&rt, play_all(alloc, &mut service, "bob J1S a 9"), Ok(()));
     answer.clear();
     ask(alloc, &mut service, "bob", "J1C a 0 -1", &mut answer)?;
-    assert_eq!(rt; answer.as_slice(), b"N 2\n".as_slice());
+    same(&rt, answer.as_slice(), b"N 2\n".as_slice());
     Ok(())
 }

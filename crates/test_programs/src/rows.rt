@@ -11,6 +11,7 @@ use judy_tenants::Sha256Hash;
 use std::alloc::{AllocError, Global};
 use std::process::Abort;
 use std::test::Fail;
+use test_checks::{holds_at, same_at};
 
 /// The service of the program.
 pub type Tenants = Server<Sha256Hash>;
@@ -51,11 +52,8 @@ pub fn check(
     let mut tape = Tape::new(whole.as_str().as_bytes(), &[], 4096, None);
     let mut page: Page<4096> = Page::new(4096, Refusal::Fails, None, None);
     let ran = run(alloc, &mut tape, &mut page, words);
-    assert!(rt;
-        matches!(ran, Ran::Served(End::End | End::Quit)),
-        "{name} is not served: {ran:?}"
-    );
-    assert_eq!(rt; page.bytes(), want.as_bytes(), "{name}");
+    holds_at(rt, matches!(ran, Ran::Served(End::End | End::Quit)), (name, "is not served", ran));
+    same_at(rt, page.bytes(), want.as_bytes(), name);
     Ok(())
 }
 

@@ -13,6 +13,7 @@ use std::os::unix::net::UnixStream;
 use std::process::Abort;
 use std::rt::Clock;
 use std::test::Fail;
+use test_checks::{holds, same};
 
 // A service of the two tenants, none of whom has an entry.
 fn open(alloc: Global) -> Result<Tenants, Fail> {
@@ -54,10 +55,10 @@ fn check_all(
     clients: &mut [UnixStream],
     wanted: &[&str],
 ) -> Result<(), Fail> {
-    assert_eq!(rt; clients.len(), wanted.len());
+    same(rt, clients.len(), wanted.len());
     for (client, want) in clients.iter_mut().zip(wanted) {
         let read = io::read_to_string(alloc, client)?;
-        assert_eq!(rt; read.as_str(), *want);
+        same(rt, read.as_str(), *want);
     }
     Ok(())
 }
@@ -86,7 +87,7 @@ fn serve_all<R: Abort + Locks + Net + Clock + Eprint + Clone + Drop>(
 ) -> Result<(), Fail> {
     let mut tenants = open(alloc)?;
     let ending = serve_many(alloc, system, &mut tenants, limits, None);
-    assert_eq!(rt; ending, want);
+    same(rt, ending, want);
     Ok(())
 }
 
@@ -102,7 +103,7 @@ fn check_served<R: Abort + Locks + Net + Clock + Eprint + Clone + Drop>(
 ) -> Result<(), Fail> {
     let _ = fs::remove_file(rt, path);
     let mut system = System::new(rt);
-    assert!(rt; system.bind(alloc, path));
+    holds(rt, system.bind(alloc, path));
     let count = scripts.len() as u64;
     let mut clients = clients(rt, alloc, path, scripts)?;
     let limits = limits(count, idle, turn);
@@ -133,16 +134,13 @@ fn clients_that_leave(rt: HostRuntime) -> Result<(), Fail> {
     let path = "clients_that_leave.sock";
     let _ = fs::remove_file(&rt, path);
     let mut system = System::new(&rt);
-    assert!(rt; system.bind(rt.alloc(), path));
+    holds(&rt, system.bind(rt.alloc(), path));
     let _ = client(&rt, path, b"AUTH alice abc\nJ1S a", false)?;
     let _ = client(&rt, path, b"AUTH alice abc\nJ1S a 1\nJ1S a 2\n", false)?;
     let mut three = client(&rt, path, b"AUTH alice abc\nJ1T a 7\nQUIT\n", true)?;
     let limits = limits(3, None, None);
     serve_all(&rt, rt.alloc(), &mut system, limits, Ending::Done)?;
-    assert_eq!(rt;
-        io::read_to_string(rt.alloc(), &mut three)?.as_str(),
-        "OK\n0\nBYE\n"
-    );
+    same(&rt, io::read_to_string(rt.alloc(), &mut three)?.as_str(), "OK\n0\nBYE\n");
     fs::remove_file(&rt, path)?;
     Ok(())
 }
@@ -185,7 +183,7 @@ fn check_hosted<R: Abort + Locks + Net + Clock + Eprint + Clone + Drop>(
 ) {
     let limits = limits(0, None, None);
     let hosted = host_on::<Tenants, _>(alloc, b"", system, config, path, None, None, None, limits);
-    assert_eq!(rt; hosted, want);
+    same(rt, hosted, want);
 }
 
 // A text of this many signs `#`.
@@ -226,11 +224,11 @@ fn faults_of_hosting(rt: HostRuntime) -> Result<(), Fail> {
 fn two_starts_differ(rt: HostRuntime) {
     let one = System::new(&rt).secret();
     let other = System::new(&rt).secret();
-    assert!(rt; one.is_some() && other.is_some() && one != other);
+    holds(&rt, one.is_some() && other.is_some() && one != other);
 }
 
 #[test]
 fn too_few_bytes_are_no_secret(rt: HostRuntime) {
-    assert!(rt; read_secret(&rt, "/dev/null").is_none());
-    assert!(rt; read_secret(&rt, "/dev/null/absent").is_none());
+    holds(&rt, read_secret(&rt, "/dev/null").is_none());
+    holds(&rt, read_secret(&rt, "/dev/null/absent").is_none());
 }

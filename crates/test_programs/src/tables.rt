@@ -7,6 +7,7 @@ use judy_table::TableFault;
 use std::alloc::{AllocError, Global};
 use std::process::Abort;
 use std::test::Fail;
+use test_checks::{holds_at, same, same_at};
 
 // How a run of this input ends.
 fn run_bytes(alloc: Global, bytes: &[u8]) -> Ran {
@@ -50,7 +51,7 @@ fn faulty_tables(rt: HostRuntime) -> Result<(), Fail> {
     for (table, fault) in &FAULTY {
         let whole = input(rt.alloc(), table, "USED\n")?;
         let ran = run_bytes(rt.alloc(), whole.as_str().as_bytes());
-        assert_eq!(rt; ran, Ran::Table(*fault), "{table}");
+        same_at(&rt, ran, Ran::Table(*fault), table);
     }
     Ok(())
 }
@@ -58,11 +59,7 @@ fn faulty_tables(rt: HostRuntime) -> Result<(), Fail> {
 #[test]
 fn tables_without_their_end(rt: HostRuntime) {
     for table in [TABLE, "", "---"] {
-        assert_eq!(rt;
-            run_bytes(rt.alloc(), table.as_bytes()),
-            Ran::Cut,
-            "{table}"
-        );
+        same_at(&rt, run_bytes(rt.alloc(), table.as_bytes()), Ran::Cut, table);
     }
 }
 
@@ -85,10 +82,10 @@ static FINISHED_HOSTED: [(Hosted, u8, Option<&str>); 2] = [
 #[test]
 fn statuses_and_texts(rt: HostRuntime) {
     for (ran, status, text) in &FINISHED {
-        assert_eq!(rt; finish(*ran), (*status, *text), "{ran:?}");
+        same_at(&rt, finish(*ran), (*status, *text), ran);
     }
     for (hosted, status, text) in &FINISHED_HOSTED {
-        assert_eq!(rt; finish_hosted(*hosted), (*status, *text), "{hosted:?}");
+        same_at(&rt, finish_hosted(*hosted), (*status, *text), hosted);
     }
 }
 
@@ -121,7 +118,7 @@ fn the_longest_table(rt: HostRuntime) -> Result<(), Fail> {
     for (len, mark, want) in &LONGEST {
         let text = long_table(rt.alloc(), *len, mark)?;
         let ran = run_bytes(rt.alloc(), text.as_str().as_bytes());
-        assert_eq!(rt; ran, *want, "{len} {mark}");
+        same_at(&rt, ran, *want, (len, mark));
     }
     Ok(())
 }
@@ -130,12 +127,8 @@ fn the_longest_table(rt: HostRuntime) -> Result<(), Fail> {
 fn check_parts(rt: &impl Abort, alloc: Global, tape: &mut Tape<'_>, name: usize) {
     let mut page: Page<64> = Page::new(64, Refusal::Fails, None, None);
     let ran = run(alloc, tape, &mut page, false);
-    assert_eq!(rt; ran, Ran::Served(End::End), "{name}");
-    assert_eq!(rt;
-        page.bytes(),
-        b"OK\n1\nERR SYNTAX\nERR SYNTAX\nQ 1 4 1 504\n".as_slice(),
-        "{name}"
-    );
+    same_at(rt, ran, Ran::Served(End::End), name);
+    same_at(rt, page.bytes(), b"OK\n1\nERR SYNTAX\nERR SYNTAX\nQ 1 4 1 504\n".as_slice(), name);
 }
 
 // An input that is cut at each place, and one of which each read takes a byte.
@@ -167,10 +160,10 @@ fn failing_reads(rt: HostRuntime) -> Result<(), Fail> {
         let mut page: Page<64> = Page::new(64, Refusal::Fails, None, None);
         let ran = run(rt.alloc(), &mut tape, &mut page, true);
         if place < script {
-            assert_eq!(rt; ran, Ran::Read, "{place}");
-            assert_eq!(rt; page.bytes(), b"".as_slice());
+            same_at(&rt, ran, Ran::Read, place);
+            same(&rt, page.bytes(), b"".as_slice());
         } else {
-            assert_eq!(rt; ran, Ran::Served(End::ReadFault), "{place}");
+            same_at(&rt, ran, Ran::Served(End::ReadFault), place);
         }
     }
     Ok(())
@@ -190,11 +183,11 @@ fn failing_writes(rt: HostRuntime) -> Result<(), Fail> {
         let mut page: Page<64> = Page::new(limit, Refusal::TakesNothing, None, None);
         let ran = run(rt.alloc(), &mut tape, &mut page, true);
         if limit < 11 {
-            assert_eq!(rt; ran, Ran::Served(End::WriteFault), "{limit}");
+            same_at(&rt, ran, Ran::Served(End::WriteFault), limit);
         } else {
-            assert_eq!(rt; ran, Ran::Write, "{limit}");
+            same_at(&rt, ran, Ran::Write, limit);
         }
-        assert!(rt; replies.starts_with(page.bytes()), "{limit}");
+        holds_at(&rt, replies.starts_with(page.bytes()), limit);
     }
     Ok(())
 }

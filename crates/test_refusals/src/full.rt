@@ -5,6 +5,7 @@ ghost use Rattle.test_refusals.specs.Kept.{KeepsBlocks};
 use judy_arena::{Arena, Block, NoMemory};
 use std::alloc::Global;
 use std::process::Abort;
+use test_checks::{holds, holds_at};
 
 /// The words of an arena that asked the machine for memory once.
 pub(crate) const CHUNK: u64 = 65_536;
@@ -46,7 +47,7 @@ fn take_all(
     let mut sizes = sizes.iter().chain(&BEFORE);
     for place in places {
         let len = *sizes.next().unwrap_or(&4);
-        assert!(rt; 1 <= len && len <= 512);
+        holds(rt, 1 <= len && len <= 512);
         *place = Some(arena.alloc(alloc, len)?);
         if len < 512 {
             let beside = arena.alloc(alloc, len)?;
@@ -82,12 +83,12 @@ pub(crate) fn arena_with(
     let mut arena = Arena::new(alloc);
     let mut places = [None; 192];
     let count = sizes.len().saturating_add(145).min(192);
-    assert!(rt; count <= places.len());
+    holds(rt, count <= places.len());
     take_all(rt, alloc, &mut arena, &mut places[..count], sizes)?;
     fill(alloc, &mut arena)?;
-    assert!(rt; !arena.spare(4) && arena.region() == CHUNK, "a full chunk");
+    holds_at(rt, !arena.spare(4) && arena.region() == CHUNK, "a full chunk");
     for block in places.iter().flatten() {
-        assert!(rt; 0 < arena.size(*block));
+        holds(rt, 0 < arena.size(*block));
         arena.release(*block);
     }
     Ok(arena)

@@ -9,6 +9,7 @@ use judy_arena::{Arena, Block, NoMemory};
 use judy_refs::Ref;
 use std::alloc::Global;
 use std::process::Abort;
+use test_checks::{holds, holds_at, same, same_at};
 
 /// What is inserted, entry by entry.
 #[derive(Clone, Copy, Debug, PartialEq, Eq)]
@@ -89,7 +90,7 @@ fn take_free<G: Grown>(
 ) -> Result<[u32; 8], NoMemory> {
     let mut counts = [0u32; 8];
     for (count, size) in counts.iter_mut().zip(SIZES) {
-        assert!(rt; 1 <= size && size <= 512);
+        holds(rt, 1 <= size && size <= 512);
         for _ in 0..200u32 {
             if grown.arena().spare(size) {
                 grown.take(alloc, size)?;
@@ -108,7 +109,7 @@ fn take_counted<G: Grown>(
     counts: [u32; 8],
 ) -> Result<(), NoMemory> {
     for (count, size) in counts.iter().zip(SIZES) {
-        assert!(rt; 1 <= size && size <= 512);
+        holds(rt, 1 <= size && size <= 512);
         for _ in 0..*count {
             grown.take(alloc, size)?;
         }
@@ -125,7 +126,7 @@ fn entries_before<G: Grown>(
 ) -> Result<G, NoMemory> {
     let mut grown = G::within(arena_with(rt, alloc, sizes)?, trial.entries);
     for number in 0..trial.before {
-        assert!(rt; grown.put(alloc, number)?, "entry {number} is new");
+        holds_at(rt, grown.put(alloc, number)?, ("entry", number, "is new"));
     }
     Ok(grown)
 }
@@ -141,8 +142,8 @@ fn prepare<G: Grown>(
     let counts = take_free(rt, alloc, &mut first)?;
     let mut grown: G = entries_before(rt, alloc, trial, sizes)?;
     take_counted(rt, alloc, &mut grown, counts)?;
-    assert!(rt; grown.arena().region() == CHUNK, "a full chunk");
-    assert!(rt; grown.arena().spare(4) != sizes.is_empty());
+    holds_at(rt, grown.arena().region() == CHUNK, "a full chunk");
+    holds(rt, grown.arena().spare(4) != sizes.is_empty());
     Ok(grown)
 }
 
@@ -180,19 +181,13 @@ fn all_words(arena: &Arena) -> u64 {
 /// Checks that the first `count` entries are present as they were inserted, and no others.
 fn reads<G: Grown>(rt: &impl Abort, grown: &G, trial: Trial, count: u64, given: usize) {
     for number in 0..count {
-        assert!(rt;
-            grown.has(number),
-            "{trial:?} given {given}: entry {number}"
-        );
+        holds_at(rt, grown.has(number), (trial, "given", given, "entry", number));
     }
     if count == trial.before {
-        assert!(rt;
-            !grown.has(count),
-            "{trial:?} given {given}: a refused entry is there"
-        );
+        holds_at(rt, !grown.has(count), (trial, "given", given, "a refused entry is there"));
     }
     if let Some(population) = grown.population() {
-        assert_eq!(rt; population, count, "{trial:?} given {given}: entries");
+        same_at(rt, population, count, (trial, "given", given, "entries"));
     }
 }
 
@@ -202,7 +197,7 @@ fn reads<G: Grown>(rt: &impl Abort, grown: &G, trial: Trial, count: u64, given: 
 /// request, nothing is tested.
 fn insert_given<G: Grown>(rt: &impl Abort, alloc: Global, trial: Trial, given: usize) {
     let sizes = trial.sizes;
-    assert!(rt; given <= sizes.len());
+    holds(rt, given <= sizes.len());
     let Ok(mut grown) = prepare::<G>(rt, alloc, trial, &sizes[..given]) else {
         return;
     };
@@ -210,27 +205,16 @@ fn insert_given<G: Grown>(rt: &impl Abort, alloc: Global, trial: Trial, given: u
     let blocks = all_words(grown.arena());
     let mut answer = grown.put(alloc, trial.before);
     if answer.is_err() {
-        assert!(rt; given < sizes.len(), "{trial:?} given {given}: refused");
-        assert_eq!(rt;
-            grown.arena().live_words(),
-            words,
-            "{trial:?} given {given}: words"
-        );
-        assert_eq!(rt;
-            all_words(grown.arena()),
-            blocks,
-            "{trial:?} given {given}: the words of all blocks"
-        );
-        assert_eq!(rt; grown.arena().refusals(), refusals.saturating_add(1));
-        assert_eq!(rt; grown.arena().region(), CHUNK);
+        holds_at(rt, given < sizes.len(), (trial, "given", given, "refused"));
+        same_at(rt, grown.arena().live_words(), words, (trial, "given", given, "words"));
+        same_at(rt, all_words(grown.arena()), blocks, (trial, "given", given, "the words of all blocks"));
+        same(rt, grown.arena().refusals(), refusals.saturating_add(1));
+        same(rt, grown.arena().region(), CHUNK);
         reads(rt, &grown, trial, trial.before, given);
         answer = grown.put(alloc, trial.before);
     }
-    assert!(rt; answer == Ok(true), "{trial:?} given {given}: not put in");
-    assert!(rt;
-        (grown.arena().region() > CHUNK) == (given < sizes.len()),
-        "{trial:?} given {given}: the machine is asked"
-    );
+    holds_at(rt, answer == Ok(true), (trial, "given", given, "not put in"));
+    holds_at(rt, (grown.arena().region() > CHUNK) == (given < sizes.len()), (trial, "given", given, "the machine is asked"));
     reads(rt, &grown, trial, trial.before.saturating_add(1), given);
 }
 

@@ -9,6 +9,7 @@ use judy_words::JudyL;
 use std::alloc::Global;
 use std::marker::Model;
 use std::process::Abort;
+use test_checks::{holds, holds_at};
 
 /// One of the two JudySL arrays.
 #[derive(Clone, Copy, Debug, PartialEq, Eq)]
@@ -99,13 +100,13 @@ fn answer<'a>(
 {
     match call {
         StrCall::Insert(key, given) => {
-            assert!(rt; is_string(key.as_bytes()));
+            holds(rt, is_string(key.as_bytes()));
             let answer = map.insert(alloc, arena, key.as_bytes(), *given)?;
             let before = answer.before.unwrap_or(0);
             Ok(Reply::Value(given.value_replied(before)))
         }
         StrCall::Delete(key) => {
-            assert!(rt; is_string(key.as_bytes()));
+            holds(rt, is_string(key.as_bytes()));
             Ok(Reply::Int(map.delete(arena, key.as_bytes())))
         }
         StrCall::Free => Ok(Reply::Count(map.clear(arena))),
@@ -128,26 +129,26 @@ fn look<'a>(
 {
     let found = match call {
         StrCall::Get(key) => {
-            assert!(rt; is_string(key.as_bytes()));
+            holds(rt, is_string(key.as_bytes()));
             return match map.get(arena, key.as_bytes()) {
                 Some(value) => Reply::Value(value),
                 None => Reply::Null,
             };
         }
         StrCall::First(key) => {
-            assert!(rt; is_string(key.as_bytes()));
+            holds(rt, is_string(key.as_bytes()));
             map.first(arena, key.as_bytes(), buffer)
         }
         StrCall::Next(key) => {
-            assert!(rt; is_string(key.as_bytes()));
+            holds(rt, is_string(key.as_bytes()));
             map.next(arena, key.as_bytes(), buffer)
         }
         StrCall::Last(key) => {
-            assert!(rt; is_string(key.as_bytes()));
+            holds(rt, is_string(key.as_bytes()));
             map.last(arena, key.as_bytes(), buffer)
         }
         StrCall::Prev(key) => {
-            assert!(rt; is_string(key.as_bytes()));
+            holds(rt, is_string(key.as_bytes()));
             map.prev(arena, key.as_bytes(), buffer)
         }
         StrCall::Insert(_, _) | StrCall::Delete(_) | StrCall::Free => None,
@@ -155,10 +156,7 @@ fn look<'a>(
     match found {
         Some(value) => Reply::ValueKey(value, Key::of(buffer.as_slice())),
         None => {
-            assert!(rt;
-                buffer.is_empty(),
-                "what an empty answer leaves in the buffer"
-            );
+            holds_at(rt, buffer.is_empty(), "what an empty answer leaves in the buffer");
             Reply::Null
         }
     }

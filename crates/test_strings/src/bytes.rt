@@ -8,6 +8,7 @@ use judy_model::Given;
 use std::alloc::Global;
 use std::process::Abort;
 use std::test::Fail;
+use test_checks::{holds, holds_at, same, same_at};
 
 // Every key has the word 0.
 #[derive(Clone, Copy)]
@@ -56,13 +57,10 @@ fn put<H: KeyHash>(
     if let Ok(answer) = map.insert(alloc, arena, key, given) {
         return Ok(answer.before);
     }
-    assert_eq!(rt; arena.live_words(), words, "words after a refusal");
-    assert_eq!(rt; arena.refusals(), refusals.saturating_add(1));
-    assert!(rt;
-        map.reference() == reference,
-        "the reference after a refusal"
-    );
-    assert_eq!(rt; map.get(arena, key), None, "a refused key is there");
+    same_at(rt, arena.live_words(), words, "words after a refusal");
+    same(rt, arena.refusals(), refusals.saturating_add(1));
+    holds_at(rt, map.reference() == reference, "the reference after a refusal");
+    same_at(rt, map.get(arena, key), None, "a refused key is there");
     let answer = map.insert(alloc, arena, key, given)?;
     Ok(answer.before)
 }
@@ -80,7 +78,7 @@ fn thousand<H: KeyHash>(rt: &impl Abort, alloc: Global, hash: H) -> Result<(), N
             &i.to_be_bytes(),
             Given::Nothing,
         )?;
-        assert_eq!(rt; found, None, "insert {i}");
+        same_at(rt, found, None, ("insert", i));
     }
     for i in 0..1000u32 {
         let found = put(
@@ -91,24 +89,20 @@ fn thousand<H: KeyHash>(rt: &impl Abort, alloc: Global, hash: H) -> Result<(), N
             &i.to_be_bytes(),
             Given::Value(u64::from(i)),
         )?;
-        assert_eq!(rt; found, Some(0), "insert {i} again");
+        same_at(rt, found, Some(0), ("insert", i, "again"));
         let key = i.to_be_bytes();
         let found = put(rt, alloc, &mut arena, &mut map, &key, Given::Plus(7))?;
-        assert_eq!(rt; found, Some(u64::from(i)), "add to {i}");
+        same_at(rt, found, Some(u64::from(i)), ("add to", i));
     }
     for i in 0..1000u32 {
         let key = (i * 7 % 1000).to_be_bytes();
-        assert_eq!(rt;
-            map.get(&arena, &key),
-            Some(u64::from(i * 7 % 1000) + 7),
-            "get before delete {i}"
-        );
-        assert!(rt; map.delete(&mut arena, &key), "delete {i}");
-        assert!(rt; !map.delete(&mut arena, &key), "delete {i} twice");
-        assert_eq!(rt; map.get(&arena, &key), None, "get after delete {i}");
+        same_at(rt, map.get(&arena, &key), Some(u64::from(i * 7 % 1000) + 7), ("get before delete", i));
+        holds_at(rt, map.delete(&mut arena, &key), ("delete", i));
+        holds_at(rt, !map.delete(&mut arena, &key), ("delete", i, "twice"));
+        same_at(rt, map.get(&arena, &key), None, ("get after delete", i));
     }
-    assert_eq!(rt; arena.live_words(), 0);
-    assert_eq!(rt; map.clear(&mut arena), 0);
+    same(rt, arena.live_words(), 0);
+    same(rt, map.clear(&mut arena), 0);
     Ok(())
 }
 
@@ -135,24 +129,18 @@ fn row<H: KeyHash>(rt: &impl Abort, alloc: Global, hash: H) -> Result<(), NoMemo
     let mut arena = Arena::new(alloc);
     let mut map = JudyHS::new(hash);
     let empty: [u8; 0] = [];
-    assert_eq!(rt;
-        put(rt, alloc, &mut arena, &mut map, &empty, Given::Value(1))?,
-        None
-    );
-    assert_eq!(rt;
-        put(rt, alloc, &mut arena, &mut map, &[0], Given::Plus(2))?,
-        None
-    );
-    assert_eq!(rt; map.get(&arena, &empty), Some(1));
-    assert_eq!(rt; map.get(&arena, &[0, 0]), None);
-    assert!(rt; map.delete(&mut arena, &empty));
-    assert_eq!(rt; map.get(&arena, &[0]), Some(2));
+    same(rt, put(rt, alloc, &mut arena, &mut map, &empty, Given::Value(1))?, None);
+    same(rt, put(rt, alloc, &mut arena, &mut map, &[0], Given::Plus(2))?, None);
+    same(rt, map.get(&arena, &empty), Some(1));
+    same(rt, map.get(&arena, &[0, 0]), None);
+    holds(rt, map.delete(&mut arena, &empty));
+    same(rt, map.get(&arena, &[0]), Some(2));
     map.write(&mut arena, &[0], 3);
-    assert_eq!(rt; map.get(&arena, &[0]), Some(3));
+    same(rt, map.get(&arena, &[0]), Some(3));
     let back = JudyHS::from_reference(hash, map.reference());
-    assert_eq!(rt; back.get(&arena, &[0]), Some(3));
-    assert_eq!(rt; map.clear(&mut arena), 1);
-    assert_eq!(rt; arena.live_words(), 0);
+    same(rt, back.get(&arena, &[0]), Some(3));
+    same(rt, map.clear(&mut arena), 1);
+    same(rt, arena.live_words(), 0);
     Ok(())
 }
 
@@ -167,7 +155,7 @@ fn empty_and_zero_keys(rt: HostRuntime) -> Result<(), Fail> {
 // The digest of `abc` is an example of FIPS 180-4.
 #[test]
 fn the_word_of_abc(rt: HostRuntime) -> Result<(), Fail> {
-    assert_eq!(rt; Sha256Hash.word(b"abc"), 0xba78_16bf_8f01_cfea);
+    same(&rt, Sha256Hash.word(b"abc"), 0xba78_16bf_8f01_cfea);
     Ok(())
 }
 
@@ -179,37 +167,28 @@ fn a_chain_of_two(rt: HostRuntime) -> Result<(), Fail> {
     let one = [1; 1000];
     let mut two = [1; 1000];
     two[999] = 2;
-    assert_eq!(rt;
-        put(
+    same(&rt, put(
             &rt,
             rt.alloc(),
             &mut arena,
             &mut map,
             &one,
             Given::Value(10)
-        )?,
-        None
-    );
-    assert_eq!(rt;
-        put(
+        )?, None);
+    same(&rt, put(
             &rt,
             rt.alloc(),
             &mut arena,
             &mut map,
             &two,
             Given::Value(20)
-        )?,
-        None
-    );
-    assert_eq!(rt;
-        put(&rt, rt.alloc(), &mut arena, &mut map, &one, Given::Nothing)?,
-        Some(10)
-    );
-    assert_eq!(rt; map.get(&arena, &two), Some(20));
-    assert_eq!(rt; map.get(&arena, &one[..992]), None);
-    assert!(rt; map.delete(&mut arena, &two));
-    assert_eq!(rt; map.get(&arena, &one), Some(10));
-    assert_eq!(rt; map.clear(&mut arena), 1);
-    assert_eq!(rt; arena.live_words(), 0);
+        )?, None);
+    same(&rt, put(&rt, rt.alloc(), &mut arena, &mut map, &one, Given::Nothing)?, Some(10));
+    same(&rt, map.get(&arena, &two), Some(20));
+    same(&rt, map.get(&arena, &one[..992]), None);
+    holds(&rt, map.delete(&mut arena, &two));
+    same(&rt, map.get(&arena, &one), Some(10));
+    same(&rt, map.clear(&mut arena), 1);
+    same(&rt, arena.live_words(), 0);
     Ok(())
 }

@@ -6,6 +6,7 @@ use judy_string::{JudySL, is_string};
 use std::alloc::Global;
 use std::marker::Model;
 use std::process::Abort;
+use test_checks::{holds, same, same_at};
 
 /// A map and its arena.
 #[derive(Drop)]
@@ -44,32 +45,32 @@ impl Held {
         key: &[u8],
         given: Given,
     ) -> Option<u64> {
-        assert!(rt; is_string(key));
+        holds(rt, is_string(key));
         let words = self.arena.live_words();
         let refusals = self.arena.refusals();
         if let Ok(answer) = self.map.insert(alloc, &mut self.arena, key, given) {
             return answer.before;
         }
-        assert_eq!(rt; self.arena.live_words(), words, "words after a refusal");
-        assert_eq!(rt; self.arena.refusals(), refusals.saturating_add(1));
+        same_at(rt, self.arena.live_words(), words, "words after a refusal");
+        same(rt, self.arena.refusals(), refusals.saturating_add(1));
         let again = self.map.insert(alloc, &mut self.arena, key, given);
         again.expect(rt, "one request at most is refused").before
     }
 
     /// Writes the value of a present string.
     pub(crate) fn write(&mut self, rt: &impl Abort, key: &[u8], value: u64) {
-        assert!(rt; is_string(key));
-        assert!(rt; self.map.get(&self.arena, key).is_some());
+        holds(rt, is_string(key));
+        holds(rt, self.map.get(&self.arena, key).is_some());
         self.map.write(&mut self.arena, key, value);
     }
 
     pub(crate) fn get(&self, rt: &impl Abort, key: &[u8]) -> Option<u64> {
-        assert!(rt; is_string(key));
+        holds(rt, is_string(key));
         self.map.get(&self.arena, key)
     }
 
     pub(crate) fn delete(&mut self, rt: &impl Abort, key: &[u8]) -> bool {
-        assert!(rt; is_string(key));
+        holds(rt, is_string(key));
         self.map.delete(&mut self.arena, key)
     }
 
@@ -83,7 +84,7 @@ impl Held {
         key: &[u8],
         buffer: &mut ArrayVec<u8, KEY_LIMIT>,
     ) -> Option<u64> {
-        assert!(rt; is_string(key));
+        holds(rt, is_string(key));
         self.map.first(&self.arena, key, buffer)
     }
 
@@ -93,7 +94,7 @@ impl Held {
         key: &[u8],
         buffer: &mut ArrayVec<u8, KEY_LIMIT>,
     ) -> Option<u64> {
-        assert!(rt; is_string(key));
+        holds(rt, is_string(key));
         self.map.next(&self.arena, key, buffer)
     }
 
@@ -103,7 +104,7 @@ impl Held {
         key: &[u8],
         buffer: &mut ArrayVec<u8, KEY_LIMIT>,
     ) -> Option<u64> {
-        assert!(rt; is_string(key));
+        holds(rt, is_string(key));
         self.map.last(&self.arena, key, buffer)
     }
 
@@ -113,7 +114,7 @@ impl Held {
         key: &[u8],
         buffer: &mut ArrayVec<u8, KEY_LIMIT>,
     ) -> Option<u64> {
-        assert!(rt; is_string(key));
+        holds(rt, is_string(key));
         self.map.prev(&self.arena, key, buffer)
     }
 

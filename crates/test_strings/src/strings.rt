@@ -7,6 +7,7 @@ use judy_string::is_string;
 use std::alloc::Global;
 use std::process::Abort;
 use std::test::Fail;
+use test_checks::{holds, holds_at, same, same_at};
 
 const A: &[u8] = b"aaaaaaaaaaaaaaaaaaaaaaaa";
 
@@ -14,12 +15,12 @@ const B: &[u8] = b"aaaaaaaabbbbbbbbbbbbbbbb";
 
 #[test]
 fn strings_that_a_map_can_hold(rt: HostRuntime) -> Result<(), Fail> {
-    assert!(rt; is_string(b""));
-    assert!(rt; is_string(b"\xff\x01"));
-    assert!(rt; !is_string(b"a\0b"));
+    holds(&rt, is_string(b""));
+    holds(&rt, is_string(b"\xff\x01"));
+    holds(&rt, !is_string(b"a\0b"));
     let long = [b'x'; 1001];
-    assert!(rt; !is_string(&long));
-    assert!(rt; is_string(&long[1..]));
+    holds(&rt, !is_string(&long));
+    holds(&rt, is_string(&long[1..]));
     Ok(())
 }
 
@@ -31,17 +32,13 @@ fn shows(
     value: Option<u64>,
     key: &[u8],
 ) {
-    assert_eq!(rt; found, value);
-    assert!(rt; buffer.as_slice() == key);
+    same(rt, found, value);
+    holds(rt, buffer.as_slice() == key);
 }
 
 // The result of the C calls for an insertion: the value before, 0 for a new string.
 fn puts(rt: &impl Abort, alloc: Global, map: &mut Held, key: &[u8], value: u64) {
-    assert_eq!(rt;
-        map.insert(rt, alloc, key, Given::Value(value)),
-        None,
-        "{value}"
-    );
+    same_at(rt, map.insert(rt, alloc, key, Given::Value(value)), None, value);
 }
 
 #[test]
@@ -82,11 +79,11 @@ fn order_of_strings(rt: HostRuntime) -> Result<(), Fail> {
     shows(&rt, found, &buffer, Some(4), b"abcdefghi");
     let found = map.next(&rt, b"abcdefghi", &mut buffer);
     shows(&rt, found, &buffer, None, b"");
-    assert!(rt; map.delete(&rt, b"abcdefgh"));
+    holds(&rt, map.delete(&rt, b"abcdefgh"));
     let found = map.next(&rt, b"abcdefg", &mut buffer);
     shows(&rt, found, &buffer, Some(4), b"abcdefghi");
-    assert_eq!(rt; map.clear(), 3);
-    assert_eq!(rt; map.live_words(), 0);
+    same(&rt, map.clear(), 3);
+    same(&rt, map.live_words(), 0);
     Ok(())
 }
 
@@ -110,26 +107,26 @@ fn searches_between_strings(rt: HostRuntime) -> Result<(), Fail> {
     shows(&rt, found, &buffer, Some(4), b"abcdefg");
     let found = map.prev(&rt, b"abcdefg", &mut buffer);
     shows(&rt, found, &buffer, None, b"");
-    assert_eq!(rt; map.insert(&rt, rt.alloc(), b"b", Given::Nothing), Some(1));
+    same(&rt, map.insert(&rt, rt.alloc(), b"b", Given::Nothing), Some(1));
     Ok(())
 }
 
 #[test]
 fn suffixes(rt: HostRuntime) -> Result<(), Fail> {
     let mut map = Held::new(rt.alloc());
-    assert!(rt; map.insert(&rt, rt.alloc(), A, Given::Value(1)).is_none());
-    assert!(rt; map.live_words() == 8);
-    assert!(rt; map.insert(&rt, rt.alloc(), B, Given::Plus(2)).is_none());
-    assert!(rt; map.live_words() == 20);
+    holds(&rt, map.insert(&rt, rt.alloc(), A, Given::Value(1)).is_none());
+    holds(&rt, map.live_words() == 8);
+    holds(&rt, map.insert(&rt, rt.alloc(), B, Given::Plus(2)).is_none());
+    holds(&rt, map.live_words() == 20);
     map.write(&rt, A, 3);
-    assert_eq!(rt; map.get(&rt, A), Some(3));
-    assert_eq!(rt; map.get(&rt, B), Some(2));
-    assert_eq!(rt; map.get(&rt, b"aaaaaaaa"), None);
-    assert!(rt; map.delete(&rt, A));
-    assert!(rt; map.live_words() == 12);
-    assert!(rt; !map.delete(&rt, A));
-    assert!(rt; map.delete(&rt, B));
-    assert_eq!(rt; map.live_words(), 0);
+    same(&rt, map.get(&rt, A), Some(3));
+    same(&rt, map.get(&rt, B), Some(2));
+    same(&rt, map.get(&rt, b"aaaaaaaa"), None);
+    holds(&rt, map.delete(&rt, A));
+    holds(&rt, map.live_words() == 12);
+    holds(&rt, !map.delete(&rt, A));
+    holds(&rt, map.delete(&rt, B));
+    same(&rt, map.live_words(), 0);
     Ok(())
 }
 
@@ -149,11 +146,8 @@ fn lengths(rt: HostRuntime) -> Result<(), Fail> {
     let mut map = Held::new(rt.alloc());
     for n in LENGTHS {
         let key = of_length(&letters, n);
-        assert!(rt;
-            map.insert(&rt, rt.alloc(), key, Given::Value(n as u64))
-                .is_none(),
-            "{n}"
-        );
+        holds_at(&rt, map.insert(&rt, rt.alloc(), key, Given::Value(n as u64))
+                .is_none(), n);
     }
     let mut buffer = ArrayVec::new();
     for i in 0..6usize {
@@ -166,11 +160,11 @@ fn lengths(rt: HostRuntime) -> Result<(), Fail> {
     }
     for n in [1000, 16, 15, 9, 8, 7, 0usize] {
         let key = of_length(&letters, n);
-        assert_eq!(rt; map.get(&rt, key), Some(n as u64), "{n}");
-        assert!(rt; map.delete(&rt, key), "{n}");
-        assert_eq!(rt; map.get(&rt, key), None, "{n}");
+        same_at(&rt, map.get(&rt, key), Some(n as u64), n);
+        holds_at(&rt, map.delete(&rt, key), n);
+        same_at(&rt, map.get(&rt, key), None, n);
     }
-    assert_eq!(rt; map.live_words(), 0);
+    same(&rt, map.live_words(), 0);
     Ok(())
 }
 
@@ -179,11 +173,11 @@ fn a_split_three_words_deep(rt: HostRuntime) -> Result<(), Fail> {
     let mut map = Held::new(rt.alloc());
     let one = b"aaaaaaaabbbbbbbbccccccccddddddddeeeeeeee";
     let two = b"aaaaaaaabbbbbbbbccccccccffffffffgggggggg";
-    assert!(rt; map.insert(&rt, rt.alloc(), one, Given::Value(1)).is_none());
-    assert!(rt; map.insert(&rt, rt.alloc(), two, Given::Value(2)).is_none());
-    assert_eq!(rt; map.get(&rt, one), Some(1));
-    assert_eq!(rt; map.get(&rt, two), Some(2));
-    assert_eq!(rt; map.clear(), 2);
-    assert_eq!(rt; map.live_words(), 0);
+    holds(&rt, map.insert(&rt, rt.alloc(), one, Given::Value(1)).is_none());
+    holds(&rt, map.insert(&rt, rt.alloc(), two, Given::Value(2)).is_none());
+    same(&rt, map.get(&rt, one), Some(1));
+    same(&rt, map.get(&rt, two), Some(2));
+    same(&rt, map.clear(), 2);
+    same(&rt, map.live_words(), 0);
     Ok(())
 }

@@ -7,6 +7,7 @@ use judy_reference::Store;
 use std::alloc::{AllocError, Global};
 use std::process::Abort;
 use std::test::Fail;
+use test_checks::{holds_at, same, same_at};
 
 const MAX: u64 = 18_446_744_073_709_551_615;
 
@@ -66,7 +67,7 @@ fn ask_strings(
     if let Ok(reply) = try_strings(rt, alloc, arrays, which, call) {
         return Ok(reply);
     }
-    assert_eq!(rt; arrays.live_words(), words, "words after a refusal");
+    same_at(rt, arrays.live_words(), words, "words after a refusal");
     try_strings(rt, alloc, arrays, which, call)
 }
 
@@ -81,7 +82,7 @@ fn ask_words(
     if let Ok(reply) = arrays.word(alloc, call) {
         return Ok(reply);
     }
-    assert_eq!(rt; arrays.live_words(), words, "words after a refusal");
+    same_at(rt, arrays.live_words(), words, "words after a refusal");
     arrays.word(alloc, call)
 }
 
@@ -155,7 +156,7 @@ fn both_strings(
     let wanted = string_call(seed >> 40, string(seed >> 24)?, seed >> 8);
     let want = ask_store(alloc, store, &Call::Str(name(text)?, wanted))?;
     let reply = ask_strings(rt, alloc, arrays, which, &call)?;
-    assert_eq!(rt; reply.reply(), want.reply(), "{call:?} of {which:?}");
+    same_at(rt, reply.reply(), want.reply(), (call, "of", which));
     Ok(())
 }
 
@@ -174,7 +175,7 @@ fn both_words(
     let call = word_call(seed >> 40, a, b);
     let want = ask_store(alloc, store, &Call::Long(name(b"a")?, call))?;
     let reply = ask_words(rt, alloc, arrays, call)?;
-    assert_eq!(rt; reply, want.reply(), "{call:?}");
+    same_at(rt, reply, want.reply(), call);
     Ok(())
 }
 
@@ -193,15 +194,12 @@ fn five_thousand_calls(rt: HostRuntime) -> Result<(), Fail> {
         } else {
             both_strings(&rt, alloc, &mut arrays, &mut store, seed)?;
         }
-        assert!(rt;
-            u128::from(arrays.live_words()) <= 16 * u128::from(store.pieces()),
-            "words after call {i}"
-        );
+        holds_at(&rt, u128::from(arrays.live_words()) <= 16 * u128::from(store.pieces()), ("words after call", i));
     }
     for which in [Which::First, Which::Second] {
         let _ = try_strings(&rt, alloc, &mut arrays, which, &StrCall::Free)?;
     }
     let _ = arrays.word(alloc, LongCall::Free)?;
-    assert_eq!(rt; arrays.live_words(), 0);
+    same(&rt, arrays.live_words(), 0);
     Ok(())
 }

@@ -4,6 +4,7 @@ use judy_model::{Call, Name, OneCall, Reply};
 use judy_tenants::Speaker;
 use std::process::Abort;
 use std::test::Fail;
+use test_checks::{holds, same, same_at};
 
 // Tables of tenants with the token `abc`: alice may have 2 entries, or 1, or none, and bob 9.
 const BOTH: &str = "[alice]
@@ -34,7 +35,7 @@ fn ids(
 ) -> Result<(), Fail> {
     let name = Name::read(b"ids").ok_or("no name")?;
     let reply = house.ask(rt, speaker, &Call::One(name, call));
-    assert_eq!(rt; reply.reply(), want, "{call:?}");
+    same_at(rt, reply.reply(), want, call);
     Ok(())
 }
 
@@ -44,7 +45,7 @@ fn one_stays(rt: HostRuntime) -> Result<(), Fail> {
     let mut house = House::new(&rt, rt.alloc(), BOTH)?;
     let alice = house.speaker("alice", "abc")?;
     ids(&rt, &mut house, &alice, OneCall::Set(5), Reply::Int(true))?;
-    assert_eq!(rt; house.change(&rt, ALICE)?, true);
+    same(&rt, house.change(&rt, ALICE)?, true);
     ids(&rt, &mut house, &alice, OneCall::Set(6), Reply::Full)?;
     ids(&rt, &mut house, &alice, OneCall::Test(5), Reply::Int(true))
 }
@@ -56,9 +57,9 @@ fn one_goes_in(rt: &impl Abort, house: &mut House) -> Result<(), Fail> {
     ids(rt, house, &alice, OneCall::Set(5), Reply::Int(true))?;
     let words = house.live_words();
     ids(rt, house, &bob, OneCall::Set(7), Reply::Int(true))?;
-    assert_eq!(rt; house.change(rt, ALICE)?, true);
-    assert_eq!(rt; house.live_words(), words);
-    assert_eq!(rt; house.change(rt, BOTH)?, true);
+    same(rt, house.change(rt, ALICE)?, true);
+    same(rt, house.live_words(), words);
+    same(rt, house.change(rt, BOTH)?, true);
     let again = house.speaker("bob", "abc")?;
     ids(rt, house, &again, OneCall::Test(7), Reply::Int(false))
 }
@@ -73,10 +74,10 @@ fn one_goes(rt: HostRuntime) -> Result<(), Fail> {
 fn who_may_speak_in(rt: &impl Abort, house: &mut House) -> Result<(), Fail> {
     let alice = house.speaker("alice", "abc")?;
     let bob = house.speaker("bob", "abc")?;
-    assert_eq!(rt; house.change(rt, ALICE)?, true);
-    assert_eq!(rt; house.login("bob", "abc"), None);
-    assert_eq!(rt; house.login("alice", "abc"), Some(alice));
-    assert!(rt; house.knows(&alice) && !house.knows(&bob));
+    same(rt, house.change(rt, ALICE)?, true);
+    same(rt, house.login("bob", "abc"), None);
+    same(rt, house.login("alice", "abc"), Some(alice));
+    holds(rt, house.knows(&alice) && !house.knows(&bob));
     Ok(())
 }
 
@@ -92,8 +93,8 @@ fn a_quota_below_what_is_held_in(rt: &impl Abort, house: &mut House) -> Result<(
     let bob = house.speaker("bob", "abc")?;
     ids(rt, house, &alice, OneCall::Set(5), Reply::Int(true))?;
     ids(rt, house, &bob, OneCall::Set(7), Reply::Int(true))?;
-    assert_eq!(rt; house.change(rt, NOTHING)?, false);
-    assert_eq!(rt; house.knows(&bob), true);
+    same(rt, house.change(rt, NOTHING)?, false);
+    same(rt, house.knows(&bob), true);
     ids(rt, house, &bob, OneCall::Test(7), Reply::Int(true))?;
     ids(rt, house, &alice, OneCall::Set(6), Reply::Int(true))
 }

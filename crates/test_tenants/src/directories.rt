@@ -9,6 +9,7 @@ use judy_refs::Ref;
 use std::alloc::Global;
 use std::process::Abort;
 use std::test::Fail;
+use test_checks::{holds, holds_at, same, same_at};
 
 /// A directory without a name. If memory is refused, a second try succeeds.
 fn empty(alloc: Global) -> Result<Directory, NoMemory> {
@@ -27,8 +28,8 @@ fn take(rt: &impl Abort, directory: &mut Directory, spot: &Spot) -> Result<Place
     if let Ok(place) = directory.place(spot) {
         return Ok(place);
     }
-    assert_eq!(rt; directory.count(), count, "names after a refusal");
-    assert!(rt; directory.find(spot).is_none());
+    same_at(rt, directory.count(), count, "names after a refusal");
+    holds(rt, directory.find(spot).is_none());
     directory.place(spot)
 }
 
@@ -81,7 +82,7 @@ fn keep_all(
 ) -> Result<(), Fail> {
     for n in 0..names {
         let before = keep(rt, directory, &spot(tenant, kind, n)?, place(n)?)?;
-        assert_eq!(rt; before, Place::nothing(), "name {n}");
+        same_at(rt, before, Place::nothing(), ("name", n));
     }
     Ok(())
 }
@@ -98,7 +99,7 @@ fn compare_all(
     for n in 0..names {
         let want = if is_kept { Some(place(n)?) } else { None };
         let place = found(directory, &spot(tenant, kind, n)?);
-        assert_eq!(rt; place, want, "name {n} of {tenant}");
+        same_at(rt, place, want, ("name", n, "of", tenant));
     }
     Ok(())
 }
@@ -114,7 +115,7 @@ fn clear_all(
     for n in 0..names {
         let spot = spot(tenant, kind, n)?;
         let before = keep(rt, directory, &spot, Place::nothing())?;
-        assert_eq!(rt; before, place(n)?, "name {n}");
+        same_at(rt, before, place(n)?, ("name", n));
     }
     Ok(())
 }
@@ -123,10 +124,10 @@ fn clear_all(
 fn many_names_are_found_again(rt: HostRuntime) -> Result<(), Fail> {
     let mut directory = empty(rt.alloc())?;
     keep_all(&rt, &mut directory, 3, ArrayKind::Long, 600)?;
-    assert_eq!(rt; directory.count(), 600);
+    same(&rt, directory.count(), 600);
     compare_all(&rt, &directory, 3, ArrayKind::Long, 600, true)?;
     clear_all(&rt, &mut directory, 3, ArrayKind::Long, 600)?;
-    assert_eq!(rt; directory.count(), 0);
+    same(&rt, directory.count(), 0);
     Ok(())
 }
 
@@ -144,16 +145,13 @@ fn tenants_and_kinds_have_their_own_names(rt: HostRuntime) -> Result<(), Fail> {
     let mut directory = empty(rt.alloc())?;
     let mine = spot(0, ArrayKind::One, 7)?;
     keep(&rt, &mut directory, &mine, place(7)?)?;
-    assert!(rt; found(&directory, &mine.copied()).is_some());
+    holds(&rt, found(&directory, &mine.copied()).is_some());
     for (tenant, kind, n) in &OTHERS {
         let other = spot(*tenant, *kind, *n)?;
-        assert!(rt;
-            found(&directory, &other).is_none(),
-            "{tenant} {kind:?} {n}"
-        );
+        holds_at(&rt, found(&directory, &other).is_none(), (tenant, kind, n));
     }
     directory.forget(&mine);
-    assert!(rt; found(&directory, &mine).is_none());
+    holds(&rt, found(&directory, &mine).is_none());
     Ok(())
 }
 
@@ -163,20 +161,20 @@ fn of_three_owners(rt: &impl Abort, alloc: Global) -> Result<Directory, Fail> {
     keep_all(rt, &mut directory, 63, ArrayKind::Str, 200)?;
     keep_all(rt, &mut directory, 127, ArrayKind::Bytes, 200)?;
     keep_all(rt, &mut directory, 127, ArrayKind::Long, 200)?;
-    assert_eq!(rt; directory.count(), 600);
+    same(rt, directory.count(), 600);
     Ok(directory)
 }
 
 #[test]
 fn names_are_listed(rt: HostRuntime) -> Result<(), Fail> {
-    assert!(rt; empty(rt.alloc())?.list().next().is_none());
+    holds(&rt, empty(rt.alloc())?.list().next().is_none());
     let directory = of_three_owners(&rt, rt.alloc())?;
     let mut names = directory.list();
     for n in 0..600 {
         let spot = names.next().ok_or("one more")?;
-        assert!(rt; found(&directory, &spot).is_some(), "name {n}");
+        holds_at(&rt, found(&directory, &spot).is_some(), ("name", n));
     }
-    assert!(rt; names.next().is_none());
+    holds(&rt, names.next().is_none());
     Ok(())
 }
 
@@ -185,10 +183,10 @@ fn names_are_forgotten(rt: HostRuntime) -> Result<(), Fail> {
     let mut directory = of_three_owners(&rt, rt.alloc())?;
     let mut gone = [false; 128];
     directory.forget_gone(gone.as_slice());
-    assert_eq!(rt; directory.count(), 600);
+    same(&rt, directory.count(), 600);
     gone[127] = true;
     directory.forget_gone(gone.as_slice());
-    assert_eq!(rt; directory.count(), 200);
+    same(&rt, directory.count(), 200);
     compare_all(&rt, &directory, 63, ArrayKind::Str, 200, true)?;
     compare_all(&rt, &directory, 127, ArrayKind::Bytes, 200, false)?;
     compare_all(&rt, &directory, 127, ArrayKind::Long, 200, false)

@@ -7,6 +7,7 @@ use judy_tenants::{
 use std::alloc::{AllocError, Global};
 use std::process::Abort;
 use std::test::Fail;
+use test_checks::{holds_at, same, same_at};
 
 /// A service, and the allocator that its memory comes from.
 #[derive(Drop)]
@@ -29,7 +30,7 @@ fn table(rt: &impl Abort, alloc: Global, text: &str) -> Result<Table, Fail> {
     match Table::parse(alloc, text.as_bytes()) {
         Ok(table) => Ok(table),
         Err(fault) => {
-            assert_eq!(rt; fault, TableFault::Memory);
+            same(rt, fault, TableFault::Memory);
             Ok(Table::parse(alloc, text.as_bytes())?)
         }
     }
@@ -51,9 +52,9 @@ impl House {
             Ok(service) => service,
             Err(_) => Service::new(alloc, table(rt, alloc, text)?, b"again", Sha256Hash)?,
         };
-        assert_eq!(rt; service.live_words(), 0);
-        assert_eq!(rt; service.refusals(), 0);
-        assert_eq!(rt; service.unplaced(), 0);
+        same(rt, service.live_words(), 0);
+        same(rt, service.refusals(), 0);
+        same(rt, service.unplaced(), 0);
         Ok(House { alloc, service })
     }
 
@@ -87,19 +88,13 @@ impl House {
 
     /// How many entries a tenant has.
     pub(crate) fn used(&self, rt: &impl Abort, speaker: &Speaker) -> u64 {
-        assert!(rt;
-            self.service.has(speaker.tenant),
-            "a tenant of another table"
-        );
+        holds_at(rt, self.service.has(speaker.tenant), "a tenant of another table");
         self.service.used(speaker.tenant)
     }
 
     /// How many pieces a tenant's entries have.
     pub(crate) fn pieces(&self, rt: &impl Abort, speaker: &Speaker) -> u64 {
-        assert!(rt;
-            self.service.has(speaker.tenant),
-            "a tenant of another table"
-        );
+        holds_at(rt, self.service.has(speaker.tenant), "a tenant of another table");
         self.service.pieces(speaker.tenant)
     }
 
@@ -122,11 +117,8 @@ impl House {
     }
 
     fn call(&mut self, rt: &impl Abort, speaker: &Speaker, call: &Call<'_>) -> OwnedReply {
-        assert!(rt; is_callable(call), "a byte 0 in a string");
-        assert!(rt;
-            self.service.has(speaker.tenant),
-            "a tenant of another table"
-        );
+        holds_at(rt, is_callable(call), "a byte 0 in a string");
+        holds_at(rt, self.service.has(speaker.tenant), "a tenant of another table");
         let mut found = ArrayVec::new();
         let reply = self.service.call(self.alloc, *speaker, call, &mut found);
         OwnedReply::of(&reply)
@@ -144,10 +136,10 @@ impl House {
         let refused = self.refused();
         let reply = self.call(rt, speaker, call);
         if reply.reply() == Reply::Memory {
-            assert_eq!(rt; self.figures(rt, speaker), before, "after a refusal");
-            assert_eq!(rt; Some(self.refused()), refused.checked_add(1), "refusals");
+            same_at(rt, self.figures(rt, speaker), before, "after a refusal");
+            same_at(rt, Some(self.refused()), refused.checked_add(1), "refusals");
         } else {
-            assert_eq!(rt; self.refused(), refused, "refusals");
+            same_at(rt, self.refused(), refused, "refusals");
         }
         reply
     }
@@ -174,8 +166,8 @@ impl House {
         events: &[Event<'_>],
         replies: &mut [OwnedReply],
     ) {
-        assert_eq!(rt; replies.len(), events.len());
-        assert!(rt; self.service.can_answer(events), "calls that it can answer");
+        same(rt, replies.len(), events.len());
+        holds_at(rt, self.service.can_answer(events), "calls that it can answer");
         let mut refused = self.refused();
         self.service.replay(self.alloc, events, replies);
         for reply in replies.iter() {
@@ -183,7 +175,7 @@ impl House {
                 refused = refused.saturating_add(1);
             }
         }
-        assert_eq!(rt; self.refused(), refused, "refusals");
+        same_at(rt, self.refused(), refused, "refusals");
     }
 
     /// The replies to these calls, which are all made at once. Some may be `ERR MEMORY`.

@@ -14,6 +14,7 @@ use std::alloc::Global;
 use std::marker::Model;
 use std::process::Abort;
 use std::test::Fail;
+use test_checks::{holds, holds_at, same, same_at};
 
 /// Whether the call is of an array of this kind.
 fn is_of(call: &Call<'_>, kind: ArrayKind) -> bool
@@ -65,8 +66,8 @@ impl<H: KeyHash> Held<H> {
 
     /// Whether the call asks for a new entry.
     fn asks(&self, rt: &impl Abort, call: &Call<'_>) -> bool {
-        assert!(rt; is_of(call, self.kind));
-        assert!(rt; is_callable(call));
+        holds(rt, is_of(call, self.kind));
+        holds(rt, is_callable(call));
         asks(&self.arena, self.hash, &self.place, call)
     }
 
@@ -77,9 +78,9 @@ impl<H: KeyHash> Held<H> {
         alloc: Global,
         call: &Call<'_>,
     ) -> Result<OwnedReply, NoMemory> {
-        assert!(rt; is_of(call, self.kind));
-        assert!(rt; is_callable(call));
-        assert!(rt; self.place.pieces < 1_000_000);
+        holds(rt, is_of(call, self.kind));
+        holds(rt, is_callable(call));
+        holds(rt, self.place.pieces < 1_000_000);
         let mut found = ArrayVec::new();
         let (reply, place) = answer(
             alloc,
@@ -117,15 +118,15 @@ fn ask<H: KeyHash>(
     call: &Call<'_>,
 ) -> Result<OwnedReply, NoMemory> {
     let asked = held.asks(rt, call);
-    assert!(rt; is_insertion(call) || !asked);
+    holds(rt, is_insertion(call) || !asked);
     let before = (held.counts(), held.words());
     if let Ok(reply) = held.call(rt, alloc, call) {
         let is_new = before.0.0 < held.counts().0;
-        assert!(rt; !is_insertion(call) || is_new == asked);
+        holds(rt, !is_insertion(call) || is_new == asked);
         return Ok(reply);
     }
-    assert!(rt; asked, "only a new entry is refused");
-    assert_eq!(rt; (held.counts(), held.words()), before, "after a refusal");
+    holds_at(rt, asked, "only a new entry is refused");
+    same_at(rt, (held.counts(), held.words()), before, "after a refusal");
     held.call(rt, alloc, call)
 }
 
@@ -143,10 +144,10 @@ fn check(
         let call = call_of(line, &mut room)?;
         let reply = ask(rt, alloc, &mut held, &call)?;
         compare(rt, line, &reply, want);
-        assert_eq!(rt; held.counts(), (*entries, *pieces), "{line}");
+        same_at(rt, held.counts(), (*entries, *pieces), line);
     }
-    assert!(rt; held.is_nothing());
-    assert_eq!(rt; held.words(), 0);
+    holds(rt, held.is_nothing());
+    same(rt, held.words(), 0);
     Ok(())
 }
 
@@ -219,13 +220,13 @@ fn key(bytes: &[u8]) -> Result<Key<'_>, Fail> {
 
 #[test]
 fn what_calls_are_of(rt: HostRuntime) -> Result<(), Fail> {
-    assert!(rt; array_of(&Call::Used).is_none());
+    holds(&rt, array_of(&Call::Used).is_none());
     let call = Call::Str(name()?, StrCall::Get(key(b"a\0b")?));
     let (kind, named) = array_of(&call).ok_or("an array")?;
-    assert_eq!(rt; kind, ArrayKind::Str);
-    assert!(rt; *named == name()?);
-    assert!(rt; !is_callable(&call));
-    assert!(rt; is_callable(&Call::Used));
-    assert!(rt; !is_insertion(&call));
+    same(&rt, kind, ArrayKind::Str);
+    holds(&rt, *named == name()?);
+    holds(&rt, !is_callable(&call));
+    holds(&rt, is_callable(&Call::Used));
+    holds(&rt, !is_insertion(&call));
     Ok(())
 }

@@ -6,6 +6,7 @@ use judy_tenants::Speaker;
 use std::alloc::Global;
 use std::process::Abort;
 use std::test::Fail;
+use test_checks::{same, same_at};
 
 /// alice has the token `abc` and the read-only token `hello`; bob has the token `hello`.
 const TABLE: &str = r#"
@@ -66,7 +67,7 @@ fn fill(
     for x in first..=last {
         let name = Name::read(theirs.as_bytes()).ok_or("a name")?;
         let reply = house.ask(rt, bob, &Call::One(name, OneCall::Set(x)));
-        assert_eq!(rt; reply.reply(), Reply::Int(true), "{x}");
+        same_at(rt, reply.reply(), Reply::Int(true), x);
     }
     Ok(())
 }
@@ -101,7 +102,7 @@ fn meet_in(rt: &impl Abort, house: &mut House, theirs: &str) -> Result<(), Fail>
     }
     let name = Name::read(theirs.as_bytes()).ok_or("a name")?;
     let last = house.ask(rt, &bob, &Call::One(name, OneCall::Set(1_001)));
-    assert_eq!(rt; last.reply(), Reply::Full);
+    same(rt, last.reply(), Reply::Full);
     ask(rt, house, &bob, &OF_BOB_AT_THE_END)?;
     ask(rt, house, &alice, &OF_ALICE_AT_THE_END)
 }
@@ -201,7 +202,7 @@ fn reading_token(rt: HostRuntime) -> Result<(), Fail> {
     let mut house = House::new(&rt, rt.alloc(), TABLE)?;
     let alice = house.speaker("alice", "abc")?;
     let looker = house.speaker("alice", "hello")?;
-    assert_eq!(rt; house.login("alice", "abd"), None);
+    same(&rt, house.login("alice", "abd"), None);
     ask(&rt, &mut house, &looker, &LOOKING)?;
     ask(&rt, &mut house, &alice, &CHANGING)?;
     ask(&rt, &mut house, &looker, &LOOKING_AGAIN)

@@ -8,6 +8,7 @@ use judy_tenants::Event;
 use std::alloc::Global;
 use std::process::Abort;
 use std::test::Fail;
+use test_checks::{holds_at, same, same_at};
 
 /// This many calls of these tenants, drawn from this seed.
 fn drawn(
@@ -81,16 +82,12 @@ impl Pair {
                 continue;
             }
             let place = event.speaker.tenant.place() as usize;
-            assert!(rt; place < 5, "a tenant of another table");
+            holds_at(rt, place < 5, "a tenant of another table");
             let Event { speaker, call } = event;
             let single = self.tenants[place].ask(rt, self.alloc, &mut self.in_turn, speaker, call)?;
-            assert_eq!(rt; reply.reply(), single.reply(), "{call:?} of {speaker:?}");
+            same_at(rt, reply.reply(), single.reply(), (call, "of", speaker));
         }
-        assert_eq!(rt;
-            Some(self.at_once.refused()),
-            before.checked_add(memories),
-            "refusals"
-        );
+        same_at(rt, Some(self.at_once.refused()), before.checked_add(memories), "refusals");
         self.compare(rt);
         Ok(())
     }
@@ -98,11 +95,7 @@ impl Pair {
     /// Checks that both services have the same words, and that each tenant has the same numbers of
     /// entries and pieces in both.
     fn compare(&self, rt: &impl Abort) {
-        assert_eq!(rt;
-            self.at_once.live_words(),
-            self.in_turn.live_words(),
-            "words"
-        );
+        same_at(rt, self.at_once.live_words(), self.in_turn.live_words(), "words");
         for tenant in &self.tenants {
             tenant.compare(rt, &self.at_once);
         }
@@ -114,10 +107,10 @@ fn replay(rt: &impl Abort, alloc: Global, seed: u64, calls: usize) -> Result<(),
     let mut pair = Pair::new(rt, alloc)?;
     let events = drawn(alloc, &pair.tenants, seed, calls)?;
     pair.replay(rt, &events)?;
-    assert!(rt; pair.at_once.live_words() > 0, "every array is empty");
+    holds_at(rt, pair.at_once.live_words() > 0, "every array is empty");
     let events = all_leave(alloc, &pair.tenants)?;
     pair.replay(rt, &events)?;
-    assert_eq!(rt; pair.at_once.live_words(), 0);
+    same(rt, pair.at_once.live_words(), 0);
     Ok(())
 }
 

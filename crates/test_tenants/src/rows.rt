@@ -9,6 +9,7 @@ use std::fmt::Write;
 use std::io::Print;
 use std::process::Abort;
 use std::test::Fail;
+use test_checks::{same, same_at};
 
 /// alice has the token `abc`, bob has the token `hello`.
 const TABLE: &str = r#"
@@ -37,7 +38,7 @@ fn each(
 ) -> Result<(), Fail> {
     for i in 0..300u32 {
         let reply = house.ask(rt, bob, &Call::One(numbered(i)?, call));
-        assert_eq!(rt; reply.reply(), *want, "{call:?} of the name {i}");
+        same_at(rt, &reply.reply(), want, (call, "of the name", i));
     }
     Ok(())
 }
@@ -55,10 +56,10 @@ fn many_names_in(rt: &impl Abort, house: &mut House) -> Result<(), Fail> {
     each(rt, house, &bob, OneCall::Set(1), &Reply::Int(true))?;
     ask(rt, house, &alice, &OF_ALICE)?;
     ask(rt, house, &bob, &OF_BOB)?;
-    assert_eq!(rt; house.live_words(), 1_204);
+    same(rt, house.live_words(), 1_204);
     each(rt, house, &bob, OneCall::Free, &Reply::Count(1))?;
     ask(rt, house, &alice, &OF_ALICE_AT_THE_END)?;
-    assert_eq!(rt; house.live_words(), 0);
+    same(rt, house.live_words(), 0);
     Ok(())
 }
 
@@ -81,7 +82,7 @@ fn no_memory_in<R: Abort + Print>(rt: &R, house: &mut House) -> Result<(), Fail>
         println!(rt; "ERR MEMORY")?;
         ask(rt, house, &alice, &REFUSED)?;
         let again = house.try_ask(rt, &alice, &first);
-        assert_eq!(rt; again.reply(), Reply::Int(true));
+        same(rt, again.reply(), Reply::Int(true));
     }
     ask(rt, house, &alice, &THERE)
 }
@@ -100,10 +101,10 @@ fn no_memory_for_a_counter_in<R: Abort + Print>(rt: &R, house: &mut House) -> Re
     if house.try_ask(rt, &alice, &add).reply() == Reply::Memory {
         println!(rt; "ERR MEMORY")?;
         let get = Call::Long(numbered(1)?, LongCall::Get(1));
-        assert_eq!(rt; house.ask(rt, &alice, &get).reply(), Reply::Null);
-        assert_eq!(rt; house.try_ask(rt, &alice, &add).reply(), Reply::Value(5));
+        same(rt, house.ask(rt, &alice, &get).reply(), Reply::Null);
+        same(rt, house.try_ask(rt, &alice, &add).reply(), Reply::Value(5));
     }
-    assert_eq!(rt; house.try_ask(rt, &alice, &add).reply(), Reply::Value(10));
+    same(rt, house.try_ask(rt, &alice, &add).reply(), Reply::Value(10));
     Ok(())
 }
 
@@ -133,13 +134,13 @@ fn two_tenants_at_once_in<R: Abort + Print>(rt: &R, house: &mut House) -> Result
     ];
     let wants = [true, false, true, true, true, false];
     let replies = house.replay(rt, &events)?;
-    assert_eq!(rt; replies.len(), wants.len());
+    same(rt, replies.len(), wants.len());
     for (reply, want) in replies.iter().zip(wants) {
         if reply.reply() == Reply::Memory {
             println!(rt; "ERR MEMORY")?;
             return Ok(());
         }
-        assert_eq!(rt; reply.reply(), Reply::Int(want));
+        same(rt, reply.reply(), Reply::Int(want));
     }
     Ok(())
 }

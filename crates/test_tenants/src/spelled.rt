@@ -4,6 +4,7 @@ use judy_model::{Call, KEY_LIMIT, OwnedReply};
 use judy_protocol::{Line, read_line, write_reply};
 use std::process::Abort;
 use std::test::Fail;
+use test_checks::same_at;
 
 /// The call of a line.
 pub(crate) fn call_of<'a>(line: &str, room: &'a mut [u8; KEY_LIMIT]) -> Result<Call<'a>, Fail> {
@@ -18,5 +19,5 @@ pub(crate) fn compare(rt: &impl Abort, line: &str, reply: &OwnedReply, want: &st
     let mut text = ArrayVec::new();
     write_reply(&reply.reply(), &mut text);
     let _line_feed = text.pop();
-    assert_eq!(rt; text.as_slice(), want.as_bytes(), "{line}");
+    same_at(rt, text.as_slice(), want.as_bytes(), line);
 }

@@ -5,6 +5,7 @@ use std::alloc::{AllocError, Global};
 use std::fmt::Write;
 use std::process::Abort;
 use std::test::Fail;
+use test_checks::{holds, holds_at, same, same_at};
 
 const ABC: &str = "ba7816bf8f01cfea414140de5dae2223b00361a396177a9cb410ff61f20015ad";
 
@@ -57,7 +58,7 @@ fn text_of(header: &str, digest: &str, quota: &str) -> Result<ArrayString<256>, 
 fn faulty_tables(rt: HostRuntime) -> Result<(), Fail> {
     for (place, (header, digest, quota, want)) in FAULTY.iter().enumerate() {
         let text = text_of(header, digest, quota)?;
-        assert_eq!(rt; answer(rt.alloc(), text.as_bytes()), *want, "row {place}");
+        same_at(&rt, answer(rt.alloc(), text.as_bytes()), *want, ("row", place));
     }
     Ok(())
 }
@@ -82,11 +83,7 @@ fn spelled(line: &str) -> Result<ArrayString<512>, Fail> {
 fn compare(rt: &impl Abort, alloc: Global, rows: &[Row]) -> Result<(), Fail> {
     for (place, (line, want)) in rows.iter().enumerate() {
         let text = spelled(line)?;
-        assert_eq!(rt;
-            answer(alloc, text.as_bytes()),
-            *want,
-            "row {place}: {line:?}"
-        );
+        same_at(rt, answer(alloc, text.as_bytes()), *want, ("row", place, line));
     }
     Ok(())
 }
@@ -266,7 +263,7 @@ static NO_TEXTS: [(&[u8], TableFault); 6] = [
 #[test]
 fn bytes_that_are_no_text(rt: HostRuntime) {
     for (place, (bytes, want)) in NO_TEXTS.iter().enumerate() {
-        assert_eq!(rt; answer(rt.alloc(), bytes), Err(*want), "row {place}");
+        same_at(&rt, answer(rt.alloc(), bytes), Err(*want), ("row", place));
     }
 }
 
@@ -282,9 +279,9 @@ fn many(n: u32) -> Result<ArrayString<8192>, Fail> {
 #[test]
 fn many_tenants(rt: HostRuntime) -> Result<(), Fail> {
     let most = many(64)?;
-    assert_eq!(rt; answer(rt.alloc(), most.as_bytes()), Ok(64));
+    same(&rt, answer(rt.alloc(), most.as_bytes()), Ok(64));
     let more = many(65)?;
-    assert_eq!(rt; answer(rt.alloc(), more.as_bytes()), Err(TableFault::Count));
+    same(&rt, answer(rt.alloc(), more.as_bytes()), Err(TableFault::Count));
     Ok(())
 }
 
@@ -308,7 +305,7 @@ type Seat = (&'static [u8], Option<u8>);
 // Checks the places of tenants in a table.
 fn compare_places(rt: &impl Abort, table: &Table, rows: &[Seat]) {
     for (row, (name, want)) in rows.iter().enumerate() {
-        assert_eq!(rt; place(table, name), *want, "row {row}");
+        same_at(rt, place(table, name), *want, ("row", row));
     }
 }
 
@@ -318,7 +315,7 @@ type Login = (&'static [u8], &'static [u8], Option<(u8, Right)>);
 // Checks the logins of a table.
 fn compare_logins(rt: &impl Abort, table: &Table, rows: &[Login]) {
     for (row, (name, token, want)) in rows.iter().enumerate() {
-        assert_eq!(rt; login(table, name, token), *want, "row {row}");
+        same_at(rt, login(table, name, token), *want, ("row", row));
     }
 }
 
@@ -337,7 +334,7 @@ static LOGINS_OF_TWO: [Login; 7] = [
 #[test]
 fn logins(rt: HostRuntime) -> Result<(), Fail> {
     let table = parse(rt.alloc(), TWO_TENANTS.as_bytes())?;
-    assert_eq!(rt; table.len(), 2);
+    same(&rt, table.len(), 2);
     compare_places(&rt, &table, &PLACES_OF_TWO);
     compare_logins(&rt, &table, &LOGINS_OF_TWO);
     Ok(())
@@ -389,16 +386,16 @@ static THIRD_PLACES: [Seat; 5] = [
 fn places_after_another_table(rt: HostRuntime) -> Result<(), Fail> {
     let a = rt.alloc();
     let first = table_of(a, &["alice", "bob", "carol"])?;
-    assert_eq!(rt; first.len(), 3);
+    same(&rt, first.len(), 3);
     let second = seated(a, &first, &table_of(a, &["bob", "dave"])?)?;
-    assert_eq!(rt; second.len(), 4);
+    same(&rt, second.len(), 4);
     compare_places(&rt, &second, &SECOND_PLACES);
     compare_logins(&rt, &second, &SECOND_LOGINS);
     let bob = second.find(b"bob").ok_or("bob")?;
-    assert_eq!(rt; second.quota(bob).entries, 0);
+    same(&rt, second.quota(bob).entries, 0);
     let next = table_of(a, &["alice", "dave", "erin", "fred"])?;
     let third = seated(a, &second, &next)?;
-    assert_eq!(rt; third.len(), 5);
+    same(&rt, third.len(), 5);
     compare_places(&rt, &third, &THIRD_PLACES);
     Ok(())
 }
@@ -410,11 +407,11 @@ fn speakers_after_another_table(rt: HostRuntime) -> Result<(), Fail> {
     let alice = first.login(b"alice", b"abc").ok_or("alice")?;
     let reader = first.login(b"alice", b"hello").ok_or("alice reads")?;
     let bob = first.login(b"bob", b"hello").ok_or("bob")?;
-    assert!(rt; first.knows(alice) && first.knows(reader) && first.knows(bob));
+    holds(&rt, first.knows(alice) && first.knows(reader) && first.knows(bob));
     let second = seated(a, &first, &table_of(a, &["alice"])?)?;
-    assert!(rt; second.knows(alice));
-    assert!(rt; !second.knows(reader), "no token to look");
-    assert!(rt; !second.knows(bob), "no tenant");
+    holds(&rt, second.knows(alice));
+    holds_at(&rt, !second.knows(reader), "no token to look");
+    holds_at(&rt, !second.knows(bob), "no tenant");
     Ok(())
 }
 
@@ -437,10 +434,10 @@ fn all_tenants_are_replaced(rt: HostRuntime) -> Result<(), Fail> {
     let a = rt.alloc();
     let first = full_table(a, 'a')?;
     let second = seated(a, &first, &full_table(a, 'b')?)?;
-    assert_eq!(rt; second.len(), 128);
+    same(&rt, second.len(), 128);
     compare_places(&rt, &second, &REPLACED_ONCE);
     let third = seated(a, &second, &full_table(a, 'c')?)?;
-    assert_eq!(rt; third.len(), 128);
+    same(&rt, third.len(), 128);
     compare_places(&rt, &third, &REPLACED_TWICE);
     Ok(())
 }
@@ -458,8 +455,8 @@ fn quotas(rt: HostRuntime) -> Result<(), Fail> {
         entries: 1000,
         pieces: 126_000,
     };
-    assert_eq!(rt; table.quota(alice), small);
-    assert_eq!(rt; table.quota(bob), large);
+    same(&rt, table.quota(alice), small);
+    same(&rt, table.quota(bob), large);
     Ok(())
 }
 
@@ -471,7 +468,7 @@ fn two_equal_digests_may_change(rt: HostRuntime) -> Result<(), Fail> {
         "[alice]\nsha256 = \"{ABC}\"\nread_sha256 = \"{ABC}\"\nquota = 4\n"
     )?;
     let table = parse(rt.alloc(), text.as_bytes())?;
-    assert_eq!(rt; login(&table, b"alice", b"abc"), Some((0, Right::Change)));
+    same(&rt, login(&table, b"alice", b"abc"), Some((0, Right::Change)));
     Ok(())
 }
 
@@ -496,7 +493,7 @@ fn printed(fault: TableFault) -> Result<ArrayString<16>, Fail> {
 #[test]
 fn faults_have_names(rt: HostRuntime) -> Result<(), Fail> {
     for (fault, name) in &NAMES {
-        assert_eq!(rt; printed(*fault)?.as_str(), *name);
+        same(&rt, printed(*fault)?.as_str(), *name);
     }
     Ok(())
 }

@@ -10,6 +10,7 @@ use judy_tenants::Speaker;
 use std::alloc::{AllocError, Global};
 use std::process::Abort;
 use std::test::Fail;
+use test_checks::{holds_at, same, same_at};
 
 /// Five tenants. The third has a read-only token.
 pub(crate) const TABLE: &str = r#"
@@ -98,19 +99,15 @@ impl Tenant {
     ) -> Result<OwnedReply, Fail> {
         let want = self.answer(alloc, speaker.right, call)?;
         let reply = house.ask(rt, speaker, call);
-        assert_eq!(rt; reply.reply(), want.reply(), "{call:?} of {speaker:?}");
+        same_at(rt, reply.reply(), want.reply(), (call, "of", speaker));
         self.compare(rt, house);
         Ok(reply)
     }
 
     /// Checks that the service and the plain store have the same numbers of entries and pieces.
     pub(crate) fn compare(&self, rt: &impl Abort, house: &House) {
-        assert_eq!(rt; house.used(rt, &self.speaker), self.store.used(), "entries");
-        assert_eq!(rt;
-            house.pieces(rt, &self.speaker),
-            self.store.pieces(),
-            "pieces"
-        );
+        same_at(rt, house.used(rt, &self.speaker), self.store.used(), "entries");
+        same_at(rt, house.pieces(rt, &self.speaker), self.store.pieces(), "pieces");
     }
 
     /// The speaker: now and then the read-only one, if there is such a token.
@@ -169,10 +166,7 @@ fn compare_words(rt: &impl Abort, house: &House, tenants: &[Tenant]) {
         tenant.compare(rt, house);
         pieces = pieces.saturating_add(u128::from(tenant.store.pieces()));
     }
-    assert!(rt;
-        u128::from(house.live_words()) <= pieces.saturating_mul(16),
-        "words"
-    );
+    holds_at(rt, u128::from(house.live_words()) <= pieces.saturating_mul(16), "words");
 }
 
 /// The five tenants of the table, which have no entry.
@@ -215,7 +209,7 @@ fn leave(
     let tenant = &mut tenants[place];
     tenant.free(rt, alloc, house, &name(place, 0)?)?;
     tenant.free(rt, alloc, house, &name(place, 1)?)?;
-    assert_eq!(rt; tenant.store.used(), 0);
+    same(rt, tenant.store.used(), 0);
     Ok(())
 }
 
@@ -232,7 +226,7 @@ fn walk(rt: &impl Abort, alloc: Global, seed: u64, calls: u32) -> Result<(), Fai
         leave(rt, alloc, &mut house, &mut tenants, place)?;
     }
     compare_words(rt, &house, &tenants);
-    assert_eq!(rt; house.live_words(), 0);
+    same(rt, house.live_words(), 0);
     Ok(())
 }
 

@@ -4,6 +4,7 @@ use judy_arena::NoMemory;
 use judy_model::{LongCall, OneCall, Reply};
 use std::alloc::Global;
 use std::process::Abort;
+use test_checks::same_at;
 
 /// The reply of a set. If memory is refused, nothing has changed, and a second try succeeds.
 pub(crate) fn ask_set(
@@ -18,8 +19,8 @@ pub(crate) fn ask_set(
     if let Ok(reply) = arrays.one(alloc, which, call) {
         return Ok(reply);
     }
-    assert_eq!(rt; arrays.live_words(), words, "words after a refusal");
-    assert_eq!(rt; arrays.population(), entries, "entries after a refusal");
+    same_at(rt, arrays.live_words(), words, "words after a refusal");
+    same_at(rt, arrays.population(), entries, "entries after a refusal");
     arrays.one(alloc, which, call)
 }
 
@@ -36,8 +37,8 @@ pub(crate) fn ask_map(
     if let Ok(reply) = arrays.long(alloc, which, call) {
         return Ok(reply);
     }
-    assert_eq!(rt; arrays.live_words(), words, "words after a refusal");
-    assert_eq!(rt; arrays.population(), entries, "entries after a refusal");
+    same_at(rt, arrays.live_words(), words, "words after a refusal");
+    same_at(rt, arrays.population(), entries, "entries after a refusal");
     arrays.long(alloc, which, call)
 }
 
@@ -49,11 +50,7 @@ pub(crate) fn one(
     call: OneCall,
     want: Reply<'_>,
 ) -> Result<(), NoMemory> {
-    assert_eq!(rt;
-        ask_set(rt, alloc, arrays, Which::First, call)?,
-        want,
-        "{call:?}"
-    );
+    same_at(rt, ask_set(rt, alloc, arrays, Which::First, call)?, want, call);
     Ok(())
 }
 
@@ -65,10 +62,6 @@ pub(crate) fn long(
     call: LongCall,
     want: Reply<'_>,
 ) -> Result<(), NoMemory> {
-    assert_eq!(rt;
-        ask_map(rt, alloc, arrays, Which::First, call)?,
-        want,
-        "{call:?}"
-    );
+    same_at(rt, ask_map(rt, alloc, arrays, Which::First, call)?, want, call);
     Ok(())
 }

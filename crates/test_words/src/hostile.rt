@@ -7,6 +7,7 @@ use judy_model::{Given, LongCall, OneCall, Reply};
 use std::alloc::Global;
 use std::process::Abort;
 use std::test::Fail;
+use test_checks::{holds_at, same, same_at};
 
 const MAX: u64 = 18_446_744_073_709_551_615;
 
@@ -155,16 +156,16 @@ fn a_map_of_0_to_256_keys_and_back(rt: HostRuntime) -> Result<(), Fail> {
     for key in 0..256u64 {
         insert(&rt, alloc, &mut arrays, &mut keys, key)?;
         if let Some(words) = told(&RISING, key.wrapping_add(1)) {
-            assert_eq!(rt; arrays.live_words(), words, "with {key}");
+            same_at(&rt, arrays.live_words(), words, ("with", key));
         }
     }
     for key in (0..256u64).rev() {
         delete(&rt, alloc, &mut arrays, &mut keys, key)?;
         if let Some(words) = told(&FALLING, key) {
-            assert_eq!(rt; arrays.live_words(), words, "without {key}");
+            same_at(&rt, arrays.live_words(), words, ("without", key));
         }
     }
-    assert_eq!(rt; arrays.live_words(), 0);
+    same(&rt, arrays.live_words(), 0);
     Ok(())
 }
 
@@ -177,20 +178,20 @@ fn a_branch_of_two_to_nine_leaves(rt: HostRuntime) -> Result<(), Fail> {
         set(&rt, alloc, &mut arrays, &mut keys, key)?;
         set(&rt, alloc, &mut arrays, &mut keys, key.wrapping_add(256))?;
     }
-    assert_eq!(rt; arrays.live_words(), 72);
+    same(&rt, arrays.live_words(), 72);
     for byte in 2..9u64 {
         set(&rt, alloc, &mut arrays, &mut keys, byte.wrapping_mul(256))?;
     }
-    assert_eq!(rt; arrays.live_words(), 108);
+    same(&rt, arrays.live_words(), 108);
     unset(&rt, alloc, &mut arrays, &mut keys, 2048)?;
-    assert_eq!(rt; arrays.live_words(), 104);
+    same(&rt, arrays.live_words(), 104);
     for byte in 2..8u64 {
         unset(&rt, alloc, &mut arrays, &mut keys, byte.wrapping_mul(256))?;
     }
     for key in 256..272u64 {
         unset(&rt, alloc, &mut arrays, &mut keys, key)?;
     }
-    assert_eq!(rt; arrays.live_words(), 32);
+    same(&rt, arrays.live_words(), 32);
     Ok(())
 }
 
@@ -203,9 +204,9 @@ fn a_branch_above_a_leaf(rt: HostRuntime) -> Result<(), Fail> {
     for key in 0..32u64 {
         set(&rt, alloc, &mut arrays, &mut keys, key)?;
     }
-    assert_eq!(rt; arrays.live_words(), 8);
+    same(&rt, arrays.live_words(), 8);
     set(&rt, alloc, &mut arrays, &mut keys, HIGH)?;
-    assert_eq!(rt; arrays.live_words(), 20);
+    same(&rt, arrays.live_words(), 20);
     for (call, reply) in [
         (OneCall::FirstEmpty(0), Reply::Index(32)),
         (OneCall::Next(31), Reply::Index(HIGH)),
@@ -217,7 +218,7 @@ fn a_branch_above_a_leaf(rt: HostRuntime) -> Result<(), Fail> {
         one(&rt, alloc, &mut arrays, call, reply)?;
     }
     unset(&rt, alloc, &mut arrays, &mut keys, HIGH)?;
-    assert_eq!(rt; arrays.live_words(), 8);
+    same(&rt, arrays.live_words(), 8);
     Ok(())
 }
 
@@ -243,7 +244,7 @@ fn a_set_at_the_top_taken_from_both_ends(rt: HostRuntime) -> Result<(), Fail> {
     ] {
         one(&rt, alloc, &mut arrays, call, reply)?;
     }
-    assert_eq!(rt; arrays.live_words(), 8);
+    same(&rt, arrays.live_words(), 8);
     for step in 0..128u64 {
         unset(&rt, alloc, &mut arrays, &mut keys, MAX.wrapping_sub(step))?;
         let call = OneCall::LastEmpty(MAX);
@@ -256,7 +257,7 @@ fn a_set_at_the_top_taken_from_both_ends(rt: HostRuntime) -> Result<(), Fail> {
             (MAX - 255).wrapping_add(step),
         )?;
     }
-    assert_eq!(rt; arrays.live_words(), 0);
+    same(&rt, arrays.live_words(), 0);
     Ok(())
 }
 
@@ -293,7 +294,7 @@ fn full_leaf(rt: HostRuntime) -> Result<(), Fail> {
     ] {
         one(&rt, alloc, &mut arrays, call, reply)?;
     }
-    assert_eq!(rt; arrays.live_words(), 8);
+    same(&rt, arrays.live_words(), 8);
     Ok(())
 }
 
@@ -313,7 +314,7 @@ fn wide_branch(rt: HostRuntime) -> Result<(), Fail> {
     ] {
         one(&rt, alloc, &mut arrays, call, reply)?;
     }
-    assert_eq!(rt; arrays.live_words(), 1028);
+    same(&rt, arrays.live_words(), 1028);
     for i in 0..128u64 {
         let call = OneCall::Unset(i.wrapping_mul(256));
         one(&rt, alloc, &mut arrays, call, Reply::Int(true))?;
@@ -327,7 +328,7 @@ fn wide_branch(rt: HostRuntime) -> Result<(), Fail> {
         OneCall::First(0),
         Reply::Index(32_768),
     )?;
-    assert_eq!(rt; arrays.live_words(), 4);
+    same(&rt, arrays.live_words(), 4);
     Ok(())
 }
 
@@ -339,7 +340,7 @@ fn scattered(k: u64) -> u64 {
 /// Checks that the arrays have few words for this many keys.
 fn has_space(rt: &impl Abort, arrays: &Arrays, count: u64) {
     let bound = count.wrapping_mul(12).saturating_sub(8);
-    assert!(rt; arrays.live_words() <= bound, "{count} keys");
+    holds_at(rt, arrays.live_words() <= bound, (count, "keys"));
 }
 
 #[test]

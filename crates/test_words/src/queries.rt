@@ -5,6 +5,7 @@ use judy_arena::NoMemory;
 use std::alloc::Global;
 use std::process::Abort;
 use std::test::Fail;
+use test_checks::{holds_at, same, same_at};
 
 /// The least key from a word on.
 fn from(keys: &[u64], x: u64) -> Option<u64> {
@@ -63,18 +64,18 @@ fn compare(rt: &impl Abort, set: &Held, keys: &[u64], x: u64) {
         upto(keys, x),
         prev_of(keys, below),
     ];
-    assert!(rt; set.neighbours(x) == wanted, "neighbours of {x}");
+    holds_at(rt, set.neighbours(x) == wanted, ("neighbours of", x));
     let gaps = [
         gap_from(keys, x),
         next_gap(keys, above),
         gap_upto(keys, x),
         prev_gap(keys, below),
     ];
-    assert!(rt; set.gaps(x) == gaps, "gaps beside {x}");
+    holds_at(rt, set.gaps(x) == gaps, ("gaps beside", x));
     let upto = keys.iter().filter(|key| **key <= x).count() as u64;
-    assert_eq!(rt; set.count(0, x), upto, "count up to {x}");
+    same_at(rt, set.count(0, x), upto, ("count up to", x));
     let since = keys.iter().filter(|key| **key >= x).count() as u64;
-    assert_eq!(rt; set.count(x, u64::MAX), since, "count from {x}");
+    same_at(rt, set.count(x, u64::MAX), since, ("count from", x));
 }
 
 /// Inserts a key into a set. If memory is refused, nothing has changed, and a second try succeeds.
@@ -85,10 +86,10 @@ fn put(rt: &impl Abort, alloc: Global, set: &mut Held, key: u64) -> Result<(), N
     if set.insert(alloc, key).is_ok() {
         return Ok(());
     }
-    assert_eq!(rt; set.words(), words, "words after a refusal");
-    assert_eq!(rt; set.refusals(), refusals.saturating_add(1));
-    assert_eq!(rt; set.count(0, u64::MAX), population);
-    assert_eq!(rt; set.count(key, key), 0);
+    same_at(rt, set.words(), words, "words after a refusal");
+    same(rt, set.refusals(), refusals.saturating_add(1));
+    same(rt, set.count(0, u64::MAX), population);
+    same(rt, set.count(key, key), 0);
     set.insert(alloc, key)
 }
 
@@ -103,15 +104,15 @@ fn check(rt: &impl Abort, alloc: Global, keys: &[u64]) -> Result<(), Fail> {
         compare(rt, &set, keys, x);
     }
     let mut n = 0u64;
-    assert_eq!(rt; set.by_count(0), None);
+    same(rt, set.by_count(0), None);
     for key in keys {
         compare(rt, &set, keys, *key);
         compare(rt, &set, keys, key.wrapping_add(1));
         compare(rt, &set, keys, key.wrapping_sub(1));
         n = n.saturating_add(1);
-        assert_eq!(rt; set.by_count(n), Some(*key));
+        same(rt, set.by_count(n), Some(*key));
     }
-    assert_eq!(rt; set.by_count(n.saturating_add(1)), None);
+    same(rt, set.by_count(n.saturating_add(1)), None);
     Ok(())
 }
 

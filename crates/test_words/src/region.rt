@@ -6,6 +6,7 @@ use judy_model::{OneCall, Reply};
 use std::alloc::Global;
 use std::process::Abort;
 use std::test::Fail;
+use test_checks::{same, same_at};
 
 /// Inserts a key into the first set. If memory is refused, a second try succeeds.
 fn put(alloc: Global, arrays: &mut Arrays, key: u64) -> Result<Reply<'static>, NoMemory> {
@@ -21,9 +22,9 @@ fn remove_all(rt: &impl Abort, alloc: Global, arrays: &mut Arrays, step: u64) ->
     for number in 0..300u64 {
         let key = step.wrapping_mul(number);
         let _ = arrays.one(alloc, Which::First, OneCall::Unset(key))?;
-        assert_eq!(rt; arrays.region(), region, "entry {number}");
+        same_at(rt, arrays.region(), region, ("entry", number));
     }
-    assert_eq!(rt; arrays.live_words(), 0);
+    same(rt, arrays.live_words(), 0);
     Ok(())
 }
 
@@ -38,14 +39,14 @@ fn series(rt: &impl Abort, alloc: Global, step: u64, places: &[(u64, u64)]) -> R
             let _ = put(alloc, &mut arrays, step.wrapping_mul(number))?;
             let after = arrays.region();
             if after != before {
-                assert_eq!(rt; after, before.saturating_add(512), "entry {number}");
-                assert_eq!(rt; places.get(rises), Some(&(round, number)), "step {step}");
+                same_at(rt, after, before.saturating_add(512), ("entry", number));
+                same_at(rt, places.get(rises), Some(&(round, number)), ("step", step));
                 rises = rises.saturating_add(1);
             }
         }
         remove_all(rt, alloc, &mut arrays, step)?;
     }
-    assert_eq!(rt; rises, places.len(), "step {step}");
+    same_at(rt, rises, places.len(), ("step", step));
     Ok(())
 }
 

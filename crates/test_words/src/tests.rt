@@ -13,6 +13,7 @@ use judy_words::JudyL;
 use std::alloc::{AllocError, Global};
 use std::process::Abort;
 use std::test::Fail;
+use test_checks::{holds, same, same_at};
 
 const MAX: u64 = 18_446_744_073_709_551_615;
 
@@ -308,12 +309,12 @@ fn both(
         let call = one_call(seed >> 40, a, b);
         let want = ask_store(alloc, store, &Call::One(name(which)?, call))?;
         let reply = ask_set(rt, alloc, arrays, which, call)?;
-        assert_eq!(rt; reply, want.reply(), "{call:?} of {which:?}");
+        same_at(rt, reply, want.reply(), (call, "of", which));
     } else {
         let call = long_call(seed >> 40, a, b);
         let want = ask_store(alloc, store, &Call::Long(name(which)?, call))?;
         let reply = ask_map(rt, alloc, arrays, which, call)?;
-        assert_eq!(rt; reply, want.reply(), "{call:?} of {which:?}");
+        same_at(rt, reply, want.reply(), (call, "of", which));
     }
     Ok(())
 }
@@ -329,17 +330,13 @@ fn two_thousand_calls(rt: HostRuntime) -> Result<(), Fail> {
             .wrapping_mul(6_364_136_223_846_793_005)
             .wrapping_add(1_442_695_040_888_963_407);
         both(&rt, alloc, &mut arrays, &mut store, seed)?;
-        assert_eq!(rt;
-            arrays.population(),
-            u128::from(store.used()),
-            "entries after call {i}"
-        );
+        same_at(&rt, arrays.population(), u128::from(store.used()), ("entries after call", i));
     }
     for which in [Which::First, Which::Second] {
         let _ = arrays.one(alloc, which, OneCall::Free)?;
         let _ = arrays.long(alloc, which, LongCall::Free)?;
     }
-    assert_eq!(rt; arrays.live_words(), 0);
+    same(&rt, arrays.live_words(), 0);
     Ok(())
 }
 
@@ -358,8 +355,8 @@ fn insert_seven(
     if let Ok(answer) = map.insert(alloc, arena, 7) {
         return Ok(answer.before);
     }
-    assert_eq!(rt; arena.live_words(), 0);
-    assert_eq!(rt; arena.refusals(), 1);
+    same(rt, arena.live_words(), 0);
+    same(rt, arena.refusals(), 1);
     let answer = map.insert(alloc, arena, 7)?;
     Ok(answer.before)
 }
@@ -368,14 +365,14 @@ fn insert_seven(
 fn a_map_by_hand(rt: HostRuntime) -> Result<(), Fail> {
     let mut arena = Arena::new(rt.alloc());
     let mut map = JudyL::new();
-    assert!(rt; insert_seven(&rt, rt.alloc(), &mut arena, &mut map)? == None);
+    holds(&rt, insert_seven(&rt, rt.alloc(), &mut arena, &mut map)? == None);
     map.write(&mut arena, 7, 9);
-    assert!(rt; map.insert(rt.alloc(), &mut arena, 7)?.before == Some(9));
+    holds(&rt, map.insert(rt.alloc(), &mut arena, 7)?.before == Some(9));
     let again = JudyL::from_reference(map.reference());
-    assert_eq!(rt; again.get(&arena, 7), Some(9));
-    assert_eq!(rt; again.population(&arena), 1);
-    assert!(rt; map.delete(&mut arena, 7));
-    assert!(rt; map.reference() == JudyL::new().reference());
-    assert_eq!(rt; arena.live_words(), 0);
+    same(&rt, again.get(&arena, 7), Some(9));
+    same(&rt, again.population(&arena), 1);
+    holds(&rt, map.delete(&mut arena, 7));
+    holds(&rt, map.reference() == JudyL::new().reference());
+    same(&rt, arena.live_words(), 0);
     Ok(())
 }

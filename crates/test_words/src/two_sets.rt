@@ -8,6 +8,7 @@ use judy_words::Judy1;
 use std::alloc::Global;
 use std::process::Abort;
 use std::test::Fail;
+use test_checks::{holds, holds_at, same, same_at};
 
 const INDEXES: [u64; 8] = [0, 1, 255, 256, 65_536, 1 << 32, u64::MAX - 1, u64::MAX];
 
@@ -33,15 +34,12 @@ fn set_one_of_two(
     if let Ok(new) = first.set(alloc, arena, x) {
         return Ok(new);
     }
-    assert_eq!(rt; arena.live_words(), words, "words after a refusal");
-    assert_eq!(rt; arena.refusals(), refusals.saturating_add(1));
-    assert!(rt;
-        first.reference() == reference,
-        "the reference after a refusal"
-    );
-    assert_eq!(rt; first.population(arena), population);
-    assert!(rt; !first.test(arena, x), "a refused index is set");
-    assert_eq!(rt; second.population(arena), other, "the other set");
+    same_at(rt, arena.live_words(), words, "words after a refusal");
+    same(rt, arena.refusals(), refusals.saturating_add(1));
+    holds_at(rt, first.reference() == reference, "the reference after a refusal");
+    same(rt, first.population(arena), population);
+    holds_at(rt, !first.test(arena, x), "a refused index is set");
+    same_at(rt, second.population(arena), other, "the other set");
     first.set(alloc, arena, x)
 }
 
@@ -67,22 +65,22 @@ fn call_one_of_two(
     match call {
         0..=4 => {
             let new = set_one_of_two(rt, alloc, arena, first, second, x)?;
-            assert_eq!(rt; new, !was, "set {x}");
+            same_at(rt, new, !was, ("set", x));
             is_set[place] = true;
             Ok(())
         }
         5..=7 => {
-            assert_eq!(rt; first.unset(arena, x), was, "unset {x}");
+            same_at(rt, first.unset(arena, x), was, ("unset", x));
             is_set[place] = false;
             Ok(())
         }
         8 => {
-            assert_eq!(rt; first.test(arena, x), was, "test {x}");
+            same_at(rt, first.test(arena, x), was, ("test", x));
             Ok(())
         }
         _ => {
             let many = is_set.iter().filter(|set| **set).count() as u64;
-            assert_eq!(rt; first.clear(arena), many, "clear");
+            same_at(rt, first.clear(arena), many, "clear");
             *is_set = [false; 8];
             Ok(())
         }
@@ -116,7 +114,7 @@ fn two_sets_in_one_arena(rt: HostRuntime) -> Result<(), Fail> {
             &mut in_first,
         )?;
         let many = in_first.iter().filter(|set| **set).count() as u64;
-        assert_eq!(rt; first.population(&arena), many, "indexes of the first set");
+        same_at(&rt, first.population(&arena), many, "indexes of the first set");
         let call = (seed >> 44) % 10;
         let place = ((seed >> 50) % 8) as usize;
         call_one_of_two(
@@ -130,15 +128,11 @@ fn two_sets_in_one_arena(rt: HostRuntime) -> Result<(), Fail> {
             &mut in_second,
         )?;
         let many = in_second.iter().filter(|set| **set).count() as u64;
-        assert_eq!(rt;
-            second.population(&arena),
-            many,
-            "indexes of the second set"
-        );
+        same_at(&rt, second.population(&arena), many, "indexes of the second set");
     }
     first.clear(&mut arena);
     second.clear(&mut arena);
-    assert_eq!(rt; arena.live_words(), 0);
+    same(&rt, arena.live_words(), 0);
     Ok(())
 }
 
@@ -148,14 +142,14 @@ fn a_set_by_hand(rt: HostRuntime) -> Result<(), Fail> {
     let mut arena = Arena::new(rt.alloc());
     let mut set = Judy1::new();
     let other = Judy1::new();
-    assert!(rt; set_one_of_two(&rt, rt.alloc(), &mut arena, &mut set, other, 12)?);
-    assert!(rt; !set.set(rt.alloc(), &mut arena, 12)?);
+    holds(&rt, set_one_of_two(&rt, rt.alloc(), &mut arena, &mut set, other, 12)?);
+    holds(&rt, !set.set(rt.alloc(), &mut arena, 12)?);
     let again = Judy1::from_reference(set.reference());
-    assert!(rt; again.test(&arena, 12));
-    assert!(rt; !again.test(&arena, 13));
-    assert_eq!(rt; again.population(&arena), 1);
-    assert!(rt; set.unset(&mut arena, 12));
-    assert!(rt; !set.unset(&mut arena, 12));
-    assert!(rt; set.reference() == Judy1::new().reference());
+    holds(&rt, again.test(&arena, 12));
+    holds(&rt, !again.test(&arena, 13));
+    same(&rt, again.population(&arena), 1);
+    holds(&rt, set.unset(&mut arena, 12));
+    holds(&rt, !set.unset(&mut arena, 12));
+    holds(&rt, set.reference() == Judy1::new().reference());
     Ok(())
 }
