@@ -10,6 +10,7 @@ from typing import Callable, Iterator, List, Optional
 from .client import TIMEOUT, Client
 from .connection import Address
 from .errors import Closed, PoolEmpty
+from .retry import QUERIES, Retry, checked_retry
 
 
 class Pool:
@@ -24,15 +25,17 @@ class Pool:
     they are needed, and kept. A connection that was lost is not given out again, and a new one takes
     its place; the exception of the call that lost it reaches its block. After a fork the child's
     pool makes connections of its own. The server serves at most `--clients` connections at once.
+    `reconnect` and `retry` are those of a `Client`.
     """
 
     def __init__(
         self, address: Address, size: int, name: str, token: str, wait: Optional[float] = TIMEOUT,
-        timeout: Optional[float] = TIMEOUT, tls: Optional[ssl.SSLContext] = None, reconnect: bool = False,
+        timeout: Optional[float] = TIMEOUT, tls: Optional[ssl.SSLContext] = None, reconnect: bool = False, retry: Retry = QUERIES,
     ) -> None:  # fmt: skip
         if size < 1:
             raise ValueError("a pool has at least one client")
-        self._open: Callable[[], Client] = lambda: _logged_in(Client(address, timeout, tls, reconnect=reconnect), name, token)
+        checked_retry(retry, reconnect)
+        self._open: Callable[[], Client] = lambda: _logged_in(Client(address, timeout, tls, reconnect=reconnect, retry=retry), name, token)
         self._size = size
         self._wait = wait
         self._is_closed = False
