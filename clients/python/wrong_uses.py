@@ -42,6 +42,8 @@ def sets(client: judyd.Client) -> None:
     index: int = ids.first_empty(1)  # wrong
     item: Tuple[int, int] = ids.ranks[0]  # wrong
     ids.ranks["0"]  # wrong
+    ids.walk(0, "9")  # wrong
+    ids.walk_back("9")  # wrong
     ids[5]  # wrong
     print(free, newest, least, is_new, index, item)
 
@@ -54,6 +56,14 @@ def word_maps(client: judyd.Client) -> None:
     entries: Dict[int, int] = dict(m.items())
     value: Optional[int] = m.get(5)
     number: int = m.get(5, 0)
+    joined: Dict[int, int] = m | {5: 6}
+    m |= {5: 6}
+    number = m.pop(5)
+    number = m.setdefault(5, 7)
+    is_equal: bool = m == {5: 6}
+    popped: Optional[int] = m.pop(5, None)
+    m.walk(0, "9")  # wrong
+    m.pop("5")  # wrong
     m["5"] = 6  # wrong
     m[5] = "6"  # wrong
     m[5] = None  # wrong
@@ -67,7 +77,7 @@ def word_maps(client: judyd.Client) -> None:
     text: str = m[5]  # wrong
     first: Tuple[int, int] = m.first()  # wrong
     keys: List[str] = list(m)  # wrong
-    print(entries, value, number, none, other, text, first, keys)
+    print(entries, value, number, none, other, text, first, keys, joined, is_equal, popped)
 
 
 def string_maps(client: judyd.Client) -> None:

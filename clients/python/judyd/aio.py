@@ -29,7 +29,7 @@ from .calls import Judy1Calls, JudyHSCalls, JudyLCalls, JudySLCalls
 from .client import TIMEOUT
 from .connection import Address, SameServer, connected, lost, no_server, server_of
 from .errors import Closed, ConnectionLost, JudyError, checked
-from .fields import MAX, Used, name_field, token_field, used_of, word_field
+from .fields import MAX, Used, name_field, stop_of, token_field, used_of, word_of
 from .strings import Item, StringWalk
 from .walks import Ask, RankedWalk, Steps, index_of_item, indexes_of, items_of
 
@@ -310,40 +310,41 @@ class Judy1(Judy1Calls[SoonYes, SoonNumber, SoonFound]):
             index = await self.first_empty(index)
         return index
 
-    def walk(self, start: int = 0) -> AsyncIterator[int]:
-        """The indexes in order from `start` on, read in windows of many lines."""
-        return _walked(RankedWalk(self, indexes_of, int, False).steps(int(word_field(start))), self._asker)
+    def walk(self, start: int = 0, stop: Optional[int] = None) -> AsyncIterator[int]:
+        """The indexes in order from `start` on, up to `stop`, which is left out, read in windows of many
+        lines."""
+        return _walked(RankedWalk(self, indexes_of, int, False, stop_of(stop, False)).steps(word_of(start)), self._asker)
 
-    def walk_back(self, start: int = MAX) -> AsyncIterator[int]:
-        """The indexes from `start` down, read in windows of many lines."""
-        return _walked(RankedWalk(self, indexes_of, int, True).steps(int(word_field(start))), self._asker)
+    def walk_back(self, start: int = MAX, stop: Optional[int] = None) -> AsyncIterator[int]:
+        """The indexes from `start` down to `stop`, which is left out, read in windows of many lines."""
+        return _walked(RankedWalk(self, indexes_of, int, True, stop_of(stop, True)).steps(word_of(start)), self._asker)
 
 
 class JudyL(JudyLCalls[SoonYes, SoonNumber, SoonFound, Awaitable[Optional[Tuple[int, int]]]]):
     """A map from words to words."""
 
-    def walk(self, start: int = 0) -> AsyncIterator[Tuple[int, int]]:
-        """The entries in order from `start` on, as pairs of index and value, read in windows of
-        many lines."""
-        return _walked(RankedWalk(self, items_of, index_of_item, False).steps(int(word_field(start))), self._asker)
+    def walk(self, start: int = 0, stop: Optional[int] = None) -> AsyncIterator[Tuple[int, int]]:
+        """The entries in order from `start` on, up to `stop`, which is left out, as pairs of index and
+        value, read in windows of many lines."""
+        return _walked(RankedWalk(self, items_of, index_of_item, False, stop_of(stop, False)).steps(word_of(start)), self._asker)
 
-    def walk_back(self, start: int = MAX) -> AsyncIterator[Tuple[int, int]]:
-        """The entries from `start` down, as pairs of index and value, read in windows of many
-        lines."""
-        return _walked(RankedWalk(self, items_of, index_of_item, True).steps(int(word_field(start))), self._asker)
+    def walk_back(self, start: int = MAX, stop: Optional[int] = None) -> AsyncIterator[Tuple[int, int]]:
+        """The entries from `start` down to `stop`, which is left out, as pairs of index and value, read
+        in windows of many lines."""
+        return _walked(RankedWalk(self, items_of, index_of_item, True, stop_of(stop, True)).steps(word_of(start)), self._asker)
 
 
 class JudySL(JudySLCalls[K, SoonYes, SoonNumber, SoonFound, Awaitable[Optional[Tuple[K, int]]]], Generic[K]):
     """A map from strings to words, in the order of their bytes."""
 
-    def walk(self, start: Optional[K] = None) -> AsyncIterator[Tuple[K, int]]:
-        """The entries in order from `start` on, as pairs of key and value, read in windows of many
-        lines."""
-        return self._walk(StringWalk(self, False).steps(None if start is None else self._plain(start)))
+    def walk(self, start: Optional[K] = None, stop: Optional[K] = None) -> AsyncIterator[Tuple[K, int]]:
+        """The entries in order from `start` on, up to `stop`, which is left out, as pairs of key and
+        value, read in windows of many lines."""
+        return self._walk(StringWalk(self, False, self._bound(stop)).steps(self._bound(start)))
 
-    def walk_back(self, start: Optional[K] = None) -> AsyncIterator[Tuple[K, int]]:
-        """The entries from `start` down, as pairs of key and value."""
-        return self._walk(StringWalk(self, True).steps(None if start is None else self._plain(start)))
+    def walk_back(self, start: Optional[K] = None, stop: Optional[K] = None) -> AsyncIterator[Tuple[K, int]]:
+        """The entries from `start` down to `stop`, which is left out, as pairs of key and value."""
+        return self._walk(StringWalk(self, True, self._bound(stop)).steps(self._bound(start)))
 
     def with_prefix(self, prefix: K) -> AsyncIterator[Tuple[K, int]]:
         """The entries whose keys begin with these bytes or this text, in order."""

@@ -205,6 +205,10 @@ class KeyCalls(MapCalls[K, Yes, Number, Found], Generic[K, Yes, Number, Found]):
         """The bytes of a key."""
         return bytes_of(key, self.encoding)
 
+    def _bound(self, key: Optional[K]) -> Optional[bytes]:
+        """The bytes of a key where a walk begins or stops, if there is one."""
+        return None if key is None else self._plain(key)
+
     def _shown(self, plain: bytes) -> Any:
         """A key as the caller sees it: bytes, or text in the encoding."""
         return plain if self.encoding is None else plain.decode(self.encoding)
