@@ -124,15 +124,19 @@ def pipelines(client: judyd.Client) -> None:
         pipe.judy1("ids").set("5")  # wrong
         pipe.judysl("s").get("tree")  # wrong
         pipe.judyhs("h", "utf-8").insert(b"a")  # wrong
-        pipe.judy1("ids").add(5)  # wrong
+        pipe.judy1("ids").add(5)
+        pipe.judyl("m")[5] = 6
+        used: judyd.Later[judyd.Used] = pipe.used()
+        pipe.judy1("ids").add("5")  # wrong
         hits: int = pipe.judyl("m").add(5)  # wrong
-        pipe.judyl("m")[5] = 6  # wrong
+        pipe.judyl("m")[5] = "6"  # wrong
+        pipe.judysl("s")["tree"] = 6  # wrong
         is_new: bool = pipe.judy1("ids").set(5)  # wrong
     fine: bool = late.result()
     first: Optional[Tuple[str, int]] = item.result()
     number: str = late.result()  # wrong
     wrong_first: Optional[Tuple[bytes, int]] = item.result()  # wrong
-    print(is_new, hits, fine, first, number, wrong_first)
+    print(is_new, hits, fine, first, number, wrong_first, used)
 
 
 async def tasks(client: aio.Client) -> None:

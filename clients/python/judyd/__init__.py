@@ -39,8 +39,9 @@ from .errors import (
     Refused, Restarted, Syntax, TimedOut, TooManyClients,
 )  # fmt: skip
 from .fields import MAX, Used
+from .late import Later
 from .maps import JudyHS, JudyL, JudySL
-from .pipeline import Later, Pipeline
+from .pipeline import Pipeline
 from .pool import Pool
 from .retry import IDEMPOTENT, QUERIES, Retry
 from .sets import Judy1

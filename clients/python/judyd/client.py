@@ -4,10 +4,11 @@ import ssl
 from contextlib import nullcontext
 from typing import Any, Callable, ContextManager, Iterable, List, Optional, Set, Tuple, TypeVar, overload
 
+from .bound import Bound
 from .catalogue import Catalogue, listed
 from .connection import Address
 from .errors import checked
-from .fields import Used, name_field, token_field, used_of
+from .fields import Used, name_field, plain_lines, token_field, used_of
 from .link import Link
 from .maps import JudyHS, JudyL, JudySL
 from .pipeline import Pipeline
@@ -20,7 +21,7 @@ TIMEOUT = 30.0
 """How many seconds a client waits by default."""
 
 
-class Arrays:
+class Arrays(Bound):
     """What a client and a visitor share: the arrays of a tenant, over `_exchange`."""
 
     _is_late = False
@@ -126,6 +127,9 @@ class Client(Arrays):
         self._catalogue = Catalogue() if catalogue else None
         self._link = Link(address, timeout, tls, reconnect, self._noted.clear)
 
+    def __repr__(self) -> str:
+        return "<Client %s>" % self._link
+
     def __enter__(self) -> "Client":
         return self
 
@@ -142,9 +146,7 @@ class Client(Arrays):
     def lines(self, lines: Iterable[bytes]) -> List[bytes]:
         """Sends lines as they are, bytes without LF, and returns the list of their replies. QUIT
         ends the connection: lines after it have no reply, and raise ConnectionLost."""
-        plain = [bytes(line) for line in lines]
-        if any(b"\n" in line for line in plain):
-            raise ValueError("a line has no LF in it")
+        plain = plain_lines(lines)
         with self._held():
             replies = self._exchange(plain)
             for line, reply in zip(plain, replies):
@@ -198,6 +200,9 @@ class Visitor(Arrays):
         self._open = open_client
         self._client: Optional[Client] = None
         self._latest: object = None
+
+    def __repr__(self) -> str:
+        return "<Visitor, not connected>" if self._client is None else "<Visitor by %r>" % self._client
 
     def _ask(self, line: bytes, read: Callable[[bytes], T], is_quiet: bool = False) -> T:
         try:

@@ -2,7 +2,7 @@
 
 import operator
 import re
-from typing import NamedTuple, Optional, SupportsIndex, Tuple
+from typing import Iterable, List, NamedTuple, Optional, SupportsIndex, Tuple
 
 from .errors import JudyError, KeyTooLong
 
@@ -104,6 +104,18 @@ def no_zeros(plain: bytes) -> bytes:
     """The bytes of a string, which has no byte 0."""
     if b"\0" in plain:
         raise ValueError("a string has no byte 0: %r" % (plain,))
+    return plain
+
+
+def plain_lines(lines: Iterable[bytes]) -> List[bytes]:
+    """Lines that are sent as they are."""
+    is_one_line = isinstance(lines, (str, bytes, bytearray, memoryview))
+    plain = [] if is_one_line else list(lines)
+    if is_one_line or not all(isinstance(line, (bytes, bytearray, memoryview)) for line in plain):
+        raise TypeError("lines are a list, and each line is bytes")
+    plain = [bytes(line) for line in plain]
+    if any(b"\n" in line for line in plain):
+        raise ValueError("a line has no LF in it")
     return plain
 
 

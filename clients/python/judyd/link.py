@@ -8,8 +8,9 @@ from contextlib import contextmanager
 from typing import Callable, Iterator, List, Optional
 from weakref import WeakSet
 
-from .connection import Address, Connection
+from .connection import Address, Connection, checked_address, place_of
 from .errors import Closed, ConnectionLost, JudyError, NoServer, Restarted, TimedOut, checked
+from .retry import LOGGER, counted, tenant_of
 
 TRIES = 10
 """How many connections one exchange uses up at most."""
@@ -20,7 +21,9 @@ class Link:
     new connection takes the place of one that was lost."""
 
     def __init__(self, address: Address, timeout: Optional[float], tls: Optional[ssl.SSLContext], reconnect: bool, on_new: Callable[[], None]) -> None:
+        checked_address(address)
         self._connect: Callable[[], Connection] = lambda: Connection(address, timeout, tls)
+        self._place = place_of(address)
         self._timeout = timeout
         self._reconnect = reconnect
         self._on_new = on_new  # is called when a new connection has taken the place of another
@@ -40,6 +43,13 @@ class Link:
         self._check_process()
         with self._lock:
             yield
+
+    def __str__(self) -> str:
+        """Its address, its tenant and its state. The token is not in it."""
+        connection = self.connection
+        is_open = connection is not None and connection.is_open
+        state = "closed" if self._is_closed else "open" if is_open else "not connected"
+        return "%s, %s, %s" % (self._place, tenant_of(self.log_in), state)
 
     def server(self) -> object:
         """What tells the server of the latest connection from another. Where the system does not tell
@@ -99,6 +109,7 @@ class Link:
                 is_safe = not e.may_have_run or all(may_repeat(line) for line in lines[len(replies) :])
                 if not self._reconnect or isinstance(e, TimedOut) or not is_safe:
                     raise lost from e.__cause__
+                LOGGER.info("%s: %s; %s sent again", self, e, counted(len(lines) - len(replies)))
         assert lost is not None
         raise lost
 
@@ -127,6 +138,7 @@ class Link:
             connection.close()
             raise
         self.connection, self._server = connection, connection.server or object()
+        LOGGER.info("%s: connected again", self)
         self._on_new()
         self._may_open = self._reconnect
         return connection

@@ -7,7 +7,7 @@ from typing import (
 )  # fmt: skip
 from weakref import ReferenceType, ref
 
-from .calls import JudyHSCalls, JudyLCalls, JudySLCalls, MapCalls
+from .calls import JudyHSCalls, JudyLCalls, JudySLCalls, MapCalls, given
 from .catalogue import keys_of
 from .fields import MAX
 from .many import Many, Ranked
@@ -74,7 +74,7 @@ class MapBase(Many, MapCalls[K, bool, int, Optional[int]], Generic[K]):
         return value
 
     def __setitem__(self, key: K, value: int) -> None:
-        self._insert(key, _given(value), is_quiet=True)
+        self._insert(key, given(value), is_quiet=True)
 
     def __delitem__(self, key: K) -> None:
         if not self._removed(key):
@@ -108,9 +108,6 @@ class MapBase(Many, MapCalls[K, bool, int, Optional[int]], Generic[K]):
     def __ior__(self: M, entries: Union[Mapping[Any, int], Iterable[Tuple[Any, int]]]) -> M:
         self.update(entries)
         return self
-
-    def __repr__(self) -> str:
-        return "<%s %s>" % (type(self).__name__, self.name)
 
     @overload
     def get(self, key: K) -> Optional[int]: ...
@@ -152,7 +149,7 @@ class MapBase(Many, MapCalls[K, bool, int, Optional[int]], Generic[K]):
             return self.insert(key)
         value = self.get(key)
         if value is None:
-            self.insert(key, _given(default))
+            self.insert(key, given(default))
             return default
         return value
 
@@ -189,14 +186,7 @@ class MapBase(Many, MapCalls[K, bool, int, Optional[int]], Generic[K]):
 def _insert(calls: Any, entry: Tuple[Any, int]) -> Any:
     """Stores an entry with the calls of a map."""
     key, value = entry
-    return calls.insert(key, _given(value))
-
-
-def _given(value: Optional[int]) -> int:
-    """A value to store. `None` is no value."""
-    if value is None:
-        raise TypeError("a value is a word, and not None")
-    return value
+    return calls.insert(key, given(value))
 
 
 class WalkedMap(MapBase[K], MutableMapping[K, int]):  # type: ignore[misc]

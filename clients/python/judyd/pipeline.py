@@ -3,48 +3,23 @@
 import os
 import threading
 from collections import deque
-from typing import Any, Callable, ContextManager, Deque, Generic, List, Optional, Set, Tuple, TypeVar, overload
+from typing import Any, Callable, ContextManager, Deque, List, Optional, Set, Tuple, TypeVar, overload
 
-from .calls import Judy1Calls, JudyHSCalls, JudyLCalls, JudySLCalls
+from .bound import Bound
 from .connection import SameServer
-from .errors import REFUSALS, Closed, ConnectionLost, JudyError, checked, refusal_of
+from .errors import REFUSALS, Closed, ConnectionLost, JudyError, refusal_of
+from .fields import Used, used_of
+from .late import LateJudy1, LateJudyHS, LateJudyL, LateJudySL, Later
 
 T = TypeVar("T")
-K = TypeVar("K")
 
 
-class Later(Generic[T]):
-    """The result of a call of a pipeline. Once the pipeline has sent the call, `result()` returns
-    it, or raises its refusal."""
-
-    def __init__(self, read: Callable[[bytes], T]) -> None:
-        self._read = read
-        self._reply: Optional[bytes] = None
-        self._lost: Optional[Closed] = None
-
-    def result(self) -> T:
-        """The result of the call."""
-        if self._lost is not None:
-            raise self._lost
-        if self._reply is None:
-            raise JudyError("this call of the pipeline has no answer yet: it is sent by flush(), and at the end of the block")
-        return self._read(checked(self._reply))
-
-
-LateYes = Later[bool]
-LateNumber = Later[int]
-LateFound = Later[Optional[int]]
-LateJudy1 = Judy1Calls[LateYes, LateNumber, LateFound]
-LateJudyL = JudyLCalls[LateYes, LateNumber, LateFound, Later[Optional[Tuple[int, int]]]]
-LateJudySL = JudySLCalls[K, LateYes, LateNumber, LateFound, Later[Optional[Tuple[K, int]]]]
-LateJudyHS = JudyHSCalls[K, LateYes, LateNumber, LateFound]
-
-
-class Pipeline:
+class Pipeline(Bound):
     """Calls, with many in flight at once: `with client.pipeline() as pipe:`.
 
-    Its arrays have the manual's calls. Each call returns a `Later` at once. The calls are sent
-    together, in their order, at the latest when the block ends. A refused call stops no other. If
+    Its arrays have the manual's calls, each of which returns a `Later` at once, and `add`, `discard`,
+    `m[k] = v`, `update`, `difference_update` and `clear`. The calls are sent together, in their
+    order, at the latest when the block ends. A refused call stops no other. If
     calls were refused, the end of the block raises the first refusal, unless `raises=False`. If the
     block raises an exception, the calls that were not sent yet are left out. Calls are sent in
     windows of `window` calls, or with `window=None` only at the end. The client reads while it
@@ -63,6 +38,8 @@ class Pipeline:
         self._client = client
         self._catalogue = client._catalogue
         self._noted: Set[Tuple[bytes, str]] = set()
+        if not isinstance(window, (int, type(None))):
+            raise TypeError("the window of a pipeline is an int, or None, and not %r" % (window,))
         self._window = window
         self._raises = raises
         self._is_quiet = is_quiet
@@ -75,6 +52,9 @@ class Pipeline:
     def __enter__(self) -> "Pipeline":
         return self
 
+    def __repr__(self) -> str:
+        return "<Pipeline of %r: %d calls wait>" % (self._client, len(self._waiting))
+
     def __exit__(self, kind: object, *_: object) -> None:
         if kind is not None:
             self._waiting.clear()
@@ -83,13 +63,17 @@ class Pipeline:
         if self._raises and self._refusal is not None:
             raise refusal_of(self._refusal)
 
+    def used(self) -> Later[Used]:
+        """The tenant's numbers of entries and pieces, and its quota of both, as a `Used`."""
+        return self._ask(b"USED", used_of)
+
     def judy1(self, name: str) -> LateJudy1:
         """The calls of the set of words with this name."""
-        return Judy1Calls(self, name)
+        return LateJudy1(self, name)
 
     def judyl(self, name: str) -> LateJudyL:
         """The calls of the map from words to words with this name."""
-        return JudyLCalls(self, name)
+        return LateJudyL(self, name)
 
     @overload
     def judysl(self, name: str, encoding: None = None) -> "LateJudySL[bytes]": ...
@@ -99,7 +83,7 @@ class Pipeline:
 
     def judysl(self, name: str, encoding: Optional[str] = None) -> "LateJudySL[Any]":
         """The calls of the map from strings to words with this name."""
-        return JudySLCalls(self, name, encoding)
+        return LateJudySL(self, name, encoding)
 
     @overload
     def judyhs(self, name: str, encoding: None = None) -> "LateJudyHS[bytes]": ...
@@ -109,7 +93,7 @@ class Pipeline:
 
     def judyhs(self, name: str, encoding: Optional[str] = None) -> "LateJudyHS[Any]":
         """The calls of the map from byte keys to words with this name."""
-        return JudyHSCalls(self, name, encoding)
+        return LateJudyHS(self, name, encoding)
 
     def flush(self) -> None:
         """Sends the calls that wait, and reads their replies."""

@@ -7,13 +7,14 @@ import time
 from contextlib import contextmanager
 from typing import Callable, Iterator, List, Optional
 
+from .bound import Bound
 from .client import TIMEOUT, Client
-from .connection import Address
+from .connection import Address, checked_address, place_of
 from .errors import Closed, PoolEmpty
 from .retry import QUERIES, Retry, checked_retry
 
 
-class Pool:
+class Pool(Bound):
     """Up to `size` clients of one tenant, each with a connection and a log-in of its own:
 
         pool = Pool("/run/judyd/socket", 8, "alice", "abc")
@@ -35,6 +36,7 @@ class Pool:
         if size < 1:
             raise ValueError("a pool has at least one client")
         checked_retry(retry, reconnect)
+        self._place = "%s, %s" % (place_of(checked_address(address)), name)
         self._open: Callable[[], Client] = lambda: _logged_in(Client(address, timeout, tls, reconnect=reconnect, retry=retry), name, token)
         self._size = size
         self._wait = wait
@@ -49,6 +51,9 @@ class Pool:
 
     def __enter__(self) -> "Pool":
         return self
+
+    def __repr__(self) -> str:
+        return "<Pool %s, %s>" % (self._place, "closed" if self._is_closed else "%d of %d in use" % (self._used, self._size))
 
     def __exit__(self, *_: object) -> None:
         self.close()

@@ -2,7 +2,7 @@
 
 import logging
 from enum import Enum
-from typing import Callable
+from typing import Callable, Optional
 
 from .calls import is_query, is_same_twice
 
@@ -37,6 +37,16 @@ def checked_retry(retry: Retry, reconnect: bool) -> Retry:
     if retry is not QUERIES and not reconnect:
         raise ValueError("retry=IDEMPOTENT needs reconnect=True: without it no call is repeated")
     return retry
+
+
+def tenant_of(log_in: Optional[bytes]) -> str:
+    """Who is logged in by an AUTH line."""
+    return "nobody logged in" if log_in is None else log_in.split()[1].decode()
+
+
+def counted(calls: int) -> str:
+    """How many calls there are, and the verb."""
+    return "1 call is" if calls == 1 else "%d calls are" % calls
 
 
 def rule_of(retry: Retry, is_quiet: bool) -> Callable[[bytes], bool]:

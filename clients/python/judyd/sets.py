@@ -45,9 +45,6 @@ class Judy1(Ranked[int], Many, Judy1Calls[bool, int, Optional[int]], MutableSet[
         """The indexes from `start` down to `stop`, which is left out, read in windows of many lines."""
         return self._walk(start, stop, is_back=True)
 
-    def __repr__(self) -> str:
-        return "<Judy1 %s>" % self.name
-
     def add(self, index: int) -> None:
         """Inserts an index."""
         self._put(b"S", flag, word_field(index), is_quiet=True)

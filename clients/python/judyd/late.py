@@ -1,0 +1,96 @@
+"""The results of calls that are made later, and arrays whose calls give them."""
+
+from typing import Any, Callable, Generic, Iterable, Mapping, Optional, Tuple, TypeVar, Union
+
+from .bound import Bound
+from .calls import Judy1Calls, JudyHSCalls, JudyLCalls, JudySLCalls, MapCalls, given
+from .errors import Closed, JudyError, checked
+
+T = TypeVar("T")
+K = TypeVar("K")
+
+
+class Later(Bound, Generic[T]):
+    """The result of a call of a pipeline. Once the pipeline has sent the call, `result()` returns
+    it, or raises its refusal."""
+
+    def __init__(self, read: Callable[[bytes], T]) -> None:
+        self._read = read
+        self._reply: Optional[bytes] = None
+        self._lost: Optional[Closed] = None
+
+    def __repr__(self) -> str:
+        state = "lost" if self._lost is not None else "not sent yet" if self._reply is None else "answered"
+        return "<Later: %s>" % state
+
+    def result(self) -> T:
+        """The result of the call."""
+        if self._lost is not None:
+            raise self._lost
+        if self._reply is None:
+            raise JudyError("this call of the pipeline has no answer yet: it is sent by flush(), and at the end of the block")
+        return self._read(checked(self._reply))
+
+
+LateYes = Later[bool]
+LateNumber = Later[int]
+LateFound = Later[Optional[int]]
+
+
+class LateJudy1(Judy1Calls[LateYes, LateNumber, LateFound]):
+    """The set of words of a pipeline. Methods that need a reply before the next line, as `pop` and
+    `take`, are those of the client's set."""
+
+    def add(self, index: int) -> None:
+        """Inserts an index."""
+        self.set(index)
+
+    def discard(self, index: int) -> None:
+        """Removes an index, if it is present. One that is out of range never is."""
+        try:
+            self.unset(index)
+        except ValueError:
+            pass
+
+    def update(self, indexes: Iterable[int]) -> None:
+        """Inserts all of these indexes."""
+        for index in indexes:
+            self.set(index)
+
+    def difference_update(self, indexes: Iterable[int]) -> None:
+        """Removes all of these indexes."""
+        for index in indexes:
+            self.discard(index)
+
+    def clear(self) -> None:
+        """Empties the array (FreeArray)."""
+        self.free_array()
+
+
+class LateMap(MapCalls[K, LateYes, LateNumber, LateFound], Generic[K]):
+    """What the three kinds of map of a pipeline share."""
+
+    def __setitem__(self, key: K, value: int) -> None:
+        self.insert(key, given(value))
+
+    def update(self, entries: Union[Mapping[K, int], Iterable[Tuple[K, int]]]) -> None:
+        """Stores all of these entries."""
+        items: Iterable[Tuple[Any, int]] = entries.items() if isinstance(entries, Mapping) else entries
+        for key, value in items:
+            self[key] = value
+
+    def clear(self) -> None:
+        """Empties the array (FreeArray)."""
+        self.free_array()
+
+
+class LateJudyL(LateMap[int], JudyLCalls[LateYes, LateNumber, LateFound, Later[Optional[Tuple[int, int]]]]):
+    """The map from words to words of a pipeline."""
+
+
+class LateJudySL(LateMap[K], JudySLCalls[K, LateYes, LateNumber, LateFound, Later[Optional[Tuple[K, int]]]], Generic[K]):
+    """The map from strings to words of a pipeline."""
+
+
+class LateJudyHS(LateMap[K], JudyHSCalls[K, LateYes, LateNumber, LateFound], Generic[K]):
+    """The map from byte keys to words of a pipeline."""
