@@ -1,6 +1,7 @@
 """Wrong uses of the client. A type checker must refuse each line that ends with the comment `wrong`, and no other line:
 `mypy --strict clients/python/wrong_uses.py`. test_hints.py compares. Nobody runs this file."""
 
+import asyncio
 from typing import Dict, List, Optional, Tuple
 
 import judyd
@@ -16,6 +17,8 @@ def addresses_and_clients() -> None:
     judyd.Client(("localhost", "7000"))  # wrong
     judyd.Client("socket", timeout="30")  # wrong
     judyd.Client("socket", retries=3)  # wrong
+    judyd.Client("socket", reconnect=True, retry=judyd.IDEMPOTENT)
+    judyd.Client("socket", reconnect=True, retry="idempotent")  # wrong
     judyd.Client("socket").auth("alice")  # wrong
     judyd.Client("socket").auth("alice", b"abc")  # wrong
     judyd.Client("socket").lines(["J1S ids 5"])  # wrong
@@ -143,6 +146,16 @@ async def tasks(client: aio.Client) -> None:
     """The calls of an asyncio client are awaited."""
     await client.auth("alice", "abc")
     fine: bool = await client.judy1("ids").set(5)
+    task: "asyncio.Task[bool]" = asyncio.create_task(client.judy1("ids").set(5))
+    found: "asyncio.Task[Optional[int]]" = asyncio.create_task(client.judyl("m").get(5))
+    await client.judyl("m").update({5: 6})
+    await client.judyl("m").update({"5": 6})  # wrong
+    await client.judy1("ids").update(["5"])  # wrong
+    async with client.pipeline() as pipe:
+        late: judyd.Later[bool] = pipe.judy1("ids").set(5)
+    async with aio.Pool("socket", 8, "alice", "abc").client() as other:
+        await other.used()
+    aio.Pool("socket", 8)  # wrong
     async for key, value in client.judysl("s", "utf-8").walk():
         text: str = key
     is_new: bool = client.judy1("ids").set(5)  # wrong
@@ -155,7 +168,7 @@ async def tasks(client: aio.Client) -> None:
     for index in client.judy1("ids").walk():  # wrong
         print(index)
     async for key, value in client.judysl("s").walk(b"a"):  # wrong
-        print(fine, is_new, number, hits, text, value)
+        print(fine, is_new, number, hits, text, value, task, found, late)
 
 
 def errors(client: judyd.Client) -> None:

@@ -2,7 +2,7 @@
 
 import operator
 import re
-from typing import Iterable, List, NamedTuple, Optional, SupportsIndex, Tuple
+from typing import Any, Iterable, List, NamedTuple, Optional, SupportsIndex, Tuple
 
 from .errors import JudyError, KeyTooLong
 
@@ -64,6 +64,15 @@ def word_of(word: SupportsIndex) -> int:
 def word_field(word: SupportsIndex) -> bytes:
     """A word, in decimal digits."""
     return b"%d" % word_of(word)
+
+
+def is_word(thing: Any) -> bool:
+    """Whether a thing is a word. A set has nothing else."""
+    try:
+        word_of(thing)
+    except (TypeError, ValueError):
+        return False
+    return True
 
 
 def step_field(step: SupportsIndex) -> bytes:

@@ -1,10 +1,11 @@
 """The results of calls that are made later, and arrays whose calls give them."""
 
-from typing import Any, Callable, Generic, Iterable, Mapping, Optional, Tuple, TypeVar, Union
+from typing import Any, Callable, Generic, Iterable, List, Mapping, Optional, Tuple, TypeVar, Union, overload
 
 from .bound import Bound
 from .calls import Judy1Calls, JudyHSCalls, JudyLCalls, JudySLCalls, MapCalls, given
-from .errors import Closed, JudyError, checked
+from .errors import REFUSALS, Closed, JudyError, checked
+from .fields import Used, used_of
 
 T = TypeVar("T")
 K = TypeVar("K")
@@ -94,3 +95,53 @@ class LateJudySL(LateMap[K], JudySLCalls[K, LateYes, LateNumber, LateFound, Late
 
 class LateJudyHS(LateMap[K], JudyHSCalls[K, LateYes, LateNumber, LateFound], Generic[K]):
     """The map from byte keys to words of a pipeline."""
+
+
+class LateArrays(Bound):
+    """What pipelines share: their arrays, and the first refusal of their calls."""
+
+    _is_late = True
+
+    def __init__(self) -> None:
+        self._refusal: Optional[bytes] = None
+
+    def used(self) -> Later[Used]:
+        """The tenant's numbers of entries and pieces, and its quota of both, as a `Used`."""
+        return self._ask(b"USED", used_of)
+
+    def judy1(self, name: str) -> LateJudy1:
+        """The calls of the set of words with this name."""
+        return LateJudy1(self, name)
+
+    def judyl(self, name: str) -> LateJudyL:
+        """The calls of the map from words to words with this name."""
+        return LateJudyL(self, name)
+
+    @overload
+    def judysl(self, name: str, encoding: None = None) -> "LateJudySL[bytes]": ...
+
+    @overload
+    def judysl(self, name: str, encoding: str) -> "LateJudySL[str]": ...
+
+    def judysl(self, name: str, encoding: Optional[str] = None) -> "LateJudySL[Any]":
+        """The calls of the map from strings to words with this name."""
+        return LateJudySL(self, name, encoding)
+
+    @overload
+    def judyhs(self, name: str, encoding: None = None) -> "LateJudyHS[bytes]": ...
+
+    @overload
+    def judyhs(self, name: str, encoding: str) -> "LateJudyHS[str]": ...
+
+    def judyhs(self, name: str, encoding: Optional[str] = None) -> "LateJudyHS[Any]":
+        """The calls of the map from byte keys to words with this name."""
+        return LateJudyHS(self, name, encoding)
+
+    def _take(self, late: List[Later[Any]], replies: List[bytes]) -> None:
+        for later, reply in zip(late, replies):
+            later._reply = reply
+            if self._refusal is None and reply in REFUSALS:
+                self._refusal = reply
+
+    def _ask(self, line: bytes, read: Callable[[bytes], T], is_quiet: bool = False) -> Later[T]:
+        raise NotImplementedError

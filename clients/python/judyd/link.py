@@ -9,11 +9,8 @@ from typing import Callable, Iterator, List, Optional
 from weakref import WeakSet
 
 from .connection import Address, Connection, checked_address, place_of
-from .errors import Closed, ConnectionLost, JudyError, NoServer, Restarted, TimedOut, checked
-from .retry import LOGGER, counted, tenant_of
-
-TRIES = 10
-"""How many connections one exchange uses up at most."""
+from .errors import Closed, ConnectionLost, JudyError, NoServer, Restarted, checked
+from .retry import LOGGER, TRIES, Exchange, tenant_of
 
 
 class Link:
@@ -86,43 +83,21 @@ class Link:
                 self._is_busy = False
 
     def _exchange(self, lines: List[bytes], may_repeat: Callable[[bytes], bool]) -> List[bytes]:
-        replies: List[bytes] = []
-        lost: Optional[ConnectionLost] = None
-        server: object = None
+        exchange = Exchange(lines, may_repeat)
         for at in range(TRIES):
             try:
                 connection = self.connection
                 if connection is None or not connection.is_open:
                     connection = self._opened(at)
-                if replies and self._server != server:
-                    raise Restarted(replies)
-                server = self._server
-                return replies + connection.exchange(lines[len(replies) :] if replies else lines)
+                return exchange.replies + connection.exchange(exchange.left(self._server))
             except Restarted:
                 raise
             except NoServer as e:
-                if lost is None or not (lost.may_have_run or replies):
-                    raise
-                raise lost from e
+                exchange.raise_no_server(e)
             except ConnectionLost as e:
-                lost = self._joined(lost, e, replies)
-                is_safe = not e.may_have_run or all(may_repeat(line) for line in lines[len(replies) :])
-                if not self._reconnect or isinstance(e, TimedOut) or not is_safe:
-                    raise lost from e.__cause__
-                LOGGER.info("%s: %s; %s sent again", self, e, counted(len(lines) - len(replies)))
-        assert lost is not None
-        raise lost
-
-    def _joined(self, before: Optional[ConnectionLost], lost: ConnectionLost, replies: List[bytes]) -> ConnectionLost:
-        """The exception for an exchange that has lost a connection, and maybe some before it. It
-        has all replies that came."""
-        self.connection = None
-        replies += lost.replies
-        lost.replies = list(replies)
-        if before is not None and before.may_have_run and not lost.may_have_run:
-            before.replies = lost.replies
-            return before
-        return lost
+                self.connection = None
+                exchange.lose(e, self._reconnect, self)
+        exchange.raise_lost()
 
     def _opened(self, at: int) -> Connection:
         """A new connection, if there may be one, with the same log-in."""

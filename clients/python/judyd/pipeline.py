@@ -3,18 +3,16 @@
 import os
 import threading
 from collections import deque
-from typing import Any, Callable, ContextManager, Deque, List, Optional, Set, Tuple, TypeVar, overload
+from typing import Any, Callable, ContextManager, Deque, List, Optional, Set, Tuple, TypeVar
 
-from .bound import Bound
 from .connection import SameServer
-from .errors import REFUSALS, Closed, ConnectionLost, JudyError, refusal_of
-from .fields import Used, used_of
-from .late import LateJudy1, LateJudyHS, LateJudyL, LateJudySL, Later
+from .errors import Closed, ConnectionLost, JudyError, refusal_of
+from .late import LateArrays, Later
 
 T = TypeVar("T")
 
 
-class Pipeline(Bound):
+class Pipeline(LateArrays):
     """Calls, with many in flight at once: `with client.pipeline() as pipe:`.
 
     Its arrays have the manual's calls, each of which returns a `Later` at once, and `add`, `discard`,
@@ -32,9 +30,8 @@ class Pipeline(Bound):
     whose reply came has its result, and the others raise that exception too.
     """
 
-    _is_late = True
-
     def __init__(self, client: Any, window: Optional[int] = 1000, raises: bool = True, is_quiet: bool = False) -> None:
+        super().__init__()
         self._client = client
         self._catalogue = client._catalogue
         self._noted: Set[Tuple[bytes, str]] = set()
@@ -43,7 +40,6 @@ class Pipeline(Bound):
         self._window = window
         self._raises = raises
         self._is_quiet = is_quiet
-        self._refusal: Optional[bytes] = None
         self._waiting: Deque[Tuple[bytes, Later[Any]]] = deque()
         self._lock = threading.RLock()
         self._process = os.getpid()
@@ -62,38 +58,6 @@ class Pipeline(Bound):
         self.flush()
         if self._raises and self._refusal is not None:
             raise refusal_of(self._refusal)
-
-    def used(self) -> Later[Used]:
-        """The tenant's numbers of entries and pieces, and its quota of both, as a `Used`."""
-        return self._ask(b"USED", used_of)
-
-    def judy1(self, name: str) -> LateJudy1:
-        """The calls of the set of words with this name."""
-        return LateJudy1(self, name)
-
-    def judyl(self, name: str) -> LateJudyL:
-        """The calls of the map from words to words with this name."""
-        return LateJudyL(self, name)
-
-    @overload
-    def judysl(self, name: str, encoding: None = None) -> "LateJudySL[bytes]": ...
-
-    @overload
-    def judysl(self, name: str, encoding: str) -> "LateJudySL[str]": ...
-
-    def judysl(self, name: str, encoding: Optional[str] = None) -> "LateJudySL[Any]":
-        """The calls of the map from strings to words with this name."""
-        return LateJudySL(self, name, encoding)
-
-    @overload
-    def judyhs(self, name: str, encoding: None = None) -> "LateJudyHS[bytes]": ...
-
-    @overload
-    def judyhs(self, name: str, encoding: str) -> "LateJudyHS[str]": ...
-
-    def judyhs(self, name: str, encoding: Optional[str] = None) -> "LateJudyHS[Any]":
-        """The calls of the map from byte keys to words with this name."""
-        return LateJudyHS(self, name, encoding)
 
     def flush(self) -> None:
         """Sends the calls that wait, and reads their replies."""
@@ -114,12 +78,6 @@ class Pipeline(Bound):
             raise
         self._take(late, replies)
         self._same.check()
-
-    def _take(self, late: List[Later[Any]], replies: List[bytes]) -> None:
-        for later, reply in zip(late, replies):
-            later._reply = reply
-            if self._refusal is None and reply in REFUSALS:
-                self._refusal = reply
 
     def _ask(self, line: bytes, read: Callable[[bytes], T], is_quiet: bool = False) -> Later[T]:
         if self._process != os.getpid():

@@ -2,12 +2,16 @@
 
 import logging
 from enum import Enum
-from typing import Callable, Optional
+from typing import Callable, List, NoReturn, Optional
 
 from .calls import is_query, is_same_twice
+from .errors import ConnectionLost, NoServer, Restarted, TimedOut
 
 LOGGER = logging.getLogger("judyd")
 """It tells of new connections and of repeated calls, at the level INFO."""
+
+TRIES = 10
+"""How many connections one exchange uses up at most."""
 
 
 class Retry(Enum):
@@ -52,3 +56,49 @@ def counted(calls: int) -> str:
 def rule_of(retry: Retry, is_quiet: bool) -> Callable[[bytes], bool]:
     """Whether a line that may have run may be sent again. It is quiet if nobody looks at its result."""
     return is_same_twice if retry is IDEMPOTENT and is_quiet else is_query
+
+
+class Exchange:
+    """Lines and their replies, over one connection, or over several if one is lost and the lines
+    without a reply may be sent again."""
+
+    def __init__(self, lines: List[bytes], may_repeat: Callable[[bytes], bool]) -> None:
+        self.replies: List[bytes] = []
+        self._lines = lines
+        self._may_repeat = may_repeat
+        self._lost: Optional[ConnectionLost] = None
+        self._server: object = None
+
+    def left(self, server: object) -> List[bytes]:
+        """The lines for a server. Raises Restarted if another one has answered the first of them."""
+        if self.replies and server != self._server:
+            raise Restarted(self.replies)
+        self._server = server
+        return self._lines[len(self.replies) :] if self.replies else self._lines
+
+    def raise_no_server(self, why: NoServer) -> NoReturn:
+        """Raises what there is to say if there is no next connection."""
+        if self._lost is None or not (self._lost.may_have_run or self.replies):
+            raise why
+        raise self._lost from why
+
+    def lose(self, lost: ConnectionLost, reconnect: bool, who: object) -> None:
+        """Takes the loss of a connection, with the replies that came. Raises the exception of the whole
+        exchange unless the other lines may be sent again."""
+        self.replies += lost.replies
+        lost.replies = list(self.replies)
+        before = self._lost
+        if before is not None and before.may_have_run and not lost.may_have_run:
+            before.replies = lost.replies
+        else:
+            self._lost = lost
+        left = self._lines[len(self.replies) :]
+        is_safe = not lost.may_have_run or all(map(self._may_repeat, left))
+        if not reconnect or isinstance(lost, TimedOut) or not is_safe:
+            self.raise_lost(lost)
+        LOGGER.info("%s: %s; %s sent again", who, lost, counted(len(left)))
+
+    def raise_lost(self, latest: Optional[ConnectionLost] = None) -> NoReturn:
+        """Raises the exception of the whole exchange."""
+        assert self._lost is not None, "it has lost a connection"
+        raise self._lost from (None if latest is None else latest.__cause__)

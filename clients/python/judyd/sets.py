@@ -3,7 +3,7 @@
 from typing import Any, Iterable, Iterator, List, MutableSet, Optional, Set
 
 from .calls import Judy1Calls
-from .fields import MAX, flag, word_field
+from .fields import MAX, flag, is_word, word_field
 from .many import Many, Ranked
 from .walks import indexes_of
 
@@ -28,7 +28,7 @@ class Judy1(Ranked[int], Many, Judy1Calls[bool, int, Optional[int]], MutableSet[
         return set(indexes)
 
     def __contains__(self, index: object) -> bool:
-        return _is_word(index) and self.test(index)  # type: ignore[arg-type]
+        return is_word(index) and self.test(index)  # type: ignore[arg-type]
 
     def __iter__(self) -> Iterator[int]:
         return self.walk()
@@ -92,13 +92,13 @@ class Judy1(Ranked[int], Many, Judy1Calls[bool, int, Optional[int]], MutableSet[
 
     def difference_update(self, indexes: Iterable[int]) -> None:
         """Removes all of these indexes, with many lines in flight at once."""
-        for _ in self._many(filter(_is_word, indexes), lambda calls, index: calls.unset(index), is_quiet=True):
+        for _ in self._many(filter(is_word, indexes), lambda calls, index: calls.unset(index), is_quiet=True):
             pass
 
     def among(self, indexes: Iterable[int]) -> Iterator[int]:
         """Those of these indexes that are in the set, in the order given, with many lines in flight
         at once."""
-        for late in self._many(filter(_is_word, indexes), lambda calls, index: calls.test(index)):
+        for late in self._many(filter(is_word, indexes), lambda calls, index: calls.test(index)):
             yield from (index for index, is_there in late if is_there.result())
 
     def _in(self, pipe: Any) -> Any:
@@ -124,12 +124,3 @@ class Judy1(Ranked[int], Many, Judy1Calls[bool, int, Optional[int]], MutableSet[
         return set(self.among(indexes)) if isinstance(indexes, Iterable) else NotImplemented
 
     __rand__ = __and__
-
-
-def _is_word(thing: Any) -> bool:
-    """Whether a thing is a word. A set has nothing else."""
-    try:
-        word_field(thing)
-    except (TypeError, ValueError):
-        return False
-    return True
