@@ -139,7 +139,8 @@ def odd_server(*pieces: Optional[bytes]) -> Iterator[str]:
             with other:
                 other.recv(65536)
                 for piece in pieces:
-                    other.sendall(piece or b"")
+                    if piece is not None:
+                        other.sendall(piece)
                     time.sleep(0.02)
                 while None in pieces and other.recv(65536):
                     pass

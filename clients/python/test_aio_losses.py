@@ -90,7 +90,7 @@ class Times(unittest.TestCase):
             found = await asyncio.gather(*calls, return_exceptions=True)
             self.assertEqual({type(it) for it in found}, {TimedOut})
 
-        asyncio.run(job())
+        asyncio.run(asyncio.wait_for(job(), 120))
 
     def test_only_bytes_that_come_give_more_time(self):
         async def job():
@@ -114,7 +114,7 @@ class Times(unittest.TestCase):
             with self.assertRaisesRegex(TimedOut, "no reply for 30 s"):
                 await second
 
-        asyncio.run(job())
+        asyncio.run(asyncio.wait_for(job(), 120))
 
     def test_a_line_that_is_sent_late_has_its_time(self):
         async def job():
@@ -132,7 +132,7 @@ class Times(unittest.TestCase):
             with self.assertRaises(TimedOut):
                 await second
 
-        asyncio.run(job())
+        asyncio.run(asyncio.wait_for(job(), 120))
 
 
 class ManyLines(unittest.TestCase):
@@ -156,7 +156,7 @@ class ManyLines(unittest.TestCase):
             self.assertEqual([at for at, it in enumerate(found) if isinstance(it, asyncio.CancelledError)], [112, 118])
             self.assertEqual(link._lines, 0)
 
-        asyncio.run(job())
+        asyncio.run(asyncio.wait_for(job(), 120))
 
     def test_one_call_of_more_lines(self):
         async def job():
@@ -171,7 +171,7 @@ class ManyLines(unittest.TestCase):
             await turns()
             self.assertEqual((len(await whole), len(await after), sent, link._lines), (25000, 1, [10000, 10001, 20001, 25001], 0))
 
-        asyncio.run(job())
+        asyncio.run(asyncio.wait_for(job(), 120))
 
     def test_a_loss_reaches_all(self):
         async def job():
@@ -188,7 +188,7 @@ class ManyLines(unittest.TestCase):
                 await link.ask([b"USED"])
             self.assertFalse(caught.exception.may_have_run)
 
-        asyncio.run(job())
+        asyncio.run(asyncio.wait_for(job(), 120))
 
 
 @contextmanager
@@ -258,7 +258,7 @@ class Cancelled(WithServer):
             self.assertEqual((await client.used()).quota, 1000000)  # the next opening is well
             await client.close()
 
-        asyncio.run(job())
+        asyncio.run(asyncio.wait_for(job(), 120))
 
     def test_a_log_in_closes_the_connection(self):
         async def job(reconnect, calls):
@@ -295,7 +295,7 @@ class Cancelled(WithServer):
             self.assertEqual((await client.used()).quota, 3)  # bob's, who spoke last
             await client.close()
 
-        asyncio.run(job())
+        asyncio.run(asyncio.wait_for(job(), 120))
 
 
 class Repeats(unittest.TestCase):

@@ -9,7 +9,7 @@ import unittest
 
 sys.path.insert(0, os.path.dirname(os.path.abspath(__file__)))
 
-from judyd import Client, ConnectionLost, NoServer, Pool, Visitor  # noqa: E402
+from judyd import Client, ConnectionLost, NoServer, Pool, Visitor, aio  # noqa: E402
 from served import WithServer  # noqa: E402
 
 
@@ -85,6 +85,12 @@ class WrongUses(WithServer):
         for lines in (["USED"], [5], "USED", b"USED", [None]):
             self.assertRaisesRegex(TypeError, "lines are a list, and each line is bytes", client.lines, lines)
         self.assertEqual((client.lines([]), client.lines([bytearray(b"J1C a 0 1")])), ([], [b"N 0"]))
+
+    def test_timeouts(self):
+        clients = (Client, aio.Client, lambda path, timeout: Pool(path, 1, "a", "b", timeout=timeout), lambda path, timeout: aio.Pool(path, 1, "a", "b", timeout=timeout))
+        for make in clients:
+            for timeout, error in (("30", TypeError), ([], TypeError), (0, ValueError), (-1, ValueError), (float("nan"), ValueError)):
+                self.assertRaisesRegex(error, "a timeout is .* seconds, or None, and not", make, self.served.path, timeout)
 
     def test_addresses(self):
         for address in (7000, None, ("localhost",), ("localhost", 1, 2), ["localhost", 1]):

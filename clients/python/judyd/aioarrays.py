@@ -1,6 +1,6 @@
 """The arrays of an asyncio client."""
 
-from typing import Any, AsyncIterator, Callable, Coroutine, Generic, Iterable, List, Mapping, Optional, Tuple, TypeVar, Union
+from typing import Any, AsyncIterator, Callable, Coroutine, Generic, Iterable, List, Mapping, Optional, Tuple, TypeVar, Union, overload
 
 from .calls import Judy1Calls, JudyHSCalls, JudyLCalls, JudySLCalls, MapCalls, given
 from .connection import SameServer
@@ -11,6 +11,7 @@ from .walks import Ask, RankedWalk, Steps, index_of_item, indexes_of, items_of
 
 T = TypeVar("T")
 K = TypeVar("K")
+V = TypeVar("V")
 
 SoonYes = Coroutine[Any, Any, bool]
 SoonNumber = Coroutine[Any, Any, int]
@@ -101,6 +102,21 @@ class Judy1(Many, Judy1Calls[SoonYes, SoonNumber, SoonFound]):
 
 class Map(Many, MapCalls[K, SoonYes, SoonNumber, SoonFound], Generic[K]):
     """What the three kinds of map share."""
+
+    @overload
+    def get(self, key: K) -> SoonFound: ...
+
+    @overload
+    def get(self, key: K, default: Union[int, V]) -> Coroutine[Any, Any, Union[int, V]]: ...
+
+    async def get(self, key: Any, default: Any = None) -> Any:
+        """Get: the value of a key, or the default. A key that is out of range is absent."""
+        try:
+            self._key(key)
+        except ValueError:
+            return default
+        value = await super().get(key)
+        return default if value is None else value
 
     async def update(self, entries: Union[Mapping[K, int], Iterable[Tuple[K, int]]]) -> None:
         """Stores all of these entries, with many lines in flight at once. A refusal is raised after

@@ -10,7 +10,7 @@ from .aioarrays import Judy1, JudyHS, JudyL, JudySL
 from .aiolink import Link, opened_link
 from .bound import Bound
 from .client import TIMEOUT
-from .connection import Address, SameServer, checked_address, place_of
+from .connection import Address, SameServer, checked_address, checked_timeout, place_of
 from .errors import Closed, ConnectionLost, JudyError, NoServer, Restarted, checked, refusal_of
 from .fields import Used, name_field, plain_lines, token_field, used_of
 from .late import LateArrays, Later
@@ -30,7 +30,7 @@ class Client(Bound):
         reconnect: bool = False, retry: Retry = QUERIES,
     ) -> None:  # fmt: skip
         self._address = checked_address(address)
-        self._timeout = timeout
+        self._timeout = checked_timeout(timeout)
         self._tls = tls
         self._may_open = True
         self._reconnect = reconnect

@@ -9,7 +9,7 @@ from typing import AsyncIterator, Callable, Deque, List, Optional
 from .aioclient import Client
 from .bound import Bound
 from .client import TIMEOUT
-from .connection import Address, checked_address, place_of
+from .connection import Address, checked_address, checked_timeout, place_of
 from .errors import Closed, PoolEmpty
 from .fields import name_field, token_field
 from .retry import QUERIES, Retry, checked_retry
@@ -35,6 +35,7 @@ class Pool(Bound):
         if size < 1:
             raise ValueError("a pool has at least one client")
         checked_retry(retry, reconnect)
+        checked_timeout(timeout)
         self._place = "%s, %s" % (place_of(checked_address(address)), name_field(name).decode())
         token_field(token)
         self._made: Callable[[], Client] = lambda: Client(address, timeout, tls, reconnect, retry)

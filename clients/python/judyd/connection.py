@@ -176,6 +176,17 @@ def checked_address(address: Address) -> Address:
     raise TypeError("an address is the path of a socket, or a tuple of a host and a port, and not %r" % (address,))
 
 
+def checked_timeout(timeout: Optional[float]) -> Optional[float]:
+    """How many seconds a client waits; None is for ever."""
+    if timeout is None:
+        return None
+    if not isinstance(timeout, (int, float)):
+        raise TypeError("a timeout is a number of seconds, or None, and not %r" % (timeout,))
+    if not timeout > 0:
+        raise ValueError("a timeout is more than 0 seconds, or None, and not %r" % (timeout,))
+    return timeout
+
+
 def no_server(address: Address, why: OSError) -> NoServer:
     """The exception for a connection that can't be made."""
     place = place_of(address)

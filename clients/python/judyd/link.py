@@ -8,7 +8,7 @@ from contextlib import contextmanager
 from typing import Callable, Iterator, List, Optional
 from weakref import WeakSet
 
-from .connection import Address, Connection, checked_address, place_of
+from .connection import Address, Connection, checked_address, checked_timeout, place_of
 from .errors import Closed, ConnectionLost, JudyError, NoServer, Restarted, checked
 from .retry import LOGGER, TRIES, Exchange, tenant_of
 
@@ -19,6 +19,7 @@ class Link:
 
     def __init__(self, address: Address, timeout: Optional[float], tls: Optional[ssl.SSLContext], reconnect: bool, on_new: Callable[[], None]) -> None:
         checked_address(address)
+        checked_timeout(timeout)
         self._connect: Callable[[], Connection] = lambda: Connection(address, timeout, tls)
         self._place = place_of(address)
         self._timeout = timeout

@@ -9,7 +9,7 @@ from typing import Callable, Iterator, List, Optional
 
 from .bound import Bound
 from .client import TIMEOUT, Client
-from .connection import Address, checked_address, place_of
+from .connection import Address, checked_address, checked_timeout, place_of
 from .errors import Closed, PoolEmpty
 from .retry import QUERIES, Retry, checked_retry
 
@@ -36,6 +36,7 @@ class Pool(Bound):
         if size < 1:
             raise ValueError("a pool has at least one client")
         checked_retry(retry, reconnect)
+        checked_timeout(timeout)
         self._place = "%s, %s" % (place_of(checked_address(address)), name)
         self._open: Callable[[], Client] = lambda: _logged_in(Client(address, timeout, tls, reconnect=reconnect, retry=retry), name, token)
         self._size = size
