@@ -6,7 +6,7 @@ import unittest
 
 sys.path.insert(0, os.path.dirname(os.path.abspath(__file__)))
 
-from judyd import IDEMPOTENT, QUERIES, Client, ConnectionLost, Pool  # noqa: E402
+from judyd import IDEMPOTENT, QUERIES, Client, ConnectionLost, Pool, Retry  # noqa: E402
 from served import WithServer  # noqa: E402
 
 LEASE = 170000000
@@ -64,7 +64,8 @@ class Leases(WithServer):
         self.assertTrue(lock.set(LEASE))
         lose_reply(client, lambda: self.lock.set(LEASE))
         lock.discard(LEASE)
-        self.assertFalse(LEASE in self.lock)  # as help(judyd.Retry) says
+        self.assertFalse(LEASE in self.lock)
+        self.assertIn("what another client does between the two runs is undone", " ".join(Retry.__doc__.split()))
 
     def test_the_word(self):
         for retry in (None, True, "idempotent"):

@@ -15,19 +15,21 @@ TRIES = 10
 
 
 class Retry(Enum):
-    """Which lost calls a client with `reconnect=True` repeats, if they may have run before."""
+    """Which lost calls a client with `reconnect=True` repeats, if they may have run before.
+
+    `QUERIES`: calls that change nothing. All others raise `ConnectionLost`.
+
+    `IDEMPOTENT`: also calls that store or remove and whose result nobody looks at: `m[k] = v`,
+    `update`, `s.add`, `discard`, `difference_update`, `clear`, and a pipeline with `is_quiet=True`.
+
+    Twice in a row such a call leaves what it leaves once. Beside other writers it may not: what another
+    client does between the two runs is undone by the second. A repeated `discard` takes back an id or a
+    lock that another client has acquired since, and a repeated `m[k] = v` stores an old value over a
+    newer one. So it is for arrays, or keys, that one client at a time writes to.
+    """
 
     QUERIES = "queries"
-    """Calls that change nothing. All others raise `ConnectionLost`."""
-
     IDEMPOTENT = "idempotent"
-    """Also calls that store or remove and whose result nobody looks at: `m[k] = v`, `update`, `s.add`,
-    `discard`, `difference_update`, `clear`, and a pipeline with `is_quiet=True`.
-
-    Twice in a row such a call leaves what it leaves once. Beside other writers it may not: what
-    another client does between the two runs is undone by the second. A repeated `discard` takes back
-    an id or a lock that another client has acquired since, and a repeated `m[k] = v` stores an old
-    value over a newer one. So it is for arrays, or keys, that one client at a time writes to."""
 
 
 QUERIES = Retry.QUERIES
