@@ -21,7 +21,7 @@ from typing import Callable, Iterator, Optional
 HERE = os.path.dirname(os.path.abspath(__file__))
 sys.path.insert(0, HERE)
 
-from judyd import Client, Closed  # noqa: E402
+from judyd import QUERIES, Client, Closed, Retry  # noqa: E402
 
 PROGRAM = os.environ.get("JUDYD") or os.path.join(HERE, "..", "..", "judyd")
 EXPECTED = re.compile(r"judyd: (\S+ started: |stopping$|log-in refused: |accept failed: )")
@@ -105,9 +105,9 @@ class WithServer(unittest.TestCase):
         cls.served = Served(clients=cls.clients)
         cls.addClassCleanup(cls.served.end)
 
-    def alice(self, timeout: float = 60, catalogue: bool = False, reconnect: bool = False) -> Client:
+    def alice(self, timeout: float = 60, catalogue: bool = False, reconnect: bool = False, retry: Retry = QUERIES) -> Client:
         """A client of alice, which is closed after the test."""
-        client = Client(self.served.path, timeout, catalogue=catalogue, reconnect=reconnect)
+        client = Client(self.served.path, timeout, catalogue=catalogue, reconnect=reconnect, retry=retry)
         self.addCleanup(client.close)
         return client.auth("alice", "abc")
 
@@ -139,7 +139,8 @@ def odd_server(*pieces: Optional[bytes]) -> Iterator[str]:
             with other:
                 other.recv(65536)
                 for piece in pieces:
-                    other.sendall(piece or b"")
+                    if piece is not None:
+                        other.sendall(piece)
                     time.sleep(0.02)
                 while None in pieces and other.recv(65536):
                     pass

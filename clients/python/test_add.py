@@ -72,8 +72,10 @@ class Additions(WithServer):
         for array, key in ((self.client.judyl("m"), 5), (self.client.judysl("s", "utf-8"), "ä"), (self.client.judyhs("h"), b"\0")):
             self.assertEqual([array.add(key), array.add(key, 7), array.add(key, n=-3), array.add(key, 0)], [1, 8, 5, 5])
             self.assertEqual([array.add(key, -6), array.add(key, 2), array.add(key, MAX), array.add(key, -MAX)], [MAX, 1, 0, 1])
-            for n in (MAX + 1, -MAX - 1, "1", 1.0, None):
+            for n in (MAX + 1, -MAX - 1):
                 self.assertRaises(ValueError, array.add, key, n)
+            for n in ("1", 1.0, None):
+                self.assertRaises(TypeError, array.add, key, n)
             self.assertEqual(array.free_array(), 1)
 
     def test_threads(self):

@@ -63,10 +63,14 @@ class Sets(WithClient):
             self.assertRaises(IndexError, ranks.__getitem__, rank)
 
     def test_words_and_names(self):
-        for word in (-1, MAX + 1, "5", 1.0, None):
-            self.assertRaises(ValueError, self.ids.set, word)
-        for name in ("", "a b", "a\n", "x" * 33, b"a", "ä", None):
-            self.assertRaises(ValueError, self.client.judy1, name)
+        for word in (-1, MAX + 1):
+            self.assertRaisesRegex(ValueError, "a word is an int from 0 to %d, and not %d" % (MAX, word), self.ids.set, word)
+        for word in ("5", b"5", 1.0, None, [5]):
+            self.assertRaisesRegex(TypeError, "a word is an int from 0 to %d, and not " % MAX, self.ids.set, word)
+        for name in ("", "a b", "a\n", "x" * 33, "ä"):
+            self.assertRaisesRegex(ValueError, "a name is 1 to 32 of", self.client.judy1, name)
+        for name in (b"a", None, 5):
+            self.assertRaisesRegex(TypeError, "a name is a str", self.client.judy1, name)
         self.assertTrue(self.client.judy1("x" * 32).set(0))
         self.assertEqual(self.client.judy1("x" * 32).free_array(), 1)
 
@@ -98,7 +102,7 @@ class WordMaps(WithClient):
         del m[5]
         self.assertRaises(KeyError, m.__getitem__, 5)
         self.assertRaises(KeyError, m.__delitem__, 5)
-        self.assertRaises(ValueError, m.__setitem__, 5, None)
+        self.assertRaises(TypeError, m.__setitem__, 5, None)
         self.assertRaises(ValueError, m.__setitem__, 5, -1)
 
 
@@ -118,8 +122,8 @@ class KeyMaps(WithClient):
         self.assertEqual([list(s), list(reversed(s)), len(s), bool(s)], [order, order[::-1], 6, True])
         self.assertEqual([s.first(b"b"), s.next(b"tr"), s.last(), s.last(b"a"), s.prev(b"")], [(b"tr", 2), (b"tree", 1), (b"\xff" * 1000, 3), (b"", 0), None])
         self.assertEqual([s[b"tree"], b"tre" in s, s.delete(b"tr"), s.get(b"tr")], [1, False, True, None])
-        self.assertRaises(ValueError, s.get, b"a\0b")
-        self.assertRaises(ValueError, s.get, b"a" * 1001)
+        self.assertRaises(ValueError, s.insert, b"a\0b")
+        self.assertRaises(ValueError, s.insert, b"a" * 1001)
         self.assertRaises(TypeError, s.get, "tree")
 
     def test_texts(self):
@@ -153,7 +157,7 @@ class KeyMaps(WithClient):
         for key in (7, [1, 2], None, 1.5, True, ("a",), "text"):
             for array in (self.client.judysl("s"), self.client.judyhs("h")):
                 self.assertRaises(TypeError, array.insert, key, 1)
-                self.assertRaises(TypeError, lambda array=array, key=key: key in array)
+                self.assertFalse(key in array)
         for key in (7, [1, 2], b"bytes", None):
             for array in (self.client.judysl("s", **texts), self.client.judyhs("h", **texts)):
                 self.assertRaises(TypeError, array.insert, key, 1)

@@ -48,6 +48,8 @@ class Hints(unittest.TestCase):
         self.has_all(Visitor, head)  # it has those of Client that make arrays, as the page says
         self.has_all(Pool, head)
         self.has_all(aio.Client, head)
+        self.has_all(aio.Pool, head)
+        self.has_all(aio.Pipeline, part)
         self.has_all(judyd.Pipeline, part)
         self.has_all(judyd.Later, part)
         words = set(re.findall(r"\w+", page))

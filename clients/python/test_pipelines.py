@@ -3,6 +3,7 @@
 import os
 import sys
 import unittest
+from unittest import mock
 
 sys.path.insert(0, os.path.dirname(os.path.abspath(__file__)))
 
@@ -47,6 +48,41 @@ class Pipelines(WithClient):
             refused = pipe.judy1("a").set(1)
             self.assertRaises(judyd.Error, refused.result)
         self.assertRaises(ReadOnly, refused.result)
+
+    def test_the_methods_of_the_arrays(self):
+        with self.client.pipeline() as pipe:
+            ids, m, s, h = pipe.judy1("ids"), pipe.judyl("m"), pipe.judysl("s", "utf-8"), pipe.judyhs("h")
+            ids.add(5)
+            ids.update(range(10, 14))
+            ids.discard(11)
+            ids.discard(-1)
+            ids.difference_update([12, -1])
+            m[5] = 7
+            m.update({6: 8})
+            m.update([(7, 9)])
+            s["tree"] = 3
+            h[b"tree"] = 4
+            sums, used = [m.add(5), s.add("tree", 2), h.add(b"tree", -1)], pipe.used()
+            self.assertRaises(ValueError, ids.add, -1)
+            for array, key in ((m, 5), (s, "tree"), (h, b"tree")):
+                self.assertRaises(TypeError, array.__setitem__, key, None)
+                self.assertRaises(TypeError, array.__setitem__, None, 1)
+        client = self.client
+        self.assertEqual((list(client.judy1("ids")), dict(client.judyl("m").items())), ([5, 10, 13], {5: 8, 6: 8, 7: 9}))
+        self.assertEqual(([it.result() for it in sums], used.result()), ([8, 5, 3], client.used()))
+        with client.pipeline() as pipe:
+            for array in (pipe.judy1("ids"), pipe.judyl("m"), pipe.judysl("s"), pipe.judyhs("h")):
+                array.clear()
+        self.assertEqual(client.used().used, 0)
+        self.assertRaisesRegex(TypeError, "the window of a pipeline is an int, or None", client.pipeline, "1000")
+
+    def test_a_small_window_makes_no_selector(self):
+        with self.client.pipeline() as pipe:
+            pipe.judyl("m").insert(1, 1)
+        with mock.patch("selectors.DefaultSelector", side_effect=AssertionError), mock.patch("select.epoll", side_effect=AssertionError):
+            for count in (1, 2, 10):
+                self.assertEqual(self.client.lines([b"JLG m 1"] * count), [b"V 1"] * count)
+        self.client.judyl("m").clear()
 
     def test_an_exception_inside(self):
         with self.assertRaises(ZeroDivisionError):

@@ -33,8 +33,10 @@ class Refusals(WithClient):
         for who in (("alice", "abd"), ("nobody", "abc")):
             self.assertRaises(NotAuthorized, self.speak, *who)
             self.assertRaises(NotAuthorized, self.client.used)
-        for who in (("alice", "a b"), ("alice", ""), ("a b", "abc"), ("alice", "abc\n"), ("alice", b"abc")):
+        for who in (("alice", "a b"), ("alice", ""), ("a b", "abc"), ("alice", "abc\n")):
             self.assertRaises(ValueError, self.client.auth, *who)
+        for who in (("alice", b"abc"), (None, "abc"), ("alice", 5)):
+            self.assertRaises(TypeError, self.client.auth, *who)
         self.client.auth("alice", "abc")
 
     def test_read_only(self):
@@ -76,7 +78,7 @@ class Refusals(WithClient):
         self.client.auth("alice", "abc")
         for array in (self.client.judysl("s"), self.client.judyhs("h")):
             with self.assertRaisesRegex(KeyTooLong, "a key has at most 1000 bytes, and this one has 1001"):
-                array.get(b"k" * 1001)
+                array.insert(b"k" * 1001)
         self.assertTrue(issubclass(KeyTooLong, ValueError))
         for error in (getattr(judyd, name) for name in judyd.__all__):
             if isinstance(error, type) and issubclass(error, Exception):

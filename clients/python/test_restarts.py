@@ -11,7 +11,7 @@ from contextlib import contextmanager, suppress
 
 sys.path.insert(0, os.path.dirname(os.path.abspath(__file__)))
 
-from judyd import Client, ConnectionLost, NoServer, NotAuthorized, Pool, Restarted  # noqa: E402
+from judyd import IDEMPOTENT, QUERIES, Client, ConnectionLost, NoServer, NotAuthorized, Pool, Restarted  # noqa: E402
 from served import WithServer, odd_server  # noqa: E402
 
 
@@ -47,13 +47,24 @@ def scripted(*connections):
             server.join()
 
 
+UNSEEN = (  # changes whose result nobody looks at, with the line and its second reply
+    (lambda c: c.judy1("a").add(1), "J1S a 1", b"0"),
+    (lambda c: c.judy1("a").discard(1), "J1U a 1", b"0"),
+    (lambda c: c.judy1("a").clear(), "J1FA a", b"N 0"),
+    (lambda c: c.judy1("a").difference_update([1]), "J1U a 1", b"0"),
+    (lambda c: c.judyl("a").__setitem__(1, 2), "JLI a 1 2", b"V 2"),
+    (lambda c: c.judysl("a").update({b"k": 2}), "JSLI a x6b 2", b"V 2"),
+    (lambda c: c.judyhs("a").__setitem__(b"k", 2), "JHSI a x6b 2", b"V 2"),
+)
+
+
 class Rules(unittest.TestCase):
     """What is repeated on a new connection."""
 
-    def once_lost(self, call, reply):
+    def once_lost(self, call, reply, retry=QUERIES):
         """The result of a call whose first connection ends before its reply, and the lines of the
         second connection, which has the reply."""
-        with scripted([b"OK", None], [b"OK", reply]) as (path, got), Client(path, 10, reconnect=True) as client:
+        with scripted([b"OK", None], [b"OK", reply]) as (path, got), Client(path, 10, reconnect=True, retry=retry) as client:
             client.auth("alice", "abc")
             return call(client), got[2:]
 
@@ -67,21 +78,18 @@ class Rules(unittest.TestCase):
             (lambda c: c.judyhs("a").get(b"k"), "JHSG a x6b", b"V 3", 3),
             (lambda c: c.used().most, "USED", b"Q 1 2 3 4", 4),
         ):
-            self.assertEqual(self.once_lost(call, reply), (result, ["AUTH alice abc", line]))
+            for retry in (QUERIES, IDEMPOTENT):
+                self.assertEqual(self.once_lost(call, reply, retry), (result, ["AUTH alice abc", line]))
 
-    def test_what_nobody_looks_at_is_repeated(self):
-        for call, line, reply in (
-            (lambda c: c.judy1("a").add(1), "J1S a 1", b"0"),
-            (lambda c: c.judy1("a").discard(1), "J1U a 1", b"0"),
-            (lambda c: c.judy1("a").clear(), "J1FA a", b"N 0"),
-            (lambda c: c.judyl("a").__setitem__(1, 2), "JLI a 1 2", b"V 2"),
-            (lambda c: c.judysl("a").update({b"k": 2}), "JSLI a x6b 2", b"V 2"),
-            (lambda c: c.judyhs("a").__setitem__(b"k", 2), "JHSI a x6b 2", b"V 2"),
-        ):
-            self.assertEqual(self.once_lost(call, reply), (None, ["AUTH alice abc", line]))
+    def test_what_nobody_looks_at_is_repeated_by_word(self):
+        for call, line, reply in UNSEEN:
+            self.assertEqual(self.once_lost(call, reply, IDEMPOTENT), (None, ["AUTH alice abc", line]))
 
-    def test_other_changes_are_not_repeated(self):
+    def test_no_change_is_repeated_otherwise(self):
+        for call, _, _ in UNSEEN:
+            self.is_not_repeated(call, QUERIES)
         for call in (
+            lambda c: c.judyl("a").add(1),
             lambda c: c.judy1("a").set(1),
             lambda c: c.judy1("a").unset(1),
             lambda c: c.judy1("a").remove(1),
@@ -93,12 +101,24 @@ class Rules(unittest.TestCase):
             lambda c: c.judyhs("a").insert(b"k"),
             lambda c: c.lines([b"JLI a 1 2"]),
         ):
-            with scripted([b"OK", None], [b"OK", b"Q 1 2 3 4"]) as (path, got), Client(path, 10, reconnect=True) as client:
-                client.auth("alice", "abc")
-                with self.assertRaisesRegex(ConnectionLost, "may have run") as caught:
-                    call(client)
-                self.assertTrue(caught.exception.may_have_run)
-                self.assertEqual((client.used().used, got[0], got[2:]), (1, "AUTH alice abc", ["AUTH alice abc", "USED"]))
+            self.is_not_repeated(call, QUERIES)
+            self.is_not_repeated(call, IDEMPOTENT)
+
+    def is_not_repeated(self, call, retry):
+        """Checks that a lost call raises ConnectionLost, and that the next call has a new connection."""
+        with scripted([b"OK", None], [b"OK", b"Q 1 2 3 4"]) as (path, got), Client(path, 10, reconnect=True, retry=retry) as client:
+            client.auth("alice", "abc")
+            with self.assertRaisesRegex(ConnectionLost, "may have run") as caught:
+                call(client)
+            self.assertTrue(caught.exception.may_have_run)
+            self.assertEqual((client.used().used, got[0], got[2:]), (1, "AUTH alice abc", ["AUTH alice abc", "USED"]))
+
+    def test_a_quiet_pipeline(self):
+        for retry, count in ((QUERIES, 1), (IDEMPOTENT, 2)):
+            with scripted([None], [b"1"]) as (path, got), Client(path, 10, reconnect=True, retry=retry) as client:
+                with suppress(ConnectionLost), client.pipeline(is_quiet=True) as pipe:
+                    pipe.judy1("a").set(1)
+                self.assertEqual(got, ["J1S a 1"] * count)
 
     def test_what_was_not_sent_is_sent_again(self):
         with scripted([b"OK"], [b"OK", b"1", b"1"]) as (path, got), Client(path, 10, reconnect=True) as client:
@@ -189,7 +209,7 @@ class Restarts(WithServer):
         self.assertEqual(m.free_array(), lost.count(None))
 
     def test_threads_that_may_go_on(self):
-        client, end = self.alice(reconnect=True), threading.Event()
+        client, end = self.alice(reconnect=True, retry=IDEMPOTENT), threading.Event()
         m, ids = client.judyl("m"), client.judy1("ids")
         client.judyl("w").update((i, i) for i in range(20000))
 

@@ -1,6 +1,7 @@
 """Wrong uses of the client. A type checker must refuse each line that ends with the comment `wrong`, and no other line:
 `mypy --strict clients/python/wrong_uses.py`. test_hints.py compares. Nobody runs this file."""
 
+import asyncio
 from typing import Dict, List, Optional, Tuple
 
 import judyd
@@ -16,6 +17,8 @@ def addresses_and_clients() -> None:
     judyd.Client(("localhost", "7000"))  # wrong
     judyd.Client("socket", timeout="30")  # wrong
     judyd.Client("socket", retries=3)  # wrong
+    judyd.Client("socket", reconnect=True, retry=judyd.IDEMPOTENT)
+    judyd.Client("socket", reconnect=True, retry="idempotent")  # wrong
     judyd.Client("socket").auth("alice")  # wrong
     judyd.Client("socket").auth("alice", b"abc")  # wrong
     judyd.Client("socket").lines(["J1S ids 5"])  # wrong
@@ -42,6 +45,8 @@ def sets(client: judyd.Client) -> None:
     index: int = ids.first_empty(1)  # wrong
     item: Tuple[int, int] = ids.ranks[0]  # wrong
     ids.ranks["0"]  # wrong
+    ids.walk(0, "9")  # wrong
+    ids.walk_back("9")  # wrong
     ids[5]  # wrong
     print(free, newest, least, is_new, index, item)
 
@@ -54,6 +59,14 @@ def word_maps(client: judyd.Client) -> None:
     entries: Dict[int, int] = dict(m.items())
     value: Optional[int] = m.get(5)
     number: int = m.get(5, 0)
+    joined: Dict[int, int] = m | {5: 6}
+    m |= {5: 6}
+    number = m.pop(5)
+    number = m.setdefault(5, 7)
+    is_equal: bool = m == {5: 6}
+    popped: Optional[int] = m.pop(5, None)
+    m.walk(0, "9")  # wrong
+    m.pop("5")  # wrong
     m["5"] = 6  # wrong
     m[5] = "6"  # wrong
     m[5] = None  # wrong
@@ -67,7 +80,7 @@ def word_maps(client: judyd.Client) -> None:
     text: str = m[5]  # wrong
     first: Tuple[int, int] = m.first()  # wrong
     keys: List[str] = list(m)  # wrong
-    print(entries, value, number, none, other, text, first, keys)
+    print(entries, value, number, none, other, text, first, keys, joined, is_equal, popped)
 
 
 def string_maps(client: judyd.Client) -> None:
@@ -114,21 +127,35 @@ def pipelines(client: judyd.Client) -> None:
         pipe.judy1("ids").set("5")  # wrong
         pipe.judysl("s").get("tree")  # wrong
         pipe.judyhs("h", "utf-8").insert(b"a")  # wrong
-        pipe.judy1("ids").add(5)  # wrong
+        pipe.judy1("ids").add(5)
+        pipe.judyl("m")[5] = 6
+        used: judyd.Later[judyd.Used] = pipe.used()
+        pipe.judy1("ids").add("5")  # wrong
         hits: int = pipe.judyl("m").add(5)  # wrong
-        pipe.judyl("m")[5] = 6  # wrong
+        pipe.judyl("m")[5] = "6"  # wrong
+        pipe.judysl("s")["tree"] = 6  # wrong
         is_new: bool = pipe.judy1("ids").set(5)  # wrong
     fine: bool = late.result()
     first: Optional[Tuple[str, int]] = item.result()
     number: str = late.result()  # wrong
     wrong_first: Optional[Tuple[bytes, int]] = item.result()  # wrong
-    print(is_new, hits, fine, first, number, wrong_first)
+    print(is_new, hits, fine, first, number, wrong_first, used)
 
 
 async def tasks(client: aio.Client) -> None:
     """The calls of an asyncio client are awaited."""
     await client.auth("alice", "abc")
     fine: bool = await client.judy1("ids").set(5)
+    task: "asyncio.Task[bool]" = asyncio.create_task(client.judy1("ids").set(5))
+    found: "asyncio.Task[Optional[int]]" = asyncio.create_task(client.judyl("m").get(5))
+    await client.judyl("m").update({5: 6})
+    await client.judyl("m").update({"5": 6})  # wrong
+    await client.judy1("ids").update(["5"])  # wrong
+    async with client.pipeline() as pipe:
+        late: judyd.Later[bool] = pipe.judy1("ids").set(5)
+    async with aio.Pool("socket", 8, "alice", "abc").client() as other:
+        await other.used()
+    aio.Pool("socket", 8)  # wrong
     async for key, value in client.judysl("s", "utf-8").walk():
         text: str = key
     is_new: bool = client.judy1("ids").set(5)  # wrong
@@ -141,7 +168,7 @@ async def tasks(client: aio.Client) -> None:
     for index in client.judy1("ids").walk():  # wrong
         print(index)
     async for key, value in client.judysl("s").walk(b"a"):  # wrong
-        print(fine, is_new, number, hits, text, value)
+        print(fine, is_new, number, hits, text, value, task, found, late)
 
 
 def errors(client: judyd.Client) -> None:

@@ -24,8 +24,8 @@ A call of the manual (Judy1Set, JudyLFirstEmpty, ..) is a method in lower case (
 the array has an encoding. A refusal of the server raises `Full`, `NoMemory`, `ReadOnly`,
 `NotAuthorized`, `TooManyClients`, `Syntax` or `Long`, all of them `Refused`; then nothing has changed. `NoServer` says
 that no server listens. A connection that is lost raises `ConnectionLost`, which says whether the
-call may have run. A walk or an `update` that meets a server that was started anew raises `Restarted`.
-All of these are a `JudyError`.
+call may have run. With `reconnect=True` a client repeats lost calls that change nothing. A walk or an
+`update` that meets a server that was started anew raises `Restarted`. All of these are a `JudyError`.
 
 Threads may share a client, and a `Pool` gives each a connection of its own. A child process makes a
 connection of its own after a fork. `judyd.aio` has a client for asyncio. A client waits at most 30
@@ -39,13 +39,15 @@ from .errors import (
     Refused, Restarted, Syntax, TimedOut, TooManyClients,
 )  # fmt: skip
 from .fields import MAX, Used
+from .late import Later
 from .maps import JudyHS, JudyL, JudySL
-from .pipeline import Later, Pipeline
+from .pipeline import Pipeline
 from .pool import Pool
+from .retry import IDEMPOTENT, QUERIES, Retry
 from .sets import Judy1
 
 __all__ = [
-    "MAX", "TIMEOUT", "Client", "Visitor", "Pool", "Pipeline", "Later", "Used", "Judy1", "JudyL", "JudySL", "JudyHS",
+    "MAX", "TIMEOUT", "QUERIES", "IDEMPOTENT", "Retry", "Client", "Visitor", "Pool", "Pipeline", "Later", "Used", "Judy1", "JudyL", "JudySL", "JudyHS",
     "JudyError", "Error", "Closed", "NoServer", "ConnectionLost", "TimedOut", "Restarted",
     "PoolEmpty", "Refused", "Full", "NoMemory", "ReadOnly", "NotAuthorized", "TooManyClients", "Syntax", "Long", "KeyTooLong",
 ]  # fmt: skip

@@ -11,6 +11,7 @@ None. `K` is the type of keys: int, bytes, or str.
 import re
 from typing import Any, Callable, Generic, Optional, Tuple, TypeVar
 
+from .bound import Bound
 from .fields import (
     KEY_LIMIT, MAX, bytes_item_of, bytes_of, count_of, flag, index_of, item_of, key_field, name_field, no_zeros, step_field,
     value_of, value_or_none, word_field,
@@ -37,7 +38,14 @@ def is_same_twice(line: bytes) -> bool:
     return is_query(line) or _CHANGE.match(line) is not None
 
 
-class Calls(Generic[Number]):
+def given(value: Optional[int]) -> int:
+    """A value to store. `None` is no value."""
+    if value is None:
+        raise TypeError("a value is a word, and not None")
+    return value
+
+
+class Calls(Bound, Generic[Number]):
     """The calls of one array, over an asker: a client or a pipeline."""
 
     _prefix = b""
@@ -46,6 +54,9 @@ class Calls(Generic[Number]):
         self._field = name_field(name)
         self._asker = asker
         self.name = name
+
+    def __repr__(self) -> str:
+        return "<%s %s of %r>" % (type(self).__name__, self.name, self._asker)
 
     def _line(self, letters: bytes, *fields: bytes) -> bytes:
         return b" ".join((self._prefix + letters, self._field, *fields))
@@ -204,6 +215,10 @@ class KeyCalls(MapCalls[K, Yes, Number, Found], Generic[K, Yes, Number, Found]):
     def _plain(self, key: K) -> bytes:
         """The bytes of a key."""
         return bytes_of(key, self.encoding)
+
+    def _bound(self, key: Optional[K]) -> Optional[bytes]:
+        """The bytes of a key where a walk begins or stops, if there is one."""
+        return None if key is None else self._plain(key)
 
     def _shown(self, plain: bytes) -> Any:
         """A key as the caller sees it: bytes, or text in the encoding."""

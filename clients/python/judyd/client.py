@@ -4,14 +4,15 @@ import ssl
 from contextlib import nullcontext
 from typing import Any, Callable, ContextManager, Iterable, List, Optional, Set, Tuple, TypeVar, overload
 
-from .calls import is_query, is_same_twice
+from .bound import Bound
 from .catalogue import Catalogue, listed
 from .connection import Address
 from .errors import checked
-from .fields import Used, name_field, token_field, used_of
+from .fields import Used, name_field, plain_lines, token_field, used_of
 from .link import Link
 from .maps import JudyHS, JudyL, JudySL
 from .pipeline import Pipeline
+from .retry import QUERIES, Retry, checked_retry, rule_of
 from .sets import Judy1
 
 T = TypeVar("T")
@@ -20,7 +21,7 @@ TIMEOUT = 30.0
 """How many seconds a client waits by default."""
 
 
-class Arrays:
+class Arrays(Bound):
     """What a client and a visitor share: the arrays of a tenant, over `_exchange`."""
 
     _is_late = False
@@ -69,7 +70,8 @@ class Arrays:
 
     def pipeline(self, window: Optional[int] = 1000, raises: bool = True, is_quiet: bool = False) -> Pipeline:
         """A `Pipeline` of calls, with up to `window` in flight at once; with None all of them. It is
-        quiet if nobody looks at the results: then a client with `reconnect` repeats the calls."""
+        quiet if nobody looks at the results: then a client with `retry=IDEMPOTENT` repeats those that
+        store or remove."""
         return Pipeline(self, window, raises, is_quiet)
 
     def _ask(self, line: bytes, read: Callable[[bytes], T], is_quiet: bool = False) -> T:
@@ -106,23 +108,27 @@ class Client(Arrays):
 
     With `reconnect=True` the client connects and logs in anew when the connection was lost, and
     waits up to `timeout` seconds for a server that starts again. It repeats a lost call if none of
-    it was sent, or if the call is a query, or if it stores or removes and nobody looks at its
-    result: `m[k] = v`, `update`, `s.add`, `discard`, `difference_update`, `clear`, and a pipeline
-    with `is_quiet=True`. If another client changes the same key meanwhile, the repeated call comes
-    after it. All other calls raise `ConnectionLost`: their second result could be wrong. After a
-    restart of the server the arrays are empty. So what takes several windows, as a walk, an `update`
-    or a pipeline, raises `Restarted` if it met two servers, and is begun again by its caller.
+    it was sent, or if the call changes nothing. All other calls raise `ConnectionLost`, whose
+    `may_have_run` is true: it is not known whether they have run. `retry=IDEMPOTENT` repeats more,
+    which is safe only where no other client writes: see `help(judyd.Retry)`. After a restart of the
+    server the arrays are empty. So what takes several windows, as a walk, an `update` or a pipeline,
+    raises `Restarted` if it met two servers, and is begun again by its caller.
 
     With `catalogue=True` the client keeps the names of the arrays that it writes to, and the keys of
     the JudyHS arrays, in two arrays of the tenant: see `help(judyd.catalogue)`.
     """
 
     def __init__(
-        self, address: Address, timeout: Optional[float] = TIMEOUT, tls: Optional[ssl.SSLContext] = None, catalogue: bool = False, reconnect: bool = False
-    ) -> None:
+        self, address: Address, timeout: Optional[float] = TIMEOUT, tls: Optional[ssl.SSLContext] = None,
+        catalogue: bool = False, reconnect: bool = False, retry: Retry = QUERIES,
+    ) -> None:  # fmt: skip
         super().__init__()
+        self._retry = checked_retry(retry, reconnect)
         self._catalogue = Catalogue() if catalogue else None
         self._link = Link(address, timeout, tls, reconnect, self._noted.clear)
+
+    def __repr__(self) -> str:
+        return "<Client %s>" % self._link
 
     def __enter__(self) -> "Client":
         return self
@@ -140,9 +146,7 @@ class Client(Arrays):
     def lines(self, lines: Iterable[bytes]) -> List[bytes]:
         """Sends lines as they are, bytes without LF, and returns the list of their replies. QUIT
         ends the connection: lines after it have no reply, and raise ConnectionLost."""
-        plain = [bytes(line) for line in lines]
-        if any(b"\n" in line for line in plain):
-            raise ValueError("a line has no LF in it")
+        plain = plain_lines(lines)
         with self._held():
             replies = self._exchange(plain)
             for line, reply in zip(plain, replies):
@@ -178,7 +182,7 @@ class Client(Arrays):
         return self._link.server()
 
     def _exchange(self, lines: List[bytes], is_quiet: bool = False) -> List[bytes]:
-        return self._link.exchange(lines, is_same_twice if is_quiet else is_query) if lines else []
+        return self._link.exchange(lines, rule_of(self._retry, is_quiet)) if lines else []
 
 
 class Visitor(Arrays):
@@ -196,6 +200,9 @@ class Visitor(Arrays):
         self._open = open_client
         self._client: Optional[Client] = None
         self._latest: object = None
+
+    def __repr__(self) -> str:
+        return "<Visitor, not connected>" if self._client is None else "<Visitor by %r>" % self._client
 
     def _ask(self, line: bytes, read: Callable[[bytes], T], is_quiet: bool = False) -> T:
         try:

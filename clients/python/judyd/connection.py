@@ -2,7 +2,6 @@
 
 import os
 import select
-import selectors
 import socket
 import ssl
 import struct
@@ -90,49 +89,54 @@ class Connection:
             self._pieces.append(piece)
 
     def _exchange_many(self, sock: socket.socket, data: bytes, count: int) -> None:
-        left, pieces = memoryview(data), self._pieces
-        missing = count - sum(piece.count(b"\n") for piece in pieces)
+        left = memoryview(data)
+        missing = count - sum(piece.count(b"\n") for piece in self._pieces)
         sock.setblocking(False)
         try:
-            with selectors.DefaultSelector() as ready:
-                ready.register(sock, selectors.EVENT_READ | selectors.EVENT_WRITE)
-                is_open = True
-                while missing > 0:
-                    if not is_open:
-                        raise EOFError("the server closed the connection")
-                    if not ready.select(self._timeout) and self._timeout is not None:
-                        raise socket.timeout()
-                    before = len(pieces)
-                    is_open = _take(sock, pieces)
-                    missing -= sum(piece.count(b"\n") for piece in pieces[before:])
-                    if is_open and left:
-                        left = self._give(sock, left)
-                        if not left:
-                            ready.modify(sock, selectors.EVENT_READ)
+            while True:
+                missing, is_open = self._take(sock, missing)
+                if missing <= 0:
+                    return
+                if not is_open:
+                    raise EOFError("the server closed the connection")
+                if left:
+                    left = self._give(sock, left, missing)
+                self._wait(sock, bool(left))
         finally:
             sock.settimeout(self._timeout)
 
-    def _give(self, sock: socket.socket, left: memoryview) -> memoryview:
+    def _wait(self, sock: socket.socket, is_writing: bool) -> None:
+        """Waits until a byte can come or go."""
+        ready = select.poll()
+        ready.register(sock, select.POLLIN | (select.POLLOUT if is_writing else 0))
+        if not ready.poll(None if self._timeout is None else self._timeout * 1000):
+            raise socket.timeout()
+
+    def _take(self, sock: socket.socket, missing: int) -> Tuple[int, bool]:
+        """Reads what has come, up to the last of the missing replies. Returns how many are missing still,
+        and whether more may come."""
+        try:
+            while missing > 0:
+                piece = sock.recv(_PIECE)
+                if not piece:
+                    return missing, False
+                self._pieces.append(piece)
+                missing -= piece.count(b"\n")
+        except _BUSY:
+            pass
+        return missing, True
+
+    def _give(self, sock: socket.socket, left: memoryview, missing: int) -> memoryview:
         """Sends what can be sent, and returns the rest."""
         try:
             sent = sock.send(left[:_PIECE])
         except _BUSY:
             return left
         except OSError:
-            _take(sock, self._pieces)  # the replies that came before the end
+            self._take(sock, missing)  # the replies that came before the end
             raise
         self._sent += sent
         return left[sent:]
-
-
-def _take(sock: socket.socket, pieces: List[bytes]) -> bool:
-    """Reads what has come, and returns whether more may come."""
-    try:
-        while piece := sock.recv(_PIECE):
-            pieces.append(piece)
-        return False
-    except _BUSY:
-        return True
 
 
 def server_of(sock: socket.socket) -> Optional[int]:
@@ -160,9 +164,32 @@ class SameServer:
             raise Restarted()
 
 
+def place_of(address: Address) -> str:
+    """An address as a text."""
+    return ":".join(map(str, address)) if isinstance(address, tuple) else os.fsdecode(address)
+
+
+def checked_address(address: Address) -> Address:
+    """An address of the right type."""
+    if isinstance(address, (str, bytes, os.PathLike)) or (isinstance(address, tuple) and len(address) == 2):
+        return address
+    raise TypeError("an address is the path of a socket, or a tuple of a host and a port, and not %r" % (address,))
+
+
+def checked_timeout(timeout: Optional[float]) -> Optional[float]:
+    """How many seconds a client waits; None is for ever."""
+    if timeout is None:
+        return None
+    if not isinstance(timeout, (int, float)):
+        raise TypeError("a timeout is a number of seconds, or None, and not %r" % (timeout,))
+    if not timeout > 0:
+        raise ValueError("a timeout is more than 0 seconds, or None, and not %r" % (timeout,))
+    return timeout
+
+
 def no_server(address: Address, why: OSError) -> NoServer:
     """The exception for a connection that can't be made."""
-    place = "%s:%d" % address if isinstance(address, tuple) else os.fsdecode(address)
+    place = place_of(address)
     if isinstance(why, (socket.timeout, TimeoutError)):
         return NoServer("no connection to %s in time%s" % (place, _SERVED))
     if isinstance(why, (FileNotFoundError, ConnectionRefusedError)):

@@ -1,7 +1,8 @@
 """The fields of requests and of replies. docs/FORMATS.md has the protocol."""
 
+import operator
 import re
-from typing import NamedTuple, Optional, Tuple
+from typing import Any, Iterable, List, NamedTuple, Optional, SupportsIndex, Tuple
 
 from .errors import JudyError, KeyTooLong
 
@@ -12,6 +13,7 @@ KEY_LIMIT = 1000
 LINE_LIMIT = 4096
 _NAME = re.compile(r"[A-Za-z0-9_.-]{1,32}\Z")
 _TOKEN = re.compile(r"[!-~]{1,128}\Z")
+
 
 class Used(NamedTuple):
     """A tenant's numbers of entries and pieces, each with its quota."""
@@ -27,30 +29,62 @@ class Used(NamedTuple):
 
 def name_field(name: str) -> bytes:
     """A name, of a tenant or of an array."""
-    if not isinstance(name, str) or not _NAME.match(name):
+    if not isinstance(name, str):
+        raise TypeError("a name is a str, and not %r" % (name,))
+    if not _NAME.match(name):
         raise ValueError("a name is 1 to 32 of A-Z a-z 0-9 _ - . and not %r" % (name,))
     return name.encode()
 
 
 def token_field(token: str) -> bytes:
     """A token."""
-    if not isinstance(token, str) or not _TOKEN.match(token):
+    if not isinstance(token, str):
+        raise TypeError("a token is a str, and not a %s" % type(token).__name__)
+    if not _TOKEN.match(token):
         raise ValueError("a token is 1 to 128 characters from ! to ~")
     return token.encode()
 
 
-def word_field(word: int) -> bytes:
+def _number(what: str, number: SupportsIndex, low: int, high: int) -> int:
+    """An int from `low` to `high`. Whatever has `__index__` is an int."""
+    try:
+        plain = operator.index(number)
+    except TypeError:
+        raise TypeError("%s is an int from %d to %d, and not %r" % (what, low, high, number)) from None
+    if not low <= plain <= high:
+        raise ValueError("%s is an int from %d to %d, and not %r" % (what, low, high, number))
+    return plain
+
+
+def word_of(word: SupportsIndex) -> int:
+    """A word."""
+    return _number("a word", word, 0, MAX)
+
+
+def word_field(word: SupportsIndex) -> bytes:
     """A word, in decimal digits."""
-    if not isinstance(word, int) or not 0 <= word <= MAX:
-        raise ValueError("a word is an int from 0 to %d and not %r" % (MAX, word))
-    return b"%d" % word
+    return b"%d" % word_of(word)
 
 
-def step_field(step: int) -> bytes:
+def is_word(thing: Any) -> bool:
+    """Whether a thing is a word. A set has nothing else."""
+    try:
+        word_of(thing)
+    except (TypeError, ValueError):
+        return False
+    return True
+
+
+def step_field(step: SupportsIndex) -> bytes:
     """What an addition adds: a word, or a negative number, modulo 2^64."""
-    if not isinstance(step, int) or not -MAX <= step <= MAX:
-        raise ValueError("what is added is an int from -%d to %d and not %r" % (MAX, MAX, step))
-    return b"%d" % (step % (MAX + 1))
+    return b"%d" % (_number("what is added", step, -MAX, MAX) % (MAX + 1))
+
+
+def stop_of(stop: Optional[SupportsIndex], is_back: bool) -> int:
+    """The index where a walk stops, which it leaves out. With None it walks to the end."""
+    if stop is None:
+        return -1 if is_back else MAX + 1
+    return _number("where a walk stops", stop, -1, MAX + 1)
 
 
 def bytes_of(key: object, encoding: Optional[str]) -> bytes:
@@ -79,6 +113,18 @@ def no_zeros(plain: bytes) -> bytes:
     """The bytes of a string, which has no byte 0."""
     if b"\0" in plain:
         raise ValueError("a string has no byte 0: %r" % (plain,))
+    return plain
+
+
+def plain_lines(lines: Iterable[bytes]) -> List[bytes]:
+    """Lines that are sent as they are."""
+    is_one_line = isinstance(lines, (str, bytes, bytearray, memoryview))
+    plain = [] if is_one_line else list(lines)
+    if is_one_line or not all(isinstance(line, (bytes, bytearray, memoryview)) for line in plain):
+        raise TypeError("lines are a list, and each line is bytes")
+    plain = [bytes(line) for line in plain]
+    if any(b"\n" in line for line in plain):
+        raise ValueError("a line has no LF in it")
     return plain
 
 

@@ -8,11 +8,9 @@ from contextlib import contextmanager
 from typing import Callable, Iterator, List, Optional
 from weakref import WeakSet
 
-from .connection import Address, Connection
-from .errors import Closed, ConnectionLost, JudyError, NoServer, Restarted, TimedOut, checked
-
-TRIES = 10
-"""How many connections one exchange uses up at most."""
+from .connection import Address, Connection, checked_address, checked_timeout, place_of
+from .errors import Closed, ConnectionLost, JudyError, NoServer, Restarted, checked
+from .retry import LOGGER, TRIES, Exchange, tenant_of
 
 
 class Link:
@@ -20,7 +18,10 @@ class Link:
     new connection takes the place of one that was lost."""
 
     def __init__(self, address: Address, timeout: Optional[float], tls: Optional[ssl.SSLContext], reconnect: bool, on_new: Callable[[], None]) -> None:
+        checked_address(address)
+        checked_timeout(timeout)
         self._connect: Callable[[], Connection] = lambda: Connection(address, timeout, tls)
+        self._place = place_of(address)
         self._timeout = timeout
         self._reconnect = reconnect
         self._on_new = on_new  # is called when a new connection has taken the place of another
@@ -40,6 +41,13 @@ class Link:
         self._check_process()
         with self._lock:
             yield
+
+    def __str__(self) -> str:
+        """Its address, its tenant and its state. The token is not in it."""
+        connection = self.connection
+        is_open = connection is not None and connection.is_open
+        state = "closed" if self._is_closed else "open" if is_open else "not connected"
+        return "%s, %s, %s" % (self._place, tenant_of(self.log_in), state)
 
     def server(self) -> object:
         """What tells the server of the latest connection from another. Where the system does not tell
@@ -76,42 +84,21 @@ class Link:
                 self._is_busy = False
 
     def _exchange(self, lines: List[bytes], may_repeat: Callable[[bytes], bool]) -> List[bytes]:
-        replies: List[bytes] = []
-        lost: Optional[ConnectionLost] = None
-        server: object = None
+        exchange = Exchange(lines, may_repeat)
         for at in range(TRIES):
             try:
                 connection = self.connection
                 if connection is None or not connection.is_open:
                     connection = self._opened(at)
-                if replies and self._server != server:
-                    raise Restarted(replies)
-                server = self._server
-                return replies + connection.exchange(lines[len(replies) :] if replies else lines)
+                return exchange.replies + connection.exchange(exchange.left(self._server))
             except Restarted:
                 raise
             except NoServer as e:
-                if lost is None or not (lost.may_have_run or replies):
-                    raise
-                raise lost from e
+                exchange.raise_no_server(e)
             except ConnectionLost as e:
-                lost = self._joined(lost, e, replies)
-                is_safe = not e.may_have_run or all(may_repeat(line) for line in lines[len(replies) :])
-                if not self._reconnect or isinstance(e, TimedOut) or not is_safe:
-                    raise lost from e.__cause__
-        assert lost is not None
-        raise lost
-
-    def _joined(self, before: Optional[ConnectionLost], lost: ConnectionLost, replies: List[bytes]) -> ConnectionLost:
-        """The exception for an exchange that has lost a connection, and maybe some before it. It
-        has all replies that came."""
-        self.connection = None
-        replies += lost.replies
-        lost.replies = list(replies)
-        if before is not None and before.may_have_run and not lost.may_have_run:
-            before.replies = lost.replies
-            return before
-        return lost
+                self.connection = None
+                exchange.lose(e, self._reconnect, self)
+        exchange.raise_lost()
 
     def _opened(self, at: int) -> Connection:
         """A new connection, if there may be one, with the same log-in."""
@@ -127,6 +114,7 @@ class Link:
             connection.close()
             raise
         self.connection, self._server = connection, connection.server or object()
+        LOGGER.info("%s: connected again", self)
         self._on_new()
         self._may_open = self._reconnect
         return connection

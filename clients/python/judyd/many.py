@@ -1,9 +1,10 @@
 """What arrays have in Python besides the manual's calls: many calls at once, and ranks."""
 
+import operator
 from typing import Any, Callable, Generic, Iterable, Iterator, List, Optional, Sequence, Tuple, TypeVar, Union, overload
 
 from .connection import SameServer
-from .fields import word_field
+from .fields import MAX, stop_of, word_of
 from .walks import RankedWalk, walked
 
 T = TypeVar("T")
@@ -48,7 +49,12 @@ class Many:
 
 class Ranks(Sequence[T]):
     """The entries of an array as a sequence, in order. An int gives one entry, a slice a list. `for`
-    and `reversed` walk in windows of many lines."""
+    and `reversed` walk in windows of many lines.
+
+    A slice asks for each rank by itself, and so does a negative rank for the length before. So beside
+    other writers they are not exact: if an entry comes or goes below meanwhile, all ranks above it
+    shift, and a slice may leave out an entry that is there all the time, or have it twice. The walk
+    `walk(start, stop)` of the array is exact."""
 
     def __init__(self, array: "Ranked[T]") -> None:
         self._array = array
@@ -71,10 +77,14 @@ class Ranks(Sequence[T]):
     def __getitem__(self, rank: Union[int, slice]) -> Union[T, List[T]]:
         if isinstance(rank, slice):
             return self._array._nths(range(*rank.indices(len(self))))
-        at = rank + len(self) if rank < 0 else rank
-        found = self._array._nths([at]) if at >= 0 else []
+        try:
+            at = operator.index(rank)
+        except TypeError:
+            raise TypeError("a rank is an int or a slice, and not %r" % (rank,)) from None
+        at += len(self) if at < 0 else 0
+        found = self._array._nths([at]) if 0 <= at < MAX else []
         if not found:
-            raise IndexError("no entry has rank %d" % rank)
+            raise IndexError("no entry has rank %d" % operator.index(rank))
         return found[0]
 
     def __contains__(self, entry: object) -> bool:
@@ -122,7 +132,7 @@ class Ranked(Generic[T]):
     @property
     def ranks(self) -> Ranks[T]:
         """The entries in order (ByCount): `ranks[0]` is the least, `ranks[-1]` the greatest, and
-        `ranks[2:5]` is a list."""
+        `ranks[2:5]` is a list. A slice is not exact beside other writers, and `walk(start, stop)` is."""
         return Ranks(self)
 
     def _nths(self, ranks: Iterable[int]) -> List[T]:
@@ -134,9 +144,9 @@ class Ranked(Generic[T]):
             same.check()
         return found
 
-    def _walk(self, start: Optional[int] = None, is_back: bool = False) -> Iterator[T]:
-        bound = int(word_field((2**64 - 1 if is_back else 0) if start is None else start))
-        return walked(RankedWalk(self, self._read, self._index_of, is_back).steps(bound), self._asker)
+    def _walk(self, start: Optional[int] = None, stop: Optional[int] = None, is_back: bool = False) -> Iterator[T]:
+        bound = word_of((MAX if is_back else 0) if start is None else start)
+        return walked(RankedWalk(self, self._read, self._index_of, is_back, stop_of(stop, is_back)).steps(bound), self._asker)
 
     def clear(self) -> None:
         """Empties the array (FreeArray)."""

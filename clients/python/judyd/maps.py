@@ -2,12 +2,12 @@
 
 from threading import get_ident
 from typing import (
-    Any, Callable, Generic, ItemsView, Iterable, Iterator, KeysView, List, Mapping, MutableMapping, Optional, Tuple, TypeVar, Union,
-    ValuesView, overload,
+    Any, Callable, Dict, Generic, ItemsView, Iterable, Iterator, KeysView, List, Mapping, MutableMapping, Optional, Tuple, TypeVar,
+    Union, ValuesView, overload,
 )  # fmt: skip
 from weakref import ReferenceType, ref
 
-from .calls import JudyHSCalls, JudyLCalls, JudySLCalls, MapCalls
+from .calls import JudyHSCalls, JudyLCalls, JudySLCalls, MapCalls, given
 from .catalogue import keys_of
 from .fields import MAX
 from .many import Many, Ranked
@@ -16,6 +16,9 @@ from .walks import Steps, items_of, walked
 
 K = TypeVar("K")
 V = TypeVar("V")
+M = TypeVar("M", bound="MapBase[Any]")
+
+_NOTHING: Any = object()
 
 
 class Keys(KeysView[K]):
@@ -53,8 +56,16 @@ class Values(ValuesView[int]):
 class MapBase(Many, MapCalls[K, bool, int, Optional[int]], Generic[K]):
     """What all maps have in Python: reads and writes by key."""
 
+    def _may_have(self, key: Any) -> bool:
+        """Whether the array may have such a key: it has the type of the keys, and is in their range."""
+        try:
+            self._key(key)
+        except (TypeError, ValueError):
+            return False
+        return True
+
     def __contains__(self, key: object) -> bool:
-        return self.get(key) is not None  # type: ignore[arg-type]
+        return self._may_have(key) and self.get(key) is not None  # type: ignore[arg-type]
 
     def __getitem__(self, key: K) -> int:
         value = self.get(key)
@@ -63,19 +74,40 @@ class MapBase(Many, MapCalls[K, bool, int, Optional[int]], Generic[K]):
         return value
 
     def __setitem__(self, key: K, value: int) -> None:
-        self._insert(key, _given(value), is_quiet=True)
+        self._insert(key, given(value), is_quiet=True)
 
     def __delitem__(self, key: K) -> None:
-        if not self.delete(key):
+        if not self._removed(key):
             raise KeyError(key)
 
+    def _removed(self, key: K) -> bool:
+        """Whether a key was present, which is no longer there. One that is out of range never is."""
+        try:
+            self._key(key)
+        except ValueError:
+            return False
+        return self.delete(key)
+
+    def _entries(self) -> Dict[K, int]:
+        """All entries."""
+        raise NotImplementedError
+
     def __eq__(self, other: object) -> bool:
-        return self is other
+        """Whether a mapping has the same entries. It reads all of them, in windows of many lines."""
+        if self is other:
+            return True
+        return self._entries() == dict(other.items()) if isinstance(other, Mapping) else NotImplemented
 
-    __hash__ = object.__hash__
+    def __or__(self, other: Mapping[K, int]) -> Dict[K, int]:
+        """A dict with the entries of both. Those of the other count where both have a key."""
+        return {**self._entries(), **dict(other.items())} if isinstance(other, Mapping) else NotImplemented
 
-    def __repr__(self) -> str:
-        return "<%s %s>" % (type(self).__name__, self.name)
+    def __ror__(self, other: Mapping[K, int]) -> Dict[K, int]:
+        return {**dict(other.items()), **self._entries()} if isinstance(other, Mapping) else NotImplemented
+
+    def __ior__(self: M, entries: Union[Mapping[Any, int], Iterable[Tuple[Any, int]]]) -> M:
+        self.update(entries)
+        return self
 
     @overload
     def get(self, key: K) -> Optional[int]: ...
@@ -84,14 +116,55 @@ class MapBase(Many, MapCalls[K, bool, int, Optional[int]], Generic[K]):
     def get(self, key: K, default: Union[int, V]) -> Union[int, V]: ...
 
     def get(self, key: K, default: Any = None) -> Any:
-        """Get: the value of a key, or the default."""
+        """Get: the value of a key, or the default. A key that is out of range is absent."""
+        try:
+            self._key(key)
+        except ValueError:
+            return default
         value = super().get(key)
         return default if value is None else value
 
+    @overload
+    def pop(self, key: K) -> int: ...
+
+    @overload
+    def pop(self, key: K, default: Union[int, V]) -> Union[int, V]: ...
+
+    def pop(self, key: K, default: Any = _NOTHING) -> Any:
+        """Removes a key, and returns its value; the default if it is absent, and KeyError without one.
+        If several clients pop a key, one of them gets its value. They are two lines, so a value that
+        another client stores between them is lost."""
+        value = self.get(key)
+        while value is not None and not self.delete(key):
+            value = self.get(key)
+        if value is None and default is _NOTHING:
+            raise KeyError(key)
+        return default if value is None else value
+
+    def setdefault(self, key: K, default: int) -> int:
+        """The value of a key. If it is absent, stores the default, and returns it. They are two lines, so
+        the default takes the place of a value that another client stores between them. With the default
+        0 it is one line, and exact."""
+        if default == 0:
+            return self.insert(key)
+        value = self.get(key)
+        if value is None:
+            self.insert(key, given(default))
+            return default
+        return value
+
     def get_many(self, keys: Iterable[K]) -> Iterator[Tuple[K, Optional[int]]]:
-        """Each of these keys with its value, or with None, with many lines in flight at once."""
-        for late in self._many(keys, lambda calls, key: calls.get(key)):
-            yield from ((key, answer.result()) for key, answer in late)
+        """Each of these keys with its value, or with None, with many lines in flight at once. A key
+        that is out of range is absent."""
+        for late in self._many(keys, self._get_late):
+            yield from ((key, answer if answer is None else answer.result()) for key, answer in late)
+
+    def _get_late(self, calls: Any, key: K) -> Any:
+        """The later value of a key, with the calls of a pipeline; None for a key out of range."""
+        try:
+            return calls.get(key)
+        except ValueError:
+            return None
 
     def clear(self) -> None:
         """Empties the array (FreeArray)."""
@@ -113,14 +186,7 @@ class MapBase(Many, MapCalls[K, bool, int, Optional[int]], Generic[K]):
 def _insert(calls: Any, entry: Tuple[Any, int]) -> Any:
     """Stores an entry with the calls of a map."""
     key, value = entry
-    return calls.insert(key, _given(value))
-
-
-def _given(value: Optional[int]) -> int:
-    """A value to store. `None` is no value."""
-    if value is None:
-        raise ValueError("a value is a word")
-    return value
+    return calls.insert(key, given(value))
 
 
 class WalkedMap(MapBase[K], MutableMapping[K, int]):  # type: ignore[misc]
@@ -128,6 +194,23 @@ class WalkedMap(MapBase[K], MutableMapping[K, int]):  # type: ignore[misc]
 
     walk: Callable[..., Iterator[Tuple[K, int]]]
     walk_back: Callable[..., Iterator[Tuple[K, int]]]
+
+    def _least(self) -> Optional[Tuple[K, int]]:
+        """The least key and its value, or None."""
+        raise NotImplementedError
+
+    def popitem(self) -> Tuple[K, int]:
+        """Removes the least key, and returns it with its value. If several clients pop, each gets a key
+        of its own. Raises KeyError if the map is empty."""
+        item = self._least()
+        while item is not None and not self.delete(item[0]):
+            item = self._least()
+        if item is None:
+            raise KeyError("the map is empty")
+        return item
+
+    def _entries(self) -> Dict[K, int]:
+        return dict(self.items())
 
     def __iter__(self) -> Iterator[K]:
         return self._listed(key for key, _ in self.walk())
@@ -164,20 +247,23 @@ class JudyL(Ranked[Tuple[int, int]], WalkedMap[int], JudyLCalls[bool, int, Optio
     def _index_of(entry: Tuple[int, int]) -> int:
         return entry[0]
 
+    def _least(self) -> Optional[Tuple[int, int]]:
+        return self.first()
+
     def _rank_of(self, entry: object) -> Optional[int]:
-        if not isinstance(entry, tuple) or len(entry) != 2 or self.get(entry[0]) != entry[1]:
+        if not isinstance(entry, tuple) or len(entry) != 2 or entry[0] not in self or self.get(entry[0]) != entry[1]:
             return None
         return self.count(0, entry[0]) - 1
 
-    def walk(self, start: int = 0) -> Iterator[Tuple[int, int]]:
-        """The entries in order from `start` on, as pairs of index and value, read in windows of
-        many lines."""
-        return self._walk(start)
+    def walk(self, start: int = 0, stop: Optional[int] = None) -> Iterator[Tuple[int, int]]:
+        """The entries in order from `start` on, up to `stop`, which is left out, as pairs of index and
+        value, read in windows of many lines."""
+        return self._walk(start, stop)
 
-    def walk_back(self, start: int = MAX) -> Iterator[Tuple[int, int]]:
-        """The entries from `start` down, as pairs of index and value, read in windows of many
-        lines."""
-        return self._walk(start, is_back=True)
+    def walk_back(self, start: int = MAX, stop: Optional[int] = None) -> Iterator[Tuple[int, int]]:
+        """The entries from `start` down to `stop`, which is left out, as pairs of index and value, read
+        in windows of many lines."""
+        return self._walk(start, stop, is_back=True)
 
     def _in(self, pipe: Any) -> Any:
         return pipe.judyl(self.name)
@@ -204,14 +290,17 @@ class JudySL(WalkedMap[K], JudySLCalls[K, bool, int, Optional[int], Optional[Tup
     def __bool__(self) -> bool:
         return self.first() is not None
 
-    def walk(self, start: Optional[K] = None) -> Iterator[Tuple[K, int]]:
-        """The entries in order from `start` on, as pairs of key and value, read in windows of many
-        lines."""
-        return self._walk(StringWalk(self, False).steps(None if start is None else self._plain(start)))
+    def _least(self) -> Optional[Tuple[K, int]]:
+        return self.first()
 
-    def walk_back(self, start: Optional[K] = None) -> Iterator[Tuple[K, int]]:
-        """The entries from `start` down, as pairs of key and value."""
-        return self._walk(StringWalk(self, True).steps(None if start is None else self._plain(start)))
+    def walk(self, start: Optional[K] = None, stop: Optional[K] = None) -> Iterator[Tuple[K, int]]:
+        """The entries in order from `start` on, up to `stop`, which is left out, as pairs of key and
+        value, read in windows of many lines."""
+        return self._walk(StringWalk(self, False, self._bound(stop)).steps(self._bound(start)))
+
+    def walk_back(self, start: Optional[K] = None, stop: Optional[K] = None) -> Iterator[Tuple[K, int]]:
+        """The entries from `start` down to `stop`, which is left out, as pairs of key and value."""
+        return self._walk(StringWalk(self, True, self._bound(stop)).steps(self._bound(start)))
 
     def with_prefix(self, prefix: K) -> Iterator[Tuple[K, int]]:
         """The entries whose keys begin with these bytes or this text, in order."""
@@ -234,6 +323,11 @@ class JudyHS(MapBase[K], JudyHSCalls[K, bool, int, Optional[int]]):
         if self._asker._catalogue is None:
             raise TypeError("a JudyHS has no walk, so its keys can't be listed, but by a client with a catalogue")
         return (key for key, _ in self.walk(keys_of(self._asker, self.name)))
+
+    def _entries(self) -> Dict[K, int]:
+        if self._asker._catalogue is None:
+            raise TypeError("a JudyHS has no walk, so it can't be compared or joined as a whole: take dict(h.get_many(keys)) of the keys in question")
+        return dict(self.walk(keys_of(self._asker, self.name)))
 
     def walk(self, keys: Iterable[bytes]) -> Iterator[Tuple[K, int]]:
         """The entries of those of these byte keys that are present, in the order given, with many

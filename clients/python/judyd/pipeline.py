@@ -3,48 +3,21 @@
 import os
 import threading
 from collections import deque
-from typing import Any, Callable, ContextManager, Deque, Generic, List, Optional, Set, Tuple, TypeVar, overload
+from typing import Any, Callable, ContextManager, Deque, List, Optional, Set, Tuple, TypeVar
 
-from .calls import Judy1Calls, JudyHSCalls, JudyLCalls, JudySLCalls
 from .connection import SameServer
-from .errors import REFUSALS, Closed, ConnectionLost, JudyError, checked, refusal_of
+from .errors import Closed, ConnectionLost, JudyError, refusal_of
+from .late import LateArrays, Later
 
 T = TypeVar("T")
-K = TypeVar("K")
 
 
-class Later(Generic[T]):
-    """The result of a call of a pipeline. Once the pipeline has sent the call, `result()` returns
-    it, or raises its refusal."""
-
-    def __init__(self, read: Callable[[bytes], T]) -> None:
-        self._read = read
-        self._reply: Optional[bytes] = None
-        self._lost: Optional[Closed] = None
-
-    def result(self) -> T:
-        """The result of the call."""
-        if self._lost is not None:
-            raise self._lost
-        if self._reply is None:
-            raise JudyError("this call of the pipeline has no answer yet: it is sent by flush(), and at the end of the block")
-        return self._read(checked(self._reply))
-
-
-LateYes = Later[bool]
-LateNumber = Later[int]
-LateFound = Later[Optional[int]]
-LateJudy1 = Judy1Calls[LateYes, LateNumber, LateFound]
-LateJudyL = JudyLCalls[LateYes, LateNumber, LateFound, Later[Optional[Tuple[int, int]]]]
-LateJudySL = JudySLCalls[K, LateYes, LateNumber, LateFound, Later[Optional[Tuple[K, int]]]]
-LateJudyHS = JudyHSCalls[K, LateYes, LateNumber, LateFound]
-
-
-class Pipeline:
+class Pipeline(LateArrays):
     """Calls, with many in flight at once: `with client.pipeline() as pipe:`.
 
-    Its arrays have the manual's calls. Each call returns a `Later` at once. The calls are sent
-    together, in their order, at the latest when the block ends. A refused call stops no other. If
+    Its arrays have the manual's calls, each of which returns a `Later` at once, and `add`, `discard`,
+    `m[k] = v`, `update`, `difference_update` and `clear`. The calls are sent together, in their
+    order, at the latest when the block ends. A refused call stops no other. If
     calls were refused, the end of the block raises the first refusal, unless `raises=False`. If the
     block raises an exception, the calls that were not sent yet are left out. Calls are sent in
     windows of `window` calls, or with `window=None` only at the end. The client reads while it
@@ -57,16 +30,16 @@ class Pipeline:
     whose reply came has its result, and the others raise that exception too.
     """
 
-    _is_late = True
-
     def __init__(self, client: Any, window: Optional[int] = 1000, raises: bool = True, is_quiet: bool = False) -> None:
+        super().__init__()
         self._client = client
         self._catalogue = client._catalogue
         self._noted: Set[Tuple[bytes, str]] = set()
+        if not isinstance(window, (int, type(None))):
+            raise TypeError("the window of a pipeline is an int, or None, and not %r" % (window,))
         self._window = window
         self._raises = raises
         self._is_quiet = is_quiet
-        self._refusal: Optional[bytes] = None
         self._waiting: Deque[Tuple[bytes, Later[Any]]] = deque()
         self._lock = threading.RLock()
         self._process = os.getpid()
@@ -75,6 +48,9 @@ class Pipeline:
     def __enter__(self) -> "Pipeline":
         return self
 
+    def __repr__(self) -> str:
+        return "<Pipeline of %r: %d calls wait>" % (self._client, len(self._waiting))
+
     def __exit__(self, kind: object, *_: object) -> None:
         if kind is not None:
             self._waiting.clear()
@@ -82,34 +58,6 @@ class Pipeline:
         self.flush()
         if self._raises and self._refusal is not None:
             raise refusal_of(self._refusal)
-
-    def judy1(self, name: str) -> LateJudy1:
-        """The calls of the set of words with this name."""
-        return Judy1Calls(self, name)
-
-    def judyl(self, name: str) -> LateJudyL:
-        """The calls of the map from words to words with this name."""
-        return JudyLCalls(self, name)
-
-    @overload
-    def judysl(self, name: str, encoding: None = None) -> "LateJudySL[bytes]": ...
-
-    @overload
-    def judysl(self, name: str, encoding: str) -> "LateJudySL[str]": ...
-
-    def judysl(self, name: str, encoding: Optional[str] = None) -> "LateJudySL[Any]":
-        """The calls of the map from strings to words with this name."""
-        return JudySLCalls(self, name, encoding)
-
-    @overload
-    def judyhs(self, name: str, encoding: None = None) -> "LateJudyHS[bytes]": ...
-
-    @overload
-    def judyhs(self, name: str, encoding: str) -> "LateJudyHS[str]": ...
-
-    def judyhs(self, name: str, encoding: Optional[str] = None) -> "LateJudyHS[Any]":
-        """The calls of the map from byte keys to words with this name."""
-        return JudyHSCalls(self, name, encoding)
 
     def flush(self) -> None:
         """Sends the calls that wait, and reads their replies."""
@@ -130,12 +78,6 @@ class Pipeline:
             raise
         self._take(late, replies)
         self._same.check()
-
-    def _take(self, late: List[Later[Any]], replies: List[bytes]) -> None:
-        for later, reply in zip(late, replies):
-            later._reply = reply
-            if self._refusal is None and reply in REFUSALS:
-                self._refusal = reply
 
     def _ask(self, line: bytes, read: Callable[[bytes], T], is_quiet: bool = False) -> Later[T]:
         if self._process != os.getpid():

@@ -7,12 +7,14 @@ import time
 from contextlib import contextmanager
 from typing import Callable, Iterator, List, Optional
 
+from .bound import Bound
 from .client import TIMEOUT, Client
-from .connection import Address
+from .connection import Address, checked_address, checked_timeout, place_of
 from .errors import Closed, PoolEmpty
+from .retry import QUERIES, Retry, checked_retry
 
 
-class Pool:
+class Pool(Bound):
     """Up to `size` clients of one tenant, each with a connection and a log-in of its own:
 
         pool = Pool("/run/judyd/socket", 8, "alice", "abc")
@@ -24,15 +26,19 @@ class Pool:
     they are needed, and kept. A connection that was lost is not given out again, and a new one takes
     its place; the exception of the call that lost it reaches its block. After a fork the child's
     pool makes connections of its own. The server serves at most `--clients` connections at once.
+    `reconnect` and `retry` are those of a `Client`.
     """
 
     def __init__(
         self, address: Address, size: int, name: str, token: str, wait: Optional[float] = TIMEOUT,
-        timeout: Optional[float] = TIMEOUT, tls: Optional[ssl.SSLContext] = None, reconnect: bool = False,
+        timeout: Optional[float] = TIMEOUT, tls: Optional[ssl.SSLContext] = None, reconnect: bool = False, retry: Retry = QUERIES,
     ) -> None:  # fmt: skip
         if size < 1:
             raise ValueError("a pool has at least one client")
-        self._open: Callable[[], Client] = lambda: _logged_in(Client(address, timeout, tls, reconnect=reconnect), name, token)
+        checked_retry(retry, reconnect)
+        checked_timeout(timeout)
+        self._place = "%s, %s" % (place_of(checked_address(address)), name)
+        self._open: Callable[[], Client] = lambda: _logged_in(Client(address, timeout, tls, reconnect=reconnect, retry=retry), name, token)
         self._size = size
         self._wait = wait
         self._is_closed = False
@@ -46,6 +52,9 @@ class Pool:
 
     def __enter__(self) -> "Pool":
         return self
+
+    def __repr__(self) -> str:
+        return "<Pool %s, %s>" % (self._place, "closed" if self._is_closed else "%d of %d in use" % (self._used, self._size))
 
     def __exit__(self, *_: object) -> None:
         self.close()

@@ -3,7 +3,7 @@
 from typing import Any, Iterable, Iterator, List, MutableSet, Optional, Set
 
 from .calls import Judy1Calls
-from .fields import MAX, flag, word_field
+from .fields import MAX, flag, is_word, word_field
 from .many import Many, Ranked
 from .walks import indexes_of
 
@@ -21,14 +21,14 @@ class Judy1(Ranked[int], Many, Judy1Calls[bool, int, Optional[int]], MutableSet[
         return entry
 
     def _rank_of(self, entry: object) -> Optional[int]:
-        return self.count(0, entry) - 1 if isinstance(entry, int) and self.test(entry) else None
+        return self.count(0, entry) - 1 if entry in self else None
 
     @classmethod
     def _from_iterable(cls, indexes: Iterable[Any]) -> Set[Any]:
         return set(indexes)
 
     def __contains__(self, index: object) -> bool:
-        return self.test(index)  # type: ignore[arg-type]
+        return is_word(index) and self.test(index)  # type: ignore[arg-type]
 
     def __iter__(self) -> Iterator[int]:
         return self.walk()
@@ -36,28 +36,34 @@ class Judy1(Ranked[int], Many, Judy1Calls[bool, int, Optional[int]], MutableSet[
     def __reversed__(self) -> Iterator[int]:
         return self.walk_back()
 
-    def walk(self, start: int = 0) -> Iterator[int]:
-        """The indexes in order from `start` on, read in windows of many lines."""
-        return self._walk(start)
+    def walk(self, start: int = 0, stop: Optional[int] = None) -> Iterator[int]:
+        """The indexes in order from `start` on, up to `stop`, which is left out, read in windows of many
+        lines."""
+        return self._walk(start, stop)
 
-    def walk_back(self, start: int = MAX) -> Iterator[int]:
-        """The indexes from `start` down, read in windows of many lines."""
-        return self._walk(start, is_back=True)
-
-    def __repr__(self) -> str:
-        return "<Judy1 %s>" % self.name
+    def walk_back(self, start: int = MAX, stop: Optional[int] = None) -> Iterator[int]:
+        """The indexes from `start` down to `stop`, which is left out, read in windows of many lines."""
+        return self._walk(start, stop, is_back=True)
 
     def add(self, index: int) -> None:
         """Inserts an index."""
         self._put(b"S", flag, word_field(index), is_quiet=True)
 
     def discard(self, index: int) -> None:
-        """Removes an index, if it is present."""
-        self._ask(b"U", flag, word_field(index), is_quiet=True)
+        """Removes an index, if it is present. One that is out of range never is."""
+        try:
+            field = word_field(index)
+        except ValueError:
+            return
+        self._ask(b"U", flag, field, is_quiet=True)
 
     def remove(self, index: int) -> None:
         """Removes an index. Raises KeyError if it is absent."""
-        if not self.unset(index):
+        try:
+            is_removed = self.unset(index)
+        except ValueError:
+            is_removed = False
+        if not is_removed:
             raise KeyError(index)
 
     def pop(self) -> int:
@@ -86,13 +92,13 @@ class Judy1(Ranked[int], Many, Judy1Calls[bool, int, Optional[int]], MutableSet[
 
     def difference_update(self, indexes: Iterable[int]) -> None:
         """Removes all of these indexes, with many lines in flight at once."""
-        for _ in self._many(indexes, lambda calls, index: calls.unset(index), is_quiet=True):
+        for _ in self._many(filter(is_word, indexes), lambda calls, index: calls.unset(index), is_quiet=True):
             pass
 
     def among(self, indexes: Iterable[int]) -> Iterator[int]:
         """Those of these indexes that are in the set, in the order given, with many lines in flight
         at once."""
-        for late in self._many(indexes, lambda calls, index: calls.test(index)):
+        for late in self._many(filter(is_word, indexes), lambda calls, index: calls.test(index)):
             yield from (index for index, is_there in late if is_there.result())
 
     def _in(self, pipe: Any) -> Any:

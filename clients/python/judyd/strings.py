@@ -102,11 +102,12 @@ class Listing(Generic[T]):
 
 
 class StringWalk:
-    """A walk of a JudySL."""
+    """A walk of a JudySL, up to the string `stop`, which is left out, if there is one."""
 
-    def __init__(self, array: Any, is_back: bool) -> None:
+    def __init__(self, array: Any, is_back: bool, stop: Optional[bytes] = None) -> None:
         self._line: Callable[..., bytes] = array._line
         self._is_back = is_back
+        self._stop = stop
         self._stretches: List[Stretch] = []
         self._top = b""
 
@@ -125,25 +126,29 @@ class StringWalk:
             yield from self._steps_back(greatest if start is None else start)
             return
         first, last = yield from self._asked((b"F", start or b""), (b"L", greatest))
-        if first is None or last is None or not first[0].startswith(prefix):
+        if first is None or last is None or not self._has(first, prefix):
             return
-        self._top = last[0]
+        self._top = last[0] if self._stop is None else min(last[0], self._stop)
         self._stretches = [Stretch(first, None, self._top)]
         while self._stretches:
             front = self._stretches[0]
             ready, front.entries = front.entries, []
             if front.is_done:
                 self._stretches.pop(0)
-            if ready and not ready[-1][0].startswith(prefix):
-                yield [entry for entry in ready if entry[0].startswith(prefix)]
+            if ready and not self._has(ready[-1], prefix):
+                yield [entry for entry in ready if self._has(entry, prefix)]
                 return
             yield ready
             if not front.is_done:
                 yield from self._advance()
 
+    def _has(self, entry: Item, prefix: bytes) -> bool:
+        """Whether a walk with this prefix has an entry."""
+        return entry[0].startswith(prefix) and (self._stop is None or entry[0] < self._stop)
+
     def _steps_back(self, start: bytes) -> Steps[Item]:
         (found,) = yield from self._asked((b"L", start))
-        while found is not None:
+        while found is not None and (self._stop is None or found[0] > self._stop):
             yield [found]
             (found,) = yield from self._asked((b"P", found[0]))
 

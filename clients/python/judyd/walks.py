@@ -87,7 +87,7 @@ class RankedWalk(Generic[T]):
     """A walk of a Judy1 or a JudyL. Ranks say where the stretches of a window begin. Each stretch
     goes on by Next, or by Prev, up to the first entry of the stretch after it."""
 
-    def __init__(self, array: Any, read: Callable[[List[bytes]], List[Optional[T]]], index_of: Callable[[T], int], is_back: bool) -> None:
+    def __init__(self, array: Any, read: Callable[[List[bytes]], List[Optional[T]]], index_of: Callable[[T], int], is_back: bool, stop: int) -> None:
         self._read = read
         self._index_of = index_of
         self._first = array._line(b"L" if is_back else b"F") + b" %d"
@@ -96,12 +96,12 @@ class RankedWalk(Generic[T]):
         self._count = array._line(b"C") + b" %d %d"
         self._is_back = is_back
         self._is_before = operator.gt if is_back else operator.lt
-        self._no_end = -1 if is_back else MAX + 1
+        self._stop = stop  # the first index that is left out; -1 or MAX + 1 without one
 
     def steps(self, bound: int) -> Steps[T]:
         """The entries from the index `bound` on, in a walk back from `bound` down."""
         at = 0
-        while 0 <= bound <= MAX:
+        while 0 <= bound <= MAX and self._is_before(bound, self._stop):
             width, depth = WINDOWS[min(at, len(WINDOWS) - 1)]
             starts = yield from self._starts(bound, width, depth)
             if not starts:
@@ -117,28 +117,30 @@ class RankedWalk(Generic[T]):
         """The first entries of up to `width` stretches: of the first one by its index, of the
         others by their ranks, in order. If the array changes meanwhile, stretches are longer or
         shorter."""
-        ranges = [(0, bound)] if self._is_back else [(0, MAX), (bound, MAX)]
+        ranges = [(0, bound), (self._stop + 1, bound)] if self._is_back else [(0, self._stop - 1), (bound, self._stop - 1)]
         counts = [count_of(checked(reply)) for reply in (yield Ask([self._count % it for it in ranges]))]
-        left = counts[-1]
-        rank, sign = (left, -1) if self._is_back else (counts[0] - left + 1, 1)
+        left = counts[1]
+        rank, sign = (counts[0], -1) if self._is_back else (counts[0] - left + 1, 1)
         ranks = [rank + sign * at * depth for at in range(1, min(width, -(-left // depth)))]
         found = self._read((yield Ask([self._first % bound, *(self._nth % max(it, 0) for it in ranks)])))
         starts: List[T] = []
         for entry in found:
             if entry is not None and (not starts or self._is_before(self._index_of(starts[-1]), self._index_of(entry))):
                 starts.append(entry)
-        return starts if found[0] is not None else []
+        if found[0] is None or not self._is_before(self._index_of(found[0]), self._stop):
+            return []
+        return [entry for entry in starts if self._is_before(self._index_of(entry), self._stop)]
 
     def _window(self, starts: List[T], depth: int) -> Generator[Ask, List[bytes], Tuple[List[T], bool]]:
         """The entries of stretches, and whether nothing comes after them. The last stretch has at
         most `depth` entries."""
         stretches = [[entry] for entry in starts]
         indexes = list(map(self._index_of, starts))
-        ends, going = [*indexes[1:], self._no_end], list(stretches)
+        ends, going = [*indexes[1:], self._stop], list(stretches)
         while going:
             found: List[Any] = list(self._read((yield Ask([self._step % index for index in indexes]))))
             if None in found or not all(map(self._is_before, map(self._index_of, found), ends)):
-                if found[-1] is None and going[-1] is stretches[-1]:
+                if going[-1] is stretches[-1] and (found[-1] is None or not self._is_before(self._index_of(found[-1]), self._stop)):
                     depth = 0  # nothing comes after it
                 goes_on = [it is not None and self._is_before(self._index_of(it), end) for it, end in zip(found, ends)]
                 going, ends, found = list(compress(going, goes_on)), list(compress(ends, goes_on)), list(compress(found, goes_on))

@@ -1,0 +1,205 @@
+"""The arrays of an asyncio client."""
+
+from typing import Any, AsyncIterator, Callable, Coroutine, Generic, Iterable, List, Mapping, Optional, Tuple, TypeVar, Union, overload
+
+from .calls import Judy1Calls, JudyHSCalls, JudyLCalls, JudySLCalls, MapCalls, given
+from .connection import SameServer
+from .fields import MAX, is_word, stop_of, word_of
+from .many import windows
+from .strings import Item, StringWalk
+from .walks import Ask, RankedWalk, Steps, index_of_item, indexes_of, items_of
+
+T = TypeVar("T")
+K = TypeVar("K")
+V = TypeVar("V")
+
+SoonYes = Coroutine[Any, Any, bool]
+SoonNumber = Coroutine[Any, Any, int]
+SoonFound = Coroutine[Any, Any, Optional[int]]
+
+
+async def walked(steps: Steps[T], client: Any) -> AsyncIterator[T]:
+    """The entries of a walk."""
+    replies: List[bytes] = []
+    same = SameServer(client._server)
+    while True:
+        try:
+            step = steps.send(replies) if replies else next(steps)
+        except StopIteration:
+            return
+        if isinstance(step, Ask):
+            replies = await client._exchange(step)
+            same.check()
+        else:
+            replies = []
+            for entry in step:
+                yield entry
+
+
+class Many:
+    """Calls of an array for many things, with many lines in flight at once."""
+
+    _asker: Any
+
+    async def _many(self, things: Iterable[T], call: Callable[[Any, T], Any], is_quiet: bool = False) -> AsyncIterator[List[Tuple[T, Any]]]:
+        """These things in windows, each with the later result of its call. A refusal is raised after the
+        window that has it."""
+        same = SameServer(self._asker._server)
+        for window in windows(things):
+            async with self._asker.pipeline(None, is_quiet=is_quiet) as pipe:
+                calls = self._in(pipe)
+                late = [(thing, call(calls, thing)) for thing in window]
+            same.check()
+            yield late
+
+    def _in(self, pipe: Any) -> Any:
+        """The calls of this array in a pipeline."""
+        raise NotImplementedError
+
+
+class Judy1(Many, Judy1Calls[SoonYes, SoonNumber, SoonFound]):
+    """A set of words."""
+
+    async def take(self, first: int = 0) -> Optional[int]:
+        """Inserts the least absent index from `first` on, and returns it; None if there is none. If
+        several clients take, each gets an index of its own."""
+        index = await self.first_empty(first)
+        while index is not None and not await self.set(index):
+            index = await self.first_empty(index)
+        return index
+
+    async def update(self, indexes: Iterable[int]) -> None:
+        """Inserts all of these indexes, with many lines in flight at once. A refusal is raised
+        after the window that has it."""
+        async for _ in self._many(indexes, lambda calls, index: calls.set(index), is_quiet=True):
+            pass
+
+    async def difference_update(self, indexes: Iterable[int]) -> None:
+        """Removes all of these indexes, with many lines in flight at once."""
+        async for _ in self._many(filter(is_word, indexes), lambda calls, index: calls.unset(index), is_quiet=True):
+            pass
+
+    async def among(self, indexes: Iterable[int]) -> AsyncIterator[int]:
+        """Those of these indexes that are in the set, in the order given, with many lines in flight
+        at once."""
+        async for late in self._many(filter(is_word, indexes), lambda calls, index: calls.test(index)):
+            for index, is_there in late:
+                if is_there.result():
+                    yield index
+
+    def walk(self, start: int = 0, stop: Optional[int] = None) -> AsyncIterator[int]:
+        """The indexes in order from `start` on, up to `stop`, which is left out, read in windows of many
+        lines."""
+        return walked(RankedWalk(self, indexes_of, int, False, stop_of(stop, False)).steps(word_of(start)), self._asker)
+
+    def walk_back(self, start: int = MAX, stop: Optional[int] = None) -> AsyncIterator[int]:
+        """The indexes from `start` down to `stop`, which is left out, read in windows of many lines."""
+        return walked(RankedWalk(self, indexes_of, int, True, stop_of(stop, True)).steps(word_of(start)), self._asker)
+
+    def _in(self, pipe: Any) -> Any:
+        return pipe.judy1(self.name)
+
+
+class Map(Many, MapCalls[K, SoonYes, SoonNumber, SoonFound], Generic[K]):
+    """What the three kinds of map share."""
+
+    @overload
+    def get(self, key: K) -> SoonFound: ...
+
+    @overload
+    def get(self, key: K, default: Union[int, V]) -> Coroutine[Any, Any, Union[int, V]]: ...
+
+    async def get(self, key: Any, default: Any = None) -> Any:
+        """Get: the value of a key, or the default. A key that is out of range is absent."""
+        try:
+            self._key(key)
+        except ValueError:
+            return default
+        value = await super().get(key)
+        return default if value is None else value
+
+    async def update(self, entries: Union[Mapping[K, int], Iterable[Tuple[K, int]]]) -> None:
+        """Stores all of these entries, with many lines in flight at once. A refusal is raised after
+        the window that has it."""
+        items: Iterable[Tuple[Any, int]] = entries.items() if isinstance(entries, Mapping) else entries
+        async for _ in self._many(items, lambda calls, entry: calls.insert(entry[0], given(entry[1])), is_quiet=True):
+            pass
+
+    async def get_many(self, keys: Iterable[K]) -> AsyncIterator[Tuple[K, Optional[int]]]:
+        """Each of these keys with its value, or with None, with many lines in flight at once. A key
+        that is out of range is absent."""
+        async for late in self._many(keys, _get_late):
+            for key, answer in late:
+                yield key, answer if answer is None else answer.result()
+
+    async def delete_many(self, keys: Iterable[K]) -> int:
+        """Removes all of these keys, with many lines in flight at once, and returns how many were
+        present."""
+        count = 0
+        async for late in self._many(keys, lambda calls, key: calls.delete(key)):
+            count += sum(answer.result() for _, answer in late)
+        return count
+
+
+def _get_late(calls: Any, key: Any) -> Any:
+    """The later value of a key; None for a key out of range."""
+    try:
+        return calls.get(key)
+    except ValueError:
+        return None
+
+
+class JudyL(Map[int], JudyLCalls[SoonYes, SoonNumber, SoonFound, Coroutine[Any, Any, Optional[Tuple[int, int]]]]):
+    """A map from words to words."""
+
+    def walk(self, start: int = 0, stop: Optional[int] = None) -> AsyncIterator[Tuple[int, int]]:
+        """The entries in order from `start` on, up to `stop`, which is left out, as pairs of index and
+        value, read in windows of many lines."""
+        return walked(RankedWalk(self, items_of, index_of_item, False, stop_of(stop, False)).steps(word_of(start)), self._asker)
+
+    def walk_back(self, start: int = MAX, stop: Optional[int] = None) -> AsyncIterator[Tuple[int, int]]:
+        """The entries from `start` down to `stop`, which is left out, as pairs of index and value, read
+        in windows of many lines."""
+        return walked(RankedWalk(self, items_of, index_of_item, True, stop_of(stop, True)).steps(word_of(start)), self._asker)
+
+    def _in(self, pipe: Any) -> Any:
+        return pipe.judyl(self.name)
+
+
+class JudySL(Map[K], JudySLCalls[K, SoonYes, SoonNumber, SoonFound, Coroutine[Any, Any, Optional[Tuple[K, int]]]], Generic[K]):
+    """A map from strings to words, in the order of their bytes."""
+
+    def walk(self, start: Optional[K] = None, stop: Optional[K] = None) -> AsyncIterator[Tuple[K, int]]:
+        """The entries in order from `start` on, up to `stop`, which is left out, as pairs of key and
+        value, read in windows of many lines."""
+        return self._walk(StringWalk(self, False, self._bound(stop)).steps(self._bound(start)))
+
+    def walk_back(self, start: Optional[K] = None, stop: Optional[K] = None) -> AsyncIterator[Tuple[K, int]]:
+        """The entries from `start` down to `stop`, which is left out, as pairs of key and value."""
+        return self._walk(StringWalk(self, True, self._bound(stop)).steps(self._bound(start)))
+
+    def with_prefix(self, prefix: K) -> AsyncIterator[Tuple[K, int]]:
+        """The entries whose keys begin with these bytes or this text, in order."""
+        plain = self._plain(prefix)
+        return self._walk(StringWalk(self, False).steps(plain, plain))
+
+    async def _walk(self, steps: Steps[Item]) -> AsyncIterator[Tuple[K, int]]:
+        async for key, value in walked(steps, self._asker):
+            yield self._shown(key), value
+
+    def _in(self, pipe: Any) -> Any:
+        return pipe.judysl(self.name, self.encoding)
+
+
+class JudyHS(Map[K], JudyHSCalls[K, SoonYes, SoonNumber, SoonFound], Generic[K]):
+    """A map from byte keys to words, without an order."""
+
+    async def walk(self, keys: Iterable[bytes]) -> AsyncIterator[Tuple[K, int]]:
+        """The entries of those of these byte keys that are present, in the order given, with many
+        lines in flight at once."""
+        async for key, value in self.get_many(self._shown(key) for key in keys):
+            if value is not None:
+                yield key, value
+
+    def _in(self, pipe: Any) -> Any:
+        return pipe.judyhs(self.name, self.encoding)
