@@ -39,6 +39,12 @@ struct fields {
     uint64_t word[2];
 };
 
+/* The first call of a queue with a code of some kind. */
+struct first {
+    int code;      /* 0 for none */
+    size_t number; /* of the call */
+};
+
 struct jd {
     int socket;      /* -1 once the connection is closed */
     int timeout;     /* milliseconds, -1 for no limit */
@@ -47,8 +53,7 @@ struct jd {
     bool is_queueing; /* between jd_begin and jd_end */
     int *codes;
     size_t room, calls;
-    int refused;       /* the first refusal since jd_begin, or 0 */
-    size_t refused_at; /* the number of its call */
+    struct first refusal, fault; /* since jd_begin */
 
     size_t first, waiting; /* of the ring */
     size_t out_from, out_to, in_from, in_to;
@@ -58,15 +63,20 @@ struct jd {
 
 /* ---- results ---- */
 
-/* Stores the code of a call, and remembers the first refusal. */
+/* Whether a code says that the connection is closed. */
+static bool is_fault(int code)
+{
+    return code == JD_CLOSED || code == JD_TIMEOUT || code == JD_REPLY || code == JD_SYSTEM;
+}
+
+/* Stores the code of a call, and remembers the first refusal and the first fault. */
 static void store_code(jd *c, const struct result *result, int code)
 {
+    struct first *first = is_fault(code) ? &c->fault : &c->refusal;
     if (result->code)
         *result->code = code;
-    if (code < 0 && (!c->refused || result->number < c->refused_at)) {
-        c->refused = code;
-        c->refused_at = result->number;
-    }
+    if (code < 0 && (!first->code || result->number < first->number))
+        *first = (struct first){code, result->number};
 }
 
 /* Closes the connection. The calls that wait get this code. Returns the code. */
@@ -502,8 +512,8 @@ int jd_begin(jd *c, int *codes, size_t room)
     c->is_queueing = true;
     c->codes = codes;
     c->room = room;
-    c->calls = c->refused_at = 0;
-    c->refused = 0;
+    c->calls = 0;
+    c->refusal = c->fault = (struct first){0};
     return 1;
 }
 
@@ -513,7 +523,9 @@ int jd_end(jd *c)
         return JD_USE;
     settle(c, 0);
     c->is_queueing = false;
-    return c->refused ? c->refused : 1;
+    if (c->fault.code)
+        return c->fault.code;
+    return c->refusal.code ? c->refusal.code : 1;
 }
 
 /* ---- Judy1 ---- */

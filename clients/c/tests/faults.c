@@ -290,11 +290,15 @@ static void check_lost_queue(const char *path, int listener, const char *last, i
         int code = jd_j1_set(c, "a", (uint64_t)i);
         CHECK(1, code == JD_QUEUED || code == wanted || code == JD_CLOSED);
     }
-    CHECK(JD_FULL, jd_end(c));
+    CHECK(wanted, jd_end(c)); /* though a call before was refused */
     for (int i = 0; i < CALLS; i++)
         CHECK(1, i < ANSWERED ? codes[i] == answers[i] : codes[i] == wanted || (i > ANSWERED && codes[i] == JD_CLOSED));
     CHECK(wanted, codes[ANSWERED]);
     CHECK(JD_CLOSED, jd_j1_set(c, "a", 1));
+    CHECK(1, jd_begin(c, codes, CALLS)); /* the queue after it tells that nothing was sent */
+    CHECK(JD_NAME, jd_j1_set(c, "", 1));
+    CHECK(JD_CLOSED, jd_j1_set(c, "a", 1));
+    CHECK(JD_CLOSED, jd_end(c));
     jd_close(c);
     pthread_join(thread, NULL);
 }
