@@ -16,7 +16,12 @@
 #include <sys/socket.h>
 #include <sys/time.h>
 #include <sys/un.h>
+#include <time.h>
 #include <unistd.h>
+
+#ifndef JD_PATIENCE /* the tests compile with less */
+#define JD_PATIENCE 30000 /* milliseconds that jd_open waits, and a call by default */
+#endif
 
 enum {
     NAME_LIMIT = 32,
@@ -26,8 +31,7 @@ enum {
     OUT_ROOM = 65536,   /* bytes of lines that are not sent yet */
     OUT_READY = 16384,  /* queued lines are sent when there are so many bytes */
     IN_ROOM = 65536,    /* bytes of replies that are not read yet; more than REPLY_LIMIT */
-    WAITING = 4096,     /* calls that wait for their replies */
-    TIMEOUT = 30000     /* milliseconds, by default */
+    WAITING = 4096      /* calls that wait for their replies */
 };
 
 /* The fields of a line after the name. */
@@ -48,6 +52,7 @@ struct first {
 struct jd {
     int socket;      /* -1 once the connection is closed */
     int timeout;     /* milliseconds, -1 for no limit */
+    int64_t moved;   /* when a byte last went either way, or the wait began */
     bool is_sending; /* a write has not failed yet */
 
     bool is_queueing; /* between jd_begin and jd_end */
@@ -132,6 +137,21 @@ static int take_replies(jd *c)
     return c->in_to > REPLY_LIMIT ? JD_REPLY : 0;
 }
 
+/* Nanoseconds of the monotonic clock. */
+static int64_t now(void)
+{
+    struct timespec time;
+    clock_gettime(CLOCK_MONOTONIC, &time);
+    return 1000000000 * (int64_t)time.tv_sec + time.tv_nsec;
+}
+
+/* The milliseconds that are left of so many since a moment, rounded up. */
+static int left_of(int milliseconds, int64_t since)
+{
+    int64_t left = 1000000 * (int64_t)milliseconds - (now() - since);
+    return left <= 0 ? 0 : (int)((left + 999999) / 1000000);
+}
+
 /* Reads what has come, once. Returns 0, also if nothing has come; or fails. */
 static int receive(jd *c)
 {
@@ -140,6 +160,7 @@ static int receive(jd *c)
         return 0;
     if (n <= 0)
         return fail(c, n ? code_of_errno() : JD_CLOSED);
+    c->moved = now();
     c->in_to += (size_t)n;
     return take_replies(c) < 0 ? fail(c, JD_REPLY) : 0;
 }
@@ -151,25 +172,27 @@ static void transmit(jd *c)
     ssize_t n = c->is_sending ? send(c->socket, c->out + c->out_from, c->out_to - c->out_from, MSG_NOSIGNAL) : 0;
     if (n < 0 && errno != EAGAIN && errno != EWOULDBLOCK && errno != EINTR)
         c->is_sending = false;
-    if (n > 0)
+    if (n > 0) {
+        c->moved = now();
         c->out_from += (size_t)n;
+    }
     if (!c->is_sending || c->out_from == c->out_to)
         c->out_from = c->out_to = 0;
 }
 
-/* Waits until bytes can be read or written, and moves them. Returns 0, or fails. */
+/* Waits until bytes can be read or written, and moves them. Returns 0, or fails. A signal ends the wait,
+ * but not the time that it may last. */
 static int move(jd *c)
 {
     struct pollfd ready = {.fd = c->socket, .events = POLLIN};
     if (c->out_from < c->out_to)
         ready.events |= POLLOUT;
-    int n = poll(&ready, 1, c->timeout);
+    int left = c->timeout < 0 ? -1 : left_of(c->timeout, c->moved);
+    int n = poll(&ready, 1, left);
     if (n < 0 && errno != EINTR)
         return fail(c, JD_SYSTEM);
-    if (n == 0)
-        return fail(c, JD_TIMEOUT);
-    if (n < 0)
-        return 0;
+    if (n <= 0)
+        return left == 0 ? fail(c, JD_TIMEOUT) : 0;
     if (ready.revents & POLLOUT)
         transmit(c);
     return ready.revents & ~POLLOUT ? receive(c) : 0;
@@ -179,6 +202,7 @@ static int move(jd *c)
 static int settle(jd *c, size_t most)
 {
     int code = 0;
+    c->moved = now();
     if (c->out_from < c->out_to)
         transmit(c);
     while (!code && (c->waiting > most || c->out_from < c->out_to))
@@ -396,23 +420,34 @@ static int search_string(jd *c, const char *word, const char *name, char *key, u
 
 /* ---- connections ---- */
 
+/* Connects a socket. A server that is busy is waited for, whatever signals come. Returns 0, or -1. */
+static int connect_within(int fd, const struct sockaddr_un *address)
+{
+    int64_t since = now();
+    for (int left = JD_PATIENCE; left > 0; left = left_of(JD_PATIENCE, since)) {
+        struct timeval patience = {.tv_sec = left / 1000, .tv_usec = 1000 * (left % 1000)};
+        setsockopt(fd, SOL_SOCKET, SO_SNDTIMEO, &patience, sizeof patience); /* how long connect waits */
+        if (connect(fd, (const struct sockaddr *)address, sizeof *address) == 0)
+            return 0;
+        if (errno != EINTR)
+            return -1;
+    }
+    errno = EAGAIN; /* as when no signal comes */
+    return -1;
+}
+
 static int connected(const char *path)
 {
     struct sockaddr_un address = {.sun_family = AF_UNIX};
-    struct timeval patience = {.tv_sec = TIMEOUT / 1000};
     if (strlen(path) >= sizeof address.sun_path) {
         errno = ENAMETOOLONG;
         return -1;
     }
     strcpy(address.sun_path, path);
-    int fd = socket(AF_UNIX, SOCK_STREAM, 0), done;
+    int fd = socket(AF_UNIX, SOCK_STREAM, 0);
     if (fd < 0)
         return -1;
-    setsockopt(fd, SOL_SOCKET, SO_SNDTIMEO, &patience, sizeof patience); /* how long connect waits */
-    do
-        done = connect(fd, (struct sockaddr *)&address, sizeof address);
-    while (done < 0 && errno == EINTR);
-    if (done < 0 || fcntl(fd, F_SETFL, O_NONBLOCK) < 0 || fcntl(fd, F_SETFD, FD_CLOEXEC) < 0) {
+    if (connect_within(fd, &address) < 0 || fcntl(fd, F_SETFL, O_NONBLOCK) < 0 || fcntl(fd, F_SETFD, FD_CLOEXEC) < 0) {
         int reason = errno;
         close(fd);
         errno = reason;
@@ -428,7 +463,7 @@ jd *jd_open(const char *path)
         return NULL;
     memset(c, 0, offsetof(jd, ring));
     c->is_sending = true;
-    c->timeout = TIMEOUT;
+    c->timeout = JD_PATIENCE;
     c->socket = connected(path);
     if (c->socket < 0) {
         int reason = errno;

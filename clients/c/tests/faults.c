@@ -3,6 +3,8 @@
  *
  * usage: faults replies FOLDER     replies of a server of this program, good and bad, in any pieces
  *        faults absent FOLDER      sockets without a server
+ *        faults signals FOLDER     servers that are silent or busy, while signals come (compiled with a
+ *                                  JD_PATIENCE of 500)
  *        faults refusals PATH      a judyd with tenants: alice (token abc, read token look), small
  *                                  (token abc, 2 entries, 4 pieces)
  *        faults restart PATH       a judyd that is restarted when this program has printed a line; then
@@ -14,10 +16,12 @@
 #include <errno.h>
 #include <fcntl.h>
 #include <pthread.h>
+#include <signal.h>
 #include <stdio.h>
 #include <stdlib.h>
 #include <string.h>
 #include <sys/socket.h>
+#include <sys/time.h>
 #include <sys/un.h>
 #include <time.h>
 #include <unistd.h>
@@ -395,6 +399,62 @@ static void check_absent(const char *folder)
     jd_close(NULL);
 }
 
+/* ---- signals ---- */
+
+enum { SIGNAL_PAUSE = 50, SIGNALS = 600 }; /* milliseconds; so they come for half a minute */
+static volatile sig_atomic_t signals_left;
+
+/* Counts a signal. After the last one no more come. */
+static void take_signal(int number)
+{
+    (void)number;
+    if (signals_left && --signals_left == 0)
+        setitimer(ITIMER_REAL, &(struct itimerval){0}, NULL);
+}
+
+static void start_signals(void)
+{
+    struct timeval pause = {.tv_usec = 1000 * SIGNAL_PAUSE};
+    struct sigaction action = {.sa_handler = take_signal}; /* without SA_RESTART */
+    signals_left = SIGNALS;
+    if (sigaction(SIGALRM, &action, NULL) || setitimer(ITIMER_REAL, &(struct itimerval){pause, pause}, NULL))
+        exit(2);
+}
+
+/* Whether some signals came, and not all. */
+static int stop_signals(void)
+{
+    setitimer(ITIMER_REAL, &(struct itimerval){0}, NULL);
+    return signals_left > 0 && signals_left < SIGNALS;
+}
+
+/* Waits end in their time although signals interrupt them more often than that. */
+static void check_signals(const char *folder)
+{
+    char path[100];
+    int crowd[100], count = 0;
+    snprintf(path, sizeof path, "%s/busy", folder);
+    int listener = listen_at(path);
+    struct sockaddr_un address = {.sun_family = AF_UNIX};
+    jd *c = open_at(path); /* nobody ever accepts */
+    jd_timeout(c, 500);
+    start_signals();
+    CHECK(JD_TIMEOUT, jd_j1_set(c, "a", 1));
+    CHECK(1, stop_signals());
+    jd_close(c);
+    strcpy(address.sun_path, path);
+    do { /* fills the queue of those that wait to be accepted */
+        crowd[count] = socket(AF_UNIX, SOCK_STREAM, 0);
+        fcntl(crowd[count], F_SETFL, O_NONBLOCK);
+    } while (connect(crowd[count], (struct sockaddr *)&address, sizeof address) == 0 && ++count < 99);
+    start_signals();
+    CHECK(1, jd_open(path) == NULL && errno == EAGAIN);
+    CHECK(1, stop_signals());
+    for (; count >= 0; count--)
+        close(crowd[count]);
+    close(listener);
+}
+
 /* ---- refusals ---- */
 
 static void check_names(jd *c)
@@ -663,6 +723,8 @@ int main(int count, char **words)
         check_replies(words[2]);
     else if (!strcmp(what, "absent"))
         check_absent(words[2]);
+    else if (!strcmp(what, "signals"))
+        check_signals(words[2]);
     else if (!strcmp(what, "refusals"))
         check_refusals(words[2]);
     else if (!strcmp(what, "adds"))
@@ -672,7 +734,7 @@ int main(int count, char **words)
     else if (!strcmp(what, "flood") && count == 4)
         check_flood(words[2], strtoull(words[3], NULL, 10));
     else {
-        fprintf(stderr, "usage: faults replies|absent FOLDER, faults refusals|adds|restart PATH, faults flood PATH CALLS\n");
+        fprintf(stderr, "usage: faults replies|absent|signals FOLDER, faults refusals|adds|restart PATH, faults flood PATH CALLS\n");
         return 2;
     }
     return 0;
