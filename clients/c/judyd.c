@@ -26,12 +26,11 @@
 enum {
     NAME_LIMIT = 32,
     TOKEN_LIMIT = 128,
-    LINE_ROOM = 2100,   /* more than the longest line: two names of 32 bytes, a key of 2,001, a word of 20 */
-    REPLY_LIMIT = 4096, /* no reply is longer */
-    OUT_ROOM = 65536,   /* bytes of lines that are not sent yet */
-    OUT_READY = 16384,  /* queued lines are sent when there are so many bytes */
-    IN_ROOM = 65536,    /* bytes of replies that are not read yet; more than REPLY_LIMIT */
-    WAITING = 4096      /* calls that wait for their replies */
+    LINE_ROOM = JD_LINE_LIMIT + 1, /* the longest line, with its line feed */
+    OUT_ROOM = 65536,              /* bytes of lines that are not sent yet */
+    OUT_READY = 16384,             /* queued lines are sent when there are so many bytes */
+    IN_ROOM = 65536,               /* bytes of replies that are not read yet; more than REPLY_LIMIT */
+    WAITING = 4096                 /* calls that wait for their replies */
 };
 
 /* The fields of a line after the name. */
@@ -112,7 +111,7 @@ static int code_of_errno(void)
 static int take_reply(jd *c, struct text reply)
 {
     const struct result *result = &c->ring[c->first];
-    if (!c->waiting)
+    if (!c->waiting || reply.end - reply.at > REPLY_LIMIT)
         return JD_REPLY;
     int code = read_result(reply, result);
     if (code == JD_REPLY)
@@ -487,6 +486,16 @@ void jd_timeout(jd *c, int milliseconds)
     c->timeout = milliseconds < 0 ? -1 : milliseconds;
 }
 
+const char *jd_version(void)
+{
+    return JD_VERSION;
+}
+
+int jd_fd(jd *c)
+{
+    return c->socket;
+}
+
 const char *jd_strerror(int code)
 {
     switch (code) {
@@ -509,6 +518,8 @@ const char *jd_strerror(int code)
     case JD_REPLY: return "not a reply of judyd";
     case JD_SYSTEM: return "the system refuses a read or a write";
     case JD_CLIENTS: return "the tenant has as many connections as it may have";
+    case JD_REFUSED: return "the server refuses the line for another reason";
+    case JD_LINE: return "a line has a line feed, or more than 4096 bytes";
     default: return "not a code of this library";
     }
 }
@@ -537,6 +548,18 @@ int jd_used(jd *c, struct jd_usage *usage)
     if (code < 0)
         return code;
     put_text(c, "USED");
+    return finish(c, &result);
+}
+
+int jd_line(jd *c, const char *line, char *reply)
+{
+    struct result result = {.form = LINE, .reply = reply};
+    if (strnlen(line, JD_LINE_LIMIT + 1) > JD_LINE_LIMIT || strchr(line, '\n'))
+        return refuse(c, &result, JD_LINE);
+    int code = start(c, &result);
+    if (code < 0)
+        return code;
+    put_text(c, line);
     return finish(c, &result);
 }
 

@@ -18,8 +18,11 @@ enum form {
     FOUND,   /* V v, NULL */
     ITEM,    /* V v i, NULL */
     STRING,  /* V v key, NULL */
-    USAGE    /* Q used quota pieces most */
+    USAGE,   /* Q used quota pieces most */
+    LINE     /* any line */
 };
+
+enum { REPLY_LIMIT = JD_REPLY_ROOM - 1 }; /* no reply is longer */
 
 /* Where the result of a call goes. Each pointer may be null. */
 struct result {
@@ -31,6 +34,7 @@ struct result {
         uint64_t *index;
         char *key;
         struct jd_usage *usage;
+        char *reply;
     };
 };
 
@@ -158,7 +162,21 @@ static int read_usage(struct text t, struct jd_usage *place)
     return 1;
 }
 
-/* Reads a reply that is no refusal, and stores its values. Returns 1, 0, or JD_REPLY. */
+/* Stores any reply. Returns 1, or the code of a refusal. */
+static int read_line(struct text t, char *place)
+{
+    int code = code_of_refusal(t);
+    if (place) {
+        memcpy(place, t.at, (size_t)(t.end - t.at));
+        place[t.end - t.at] = 0;
+    }
+    if (code == JD_REPLY)
+        code = skip(&t, "ERR ") ? JD_REFUSED : 1;
+    return code;
+}
+
+/* Reads a reply, and stores its values. Returns 1, 0, or JD_REPLY, which stands for a refusal too, but that
+ * of any line has its code. */
 static int read_result(struct text t, const struct result *result)
 {
     switch (result->form) {
@@ -168,6 +186,7 @@ static int read_result(struct text t, const struct result *result)
     case COUNT: return read_number(t, "N ", result->value);
     case USAGE: return read_usage(t, result->usage);
     case VALUE: return read_value(t, result);
+    case LINE: return read_line(t, result->reply);
     default: return is_text(t, "NULL") ? 0 : read_value(t, result);
     }
 }
