@@ -63,6 +63,11 @@ struct jd_usage {
     uint64_t used, quota, pieces, most;
 };
 
+/* A shared library has these names and no others. */
+#ifdef __GNUC__
+#pragma GCC visibility push(default)
+#endif
+
 jd *jd_open(const char *path);
 void jd_close(jd *connection);
 void jd_timeout(jd *connection, int milliseconds);
@@ -133,6 +138,10 @@ int jd_jh_add(jd *connection, const char *name, const void *key, size_t length, 
 int jd_jh_get(jd *connection, const char *name, const void *key, size_t length, uint64_t *value);
 int jd_jh_del(jd *connection, const char *name, const void *key, size_t length);
 int jd_jh_free_array(jd *connection, const char *name, uint64_t *count);
+
+#ifdef __GNUC__
+#pragma GCC visibility pop
+#endif
 
 #ifdef __cplusplus
 }
