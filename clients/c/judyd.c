@@ -5,6 +5,7 @@
 #define _POSIX_C_SOURCE 200809L
 
 #include "judyd.h"
+#include "replies.h"
 
 #include <errno.h>
 #include <fcntl.h>
@@ -15,44 +16,21 @@
 #include <sys/socket.h>
 #include <sys/time.h>
 #include <sys/un.h>
+#include <time.h>
 #include <unistd.h>
+
+#ifndef JD_PATIENCE /* the tests compile with less */
+#define JD_PATIENCE 30000 /* milliseconds that jd_open waits, and a call by default */
+#endif
 
 enum {
     NAME_LIMIT = 32,
     TOKEN_LIMIT = 128,
-    LINE_ROOM = 2100,   /* more than the longest line: two names of 32 bytes, a key of 2,001, a word of 20 */
-    REPLY_LIMIT = 4096, /* no reply is longer */
-    OUT_ROOM = 65536,   /* bytes of lines that are not sent yet */
-    OUT_READY = 16384,  /* queued lines are sent when there are so many bytes */
-    IN_ROOM = 65536,    /* bytes of replies that are not read yet; more than REPLY_LIMIT */
-    WAITING = 4096,     /* calls that wait for their replies */
-    TIMEOUT = 30000     /* milliseconds, by default */
-};
-
-/* The replies that a call may have, besides refusals. */
-enum form {
-    OK,      /* OK */
-    FLAG,    /* 1, 0 */
-    INDEX,   /* 1 i, 0 */
-    COUNT,   /* N k */
-    VALUE,   /* V v */
-    FOUND,   /* V v, NULL */
-    ITEM,    /* V v i, NULL */
-    STRING,  /* V v key, NULL */
-    USAGE    /* Q used quota pieces most */
-};
-
-/* Where the result of a call goes. Each pointer may be null. */
-struct result {
-    enum form form;
-    int *code;
-    size_t number; /* which of the calls since jd_begin it is */
-    uint64_t *value;
-    union { /* by the form */
-        uint64_t *index;
-        char *key;
-        struct jd_usage *usage;
-    };
+    LINE_ROOM = JD_LINE_LIMIT + 1, /* the longest line, with its line feed */
+    OUT_ROOM = 65536,              /* bytes of lines that are not sent yet */
+    OUT_READY = 16384,             /* queued lines are sent when there are so many bytes */
+    IN_ROOM = 65536,               /* bytes of replies that are not read yet; more than REPLY_LIMIT */
+    WAITING = 4096                 /* calls that wait for their replies */
 };
 
 /* The fields of a line after the name. */
@@ -64,16 +42,22 @@ struct fields {
     uint64_t word[2];
 };
 
+/* The first call of a queue with a code of some kind. */
+struct first {
+    int code;      /* 0 for none */
+    size_t number; /* of the call */
+};
+
 struct jd {
     int socket;      /* -1 once the connection is closed */
     int timeout;     /* milliseconds, -1 for no limit */
+    int64_t moved;   /* when a byte last went either way, or the wait began */
     bool is_sending; /* a write has not failed yet */
 
     bool is_queueing; /* between jd_begin and jd_end */
     int *codes;
     size_t room, calls;
-    int refused;       /* the first refusal since jd_begin, or 0 */
-    size_t refused_at; /* the number of its call */
+    struct first refusal, fault; /* since jd_begin */
 
     size_t first, waiting; /* of the ring */
     size_t out_from, out_to, in_from, in_to;
@@ -83,15 +67,20 @@ struct jd {
 
 /* ---- results ---- */
 
-/* Stores the code of a call, and remembers the first refusal. */
+/* Whether a code says that the connection is closed. */
+static bool is_fault(int code)
+{
+    return code == JD_CLOSED || code == JD_TIMEOUT || code == JD_REPLY || code == JD_SYSTEM;
+}
+
+/* Stores the code of a call, and remembers the first refusal and the first fault. */
 static void store_code(jd *c, const struct result *result, int code)
 {
+    struct first *first = is_fault(code) ? &c->fault : &c->refusal;
     if (result->code)
         *result->code = code;
-    if (code < 0 && (!c->refused || result->number < c->refused_at)) {
-        c->refused = code;
-        c->refused_at = result->number;
-    }
+    if (code < 0 && (!first->code || result->number < first->number))
+        *first = (struct first){code, result->number};
 }
 
 /* Closes the connection. The calls that wait get this code. Returns the code. */
@@ -116,151 +105,13 @@ static int code_of_errno(void)
     return errno == EPIPE || errno == ECONNRESET ? JD_CLOSED : JD_SYSTEM;
 }
 
-/* ---- reading a reply ---- */
-
-/* A part of a reply that is not read yet. */
-struct text {
-    const char *at, *end;
-};
-
-static bool is_text(struct text t, const char *wanted)
-{
-    size_t length = strlen(wanted);
-    return (size_t)(t.end - t.at) == length && memcmp(t.at, wanted, length) == 0;
-}
-
-static bool skip(struct text *t, const char *start)
-{
-    size_t length = strlen(start);
-    if ((size_t)(t->end - t->at) < length || memcmp(t->at, start, length) != 0)
-        return false;
-    t->at += length;
-    return true;
-}
-
-static bool read_word(struct text *t, uint64_t *word)
-{
-    const char *start = t->at, *sure = t->end - start > 19 ? start + 19 : t->end; /* 19 digits are below 2^64 */
-    uint64_t n = 0;
-    for (; t->at < sure && *t->at >= '0' && *t->at <= '9'; t->at++)
-        n = 10 * n + (uint64_t)(*t->at - '0');
-    for (; t->at < t->end && *t->at >= '0' && *t->at <= '9'; t->at++) {
-        unsigned digit = (unsigned)(*t->at - '0');
-        if (n > (UINT64_MAX - digit) / 10)
-            return false;
-        n = 10 * n + digit;
-    }
-    *word = n;
-    return t->at > start;
-}
-
-static int hex_digit(char c)
-{
-    return c >= '0' && c <= '9' ? c - '0' : c >= 'a' && c <= 'f' ? c - 'a' + 10 : -1;
-}
-
-/* Reads the key at the end of a reply, x and two digits for each byte. It has no byte 0. */
-static bool read_key(struct text t, char key[JD_KEY_ROOM])
-{
-    size_t length = 0;
-    if (!skip(&t, "x") || (t.end - t.at) % 2 != 0 || t.end - t.at > 2 * JD_KEY_LIMIT)
-        return false;
-    for (; t.at < t.end; t.at += 2) {
-        int high = hex_digit(t.at[0]), low = hex_digit(t.at[1]);
-        if (high < 0 || low < 0 || high + low == 0)
-            return false;
-        key[length++] = (char)(16 * high + low);
-    }
-    key[length] = 0;
-    return true;
-}
-
-static int code_of_refusal(struct text t)
-{
-    static const struct {
-        const char *reply;
-        int code;
-    } refusals[] = {
-        {"FULL", JD_FULL},     {"ERR MEMORY", JD_MEMORY}, {"ERR READONLY", JD_READONLY},
-        {"ERR AUTH", JD_AUTH}, {"ERR SYNTAX", JD_SYNTAX}, {"ERR LONG", JD_LONG},
-        {"ERR CLIENTS", JD_CLIENTS},
-    };
-    for (size_t i = 0; i < sizeof refusals / sizeof *refusals; i++)
-        if (is_text(t, refusals[i].reply))
-            return refusals[i].code;
-    return JD_REPLY;
-}
-
-/* Reads a value, or a value and what follows it. Returns 1, or JD_REPLY. */
-static int read_value(struct text t, const struct result *result)
-{
-    char key[JD_KEY_ROOM];
-    uint64_t value, index = 0;
-    if (!skip(&t, "V ") || !read_word(&t, &value))
-        return JD_REPLY;
-    if (result->form == ITEM && (!skip(&t, " ") || !read_word(&t, &index)))
-        return JD_REPLY;
-    if (result->form == STRING) {
-        if (!skip(&t, " ") || !read_key(t, key))
-            return JD_REPLY;
-        t.at = t.end;
-    }
-    if (t.at != t.end)
-        return JD_REPLY;
-    if (result->value)
-        *result->value = value;
-    if (result->form == ITEM && result->index)
-        *result->index = index;
-    if (result->form == STRING && result->key)
-        strcpy(result->key, key);
-    return 1;
-}
-
-/* Reads a number after `start` to the end. Returns 1, or JD_REPLY. */
-static int read_number(struct text t, const char *start, uint64_t *place)
-{
-    uint64_t number;
-    if (!skip(&t, start) || !read_word(&t, &number) || t.at != t.end)
-        return JD_REPLY;
-    if (place)
-        *place = number;
-    return 1;
-}
-
-static int read_usage(struct text t, struct jd_usage *place)
-{
-    uint64_t n[4];
-    if (!skip(&t, "Q"))
-        return JD_REPLY;
-    for (int i = 0; i < 4; i++)
-        if (!skip(&t, " ") || !read_word(&t, &n[i]))
-            return JD_REPLY;
-    if (t.at != t.end)
-        return JD_REPLY;
-    if (place)
-        *place = (struct jd_usage){n[0], n[1], n[2], n[3]};
-    return 1;
-}
-
-/* Reads a reply that is no refusal, and stores its values. Returns 1, 0, or JD_REPLY. */
-static int read_result(struct text t, const struct result *result)
-{
-    switch (result->form) {
-    case OK: return is_text(t, "OK") ? 1 : JD_REPLY;
-    case FLAG: return is_text(t, "1") ? 1 : is_text(t, "0") ? 0 : JD_REPLY;
-    case INDEX: return is_text(t, "0") ? 0 : read_number(t, "1 ", result->index);
-    case COUNT: return read_number(t, "N ", result->value);
-    case USAGE: return read_usage(t, result->usage);
-    case VALUE: return read_value(t, result);
-    default: return is_text(t, "NULL") ? 0 : read_value(t, result);
-    }
-}
+/* ---- the socket ---- */
 
 /* Gives a reply to the first call that waits. Returns 0, or JD_REPLY. */
 static int take_reply(jd *c, struct text reply)
 {
     const struct result *result = &c->ring[c->first];
-    if (!c->waiting)
+    if (!c->waiting || reply.end - reply.at > REPLY_LIMIT)
         return JD_REPLY;
     int code = read_result(reply, result);
     if (code == JD_REPLY)
@@ -272,8 +123,6 @@ static int take_reply(jd *c, struct text reply)
     c->waiting--;
     return 0;
 }
-
-/* ---- the socket ---- */
 
 /* Takes the whole replies that have come. Returns 0, or JD_REPLY. */
 static int take_replies(jd *c)
@@ -287,6 +136,21 @@ static int take_replies(jd *c)
     return c->in_to > REPLY_LIMIT ? JD_REPLY : 0;
 }
 
+/* Nanoseconds of the monotonic clock. */
+static int64_t now(void)
+{
+    struct timespec time;
+    clock_gettime(CLOCK_MONOTONIC, &time);
+    return 1000000000 * (int64_t)time.tv_sec + time.tv_nsec;
+}
+
+/* The milliseconds that are left of so many since a moment, rounded up. */
+static int left_of(int milliseconds, int64_t since)
+{
+    int64_t left = 1000000 * (int64_t)milliseconds - (now() - since);
+    return left <= 0 ? 0 : (int)((left + 999999) / 1000000);
+}
+
 /* Reads what has come, once. Returns 0, also if nothing has come; or fails. */
 static int receive(jd *c)
 {
@@ -295,6 +159,7 @@ static int receive(jd *c)
         return 0;
     if (n <= 0)
         return fail(c, n ? code_of_errno() : JD_CLOSED);
+    c->moved = now();
     c->in_to += (size_t)n;
     return take_replies(c) < 0 ? fail(c, JD_REPLY) : 0;
 }
@@ -306,25 +171,27 @@ static void transmit(jd *c)
     ssize_t n = c->is_sending ? send(c->socket, c->out + c->out_from, c->out_to - c->out_from, MSG_NOSIGNAL) : 0;
     if (n < 0 && errno != EAGAIN && errno != EWOULDBLOCK && errno != EINTR)
         c->is_sending = false;
-    if (n > 0)
+    if (n > 0) {
+        c->moved = now();
         c->out_from += (size_t)n;
+    }
     if (!c->is_sending || c->out_from == c->out_to)
         c->out_from = c->out_to = 0;
 }
 
-/* Waits until bytes can be read or written, and moves them. Returns 0, or fails. */
+/* Waits until bytes can be read or written, and moves them. Returns 0, or fails. A signal ends the wait,
+ * but not the time that it may last. */
 static int move(jd *c)
 {
     struct pollfd ready = {.fd = c->socket, .events = POLLIN};
     if (c->out_from < c->out_to)
         ready.events |= POLLOUT;
-    int n = poll(&ready, 1, c->timeout);
+    int left = c->timeout < 0 ? -1 : left_of(c->timeout, c->moved);
+    int n = poll(&ready, 1, left);
     if (n < 0 && errno != EINTR)
         return fail(c, JD_SYSTEM);
-    if (n == 0)
-        return fail(c, JD_TIMEOUT);
-    if (n < 0)
-        return 0;
+    if (n <= 0)
+        return left == 0 ? fail(c, JD_TIMEOUT) : 0;
     if (ready.revents & POLLOUT)
         transmit(c);
     return ready.revents & ~POLLOUT ? receive(c) : 0;
@@ -334,6 +201,7 @@ static int move(jd *c)
 static int settle(jd *c, size_t most)
 {
     int code = 0;
+    c->moved = now();
     if (c->out_from < c->out_to)
         transmit(c);
     while (!code && (c->waiting > most || c->out_from < c->out_to))
@@ -551,23 +419,34 @@ static int search_string(jd *c, const char *word, const char *name, char *key, u
 
 /* ---- connections ---- */
 
+/* Connects a socket. A server that is busy is waited for, whatever signals come. Returns 0, or -1. */
+static int connect_within(int fd, const struct sockaddr_un *address)
+{
+    int64_t since = now();
+    for (int left = JD_PATIENCE; left > 0; left = left_of(JD_PATIENCE, since)) {
+        struct timeval patience = {.tv_sec = left / 1000, .tv_usec = 1000 * (left % 1000)};
+        setsockopt(fd, SOL_SOCKET, SO_SNDTIMEO, &patience, sizeof patience); /* how long connect waits */
+        if (connect(fd, (const struct sockaddr *)address, sizeof *address) == 0)
+            return 0;
+        if (errno != EINTR)
+            return -1;
+    }
+    errno = EAGAIN; /* as when no signal comes */
+    return -1;
+}
+
 static int connected(const char *path)
 {
     struct sockaddr_un address = {.sun_family = AF_UNIX};
-    struct timeval patience = {.tv_sec = TIMEOUT / 1000};
     if (strlen(path) >= sizeof address.sun_path) {
         errno = ENAMETOOLONG;
         return -1;
     }
     strcpy(address.sun_path, path);
-    int fd = socket(AF_UNIX, SOCK_STREAM, 0), done;
+    int fd = socket(AF_UNIX, SOCK_STREAM, 0);
     if (fd < 0)
         return -1;
-    setsockopt(fd, SOL_SOCKET, SO_SNDTIMEO, &patience, sizeof patience); /* how long connect waits */
-    do
-        done = connect(fd, (struct sockaddr *)&address, sizeof address);
-    while (done < 0 && errno == EINTR);
-    if (done < 0 || fcntl(fd, F_SETFL, O_NONBLOCK) < 0 || fcntl(fd, F_SETFD, FD_CLOEXEC) < 0) {
+    if (connect_within(fd, &address) < 0 || fcntl(fd, F_SETFL, O_NONBLOCK) < 0 || fcntl(fd, F_SETFD, FD_CLOEXEC) < 0) {
         int reason = errno;
         close(fd);
         errno = reason;
@@ -583,7 +462,7 @@ jd *jd_open(const char *path)
         return NULL;
     memset(c, 0, offsetof(jd, ring));
     c->is_sending = true;
-    c->timeout = TIMEOUT;
+    c->timeout = JD_PATIENCE;
     c->socket = connected(path);
     if (c->socket < 0) {
         int reason = errno;
@@ -605,6 +484,16 @@ void jd_close(jd *c)
 void jd_timeout(jd *c, int milliseconds)
 {
     c->timeout = milliseconds < 0 ? -1 : milliseconds;
+}
+
+const char *jd_version(void)
+{
+    return JD_VERSION;
+}
+
+int jd_fd(jd *c)
+{
+    return c->socket;
 }
 
 const char *jd_strerror(int code)
@@ -629,6 +518,8 @@ const char *jd_strerror(int code)
     case JD_REPLY: return "not a reply of judyd";
     case JD_SYSTEM: return "the system refuses a read or a write";
     case JD_CLIENTS: return "the tenant has as many connections as it may have";
+    case JD_REFUSED: return "the server refuses the line for another reason";
+    case JD_LINE: return "a line has a line feed, or more than 4096 bytes";
     default: return "not a code of this library";
     }
 }
@@ -660,6 +551,18 @@ int jd_used(jd *c, struct jd_usage *usage)
     return finish(c, &result);
 }
 
+int jd_line(jd *c, const char *line, char *reply)
+{
+    struct result result = {.form = LINE, .reply = reply};
+    if (strnlen(line, JD_LINE_LIMIT + 1) > JD_LINE_LIMIT || strchr(line, '\n'))
+        return refuse(c, &result, JD_LINE);
+    int code = start(c, &result);
+    if (code < 0)
+        return code;
+    put_text(c, line);
+    return finish(c, &result);
+}
+
 int jd_begin(jd *c, int *codes, size_t room)
 {
     if (c->is_queueing)
@@ -667,8 +570,8 @@ int jd_begin(jd *c, int *codes, size_t room)
     c->is_queueing = true;
     c->codes = codes;
     c->room = room;
-    c->calls = c->refused_at = 0;
-    c->refused = 0;
+    c->calls = 0;
+    c->refusal = c->fault = (struct first){0};
     return 1;
 }
 
@@ -678,7 +581,9 @@ int jd_end(jd *c)
         return JD_USE;
     settle(c, 0);
     c->is_queueing = false;
-    return c->refused ? c->refused : 1;
+    if (c->fault.code)
+        return c->fault.code;
+    return c->refusal.code ? c->refusal.code : 1;
 }
 
 /* ---- Judy1 ---- */

@@ -14,6 +14,13 @@ extern "C" {
 #define JD_KEY_LIMIT 1000
 #define JD_KEY_ROOM (JD_KEY_LIMIT + 1)
 
+/* The most bytes of a line without its line feed, and of a buffer for any reply with a byte 0. */
+#define JD_LINE_LIMIT 4096
+#define JD_REPLY_ROOM 4097
+
+/* The version of this header. jd_version tells that of the library. */
+#define JD_VERSION "1.0.0"
+
 /* What a call returns. 1: yes; results are stored where the caller said. 0: no, or nothing found;
  * nothing is stored. JD_QUEUED: the call waits for jd_end. Negative: a refusal or a fault. */
 enum {
@@ -41,7 +48,11 @@ enum {
     JD_SYSTEM = -15,  /* the system refuses a read or a write; errno has the reason */
 
     /* Refused by the server, as those above. */
-    JD_CLIENTS = -16 /* the tenant has as many connections as it may have; nobody is logged in now */
+    JD_CLIENTS = -16, /* the tenant has as many connections as it may have; nobody is logged in now */
+    JD_REFUSED = -17, /* to jd_line: ERR and a reason that this library does not know */
+
+    /* Refused by this library, as those above. */
+    JD_LINE = -18 /* a line of jd_line has a line feed, or more than JD_LINE_LIMIT bytes */
 };
 
 /* A connection. One thread may use it at a time. Different threads may use different connections. */
@@ -52,13 +63,23 @@ struct jd_usage {
     uint64_t used, quota, pieces, most;
 };
 
+/* A shared library has these names and no others. */
+#ifdef __GNUC__
+#pragma GCC visibility push(default)
+#endif
+
 jd *jd_open(const char *path);
 void jd_close(jd *connection);
 void jd_timeout(jd *connection, int milliseconds);
 const char *jd_strerror(int code);
+const char *jd_version(void);
+int jd_fd(jd *connection);
 
 int jd_auth(jd *connection, const char *tenant, const char *token);
 int jd_used(jd *connection, struct jd_usage *usage);
+
+/* Any line, without its line feed. The reply, also of a refusal, goes to a buffer of JD_REPLY_ROOM bytes. */
+int jd_line(jd *connection, const char *line, char *reply);
 
 /* Many calls in flight: calls between these two are queued. */
 int jd_begin(jd *connection, int *codes, size_t room);
@@ -117,6 +138,10 @@ int jd_jh_add(jd *connection, const char *name, const void *key, size_t length, 
 int jd_jh_get(jd *connection, const char *name, const void *key, size_t length, uint64_t *value);
 int jd_jh_del(jd *connection, const char *name, const void *key, size_t length);
 int jd_jh_free_array(jd *connection, const char *name, uint64_t *count);
+
+#ifdef __GNUC__
+#pragma GCC visibility pop
+#endif
 
 #ifdef __cplusplus
 }

@@ -63,7 +63,7 @@ class Scripts(JudyTest):
         status, said, _ = run_judy(b"", "help", "J1S")
         self.assertEqual((status, said[:29]), (0, "J1S name i   Judy1Set inserts"))
         self.assertEqual(run_judy(b"", "help", "Judy1Set")[1], said)
-        self.assertIn("no such request: J1X; is it J1", run_judy(b"", "help", "J1X")[1])
+        self.assertIn("no such request: J1X; is it J1", run_judy(b"", "help", "J1X")[2])
         self.assertIn("JLI name i [v]", run_judy(b"", "help", "JLI")[1])
 
     def test_each_field_that_is_wrong(self):

@@ -3,6 +3,8 @@
  *
  * usage: faults replies FOLDER     replies of a server of this program, good and bad, in any pieces
  *        faults absent FOLDER      sockets without a server
+ *        faults signals FOLDER     servers that are silent or busy, while signals come (compiled with a
+ *                                  JD_PATIENCE of 500)
  *        faults refusals PATH      a judyd with tenants: alice (token abc, read token look), small
  *                                  (token abc, 2 entries, 4 pieces)
  *        faults restart PATH       a judyd that is restarted when this program has printed a line; then
@@ -14,10 +16,12 @@
 #include <errno.h>
 #include <fcntl.h>
 #include <pthread.h>
+#include <signal.h>
 #include <stdio.h>
 #include <stdlib.h>
 #include <string.h>
 #include <sys/socket.h>
+#include <sys/time.h>
 #include <sys/un.h>
 #include <time.h>
 #include <unistd.h>
@@ -290,11 +294,15 @@ static void check_lost_queue(const char *path, int listener, const char *last, i
         int code = jd_j1_set(c, "a", (uint64_t)i);
         CHECK(1, code == JD_QUEUED || code == wanted || code == JD_CLOSED);
     }
-    CHECK(JD_FULL, jd_end(c));
+    CHECK(wanted, jd_end(c)); /* though a call before was refused */
     for (int i = 0; i < CALLS; i++)
         CHECK(1, i < ANSWERED ? codes[i] == answers[i] : codes[i] == wanted || (i > ANSWERED && codes[i] == JD_CLOSED));
     CHECK(wanted, codes[ANSWERED]);
     CHECK(JD_CLOSED, jd_j1_set(c, "a", 1));
+    CHECK(1, jd_begin(c, codes, CALLS)); /* the queue after it tells that nothing was sent */
+    CHECK(JD_NAME, jd_j1_set(c, "", 1));
+    CHECK(JD_CLOSED, jd_j1_set(c, "a", 1));
+    CHECK(JD_CLOSED, jd_end(c));
     jd_close(c);
     pthread_join(thread, NULL);
 }
@@ -389,6 +397,62 @@ static void check_absent(const char *folder)
     path[sizeof path - 1] = 0;
     CHECK(1, jd_open(path) == NULL && errno == ENAMETOOLONG);
     jd_close(NULL);
+}
+
+/* ---- signals ---- */
+
+enum { SIGNAL_PAUSE = 50, SIGNALS = 600 }; /* milliseconds; so they come for half a minute */
+static volatile sig_atomic_t signals_left;
+
+/* Counts a signal. After the last one no more come. */
+static void take_signal(int number)
+{
+    (void)number;
+    if (signals_left && --signals_left == 0)
+        setitimer(ITIMER_REAL, &(struct itimerval){0}, NULL);
+}
+
+static void start_signals(void)
+{
+    struct timeval pause = {.tv_usec = 1000 * SIGNAL_PAUSE};
+    struct sigaction action = {.sa_handler = take_signal}; /* without SA_RESTART */
+    signals_left = SIGNALS;
+    if (sigaction(SIGALRM, &action, NULL) || setitimer(ITIMER_REAL, &(struct itimerval){pause, pause}, NULL))
+        exit(2);
+}
+
+/* Whether some signals came, and not all. */
+static int stop_signals(void)
+{
+    setitimer(ITIMER_REAL, &(struct itimerval){0}, NULL);
+    return signals_left > 0 && signals_left < SIGNALS;
+}
+
+/* Waits end in their time although signals interrupt them more often than that. */
+static void check_signals(const char *folder)
+{
+    char path[100];
+    int crowd[100], count = 0;
+    snprintf(path, sizeof path, "%s/busy", folder);
+    int listener = listen_at(path);
+    struct sockaddr_un address = {.sun_family = AF_UNIX};
+    jd *c = open_at(path); /* nobody ever accepts */
+    jd_timeout(c, 500);
+    start_signals();
+    CHECK(JD_TIMEOUT, jd_j1_set(c, "a", 1));
+    CHECK(1, stop_signals());
+    jd_close(c);
+    strcpy(address.sun_path, path);
+    do { /* fills the queue of those that wait to be accepted */
+        crowd[count] = socket(AF_UNIX, SOCK_STREAM, 0);
+        fcntl(crowd[count], F_SETFL, O_NONBLOCK);
+    } while (connect(crowd[count], (struct sockaddr *)&address, sizeof address) == 0 && ++count < 99);
+    start_signals();
+    CHECK(1, jd_open(path) == NULL && errno == EAGAIN);
+    CHECK(1, stop_signals());
+    for (; count >= 0; count--)
+        close(crowd[count]);
+    close(listener);
 }
 
 /* ---- refusals ---- */
@@ -659,6 +723,8 @@ int main(int count, char **words)
         check_replies(words[2]);
     else if (!strcmp(what, "absent"))
         check_absent(words[2]);
+    else if (!strcmp(what, "signals"))
+        check_signals(words[2]);
     else if (!strcmp(what, "refusals"))
         check_refusals(words[2]);
     else if (!strcmp(what, "adds"))
@@ -668,7 +734,7 @@ int main(int count, char **words)
     else if (!strcmp(what, "flood") && count == 4)
         check_flood(words[2], strtoull(words[3], NULL, 10));
     else {
-        fprintf(stderr, "usage: faults replies|absent FOLDER, faults refusals|adds|restart PATH, faults flood PATH CALLS\n");
+        fprintf(stderr, "usage: faults replies|absent|signals FOLDER, faults refusals|adds|restart PATH, faults flood PATH CALLS\n");
         return 2;
     }
     return 0;

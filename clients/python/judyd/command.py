@@ -19,7 +19,7 @@ from .options import first_words, subcommand
 from .session import Printer, complain, run_script
 from .terminal import Terminal
 from .wire import Wire
-from .wording import COMMANDS, help_of, request_of
+from .wording import COMMANDS, help_of, is_request, request_of
 
 
 def talk(options: argparse.Namespace) -> int:
@@ -175,8 +175,7 @@ def run_wait(options: argparse.Namespace) -> int:
     try:
         service.wait(lambda left: client_of(address, left, tls, options.user, token), options.timeout or None)
     except Closed as e:
-        remedy = service.remedy(e, None if options.tcp else options.socket)
-        complain(": ".join(text for text in ("no server answered for %g s" % options.timeout, str(e), remedy) if text))
+        complain("no server answered for %g s: %s" % (options.timeout, lost(e, options)))
         return 1
     return 0
 
@@ -228,7 +227,14 @@ def run_digest(options: argparse.Namespace) -> int:
 
 def run_help(options: argparse.Namespace) -> int:
     """judy help"""
-    print(help_of(" ".join(options.call)))
+    word = " ".join(options.call)
+    if word in SUBCOMMANDS:
+        subcommand(word).print_help()
+    elif not word or is_request(word):
+        print(help_of(word))
+    else:
+        complain(unknown(word))
+        return 2
     return 0
 
 
@@ -281,6 +287,11 @@ def unknown(word: str) -> str:
     return "no such command: %s; is it %s?" % (word, close[0]) if close else help_of(word)
 
 
+def lost(e: Closed, options: argparse.Namespace) -> str:
+    """Why there is no connection, and what to do."""
+    return service.remedy(e, None if options.tcp else options.socket) or str(e)
+
+
 def main() -> int:
     """Runs the command line. The status is 0; 1 if a line was refused, a script, dump, load or comparison
     did not come to its end, or no server came; 3 if a table has faults; 4 if no connection was made."""
@@ -291,7 +302,7 @@ def main() -> int:
         complain("the server does not know this tenant and token")
         return 1
     except Closed as e:
-        complain(": ".join(text for text in (str(e), service.remedy(e, None if options.tcp else options.socket)) if text))
+        complain(lost(e, options))
         return 4
     except BrokenPipeError:
         os.dup2(os.open(os.devnull, os.O_WRONLY), sys.stdout.fileno())

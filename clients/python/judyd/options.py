@@ -1,6 +1,7 @@
 """The words of the command line `judy`."""
 
 import argparse
+from typing import Dict, NamedTuple
 
 from . import __version__
 from .client import TIMEOUT
@@ -38,6 +39,36 @@ lines that begin with # are skipped.
 """
 
 
+class About(NamedTuple):
+    """What the help of a subcommand says: a sentence, an example, and its exit statuses besides 2, which is
+    for a wrong command line."""
+
+    sentence: str
+    example: str
+    statuses: str
+
+
+_REFUSED = "1 if the call or the log-in was refused, 4 if the connection failed"
+_CONTROLLED = "4 if no server listens at that socket or the answer did not come"
+ABOUT: Dict[str, About] = {
+    "add": About("Adds a number to a value in one step, and prints the value afterwards.", "judy -u alice add JL:hits 20261122 5", "0 if it was added, " + _REFUSED),
+    "status": About("Says whether a server answers, or prints the numbers of its socket of --status.", "judy -u alice status", "0 if it answers, 1 if the log-in was refused or the text is no status, 4 if none does"),
+    "top": About("Shows the numbers of a server on a screen that renews itself each second, until q.", "judy top --once /run/judyd-operator/status", "0; 1 if the text is no status, 4 if no server answers"),
+    "stop": About("Ends a server in order, and waits until its sockets are gone.", "judy stop /run/judyd-operator/control", "0 once it has ended, 1 if it was not seen to end, " + _CONTROLLED),
+    "reload": About("Tells a server to read its table of tenants again.", "judy reload /run/judyd-operator/control", "0 if the new table is in force, 1 if nothing changed, " + _CONTROLLED),
+    "kick": About("Tells a server to close the connections of a tenant, and prints how many were closed.", "judy kick /run/judyd-operator/control alice", "0 if they are closed, 1 if it has no such tenant, " + _CONTROLLED),
+    "wait": About("Waits until a server answers.", "judy -s judyd.sock wait --timeout 20", "0 once one answers, 1 if none did in time"),
+    "dump": About("Writes arrays as lines, to a file or to standard output.", "judy -u alice dump -o alice.dump J1:ids JL:hits", "0 if the dump is whole, 1 if an array has no entries, a call was refused or it was cut short, 4 if no connection was made"),
+    "load": About("Inserts the entries of a dump, if it is whole.", "judy -u alice load alice.dump", "0 if all are loaded, 1 if the dump is not whole, a call was refused or it was cut short, 4 if no connection was made"),
+    "check": About("Compares a dump with the arrays of a server.", "judy -u alice check alice.dump", "0 if they are alike, 1 if they differ or the dump is not whole, 4 if no connection was made"),
+    "backup": About("Writes a dump of each tenant of a list, and keeps the one before it.", "judy backup --folder /var/lib/judyd /etc/judyd/backups", "0 if each tenant was dumped, 1 if one was not, 4 if no connection was made"),
+    "move": About("Copies arrays to another server, and compares the two.", "judy -s old.sock -u alice move --to new.sock --free J1:ids", "0 if both are alike, 1 if they are not or a call was refused, 4 if a connection failed"),
+    "table": About("Tells the faults of a table of tenants, or changes it if judyd takes the new one.", "judy table /etc/judyd/tenants.toml add joe --quota 1000", "0; 1 if the table was not changed or not read, 3 if it has a fault"),
+    "digest": About("Asks for a token, and prints the line of a table for it.", "judy digest --look", "0; 1 if it is no token"),
+    "help": About("Says what a call or a command does; without a word, what all calls do.", "judy help J1FE", "0"),
+}
+
+
 def add_options(parser: argparse.ArgumentParser, is_first: bool) -> None:
     """The options of a connection, before or after the command."""
 
@@ -70,7 +101,9 @@ def seconds(text: str) -> float:
 
 def subcommand(name: str) -> argparse.ArgumentParser:
     """The words of a subcommand."""
-    sub = argparse.ArgumentParser(prog="judy %s" % name)
+    about = ABOUT[name]
+    epilog = "example:\n  %s\n\nexit status: %s, 2 if the command line is wrong." % (about.example, about.statuses)
+    sub = argparse.ArgumentParser(prog="judy %s" % name, description=about.sentence, epilog=epilog, formatter_class=argparse.RawDescriptionHelpFormatter)
     if name in ("add", "status", "wait", "dump", "load", "check", "backup", "move"):
         add_options(sub, is_first=False)
     if name in ("top", "stop", "reload", "kick"):

@@ -9,7 +9,7 @@ from .errors import Closed
 
 
 def remedy(e: BaseException, path: Optional[str]) -> str:
-    """What to do if no server answers on the path of a socket. Empty if there is nothing to add."""
+    """Why no server answers on the path of a socket, and what to do. Empty if the error itself says it."""
     cause: Optional[BaseException] = e
     while cause is not None and not isinstance(cause, OSError):
         cause = cause.__cause__
@@ -18,9 +18,9 @@ def remedy(e: BaseException, path: Optional[str]) -> str:
     if cause.errno == errno.ENOENT:
         return "no server has made that socket: start one (systemctl start judyd, or judyd serve --config FILE --socket %s), or name another with -s PATH" % path
     if cause.errno == errno.ECONNREFUSED:
-        return "no server listens there, and one that ended left the socket: remove it and start the server (systemctl restart judyd)"
+        return "no server listens at %s: if one that ended left it, remove it and start the server (systemctl restart judyd)" % path
     if cause.errno == errno.EACCES:
-        return "this user may not connect: be root, or in the group judyd"
+        return "this user may not connect to %s: be root, or in the group judyd" % path
     return ""
 
 

@@ -102,6 +102,11 @@ def help_of(word: str) -> str:
     return "%s   %s%s" % (call.usage(), call.name + " " if call.name else "", call.what)
 
 
+def is_request(word: str) -> bool:
+    """Whether a word is that of a request, in letters of either case, or the manual's name."""
+    return LONG_NAMES.get(word, word.upper()) in WORDS
+
+
 def _near(word: str) -> str:
     """The request that is meant, by a manual's name if the word looks like one, otherwise by its word in
     the protocol."""

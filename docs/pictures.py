@@ -1,0 +1,174 @@
+#!/usr/bin/env python3
+"""Draws the pictures of the pages into a folder, by default docs: architecture.svg, the crates of crates.txt in their
+layers; line.svg, the way of a line; memory.svg, the bytes for each entry, from the table of bench/README.md.
+
+usage: docs/pictures.py [FOLDER]
+
+The same sources give the same bytes. Each text stands in a light box, or is of a grey that is read on white and on
+dark pages.
+"""
+
+import math
+import os
+import re
+import sys
+from html import escape
+
+TOP = os.path.dirname(os.path.dirname(os.path.abspath(__file__)))
+INK, GREY, BLUE, ORANGE, PALE, SAND, GREEN = "#1f2328", "#737b84", "#3b78b8", "#d1722e", "#dbe8f5", "#f7e6d7", "#dff0dc"
+
+# The layers of the program from the top, with the crates of each and the colour of its boxes. A crate uses only crates of
+# its own layer and of those below. judy_model, which has the definitions, is used by nearly all.
+LAYERS = [
+    ("the program", PALE, ("judyd", "judy_command", "judy_server", "judy_upkeep", "judy_programs")),
+    ("many clients", PALE, ("judy_many",)),
+    ("the journal", SAND, ("judy_recovery", "judy_journal", "judy_disk")),
+    ("lines and replies", PALE, ("judy_protocol", "judy_stream")),
+    ("tenants", GREEN, ("judy_tenants", "judy_kinds", "judy_directory", "judy_table")),
+    ("the kinds of array", GREEN, ("judy_string", "judy_bytes", "judy_words", "judy_packing")),
+    ("digital trees", GREEN, ("judy_query", "judy_tree", "judy_branch", "judy_leaf", "judy_bitmap", "judy_refs")),
+    ("memory", SAND, ("judy_arena", "judy_region")),
+    ("definitions", PALE, ("judy_model",)),
+]
+
+# The way of a line: who works, what becomes what, and the colour of the box.
+WAY = [
+    ("client", "writes a line: JSLI words x7472 3", SAND),
+    ("judy_many", "a round: one read of each ready client, at most 4,096 bytes", PALE),
+    ("judy_protocol", "bytes become a request: Insert of \"tr\", 3, into words", PALE),
+    ("judy_tenants", "the right and the quota are checked, or the reply is a refusal", GREEN),
+    ("judy_directory", "tenant, kind and name lead to the root of an array", GREEN),
+    ("judy_string", "the string becomes words of 8 bytes", GREEN),
+    ("judy_tree", "a word leads to its leaf", GREEN),
+    ("judy_leaf, judy_arena", "key and value are written into a block", SAND),
+    ("judy_protocol", "the answer becomes a reply: V 0", PALE),
+    ("judy_journal, judy_disk", "with --journal: the round's records, then one sync", SAND),
+    ("judy_many", "the replies of a connection are written at once", PALE),
+    ("client", "reads its reply", SAND),
+]
+
+
+def read(path):
+    """The text of a file of the repository."""
+    with open(os.path.join(TOP, path), encoding="utf-8") as file:
+        return file.read()
+
+
+def text(x, y, words, size=13, colour=INK, anchor="start", weight="normal"):
+    """A line of text."""
+    return '<text x="%g" y="%g" font-size="%g" fill="%s" text-anchor="%s" font-weight="%s">%s</text>' % (x, y, size, colour, anchor, weight, escape(words))
+
+
+def box(x, y, width, height, colour):
+    """A box with round corners."""
+    return '<rect x="%g" y="%g" width="%g" height="%g" rx="5" fill="%s" stroke="%s"/>' % (x, y, width, height, colour, GREY)
+
+
+def arrow(x, y, to):
+    """An arrow downwards."""
+    return '<path d="M%g %gV%g" stroke="%s" stroke-width="1.5"/><path d="M%g %gl-4 -7h8z" fill="%s"/>' % (x, y, to - 6, GREY, x, to, GREY)
+
+
+def picture(width, height, title, parts):
+    """The text of a picture."""
+    head = '<svg xmlns="http://www.w3.org/2000/svg" width="%d" height="%d" viewBox="0 0 %d %d" role="img" font-family="DejaVu Sans, Verdana, sans-serif" fill="none">\n<title>%s</title>\n'
+    return head % (width, height, width, height, escape(title)) + "\n".join(parts) + "\n</svg>\n"
+
+
+def uses():
+    """For each crate of the program the crates of the repository that it uses."""
+    rows = dict(re.findall(r"(?m)^(\w+):(.*)$", read("crates.txt")))
+    program = {name: used.split() for name, used in rows.items() if not name.startswith(("test_", "bench_")) and name != "judy_reference"}
+    return {name: [it for it in used if it in program] for name, used in program.items()}
+
+
+def check_layers():
+    """Ends if a crate of the program is in no layer or uses one of a higher layer."""
+    place = {name: at for at, (_, _, names) in enumerate(LAYERS) for name in names}
+    used = uses()
+    if place.keys() != used.keys():
+        sys.exit("pictures: crates.txt and the layers differ: %s" % ", ".join(sorted(place.keys() ^ used.keys())))
+    for name, others in used.items():
+        for other in others:
+            if place[other] < place[name]:
+                sys.exit("pictures: %s uses %s, which is in a higher layer" % (name, other))
+
+
+def architecture():
+    """The crates in their layers."""
+    check_layers()
+    parts, width, row = [], 800, 54
+    for at, (title, colour, names) in enumerate(LAYERS):
+        y = 12 + at * row
+        parts.append(text(12, y + 22, title, colour=GREY))
+        room = (width - 160 - 12) / len(names)
+        for number, name in enumerate(names):
+            parts += [box(160 + number * room, y, room - 8, 34, colour), text(160 + number * room + room / 2 - 4, y + 21, name, 12, anchor="middle")]
+        if at:
+            parts.append(arrow(140, y - row + 34, y - 2))
+    parts.append(text(12, 12 + len(LAYERS) * row + 8, "A crate uses crates of its own layer and of those below, by their contracts alone.", colour=GREY))
+    return picture(width, 12 + len(LAYERS) * row + 24, "The crates of judyd in their layers", parts)
+
+
+def way():
+    """The way of a line and of its reply."""
+    unknown = {name for who, _, _ in WAY for name in re.findall(r"judy_\w+", who)} - uses().keys()
+    if unknown:
+        sys.exit("pictures: no such crates: %s" % ", ".join(sorted(unknown)))
+    parts, row = [], 48
+    for at, (who, what, colour) in enumerate(WAY):
+        y = 12 + at * row
+        parts += [box(12, y, 190, 32, colour), text(107, y + 20, who, 12, anchor="middle"), text(222, y + 20, what, colour=GREY)]
+        if at:
+            parts.append(arrow(107, y - row + 32, y - 1))
+    return picture(800, 12 + len(WAY) * row, "The way of a line from the client and back", parts)
+
+
+def measured():
+    """The rows of the published table: keys, and bytes for each in Judy1, libjudy's Judy1, JudyL and libjudy's JudyL."""
+    part = read("bench/README.md").split("\n## Bytes for each entry\n")[1].split("\n## ")[0]
+    rows = [[float(cell.replace(",", "")) for cell in row] for row in re.findall(r"(?m)^\| ([\d,]+) \| ([\d.]+) \| ([\d.]+) \| ([\d.]+) \| ([\d.]+) \|", part)]
+    if len(rows) < 5:
+        sys.exit("pictures: the table of bench/README.md was not read")
+    return rows
+
+
+def memory():
+    """Bytes for each entry against the number of entries."""
+    rows, left, right, top, bottom = measured(), 70, 560, 40, 330
+    low, high, most = math.log10(rows[0][0]), math.log10(rows[-1][0]), 60
+
+    def x(keys):
+        return left + (right - left) * (math.log10(keys) - low) / (high - low)
+
+    def y(number):
+        return bottom - (bottom - top) * number / most
+
+    parts = [text(left, 22, "Bytes of live blocks for each random key", 14, GREY)]
+    for number in range(0, most + 1, 10):
+        parts += ['<path d="M%g %gH%g" stroke="%s" stroke-opacity="0.4"/>' % (left, y(number), right, GREY), text(left - 8, y(number) + 4, str(number), 12, GREY, "end")]
+    for keys, *_ in rows:
+        if keys in (1e4, 1e5, 1e6):
+            parts.append(text(x(keys), bottom + 20, "{:,.0f}".format(keys), 12, GREY, "middle"))
+    parts.append(text((left + right) / 2, bottom + 42, "keys in the array", 13, GREY, "middle"))
+    for column, name, colour, dash in ((3, "JudyL, judyd", ORANGE, ""), (1, "Judy1, judyd", BLUE, ""), (4, "JudyL, libjudy", ORANGE, "6 4"), (2, "Judy1, libjudy", BLUE, "6 4")):
+        points = [(x(row[0]), y(row[column])) for row in rows]
+        line = "M" + "L".join("%.1f %.1f" % point for point in points)
+        parts.append('<path d="%s" stroke="%s" stroke-width="2.5" stroke-dasharray="%s"/>' % (line, colour, dash or "none"))
+        parts += ['<circle cx="%.1f" cy="%.1f" r="3" fill="%s"/>' % (*point, colour) for point in points]
+        parts.append(text(right + 12, points[-1][1] + 4, "%s: %g" % (name, rows[-1][column]), 13, colour, weight="bold"))
+    return picture(760, 390, "Bytes for each random key in judyd and libjudy, against the number of keys", parts)
+
+
+def main():
+    """Draws all."""
+    if len(sys.argv) > 2 or any(word.startswith("-") for word in sys.argv[1:]):
+        sys.exit(__doc__)
+    folder = sys.argv[1] if len(sys.argv) == 2 else os.path.join(TOP, "docs")
+    for name, draw in (("architecture.svg", architecture), ("line.svg", way), ("memory.svg", memory)):
+        with open(os.path.join(folder, name), "w", encoding="utf-8") as file:
+            file.write(draw())
+
+
+if __name__ == "__main__":
+    main()

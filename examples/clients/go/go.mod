@@ -1,0 +1,3 @@
+module judyd.example/client
+
+go 1.19
