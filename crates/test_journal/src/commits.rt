@@ -1,10 +1,10 @@
 //! A run over three tenants and three segments, torn at each byte, and damaged in each way.
 ghost use Rattle.std.specs.Prelude.{◌≡◌, ◌≤◌, []};
 
+use arrayvec::ArrayVec;
 use judy_journal::{
     Damage, LAST_SEGMENT, Position, Read, Recovery, SUM_LEN, Writer, read_record, snapshot_sum,
 };
-use arrayvec::ArrayVec;
 use std::process::Abort;
 use test_checks::{holds, same};
 
@@ -273,7 +273,10 @@ fn dropped(rt: HostRuntime) {
     let mut ends = [0usize; ROOM];
     let files = write(&mut ends);
     let record = without(&files, 35, 53);
-    holds(&rt, record.damage == Some(Damage::Mark) && record.records == 0);
+    holds(
+        &rt,
+        record.damage == Some(Damage::Mark) && record.records == 0,
+    );
     let mut first = 0usize;
     for at in 0..ROOM {
         if ends[at] == 8 {
@@ -282,7 +285,10 @@ fn dropped(rt: HostRuntime) {
     }
     same(&rt, record.place, (first as u64).saturating_sub(21 + 18));
     let commit = without(&files, 35, first);
-    holds(&rt, commit.damage == Some(Damage::Mark) && commit.records == 0);
+    holds(
+        &rt,
+        commit.damage == Some(Damage::Mark) && commit.records == 0,
+    );
     let end = without(&files, files.starts[1].saturating_sub(5), files.starts[1]);
     holds(&rt, end.damage == Some(Damage::Torn) && end.records == 32);
     let starts = [0, files.starts[1], ROOM];
@@ -295,7 +301,10 @@ fn dropped(rt: HostRuntime) {
         500,
         100,
     );
-    holds(&rt, missing.damage == Some(Damage::Header) && missing.records == 0 && missing.place == 0);
+    holds(
+        &rt,
+        missing.damage == Some(Damage::Header) && missing.records == 0 && missing.place == 0,
+    );
 }
 
 /// Reads a snapshot of segment 7. Returns how many records it has, if it is whole.
@@ -357,7 +366,11 @@ fn first_lines(rt: HostRuntime) {
     commit(&mut files, &mut writer);
     let text = files.text.as_slice();
     holds(&rt, text.starts_with(b"judyd journal 1 1 0000000000"));
-    same(&rt, part(text, 35, 57), b"alice 1S seats 12\n# 1 ".as_slice());
+    same(
+        &rt,
+        part(text, 35, 57),
+        b"alice 1S seats 12\n# 1 ".as_slice(),
+    );
     // As by Python: reduce(lambda h, b: (h * 1099511628211 + b) % 2**64, b"0" * 16 + line, 0)
     same(&rt, part(text, 57, 73), b"3a7dc39d97b681dd".as_slice());
     holds(&rt, !writer.is_full());

@@ -48,13 +48,29 @@ fn names_are_written_as_they_are_read(rt: HostRuntime) -> Result<(), Fail> {
 #[test]
 fn segments_after_the_snapshot_are_all_there(rt: HostRuntime) -> Result<(), Fail> {
     let found = arrange(rt.alloc(), &mut [3, 1, 2], &[])?;
-    same(&rt, (found.snapshot, found.first, found.last), (None, 1, Some(3)));
+    same(
+        &rt,
+        (found.snapshot, found.first, found.last),
+        (None, 1, Some(3)),
+    );
     holds(&rt, found.old.is_empty());
     let found = arrange(rt.alloc(), &mut [], &[])?;
-    same(&rt, (found.snapshot, found.first, found.last), (None, 1, None));
+    same(
+        &rt,
+        (found.snapshot, found.first, found.last),
+        (None, 1, None),
+    );
     let found = arrange(rt.alloc(), &mut [9, 8, 6, 7], &[3, 7])?;
-    same(&rt, (found.snapshot, found.first, found.last), (Some(7), 8, Some(9)));
-    same(&rt, found.old.as_slice(), &[Place::Snapshot(3), Place::Segment(6), Place::Segment(7)][..]);
+    same(
+        &rt,
+        (found.snapshot, found.first, found.last),
+        (Some(7), 8, Some(9)),
+    );
+    same(
+        &rt,
+        found.old.as_slice(),
+        &[Place::Snapshot(3), Place::Segment(6), Place::Segment(7)][..],
+    );
     Ok(())
 }
 
@@ -82,12 +98,24 @@ fn faults_tell_the_file(rt: HostRuntime) -> Result<(), Fail> {
     let reason = io::Error::from_raw_os_error(28);
     let fault = DiskFault::at(Place::Segment(3), reason);
     let text = format!(in rt.alloc(); "judyd: DIR{fault}")?;
-    same(&rt, text.as_str(), "judyd: DIR/000000000003.journal: No space left on device (os error 28)");
+    same(
+        &rt,
+        text.as_str(),
+        "judyd: DIR/000000000003.journal: No space left on device (os error 28)",
+    );
     let fault = DiskFault::at(Place::Folder, io::Error::from_raw_os_error(2));
     let text = format!(in rt.alloc(); "judyd: DIR{fault}")?;
-    same(&rt, text.as_str(), "judyd: DIR: No such file or directory (os error 2)");
+    same(
+        &rt,
+        text.as_str(),
+        "judyd: DIR: No such file or directory (os error 2)",
+    );
     let fault = DiskFault::Missing(2);
     let text = format!(in rt.alloc(); "judyd: DIR{fault}")?;
-    same(&rt, text.as_str(), "judyd: DIR/000000000002.journal: missing");
+    same(
+        &rt,
+        text.as_str(),
+        "judyd: DIR/000000000002.journal: missing",
+    );
     Ok(())
 }

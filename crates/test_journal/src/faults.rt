@@ -13,13 +13,21 @@ fn faults_tell_file_and_byte(rt: HostRuntime) -> Result<(), Fail> {
         flaw: Flaw::Unplayed(Reason::Tenant),
     };
     let text = format!(in rt.alloc(); "judyd: DIR{fault}")?;
-    same(&rt, text.as_str(), "judyd: DIR/000000000002.journal: byte 4711: the table lacks the tenant of this record");
+    same(
+        &rt,
+        text.as_str(),
+        "judyd: DIR/000000000002.journal: byte 4711: the table lacks the tenant of this record",
+    );
     let fault = JournalFault::File {
         place: Place::Snapshot(12),
         byte: 0,
         flaw: Flaw::Damage(Damage::Header),
     };
     let text = format!(in rt.alloc(); "judyd: DIR{fault}")?;
-    same(&rt, text.as_str(), "judyd: DIR/000000000012.snapshot: byte 0: damaged: another first line than it should have");
+    same(
+        &rt,
+        text.as_str(),
+        "judyd: DIR/000000000012.snapshot: byte 0: damaged: another first line than it should have",
+    );
     Ok(())
 }

@@ -252,12 +252,18 @@ fn release_all(rt: &impl Abort, arena: &mut Arena, places: &mut Vec<Place>) {
     same(rt, arena.live_words(), 0);
 }
 
+/// A free block of 512 words is taken.
+fn take_512(rt: &impl Abort, alloc: Global, arena: &mut Arena) -> Result<(), NoMemory> {
+    holds(rt, arena.spare(512));
+    let _kept = arena.alloc(alloc, 512)?;
+    Ok(())
+}
+
 /// All released blocks have merged: each run is one free block.
 fn all_merged(rt: &impl Abort, alloc: Global, arena: &mut Arena) -> Result<(), NoMemory> {
     let region = arena.region();
     for _ in 0..region / 512 {
-        holds(rt, arena.spare(512));
-        let _kept = arena.alloc(alloc, 512)?;
+        take_512(rt, alloc, arena)?;
     }
     holds(rt, !arena.spare(1));
     same(rt, (arena.live_words(), arena.region()), (region, region));
@@ -451,7 +457,11 @@ fn copies(rt: &impl Abort, arena: &mut Arena, from: Block, to: Block) {
     holds(rt, arena.size(from) == 8 && arena.size(to) == 8);
     arena.copy_in(from, 1, &[10, 20, 30, 40, 50]);
     arena.copy(from, 2, to, 0, 3);
-    same(rt, arena.words(from), [0, 10, 20, 30, 40, 50, 0, 0].as_slice());
+    same(
+        rt,
+        arena.words(from),
+        [0, 10, 20, 30, 40, 50, 0, 0].as_slice(),
+    );
     same(rt, arena.words(to), [20, 30, 40, 0, 0, 0, 0, 0].as_slice());
     same(rt, arena.get(from, 5), 50);
 }

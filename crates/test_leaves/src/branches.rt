@@ -63,7 +63,11 @@ fn word(found: Option<(u8, Ref)>) -> (u16, u64) {
 fn compare_head(rt: &impl Abort, held: &Held, population: u64) {
     let (head, is_same) = held.head();
     holds(rt, is_same);
-    same(rt, (head.level, head.prefix, head.population), (3, PREFIX, population));
+    same(
+        rt,
+        (head.level, head.prefix, head.population),
+        (3, PREFIX, population),
+    );
 }
 
 /// Compares the child of each byte, and the child before it, with the table. Returns how many there are.
@@ -73,7 +77,12 @@ fn compare_rising(rt: &impl Abort, held: &Held, table: &Table) -> usize {
     for byte in 0..256usize {
         let here = table[byte];
         let found = held.child(byte as u8);
-        same_at(rt, found.map_or(0, |child| child.word()), here, ("child", byte));
+        same_at(
+            rt,
+            found.map_or(0, |child| child.word()),
+            here,
+            ("child", byte),
+        );
         if here != 0 {
             below = (byte as u16, here);
             count = count.saturating_add(1);

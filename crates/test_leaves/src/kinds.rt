@@ -52,7 +52,12 @@ fn put(rt: &impl Abort, alloc: Global, leaf: &mut Held, key: u64, value: u64) {
 fn check_block(rt: &impl Abort, leaf: &Held, values: bool, kind: Option<Kind>, population: u64) {
     same(rt, leaf.population(), population);
     same_at(rt, leaf.kind(), kind, ("with", population));
-    same_at(rt, leaf.words(), words_of(values, kind, population), ("with", population));
+    same_at(
+        rt,
+        leaf.words(),
+        words_of(values, kind, population),
+        ("with", population),
+    );
 }
 
 /// The key that comes or goes at this step, from 512 to 767.
@@ -87,7 +92,10 @@ fn empty(rt: &impl Abort, leaf: &mut Held, values: bool) {
     for step in 0..256u16 {
         let population = 255 - u64::from(step);
         let answer = leaf.remove(key_of(step as u8));
-        holds(rt, matches!(answer, Removed::Emptied(_)) == (population == 0));
+        holds(
+            rt,
+            matches!(answer, Removed::Emptied(_)) == (population == 0),
+        );
         let kind = if population > 7 {
             Some(Kind::BitmapLeaf)
         } else if population > 0 {
@@ -137,9 +145,15 @@ fn thirty_one_keys_that_stand_apart(rt: HostRuntime) {
         let mut leaf = Held::new(rt.alloc(), values);
         fill_apart(&rt, rt.alloc(), &mut leaf);
         holds(&rt, leaf.insert(rt.alloc(), 31000, 0) == Put::Split);
-        holds(&rt, leaf.insert(rt.alloc(), 30000, 0) == Put::Present(given(values, 30)));
+        holds(
+            &rt,
+            leaf.insert(rt.alloc(), 30000, 0) == Put::Present(given(values, 30)),
+        );
         same(&rt, leaf.get(31000), None);
         same(&rt, leaf.first_empty(0), Some(1));
-        holds(&rt, leaf.last_entry(29999) == Some((29000, given(values, 29))));
+        holds(
+            &rt,
+            leaf.last_entry(29999) == Some((29000, given(values, 29))),
+        );
     }
 }

@@ -66,7 +66,12 @@ fn compare_all(rt: &impl Abort, leaf: &Held, wanted: &Wanted, base: u64, key: u6
     same(rt, leaf.population(), wanted.population());
     let below = key.wrapping_sub(1);
     let above = key.wrapping_add(1);
-    same_at(rt, leaf.count(below, above), wanted.count(below, above), ("count around", key));
+    same_at(
+        rt,
+        leaf.count(below, above),
+        wanted.count(below, above),
+        ("count around", key),
+    );
     let points = [
         key,
         below,
@@ -160,7 +165,10 @@ fn write(
     key: u64,
 ) -> Result<(), Fail> {
     let value = given(leaf.has_values(), key ^ 99);
-    holds(rt, leaf.insert(alloc, key, 5) == Put::Present(given(leaf.has_values(), key ^ 77)));
+    holds(
+        rt,
+        leaf.insert(alloc, key, 5) == Put::Present(given(leaf.has_values(), key ^ 77)),
+    );
     same(rt, leaf.write(key, value), leaf.has_values());
     holds(rt, leaf.insert(alloc, key, 5) == Put::Present(value));
     wanted.write(key, value)?;
@@ -198,7 +206,10 @@ fn fill(
         let len = u64::from(1 + step % 31);
         compare_parts(rt, alloc, leaf, wanted, from, len);
     }
-    holds(rt, leaf.insert(alloc, base.wrapping_add(256), 1) == Put::Split);
+    holds(
+        rt,
+        leaf.insert(alloc, base.wrapping_add(256), 1) == Put::Split,
+    );
     Ok(())
 }
 

@@ -120,9 +120,17 @@ fn each_request_of_keys(rt: HostRuntime) {
 fn requests_of_the_connection(rt: HostRuntime) -> Result<(), Fail> {
     let mut room = [0; KEY_LIMIT];
     let token = Token::read(b"a~!").ok_or("no token")?;
-    same(&rt, read_line(b"AUTH bob a~!", &mut room), Ok(Line::Auth(name("bob"), token)));
+    same(
+        &rt,
+        read_line(b"AUTH bob a~!", &mut room),
+        Ok(Line::Auth(name("bob"), token)),
+    );
     same(&rt, read_line(b"QUIT", &mut room), Ok(Line::Quit));
-    same(&rt, read_line(b" USED ", &mut room), Ok(Line::Call(Call::Used)));
+    same(
+        &rt,
+        read_line(b" USED ", &mut room),
+        Ok(Line::Call(Call::Used)),
+    );
     Ok(())
 }
 

@@ -90,13 +90,21 @@ fn one_push_and_one_flush_a_read(rt: HostRuntime) {
             pushes: 0,
             flushes: 0,
         };
-        same(&rt, serve(rt.alloc(), &mut house, &mut source, &mut sink), End::Quit);
+        same(
+            &rt,
+            serve(rt.alloc(), &mut house, &mut source, &mut sink),
+            End::Quit,
+        );
         same(&rt, sink.page.bytes(), replies);
         let reads = reads_with_lines(script, step);
         same(&rt, (sink.pushes, sink.flushes), (reads, reads));
     }
     // Each line was a read of its own, and the whole script was one.
-    same(&rt, (reads_with_lines(script, 1), reads_with_lines(script, 59)), (6, 1));
+    same(
+        &rt,
+        (reads_with_lines(script, 1), reads_with_lines(script, 59)),
+        (6, 1),
+    );
 }
 
 // Adds a line that begins with the text and goes on with the 1,000 bytes of a long key.
@@ -131,7 +139,11 @@ fn a_full_buffer_loses_no_line(rt: HostRuntime) -> Result<(), Fail> {
         pushes: 0,
         flushes: 0,
     };
-    same(&rt, serve(rt.alloc(), &mut house, &mut source, &mut sink), End::End);
+    same(
+        &rt,
+        serve(rt.alloc(), &mut house, &mut source, &mut sink),
+        End::End,
+    );
     same(&rt, sink.page.bytes(), replies.as_slice());
     same(&rt, (sink.pushes, sink.flushes), (3, 3));
     Ok(())

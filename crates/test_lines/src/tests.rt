@@ -145,7 +145,11 @@ fn as_many_reads_as_may(rt: HostRuntime) {
     let mut house = House::new(rt.alloc());
     let mut tape = Tape::new(b"AUTH alice abc\nJ1S a 1\nJ1S a 2\n", &[15, 23], 5000, None);
     let mut page: Page<512> = Page::new(512, Refusal::Fails, None, None);
-    same(&rt, serve_up_to(rt.alloc(), &mut house, &mut tape, &mut page, 2), End::Limit);
+    same(
+        &rt,
+        serve_up_to(rt.alloc(), &mut house, &mut tape, &mut page, 2),
+        End::Limit,
+    );
     same(&rt, page.bytes(), b"OK\n1\n".as_slice());
     same(&rt, house.used(Tenant::Alice), 1);
 }
@@ -172,7 +176,11 @@ fn the_next_connection_finds_what_was_stored(rt: HostRuntime) {
     ] {
         let mut tape = Tape::new(script, &[], 5000, None);
         let mut page: Page<512> = Page::new(512, Refusal::Fails, None, None);
-        same(&rt, serve(rt.alloc(), &mut house, &mut tape, &mut page), end);
+        same(
+            &rt,
+            serve(rt.alloc(), &mut house, &mut tape, &mut page),
+            end,
+        );
         same(&rt, page.bytes(), replies);
     }
 }
@@ -336,7 +344,11 @@ fn flushes_of(rt: &impl Abort, alloc: Global, step: Option<usize>) -> u64 {
     });
     let mut sink = Writes::new(Hears { talk: &talk });
     let mut house = House::new(alloc);
-    same(rt, serve(alloc, &mut house, &mut source, &mut sink), End::Quit);
+    same(
+        rt,
+        serve(alloc, &mut house, &mut source, &mut sink),
+        End::Quit,
+    );
     talk.flushes.get()
 }
 

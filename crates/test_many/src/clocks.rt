@@ -43,7 +43,11 @@ fn a_silent_client_is_closed(rt: HostRuntime) -> Result<(), Fail> {
     };
     let ending = play(alloc, &mut stage, limits)?;
     same(&rt, ending, Ending::Done);
-    same(&rt, stage.asked(), b".a0a1r0r1w0:r0r1:r1:r1:r1:r1:r1c0I:r1:c1I".as_slice());
+    same(
+        &rt,
+        stage.asked(),
+        b".a0a1r0r1w0:r0r1:r1:r1:r1:r1:r1c0I:r1:c1I".as_slice(),
+    );
     Ok(())
 }
 

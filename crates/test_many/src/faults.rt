@@ -27,7 +27,11 @@ fn writes_cut_at_each_byte(rt: HostRuntime) -> Result<(), Fail> {
         same(&rt, ending, Ending::Done);
         same(&rt, stage.scripts.len(), 2);
         same_at(&rt, stage.scripts[0].page.bytes(), TEXT, ("cut at", place));
-        same(&rt, stage.scripts[1].page.bytes(), b"ERR AUTH\nBYE\n".as_slice());
+        same(
+            &rt,
+            stage.scripts[1].page.bytes(),
+            b"ERR AUTH\nBYE\n".as_slice(),
+        );
     }
     Ok(())
 }
@@ -68,7 +72,12 @@ fn reads_that_fail_at_each_byte(rt: HostRuntime) -> Result<(), Fail> {
         let ending = play(alloc, &mut stage, limits(2, 2))?;
         same(&rt, ending, Ending::Done);
         same(&rt, stage.scripts.len(), 2);
-        same_at(&rt, stage.scripts[0].page.bytes(), text, ("fault at", place));
+        same_at(
+            &rt,
+            stage.scripts[0].page.bytes(),
+            text,
+            ("fault at", place),
+        );
         same(&rt, stage.scripts[1].page.bytes().len(), TEXT.len());
     }
     Ok(())
@@ -86,7 +95,11 @@ fn one_after_another(rt: HostRuntime) -> Result<(), Fail> {
     let mut stage = stage(alloc, &parts)?;
     let ending = play(alloc, &mut stage, limits(1, 3))?;
     same(&rt, ending, Ending::Done);
-    same(&rt, stage.asked(), b".a0r0w0c0Q.a1r1c1F.a2r2w2|r2c2E".as_slice());
+    same(
+        &rt,
+        stage.asked(),
+        b".a0r0w0c0Q.a1r1c1F.a2r2w2|r2c2E".as_slice(),
+    );
     Ok(())
 }
 

@@ -70,10 +70,17 @@ fn two_clients_share_a_sync(rt: HostRuntime) -> Result<(), Fail> {
     same(&rt, ending, Ending::Done);
     same(&rt, stage.asked(), b".a0a1r0r1ksw0c0Qw1c1Q".as_slice());
     let text = stage.journal.as_slice();
-    holds(&rt, has_records(text, &[b"alice J1S a 1", b"bob JLI b 7 8"]));
+    holds(
+        &rt,
+        has_records(text, &[b"alice J1S a 1", b"bob JLI b 7 8"]),
+    );
     same(&rt, count(text, b"# 2 "), 1);
     same(&rt, stage.scripts.len(), 2);
-    same(&rt, stage.scripts[0].page.bytes(), b"OK\n1\nBYE\n".as_slice());
+    same(
+        &rt,
+        stage.scripts[0].page.bytes(),
+        b"OK\n1\nBYE\n".as_slice(),
+    );
     Ok(())
 }
 
@@ -89,7 +96,11 @@ fn only_changes_are_recorded(rt: HostRuntime) -> Result<(), Fail> {
     let ending = play_with(alloc, &mut stage, journaled(1, Sync::Round), 0)?;
     same(&rt, ending, Ending::Done);
     same(&rt, stage.scripts.len(), 1);
-    same(&rt, stage.scripts[0].page.bytes(), b"ERR AUTH\nOK\n1\n1\nFULL\n1\nERR SYNTAX\n1\n0\nBYE\n".as_slice());
+    same(
+        &rt,
+        stage.scripts[0].page.bytes(),
+        b"ERR AUTH\nOK\n1\n1\nFULL\n1\nERR SYNTAX\n1\n0\nBYE\n".as_slice(),
+    );
     let records: [&[u8]; 4] = [
         b"alice J1S a 1",
         b"alice J1S a 2",
@@ -152,7 +163,11 @@ fn a_full_segment_is_followed_by_the_next(rt: HostRuntime) -> Result<(), Fail> {
     let ending = play_with(alloc, &mut stage, journaled(1, Sync::Never), SEGMENT_LIMIT)?;
     same(&rt, ending, Ending::Done);
     same(&rt, stage.asked(), b".a0r0ksbksw0|r0kw0c0Q".as_slice());
-    same(&rt, count(stage.journal.as_slice(), b"judyd journal 1 2 "), 1);
+    same(
+        &rt,
+        count(stage.journal.as_slice(), b"judyd journal 1 2 "),
+        1,
+    );
     for place in 0..5usize {
         let mut failing = crate::theatre::stage(alloc, &parts)?;
         failing.fails_at = place;
@@ -228,7 +243,11 @@ fn records_beyond_one_commit(rt: HostRuntime) -> Result<(), Fail> {
     let mut stage = stage(alloc, &parts)?;
     let ending = play_with(alloc, &mut stage, journaled(5, Sync::Round), 0)?;
     same(&rt, ending, Ending::Done);
-    same(&rt, stage.asked(), b".a0a1a2a3a4r0r1r2r3kr4ksw0c0Qw1c1Qw2c2Qw3w4c4Q.ksw3c3Q".as_slice());
+    same(
+        &rt,
+        stage.asked(),
+        b".a0a1a2a3a4r0r1r2r3kr4ksw0c0Qw1c1Qw2c2Qw3w4c4Q.ksw3c3Q".as_slice(),
+    );
     let text = stage.journal.as_slice();
     same(&rt, count(text, b"bob J1S a 1"), 1500);
     same(&rt, count(text, b"# "), 3);

@@ -33,7 +33,11 @@ fn a_tenant_that_is_gone_is_closed(rt: HostRuntime) -> Result<(), Fail> {
     same(&rt, ending, Ending::Done);
     same(&rt, stage.asked(), b".a0r0w0^tc0G-".as_slice());
     same(&rt, stage.reported.as_slice(), b"OK\n".as_slice());
-    same(&rt, stage.warned.as_slice(), b"table read again: 1 tenant\n".as_slice());
+    same(
+        &rt,
+        stage.warned.as_slice(),
+        b"table read again: 1 tenant\n".as_slice(),
+    );
     Ok(())
 }
 

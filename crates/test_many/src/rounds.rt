@@ -21,7 +21,11 @@ fn turns_go_by_readiness_in_two_halves(rt: HostRuntime) -> Result<(), Fail> {
     stage.order = &order;
     let ending = play(alloc, &mut stage, limits(3, 3))?;
     same(&rt, ending, Ending::Done);
-    same(&rt, stage.asked(), b".a0a1a2r0r1r2w0w1w2|r2r0r1w2c2Qw0c0Qw1c1Q".as_slice());
+    same(
+        &rt,
+        stage.asked(),
+        b".a0a1a2r0r1r2w0w1w2|r2r0r1w2c2Qw0c0Qw1c1Q".as_slice(),
+    );
     Ok(())
 }
 
@@ -53,10 +57,13 @@ fn nobody_has_a_second_turn_first(rt: HostRuntime) -> Result<(), Fail> {
     stage.order = &order;
     let ending = play(alloc, &mut stage, limits(3, 3))?;
     same(&rt, ending, Ending::Done);
-    holds(&rt, begin_with(
+    holds(
+        &rt,
+        begin_with(
             stage.asked(),
-            b".a0a1a2r0r1r2w0w1w2.r1r2w0w1w2.r2r1w0w2w1.r1c1Er2c2E"
-        ));
+            b".a0a1a2r0r1r2w0w1w2.r1r2w0w1w2.r2r1w0w2w1.r1c1Er2c2E",
+        ),
+    );
     Ok(())
 }
 
@@ -79,8 +86,16 @@ fn a_full_output_waits(rt: HostRuntime) -> Result<(), Fail> {
     same(&rt, ending, Ending::Done);
     same(&rt, stage.scripts.len(), 2);
     same(&rt, stage.scripts[0].page.bytes().len(), 2000 * 11);
-    same(&rt, stage.scripts[1].page.bytes(), b"ERR AUTH\nBYE\n".as_slice());
-    same(&rt, stage.asked(), b".a0a1r0r1w0w1c1Q|w0|w0.w0.r0c0E".as_slice());
+    same(
+        &rt,
+        stage.scripts[1].page.bytes(),
+        b"ERR AUTH\nBYE\n".as_slice(),
+    );
+    same(
+        &rt,
+        stage.asked(),
+        b".a0a1r0r1w0w1c1Q|w0|w0.w0.r0c0E".as_slice(),
+    );
     Ok(())
 }
 
@@ -102,6 +117,10 @@ fn a_blocked_client_is_not_read(rt: HostRuntime) -> Result<(), Fail> {
     same(&rt, ending, Ending::Done);
     same(&rt, stage.asked(), b".a0r0w0|w0.r0w0|r0c0E".as_slice());
     same(&rt, stage.scripts.len(), 1);
-    same(&rt, stage.scripts[0].page.bytes(), b"ERR AUTH\nERR AUTH\n".as_slice());
+    same(
+        &rt,
+        stage.scripts[0].page.bytes(),
+        b"ERR AUTH\nERR AUTH\n".as_slice(),
+    );
     Ok(())
 }

@@ -81,7 +81,15 @@ fn a_log_in_is_the_connections_own(rt: HostRuntime) -> Result<(), Fail> {
     let ending = play(alloc, &mut stage, limits(2, 2))?;
     same(&rt, ending, Ending::Done);
     same(&rt, stage.scripts.len(), 2);
-    same(&rt, stage.scripts[0].page.bytes(), b"OK\n1\nBYE\n".as_slice());
-    same(&rt, stage.scripts[1].page.bytes(), b"ERR AUTH\nERR AUTH\nERR AUTH\nBYE\n".as_slice());
+    same(
+        &rt,
+        stage.scripts[0].page.bytes(),
+        b"OK\n1\nBYE\n".as_slice(),
+    );
+    same(
+        &rt,
+        stage.scripts[1].page.bytes(),
+        b"ERR AUTH\nERR AUTH\nERR AUTH\nBYE\n".as_slice(),
+    );
     Ok(())
 }

@@ -5,8 +5,15 @@ use std::process::Abort;
 use std::test::Fail;
 use test_checks::same;
 
-// Appends `count` lines `J1S a i`, where i begins at `from` and grows by `step`, and the reply `1`
-// for each.
+// Appends the line `J1S a index`, and the reply `1`.
+fn set_one(alloc: Global, script: &mut String, want: &mut String, index: u64) -> Result<(), Fail> {
+    let line = format!(in alloc; "J1S a {index}\n")?;
+    script.push_str(line.as_str())?;
+    want.push_str("1\n")?;
+    Ok(())
+}
+
+// Appends `count` such lines, where the index begins at `from` and grows by `step`.
 fn set_all(
     alloc: Global,
     script: &mut String,
@@ -17,9 +24,7 @@ fn set_all(
 ) -> Result<(), Fail> {
     let mut index = from;
     for _ in 0..count {
-        let line = format!(in alloc; "J1S a {index}\n")?;
-        script.push_str(line.as_str())?;
-        want.push_str("1\n")?;
+        set_one(alloc, script, want, index)?;
         index = index.saturating_add(step);
     }
     Ok(())

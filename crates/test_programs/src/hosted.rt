@@ -541,7 +541,11 @@ fn run_drawn(
     let mut page: Page<256> = Page::new(256, Refusal::Fails, None, None);
     let job = Job::Run { words: false };
     let ended = do_job_on::<Sha256Hash, _, _, _>(alloc, &job, &mut tape, &mut page, &mut system);
-    same(rt, (ended.0, ended.1, page.bytes()), (status, line, replies));
+    same(
+        rt,
+        (ended.0, ended.1, page.bytes()),
+        (status, line, replies),
+    );
     let counts = Counts {
         drawn: 1,
         ..NOTHING

@@ -148,7 +148,11 @@ fn a_run(rt: HostRuntime) -> Result<(), Fail> {
 fn open(rt: &impl Abort, alloc: Global) -> Result<Tenants, Fail> {
     match Tenants::open(alloc, b"secret", TABLE.as_bytes()) {
         Ok(tenants) => return Ok(tenants),
-        Err(why) => holds_at(rt, why == Unopened::Memory || why == Unopened::Table(TableFault::Memory), why),
+        Err(why) => holds_at(
+            rt,
+            why == Unopened::Memory || why == Unopened::Table(TableFault::Memory),
+            why,
+        ),
     }
     match Tenants::open(alloc, b"secret", TABLE.as_bytes()) {
         Ok(tenants) => Ok(tenants),

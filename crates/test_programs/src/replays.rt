@@ -261,7 +261,11 @@ fn random_lines(rt: HostRuntime) -> Result<(), Fail> {
     holds_at(&rt, kept > 150, ("few lines are recorded", kept));
     holds_at(&rt, kept < 290, ("no line is refused", kept));
     let mut restored = open(alloc, LATER)?;
-    same(&rt, play_all(alloc, &mut restored, records.as_str()), Ok(()));
+    same(
+        &rt,
+        play_all(alloc, &mut restored, records.as_str()),
+        Ok(()),
+    );
     compare_all(&rt, alloc, &mut service, &mut restored)
 }
 
@@ -290,7 +294,11 @@ fn halts(rt: HostRuntime) -> Result<(), Fail> {
     let mut service = open(alloc, LATER)?;
     let text = "bob J1S a 1\nbob J1S a 2\neve J1S a 3\nbob J1S a 4\n";
     let why = Unplayed::Tenant;
-    same(&rt, play_all(alloc, &mut service, text), Err(Halt { played: 2, why }));
+    same(
+        &rt,
+        play_all(alloc, &mut service, text),
+        Err(Halt { played: 2, why }),
+    );
     let mut answer = ArrayVec::new();
     ask(alloc, &mut service, "bob", "J1C a 0 -1", &mut answer)?;
     same(&rt, answer.as_slice(), b"N 2\n".as_slice());

@@ -52,7 +52,11 @@ pub fn check(
     let mut tape = Tape::new(whole.as_str().as_bytes(), &[], 4096, None);
     let mut page: Page<4096> = Page::new(4096, Refusal::Fails, None, None);
     let ran = run(alloc, &mut tape, &mut page, words);
-    holds_at(rt, matches!(ran, Ran::Served(End::End | End::Quit)), (name, "is not served", ran));
+    holds_at(
+        rt,
+        matches!(ran, Ran::Served(End::End | End::Quit)),
+        (name, "is not served", ran),
+    );
     same_at(rt, page.bytes(), want.as_bytes(), name);
     Ok(())
 }

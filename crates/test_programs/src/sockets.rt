@@ -140,7 +140,11 @@ fn clients_that_leave(rt: HostRuntime) -> Result<(), Fail> {
     let mut three = client(&rt, path, b"AUTH alice abc\nJ1T a 7\nQUIT\n", true)?;
     let limits = limits(3, None, None);
     serve_all(&rt, rt.alloc(), &mut system, limits, Ending::Done)?;
-    same(&rt, io::read_to_string(rt.alloc(), &mut three)?.as_str(), "OK\n0\nBYE\n");
+    same(
+        &rt,
+        io::read_to_string(rt.alloc(), &mut three)?.as_str(),
+        "OK\n0\nBYE\n",
+    );
     fs::remove_file(&rt, path)?;
     Ok(())
 }

@@ -59,7 +59,12 @@ fn faulty_tables(rt: HostRuntime) -> Result<(), Fail> {
 #[test]
 fn tables_without_their_end(rt: HostRuntime) {
     for table in [TABLE, "", "---"] {
-        same_at(&rt, run_bytes(rt.alloc(), table.as_bytes()), Ran::Cut, table);
+        same_at(
+            &rt,
+            run_bytes(rt.alloc(), table.as_bytes()),
+            Ran::Cut,
+            table,
+        );
     }
 }
 
@@ -128,7 +133,12 @@ fn check_parts(rt: &impl Abort, alloc: Global, tape: &mut Tape<'_>, name: usize)
     let mut page: Page<64> = Page::new(64, Refusal::Fails, None, None);
     let ran = run(alloc, tape, &mut page, false);
     same_at(rt, ran, Ran::Served(End::End), name);
-    same_at(rt, page.bytes(), b"OK\n1\nERR SYNTAX\nERR SYNTAX\nQ 1 4 1 504\n".as_slice(), name);
+    same_at(
+        rt,
+        page.bytes(),
+        b"OK\n1\nERR SYNTAX\nERR SYNTAX\nQ 1 4 1 504\n".as_slice(),
+        name,
+    );
 }
 
 // An input that is cut at each place, and one of which each read takes a byte.

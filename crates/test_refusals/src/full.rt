@@ -86,7 +86,11 @@ pub(crate) fn arena_with(
     holds(rt, count <= places.len());
     take_all(rt, alloc, &mut arena, &mut places[..count], sizes)?;
     fill(alloc, &mut arena)?;
-    holds_at(rt, !arena.spare(4) && arena.region() == CHUNK, "a full chunk");
+    holds_at(
+        rt,
+        !arena.spare(4) && arena.region() == CHUNK,
+        "a full chunk",
+    );
     for block in places.iter().flatten() {
         holds(rt, 0 < arena.size(*block));
         arena.release(*block);

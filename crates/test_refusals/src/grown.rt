@@ -181,10 +181,18 @@ fn all_words(arena: &Arena) -> u64 {
 /// Checks that the first `count` entries are present as they were inserted, and no others.
 fn reads<G: Grown>(rt: &impl Abort, grown: &G, trial: Trial, count: u64, given: usize) {
     for number in 0..count {
-        holds_at(rt, grown.has(number), (trial, "given", given, "entry", number));
+        holds_at(
+            rt,
+            grown.has(number),
+            (trial, "given", given, "entry", number),
+        );
     }
     if count == trial.before {
-        holds_at(rt, !grown.has(count), (trial, "given", given, "a refused entry is there"));
+        holds_at(
+            rt,
+            !grown.has(count),
+            (trial, "given", given, "a refused entry is there"),
+        );
     }
     if let Some(population) = grown.population() {
         same_at(rt, population, count, (trial, "given", given, "entries"));
@@ -206,15 +214,33 @@ fn insert_given<G: Grown>(rt: &impl Abort, alloc: Global, trial: Trial, given: u
     let mut answer = grown.put(alloc, trial.before);
     if answer.is_err() {
         holds_at(rt, given < sizes.len(), (trial, "given", given, "refused"));
-        same_at(rt, grown.arena().live_words(), words, (trial, "given", given, "words"));
-        same_at(rt, all_words(grown.arena()), blocks, (trial, "given", given, "the words of all blocks"));
+        same_at(
+            rt,
+            grown.arena().live_words(),
+            words,
+            (trial, "given", given, "words"),
+        );
+        same_at(
+            rt,
+            all_words(grown.arena()),
+            blocks,
+            (trial, "given", given, "the words of all blocks"),
+        );
         same(rt, grown.arena().refusals(), refusals.saturating_add(1));
         same(rt, grown.arena().region(), CHUNK);
         reads(rt, &grown, trial, trial.before, given);
         answer = grown.put(alloc, trial.before);
     }
-    holds_at(rt, answer == Ok(true), (trial, "given", given, "not put in"));
-    holds_at(rt, (grown.arena().region() > CHUNK) == (given < sizes.len()), (trial, "given", given, "the machine is asked"));
+    holds_at(
+        rt,
+        answer == Ok(true),
+        (trial, "given", given, "not put in"),
+    );
+    holds_at(
+        rt,
+        (grown.arena().region() > CHUNK) == (given < sizes.len()),
+        (trial, "given", given, "the machine is asked"),
+    );
     reads(rt, &grown, trial, trial.before.saturating_add(1), given);
 }
 

@@ -156,7 +156,11 @@ fn look<'a>(
     match found {
         Some(value) => Reply::ValueKey(value, Key::of(buffer.as_slice())),
         None => {
-            holds_at(rt, buffer.is_empty(), "what an empty answer leaves in the buffer");
+            holds_at(
+                rt,
+                buffer.is_empty(),
+                "what an empty answer leaves in the buffer",
+            );
             Reply::Null
         }
     }

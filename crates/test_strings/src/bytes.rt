@@ -59,7 +59,11 @@ fn put<H: KeyHash>(
     }
     same_at(rt, arena.live_words(), words, "words after a refusal");
     same(rt, arena.refusals(), refusals.saturating_add(1));
-    holds_at(rt, map.reference() == reference, "the reference after a refusal");
+    holds_at(
+        rt,
+        map.reference() == reference,
+        "the reference after a refusal",
+    );
     same_at(rt, map.get(arena, key), None, "a refused key is there");
     let answer = map.insert(alloc, arena, key, given)?;
     Ok(answer.before)
@@ -96,7 +100,12 @@ fn thousand<H: KeyHash>(rt: &impl Abort, alloc: Global, hash: H) -> Result<(), N
     }
     for i in 0..1000u32 {
         let key = (i * 7 % 1000).to_be_bytes();
-        same_at(rt, map.get(&arena, &key), Some(u64::from(i * 7 % 1000) + 7), ("get before delete", i));
+        same_at(
+            rt,
+            map.get(&arena, &key),
+            Some(u64::from(i * 7 % 1000) + 7),
+            ("get before delete", i),
+        );
         holds_at(rt, map.delete(&mut arena, &key), ("delete", i));
         holds_at(rt, !map.delete(&mut arena, &key), ("delete", i, "twice"));
         same_at(rt, map.get(&arena, &key), None, ("get after delete", i));
@@ -129,8 +138,16 @@ fn row<H: KeyHash>(rt: &impl Abort, alloc: Global, hash: H) -> Result<(), NoMemo
     let mut arena = Arena::new(alloc);
     let mut map = JudyHS::new(hash);
     let empty: [u8; 0] = [];
-    same(rt, put(rt, alloc, &mut arena, &mut map, &empty, Given::Value(1))?, None);
-    same(rt, put(rt, alloc, &mut arena, &mut map, &[0], Given::Plus(2))?, None);
+    same(
+        rt,
+        put(rt, alloc, &mut arena, &mut map, &empty, Given::Value(1))?,
+        None,
+    );
+    same(
+        rt,
+        put(rt, alloc, &mut arena, &mut map, &[0], Given::Plus(2))?,
+        None,
+    );
     same(rt, map.get(&arena, &empty), Some(1));
     same(rt, map.get(&arena, &[0, 0]), None);
     holds(rt, map.delete(&mut arena, &empty));
@@ -167,23 +184,35 @@ fn a_chain_of_two(rt: HostRuntime) -> Result<(), Fail> {
     let one = [1; 1000];
     let mut two = [1; 1000];
     two[999] = 2;
-    same(&rt, put(
+    same(
+        &rt,
+        put(
             &rt,
             rt.alloc(),
             &mut arena,
             &mut map,
             &one,
-            Given::Value(10)
-        )?, None);
-    same(&rt, put(
+            Given::Value(10),
+        )?,
+        None,
+    );
+    same(
+        &rt,
+        put(
             &rt,
             rt.alloc(),
             &mut arena,
             &mut map,
             &two,
-            Given::Value(20)
-        )?, None);
-    same(&rt, put(&rt, rt.alloc(), &mut arena, &mut map, &one, Given::Nothing)?, Some(10));
+            Given::Value(20),
+        )?,
+        None,
+    );
+    same(
+        &rt,
+        put(&rt, rt.alloc(), &mut arena, &mut map, &one, Given::Nothing)?,
+        Some(10),
+    );
     same(&rt, map.get(&arena, &two), Some(20));
     same(&rt, map.get(&arena, &one[..992]), None);
     holds(&rt, map.delete(&mut arena, &two));

@@ -38,7 +38,12 @@ fn shows(
 
 // The result of the C calls for an insertion: the value before, 0 for a new string.
 fn puts(rt: &impl Abort, alloc: Global, map: &mut Held, key: &[u8], value: u64) {
-    same_at(rt, map.insert(rt, alloc, key, Given::Value(value)), None, value);
+    same_at(
+        rt,
+        map.insert(rt, alloc, key, Given::Value(value)),
+        None,
+        value,
+    );
 }
 
 #[test]
@@ -107,16 +112,26 @@ fn searches_between_strings(rt: HostRuntime) -> Result<(), Fail> {
     shows(&rt, found, &buffer, Some(4), b"abcdefg");
     let found = map.prev(&rt, b"abcdefg", &mut buffer);
     shows(&rt, found, &buffer, None, b"");
-    same(&rt, map.insert(&rt, rt.alloc(), b"b", Given::Nothing), Some(1));
+    same(
+        &rt,
+        map.insert(&rt, rt.alloc(), b"b", Given::Nothing),
+        Some(1),
+    );
     Ok(())
 }
 
 #[test]
 fn suffixes(rt: HostRuntime) -> Result<(), Fail> {
     let mut map = Held::new(rt.alloc());
-    holds(&rt, map.insert(&rt, rt.alloc(), A, Given::Value(1)).is_none());
+    holds(
+        &rt,
+        map.insert(&rt, rt.alloc(), A, Given::Value(1)).is_none(),
+    );
     holds(&rt, map.live_words() == 8);
-    holds(&rt, map.insert(&rt, rt.alloc(), B, Given::Plus(2)).is_none());
+    holds(
+        &rt,
+        map.insert(&rt, rt.alloc(), B, Given::Plus(2)).is_none(),
+    );
     holds(&rt, map.live_words() == 20);
     map.write(&rt, A, 3);
     same(&rt, map.get(&rt, A), Some(3));
@@ -146,8 +161,12 @@ fn lengths(rt: HostRuntime) -> Result<(), Fail> {
     let mut map = Held::new(rt.alloc());
     for n in LENGTHS {
         let key = of_length(&letters, n);
-        holds_at(&rt, map.insert(&rt, rt.alloc(), key, Given::Value(n as u64))
-                .is_none(), n);
+        holds_at(
+            &rt,
+            map.insert(&rt, rt.alloc(), key, Given::Value(n as u64))
+                .is_none(),
+            n,
+        );
     }
     let mut buffer = ArrayVec::new();
     for i in 0..6usize {
@@ -173,8 +192,14 @@ fn a_split_three_words_deep(rt: HostRuntime) -> Result<(), Fail> {
     let mut map = Held::new(rt.alloc());
     let one = b"aaaaaaaabbbbbbbbccccccccddddddddeeeeeeee";
     let two = b"aaaaaaaabbbbbbbbccccccccffffffffgggggggg";
-    holds(&rt, map.insert(&rt, rt.alloc(), one, Given::Value(1)).is_none());
-    holds(&rt, map.insert(&rt, rt.alloc(), two, Given::Value(2)).is_none());
+    holds(
+        &rt,
+        map.insert(&rt, rt.alloc(), one, Given::Value(1)).is_none(),
+    );
+    holds(
+        &rt,
+        map.insert(&rt, rt.alloc(), two, Given::Value(2)).is_none(),
+    );
     same(&rt, map.get(&rt, one), Some(1));
     same(&rt, map.get(&rt, two), Some(2));
     same(&rt, map.clear(), 2);

@@ -194,7 +194,11 @@ fn five_thousand_calls(rt: HostRuntime) -> Result<(), Fail> {
         } else {
             both_strings(&rt, alloc, &mut arrays, &mut store, seed)?;
         }
-        holds_at(&rt, u128::from(arrays.live_words()) <= 16 * u128::from(store.pieces()), ("words after call", i));
+        holds_at(
+            &rt,
+            u128::from(arrays.live_words()) <= 16 * u128::from(store.pieces()),
+            ("words after call", i),
+        );
     }
     for which in [Which::First, Which::Second] {
         let _ = try_strings(&rt, alloc, &mut arrays, which, &StrCall::Free)?;

@@ -88,13 +88,21 @@ impl House {
 
     /// How many entries a tenant has.
     pub(crate) fn used(&self, rt: &impl Abort, speaker: &Speaker) -> u64 {
-        holds_at(rt, self.service.has(speaker.tenant), "a tenant of another table");
+        holds_at(
+            rt,
+            self.service.has(speaker.tenant),
+            "a tenant of another table",
+        );
         self.service.used(speaker.tenant)
     }
 
     /// How many pieces a tenant's entries have.
     pub(crate) fn pieces(&self, rt: &impl Abort, speaker: &Speaker) -> u64 {
-        holds_at(rt, self.service.has(speaker.tenant), "a tenant of another table");
+        holds_at(
+            rt,
+            self.service.has(speaker.tenant),
+            "a tenant of another table",
+        );
         self.service.pieces(speaker.tenant)
     }
 
@@ -118,7 +126,11 @@ impl House {
 
     fn call(&mut self, rt: &impl Abort, speaker: &Speaker, call: &Call<'_>) -> OwnedReply {
         holds_at(rt, is_callable(call), "a byte 0 in a string");
-        holds_at(rt, self.service.has(speaker.tenant), "a tenant of another table");
+        holds_at(
+            rt,
+            self.service.has(speaker.tenant),
+            "a tenant of another table",
+        );
         let mut found = ArrayVec::new();
         let reply = self.service.call(self.alloc, *speaker, call, &mut found);
         OwnedReply::of(&reply)
@@ -167,7 +179,11 @@ impl House {
         replies: &mut [OwnedReply],
     ) {
         same(rt, replies.len(), events.len());
-        holds_at(rt, self.service.can_answer(events), "calls that it can answer");
+        holds_at(
+            rt,
+            self.service.can_answer(events),
+            "calls that it can answer",
+        );
         let mut refused = self.refused();
         self.service.replay(self.alloc, events, replies);
         for reply in replies.iter() {

@@ -87,7 +87,12 @@ impl Pair {
             let single = self.tenants[place].ask(rt, self.alloc, &mut self.in_turn, speaker, call)?;
             same_at(rt, reply.reply(), single.reply(), (call, "of", speaker));
         }
-        same_at(rt, Some(self.at_once.refused()), before.checked_add(memories), "refusals");
+        same_at(
+            rt,
+            Some(self.at_once.refused()),
+            before.checked_add(memories),
+            "refusals",
+        );
         self.compare(rt);
         Ok(())
     }
@@ -95,7 +100,12 @@ impl Pair {
     /// Checks that both services have the same words, and that each tenant has the same numbers of
     /// entries and pieces in both.
     fn compare(&self, rt: &impl Abort) {
-        same_at(rt, self.at_once.live_words(), self.in_turn.live_words(), "words");
+        same_at(
+            rt,
+            self.at_once.live_words(),
+            self.in_turn.live_words(),
+            "words",
+        );
         for tenant in &self.tenants {
             tenant.compare(rt, &self.at_once);
         }

@@ -104,7 +104,11 @@ fn no_memory_for_a_counter_in<R: Abort + Print>(rt: &R, house: &mut House) -> Re
         same(rt, house.ask(rt, &alice, &get).reply(), Reply::Null);
         same(rt, house.try_ask(rt, &alice, &add).reply(), Reply::Value(5));
     }
-    same(rt, house.try_ask(rt, &alice, &add).reply(), Reply::Value(10));
+    same(
+        rt,
+        house.try_ask(rt, &alice, &add).reply(),
+        Reply::Value(10),
+    );
     Ok(())
 }
 

@@ -58,7 +58,12 @@ fn text_of(header: &str, digest: &str, quota: &str) -> Result<ArrayString<256>, 
 fn faulty_tables(rt: HostRuntime) -> Result<(), Fail> {
     for (place, (header, digest, quota, want)) in FAULTY.iter().enumerate() {
         let text = text_of(header, digest, quota)?;
-        same_at(&rt, answer(rt.alloc(), text.as_bytes()), *want, ("row", place));
+        same_at(
+            &rt,
+            answer(rt.alloc(), text.as_bytes()),
+            *want,
+            ("row", place),
+        );
     }
     Ok(())
 }
@@ -83,7 +88,12 @@ fn spelled(line: &str) -> Result<ArrayString<512>, Fail> {
 fn compare(rt: &impl Abort, alloc: Global, rows: &[Row]) -> Result<(), Fail> {
     for (place, (line, want)) in rows.iter().enumerate() {
         let text = spelled(line)?;
-        same_at(rt, answer(alloc, text.as_bytes()), *want, ("row", place, line));
+        same_at(
+            rt,
+            answer(alloc, text.as_bytes()),
+            *want,
+            ("row", place, line),
+        );
     }
     Ok(())
 }
@@ -281,7 +291,11 @@ fn many_tenants(rt: HostRuntime) -> Result<(), Fail> {
     let most = many(64)?;
     same(&rt, answer(rt.alloc(), most.as_bytes()), Ok(64));
     let more = many(65)?;
-    same(&rt, answer(rt.alloc(), more.as_bytes()), Err(TableFault::Count));
+    same(
+        &rt,
+        answer(rt.alloc(), more.as_bytes()),
+        Err(TableFault::Count),
+    );
     Ok(())
 }
 
@@ -407,7 +421,10 @@ fn speakers_after_another_table(rt: HostRuntime) -> Result<(), Fail> {
     let alice = first.login(b"alice", b"abc").ok_or("alice")?;
     let reader = first.login(b"alice", b"hello").ok_or("alice reads")?;
     let bob = first.login(b"bob", b"hello").ok_or("bob")?;
-    holds(&rt, first.knows(alice) && first.knows(reader) && first.knows(bob));
+    holds(
+        &rt,
+        first.knows(alice) && first.knows(reader) && first.knows(bob),
+    );
     let second = seated(a, &first, &table_of(a, &["alice"])?)?;
     holds(&rt, second.knows(alice));
     holds_at(&rt, !second.knows(reader), "no token to look");
@@ -468,7 +485,11 @@ fn two_equal_digests_may_change(rt: HostRuntime) -> Result<(), Fail> {
         "[alice]\nsha256 = \"{ABC}\"\nread_sha256 = \"{ABC}\"\nquota = 4\n"
     )?;
     let table = parse(rt.alloc(), text.as_bytes())?;
-    same(&rt, login(&table, b"alice", b"abc"), Some((0, Right::Change)));
+    same(
+        &rt,
+        login(&table, b"alice", b"abc"),
+        Some((0, Right::Change)),
+    );
     Ok(())
 }
 

@@ -106,8 +106,18 @@ impl Tenant {
 
     /// Checks that the service and the plain store have the same numbers of entries and pieces.
     pub(crate) fn compare(&self, rt: &impl Abort, house: &House) {
-        same_at(rt, house.used(rt, &self.speaker), self.store.used(), "entries");
-        same_at(rt, house.pieces(rt, &self.speaker), self.store.pieces(), "pieces");
+        same_at(
+            rt,
+            house.used(rt, &self.speaker),
+            self.store.used(),
+            "entries",
+        );
+        same_at(
+            rt,
+            house.pieces(rt, &self.speaker),
+            self.store.pieces(),
+            "pieces",
+        );
     }
 
     /// The speaker: now and then the read-only one, if there is such a token.
@@ -166,7 +176,11 @@ fn compare_words(rt: &impl Abort, house: &House, tenants: &[Tenant]) {
         tenant.compare(rt, house);
         pieces = pieces.saturating_add(u128::from(tenant.store.pieces()));
     }
-    holds_at(rt, u128::from(house.live_words()) <= pieces.saturating_mul(16), "words");
+    holds_at(
+        rt,
+        u128::from(house.live_words()) <= pieces.saturating_mul(16),
+        "words",
+    );
 }
 
 /// The five tenants of the table, which have no entry.

@@ -50,7 +50,12 @@ pub(crate) fn one(
     call: OneCall,
     want: Reply<'_>,
 ) -> Result<(), NoMemory> {
-    same_at(rt, ask_set(rt, alloc, arrays, Which::First, call)?, want, call);
+    same_at(
+        rt,
+        ask_set(rt, alloc, arrays, Which::First, call)?,
+        want,
+        call,
+    );
     Ok(())
 }
 
@@ -62,6 +67,11 @@ pub(crate) fn long(
     call: LongCall,
     want: Reply<'_>,
 ) -> Result<(), NoMemory> {
-    same_at(rt, ask_map(rt, alloc, arrays, Which::First, call)?, want, call);
+    same_at(
+        rt,
+        ask_map(rt, alloc, arrays, Which::First, call)?,
+        want,
+        call,
+    );
     Ok(())
 }

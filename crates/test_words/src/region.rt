@@ -40,7 +40,12 @@ fn series(rt: &impl Abort, alloc: Global, step: u64, places: &[(u64, u64)]) -> R
             let after = arrays.region();
             if after != before {
                 same_at(rt, after, before.saturating_add(512), ("entry", number));
-                same_at(rt, places.get(rises), Some(&(round, number)), ("step", step));
+                same_at(
+                    rt,
+                    places.get(rises),
+                    Some(&(round, number)),
+                    ("step", step),
+                );
                 rises = rises.saturating_add(1);
             }
         }

@@ -330,7 +330,12 @@ fn two_thousand_calls(rt: HostRuntime) -> Result<(), Fail> {
             .wrapping_mul(6_364_136_223_846_793_005)
             .wrapping_add(1_442_695_040_888_963_407);
         both(&rt, alloc, &mut arrays, &mut store, seed)?;
-        same_at(&rt, arrays.population(), u128::from(store.used()), ("entries after call", i));
+        same_at(
+            &rt,
+            arrays.population(),
+            u128::from(store.used()),
+            ("entries after call", i),
+        );
     }
     for which in [Which::First, Which::Second] {
         let _ = arrays.one(alloc, which, OneCall::Free)?;
@@ -365,9 +370,15 @@ fn insert_seven(
 fn a_map_by_hand(rt: HostRuntime) -> Result<(), Fail> {
     let mut arena = Arena::new(rt.alloc());
     let mut map = JudyL::new();
-    holds(&rt, insert_seven(&rt, rt.alloc(), &mut arena, &mut map)? == None);
+    holds(
+        &rt,
+        insert_seven(&rt, rt.alloc(), &mut arena, &mut map)? == None,
+    );
     map.write(&mut arena, 7, 9);
-    holds(&rt, map.insert(rt.alloc(), &mut arena, 7)?.before == Some(9));
+    holds(
+        &rt,
+        map.insert(rt.alloc(), &mut arena, 7)?.before == Some(9),
+    );
     let again = JudyL::from_reference(map.reference());
     same(&rt, again.get(&arena, 7), Some(9));
     same(&rt, again.population(&arena), 1);

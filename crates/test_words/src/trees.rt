@@ -92,7 +92,10 @@ fn a_map_of_one_leaf_grows_and_shrinks(rt: HostRuntime) -> Result<(), Fail> {
     for (wanted, words) in up {
         for _ in 0..256u64 {
             if count < wanted {
-                holds(&rt, put_value(&rt, rt.alloc(), &mut map, count, count ^ 255));
+                holds(
+                    &rt,
+                    put_value(&rt, rt.alloc(), &mut map, count, count ^ 255),
+                );
                 count = count.wrapping_add(1);
             }
         }
@@ -191,7 +194,10 @@ fn shared_bytes_are_not_skipped_unseen(rt: HostRuntime) -> Result<(), Fail> {
 fn a_full_leaf_and_the_top_of_the_range(rt: HostRuntime) -> Result<(), Fail> {
     let mut set = HeldSet::new(rt.alloc());
     for byte in 0..256u64 {
-        holds(&rt, put(&rt, rt.alloc(), &mut set, u64::MAX.wrapping_sub(byte)));
+        holds(
+            &rt,
+            put(&rt, rt.alloc(), &mut set, u64::MAX.wrapping_sub(byte)),
+        );
     }
     same(&rt, set.population(), 256);
     same(&rt, set.words(), 8);
@@ -226,12 +232,19 @@ fn a_wide_branch(rt: HostRuntime) -> Result<(), Fail> {
 fn a_split_into_many_leaves(rt: HostRuntime) -> Result<(), Fail> {
     let mut set = HeldSet::new(rt.alloc());
     for byte in 0..32u64 {
-        holds(&rt, put(&rt, rt.alloc(), &mut set, byte.wrapping_mul(1 << 56)));
+        holds(
+            &rt,
+            put(&rt, rt.alloc(), &mut set, byte.wrapping_mul(1 << 56)),
+        );
     }
     same(&rt, set.words(), 64 + 32 * 4);
     for byte in 0..32u64 {
         same(&rt, set.get(byte.wrapping_mul(1 << 56)), Some(0));
-        same(&rt, set.get(byte.wrapping_mul(1 << 56).wrapping_add(1)), None);
+        same(
+            &rt,
+            set.get(byte.wrapping_mul(1 << 56).wrapping_add(1)),
+            None,
+        );
     }
     same(&rt, set.clear(), 32);
     same(&rt, set.words(), 0);

@@ -36,7 +36,11 @@ fn set_one_of_two(
     }
     same_at(rt, arena.live_words(), words, "words after a refusal");
     same(rt, arena.refusals(), refusals.saturating_add(1));
-    holds_at(rt, first.reference() == reference, "the reference after a refusal");
+    holds_at(
+        rt,
+        first.reference() == reference,
+        "the reference after a refusal",
+    );
     same(rt, first.population(arena), population);
     holds_at(rt, !first.test(arena, x), "a refused index is set");
     same_at(rt, second.population(arena), other, "the other set");
@@ -114,7 +118,12 @@ fn two_sets_in_one_arena(rt: HostRuntime) -> Result<(), Fail> {
             &mut in_first,
         )?;
         let many = in_first.iter().filter(|set| **set).count() as u64;
-        same_at(&rt, first.population(&arena), many, "indexes of the first set");
+        same_at(
+            &rt,
+            first.population(&arena),
+            many,
+            "indexes of the first set",
+        );
         let call = (seed >> 44) % 10;
         let place = ((seed >> 50) % 8) as usize;
         call_one_of_two(
@@ -128,7 +137,12 @@ fn two_sets_in_one_arena(rt: HostRuntime) -> Result<(), Fail> {
             &mut in_second,
         )?;
         let many = in_second.iter().filter(|set| **set).count() as u64;
-        same_at(&rt, second.population(&arena), many, "indexes of the second set");
+        same_at(
+            &rt,
+            second.population(&arena),
+            many,
+            "indexes of the second set",
+        );
     }
     first.clear(&mut arena);
     second.clear(&mut arena);
@@ -142,7 +156,10 @@ fn a_set_by_hand(rt: HostRuntime) -> Result<(), Fail> {
     let mut arena = Arena::new(rt.alloc());
     let mut set = Judy1::new();
     let other = Judy1::new();
-    holds(&rt, set_one_of_two(&rt, rt.alloc(), &mut arena, &mut set, other, 12)?);
+    holds(
+        &rt,
+        set_one_of_two(&rt, rt.alloc(), &mut arena, &mut set, other, 12)?,
+    );
     holds(&rt, !set.set(rt.alloc(), &mut arena, 12)?);
     let again = Judy1::from_reference(set.reference());
     holds(&rt, again.test(&arena, 12));
