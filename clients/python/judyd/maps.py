@@ -96,7 +96,10 @@ class MapBase(Many, MapCalls[K, bool, int, Optional[int]], Generic[K]):
         """Whether a mapping has the same entries. It reads all of them, in windows of many lines."""
         if self is other:
             return True
-        return self._entries() == dict(other.items()) if isinstance(other, Mapping) else NotImplemented
+        if not isinstance(other, Mapping):
+            return NotImplemented
+        is_same: bool = self._entries() == dict(other.items())
+        return is_same
 
     def __or__(self, other: Mapping[K, int]) -> Dict[K, int]:
         """A dict with the entries of both. Those of the other count where both have a key."""
@@ -105,7 +108,7 @@ class MapBase(Many, MapCalls[K, bool, int, Optional[int]], Generic[K]):
     def __ror__(self, other: Mapping[K, int]) -> Dict[K, int]:
         return {**dict(other.items()), **self._entries()} if isinstance(other, Mapping) else NotImplemented
 
-    def __ior__(self: M, entries: Union[Mapping[Any, int], Iterable[Tuple[Any, int]]]) -> M:
+    def __ior__(self: M, entries: Union[Mapping[Any, int], Iterable[Tuple[Any, int]]]) -> M:  # type: ignore[misc]  # as dict's
         self.update(entries)
         return self
 
