@@ -1,12 +1,12 @@
 //! A run over three tenants and three segments, torn at each byte, and damaged in each way.
 ghost use Rattle.std.specs.Prelude.{◌≡◌, ◌≤◌, []};
 
+use crate::checks::{holds, same};
 use arrayvec::ArrayVec;
 use judy_journal::{
     Damage, LAST_SEGMENT, Position, Read, Recovery, SUM_LEN, Writer, read_record, snapshot_sum,
 };
 use std::process::Abort;
-use test_checks::{holds, same};
 
 /// The room for the text of a run.
 const ROOM: usize = 4096;

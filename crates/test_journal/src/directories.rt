@@ -1,8 +1,8 @@
 //! Names of files, and what a directory's files make.
+use crate::checks::{holds, same};
 use judy_disk::{DiskFault, Named, Place, arrange, read_name};
 use std::io;
 use std::test::Fail;
-use test_checks::{holds, same};
 
 #[test]
 fn names_are_read(rt: HostRuntime) -> Result<(), Fail> {

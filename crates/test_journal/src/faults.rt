@@ -1,9 +1,9 @@
 //! What an operator reads of a fault.
+use crate::checks::same;
 use judy_disk::Place;
 use judy_journal::Damage;
 use judy_recovery::{Flaw, JournalFault, Reason};
 use std::test::Fail;
-use test_checks::same;
 
 #[test]
 fn faults_tell_file_and_byte(rt: HostRuntime) -> Result<(), Fail> {

@@ -3,11 +3,11 @@
 ghost use Rattle.std.specs.Prelude.{◌≤◌, IfOk, length};
 ghost use Rattle.judy_arena.specs.Blocks.{words_of};
 
+use crate::checks::{holds, same};
 use judy_arena::{Arena, Block, NoMemory};
 use std::alloc::{AllocError, Global};
 use std::process::Abort;
 use std::test::Fail;
-use test_checks::{holds, same};
 
 /// How many places for a block the plain list has.
 const PLACES: usize = 500;

@@ -3,13 +3,13 @@
 
 mod held;
 
+use crate::checks::{holds, holds_at, same, same_at};
 use held::{Held, Left, reference_of};
 use judy_arena::NoMemory;
 use judy_refs::Ref;
 use std::alloc::Global;
 use std::process::Abort;
 use std::test::Fail;
-use test_checks::{holds, holds_at, same, same_at};
 
 /// The order in which the bytes of the children come and go.
 #[derive(Clone, Copy, Debug, PartialEq, Eq)]

@@ -1,8 +1,8 @@
 //! Sets of bytes: each function at the first and last bits of words, on an empty, a full and a
 //! mixed set, compared with values found by hand.
+use crate::checks::{holds, holds_at, same, same_at};
 use judy_bitmap::Bits256;
 use std::process::Abort;
-use test_checks::{holds, holds_at, same, same_at};
 
 const PLACES: [u8; 6] = [0, 63, 64, 127, 128, 255];
 

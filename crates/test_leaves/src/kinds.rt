@@ -1,11 +1,11 @@
 //! What no contract of a leaf states as a number: its kind and the words of its block at every
 //! count. Each request for memory may be refused once.
+use crate::checks::{holds, holds_at, same, same_at};
 use crate::held::{Held, given};
 use judy_leaf::{Put, Removed};
 use judy_refs::Kind;
 use std::alloc::Global;
 use std::process::Abort;
-use test_checks::{holds, holds_at, same, same_at};
 
 /// The least size of a block that holds this many words.
 fn size_for(words: u64) -> u64 {

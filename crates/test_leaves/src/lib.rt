@@ -9,6 +9,8 @@ mod branches;
 #[cfg(test)]
 mod byte_sets;
 #[cfg(test)]
+mod checks;
+#[cfg(test)]
 mod held;
 #[cfg(test)]
 mod kinds;

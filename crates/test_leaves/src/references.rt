@@ -1,8 +1,8 @@
 //! References, compared with words written out by hand.
+use crate::checks::same;
 use judy_refs::{Kind, Ref};
 use std::process::Abort;
 use std::test::Fail;
-use test_checks::same;
 
 const KINDS: [(Kind, u64); 8] = [
     (Kind::LinearLeaf, 0x1_0000_0000),

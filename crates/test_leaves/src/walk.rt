@@ -1,12 +1,12 @@
 //! Leaves of every count from 0 to 256 and back. At each step all calls are compared with the slow
 //! queries. Each request for memory may be refused once.
+use crate::checks::{holds, holds_at, same, same_at};
 use crate::held::{Held, Part, given};
 use crate::wanted::Wanted;
 use judy_leaf::{Put, Removed};
 use std::alloc::Global;
 use std::process::Abort;
 use std::test::Fail;
-use test_checks::{holds, holds_at, same, same_at};
 
 /// The order in which the last bytes of the keys come and go.
 #[derive(Clone, Copy, Debug, PartialEq, Eq)]

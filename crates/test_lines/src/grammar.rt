@@ -1,6 +1,6 @@
 //! Bytes against the grammar of a line.
+use crate::checks::{holds, same_at};
 use judy_model::{is_name_letter, is_string, name_ok, token_ok};
-use test_checks::{holds, same_at};
 
 // Whether bytes are a name, a token and a string.
 static TEXTS: [(&[u8], bool, bool, bool); 5] = [

@@ -5,6 +5,8 @@
 #[cfg(test)]
 mod asks;
 #[cfg(test)]
+mod checks;
+#[cfg(test)]
 mod grammar;
 mod house;
 #[cfg(test)]

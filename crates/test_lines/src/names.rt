@@ -1,8 +1,8 @@
 //! Names, keys and tokens: which bytes are valid, and how they compare.
+use crate::checks::{holds, same, same_at};
 use judy_model::{Key, Name, Token};
 use std::cmp::Ordering;
 use std::test::Fail;
-use test_checks::{holds, same, same_at};
 
 // Which bytes are a name, a key and a token.
 static TEXTS: [(&[u8], bool, bool, bool); 6] = [

@@ -1,8 +1,8 @@
 //! Keys and replies that own their bytes.
+use crate::checks::same;
 use judy_model::{Key, OwnedKey, OwnedReply, Reply};
 use std::cmp::Ordering;
 use std::test::Fail;
-use test_checks::same;
 
 #[test]
 fn keys(rt: HostRuntime) -> Result<(), Fail> {

@@ -1,8 +1,8 @@
 //! The line of each reply.
 use crate::asks::{Want, reply_of};
+use crate::checks::{holds, same};
 use arrayvec::ArrayVec;
 use judy_protocol::write_reply;
-use test_checks::{holds, same};
 
 static LINES: [(Want, &[u8]); 13] = [
     (Want::Int(true), b"1\n"),

@@ -1,11 +1,11 @@
 //! Lines of each request, and lines that are no request.
 use crate::asks::{Ask, call_of, name};
+use crate::checks::{holds, same, same_at};
 use arrayvec::ArrayVec;
 use judy_model::{Call, Given, KEY_LIMIT, Line, LongCall, OneCall, Token};
 use judy_protocol::{Syntax, read_line};
 use std::process::Abort;
 use std::test::Fail;
-use test_checks::{holds, same, same_at};
 
 /// A line, and the call that it asks for.
 type Row = (&'static [u8], Ask);

@@ -1,5 +1,6 @@
 //! Worked rows: calls of one tenant, each with the reply that it should give.
 use crate::asks::{Ask, Want, call_of, reply_of};
+use crate::checks::{same, same_at};
 use arrayvec::ArrayVec;
 use judy_model::{
     Call, ENTRY_PIECES_LIMIT, Given, KEY_LIMIT, LongCall, OneCall, Quota, Reply, Right,
@@ -7,7 +8,6 @@ use judy_model::{
 use judy_reference::Store;
 use std::alloc::Global;
 use std::process::Abort;
-use test_checks::{same, same_at};
 
 const MAX: u64 = 18446744073709551615;
 

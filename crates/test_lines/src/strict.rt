@@ -2,11 +2,11 @@
 //! connection needs a proof that it is allowed.
 ghost use Rattle.std.specs.Prelude.{◌≡◌, ◌≤◌, ◌++◌, ℕ, List, [], ◌∷◌, true};
 
+use crate::checks::same;
 use crate::house::House;
 use judy_protocol::{End, serve};
 use judy_stream::{Page, Pull, Push, Refusal, Sink, Source, Tape};
 use std::test::Fail;
-use test_checks::same;
 
 /// A tape that may be pulled into at most 4,096 bytes.
 #[derive(Drop)]

@@ -1,6 +1,7 @@
 //! Scripts in memory, cut at every place and failing at every place.
 ghost use Rattle.std.specs.Prelude.{◌≤◌, ◌<◌, length};
 
+use crate::checks::{same, same_at};
 use crate::house::{House, Tenant};
 use crate::strict::reads_with_lines;
 use judy_protocol::{End, serve, serve_up_to};
@@ -10,7 +11,6 @@ use std::cell::Cell;
 use std::io::{self, ErrorKind, Read, Write};
 use std::process::Abort;
 use std::test::Fail;
-use test_checks::{same, same_at};
 
 // Odd and malformed lines between good ones, logins that fail and succeed, and bytes after the last
 // line that is run.

@@ -1,9 +1,9 @@
 //! Limits of time, and accepts that fail.
+use crate::checks::same;
 use crate::stage::Offer;
 use crate::theatre::{Part, giving, limits, play, stage};
 use judy_many::{Ending, Limits};
 use std::test::Fail;
-use test_checks::same;
 
 // A client that sends nothing for 5 seconds is closed; one that sends bytes is not, though it ends no
 // line.

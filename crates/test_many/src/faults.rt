@@ -1,9 +1,9 @@
 //! Cut writes and faults, at each place.
+use crate::checks::{holds, holds_at, same, same_at};
 use crate::theatre::{Part, giving, limits, play, stage};
 use judy_many::Ending;
 use judy_stream::Refusal;
 use std::test::Fail;
-use test_checks::{holds, holds_at, same, same_at};
 
 const LINES: &[u8] = b"AUTH bob hello\nJ1S a 1\nJ1T a 1\nQUIT\n";
 

@@ -1,10 +1,10 @@
 //! The journal: what is kept and synced, and when, before answers are written.
+use crate::checks::{holds, same};
 use crate::theatre::{Part, giving, limits, play, play_with, stage};
 use judy_many::{Ending, Limits, Sync};
 use judy_protocol::cut_line;
 use std::alloc::Global;
 use std::test::Fail;
-use test_checks::{holds, same};
 
 // A segment with this many bytes is full.
 const SEGMENT_LIMIT: u64 = 67_108_864;

@@ -1,8 +1,8 @@
 //! Connections that the operator closes.
+use crate::checks::{holds, same};
 use crate::theatre::{giving, limits, play, stage};
 use judy_many::{Ending, Limits, Question};
 use std::test::Fail;
-use test_checks::{holds, same};
 
 // Three clients at once, with a control socket.
 fn watched() -> Limits {

@@ -1,9 +1,9 @@
 //! A limit for the connections of each tenant.
+use crate::checks::same;
 use crate::theatre::{Part, giving, limits, play, stage};
 use judy_many::{Ending, Limits};
 use std::alloc::Global;
 use std::test::Fail;
-use test_checks::same;
 
 // One connection a tenant.
 fn limited(clients: u32) -> Limits {

@@ -1,9 +1,9 @@
 //! Questions on the status socket.
+use crate::checks::same;
 use crate::theatre::{Part, giving, limits, play, stage};
 use judy_many::{Ending, Limits, Question};
 use judy_protocol::cut_line;
 use std::test::Fail;
-use test_checks::same;
 
 // How often a line is in a text.
 fn count(text: &[u8], wanted: &[u8]) -> usize {

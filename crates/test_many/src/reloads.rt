@@ -1,8 +1,8 @@
 //! A table that is read again.
+use crate::checks::same;
 use crate::theatre::{giving, limits, play, stage};
 use judy_many::{Ending, Limits, Question};
 use std::test::Fail;
-use test_checks::same;
 
 // bob alone, with the token `hello`.
 const BOB: &[u8] = b"[bob]

@@ -1,9 +1,9 @@
 //! The order of turns.
+use crate::checks::{holds, same};
 use crate::theatre::{Part, giving, limits, play, stage};
 use judy_many::Ending;
 use judy_stream::Refusal;
 use std::test::Fail;
-use test_checks::{holds, same};
 
 // Clients have their turns in the order in which they became ready. All of a round read before any of
 // them writes. Who comes has a turn at once; the second wait says which of them are ready first then.

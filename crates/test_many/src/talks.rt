@@ -1,9 +1,9 @@
 //! Connections whose lines and bytes are mixed.
+use crate::checks::same;
 use crate::theatre::{Part, giving, limits, play, stage};
 use judy_many::Ending;
 use judy_stream::Refusal;
 use std::test::Fail;
-use test_checks::same;
 
 // Two connections of alice and two of bob, by turns of a few bytes: each speaker is the one of its own
 // connection. The second of alice finds what the first has stored, and the quota full. One connection

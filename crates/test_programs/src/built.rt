@@ -1,9 +1,9 @@
 //! Scripts that are too long to write down.
+use crate::checks::same;
 use crate::rows::{TABLE, add, check, check_bob};
 use std::alloc::{AllocError, Global};
 use std::process::Abort;
 use std::test::Fail;
-use test_checks::same;
 
 // Appends the line `J1S a index`, and the reply `1`.
 fn set_one(alloc: Global, script: &mut String, want: &mut String, index: u64) -> Result<(), Fail> {

@@ -1,9 +1,9 @@
 //! Command lines, each with its job or its refusal.
+use crate::checks::same_at;
 use judy_command::{Job, Refusal, Sync, Word, parse_words};
 use std::alloc::{AllocError, Global};
 use std::process::Abort;
 use std::test::Fail;
-use test_checks::same_at;
 
 // The job or the refusal of a command line.
 fn parsed(alloc: Global, line: &str) -> Result<Result<Job, Refusal>, AllocError> {

@@ -2,6 +2,7 @@
 ghost use Rattle.std.specs.Prelude.{None};
 ghost use Rattle.judy_many.specs.Queues.{StayAwake};
 
+use crate::checks::same;
 use crate::rows::{TABLE, Tenants, input};
 use judy_command::Job;
 use judy_many::{Accept, Got, How, Limits, Network, Put, Question, Queue, Unread};
@@ -15,7 +16,6 @@ use judy_tenants::Sha256Hash;
 use std::alloc::{AllocError, Global};
 use std::process::Abort;
 use std::test::Fail;
-use test_checks::same;
 
 /// A connection that will come: what it sends, and where a read of it fails.
 #[derive(Clone, Copy)]

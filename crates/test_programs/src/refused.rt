@@ -1,6 +1,7 @@
 //! Runs in which a request for memory may be refused. The line that needs the memory gets the reply
 //! `ERR MEMORY`, and every other line gets the reply that it would get without that line. If there
 //! is no memory for the service, nothing is written.
+use crate::checks::{holds_at, same};
 use crate::rows::{TABLE, Tenants, run};
 use arrayvec::ArrayString;
 use judy_programs::{Opens, Ran, Unopened};
@@ -11,7 +12,6 @@ use std::alloc::Global;
 use std::fmt::Write;
 use std::process::Abort;
 use std::test::Fail;
-use test_checks::{holds_at, same};
 
 // A line that inserts something. It is sent twice, and a question follows each time.
 #[derive(Clone, Copy)]

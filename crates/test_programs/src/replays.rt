@@ -1,6 +1,7 @@
 //! Records that are played again: each reason why one is not played, and a run of random lines.
 ghost use Rattle.std.specs.Prelude.{◌<◌};
 
+use crate::checks::{holds_at, same, same_at};
 use arrayvec::ArrayVec;
 use judy_journal::Unplayed;
 use judy_model::{KEY_LIMIT, Reply};
@@ -10,7 +11,6 @@ use judy_tenants::{Right, Service, Sha256Hash, Speaker, Table, is_callable};
 use std::alloc::Global;
 use std::process::Abort;
 use std::test::Fail;
-use test_checks::{holds_at, same, same_at};
 
 /// ann may have 12 entries, bob and cid 1,000.
 const TABLE: &str = r#"

@@ -3,6 +3,7 @@ ghost use Rattle.judy_stream.specs.Streams.{MayAlwaysPull};
 ghost use Rattle.judy_protocol.specs.Sending.{MaySend};
 ghost use Rattle.judy_programs.specs.Program.{IsSent};
 
+use crate::checks::{holds_at, same_at};
 use judy_programs::Ran;
 use judy_protocol::End;
 use judy_server::Server;
@@ -11,7 +12,6 @@ use judy_tenants::Sha256Hash;
 use std::alloc::{AllocError, Global};
 use std::process::Abort;
 use std::test::Fail;
-use test_checks::{holds_at, same_at};
 
 /// The service of the program.
 pub type Tenants = Server<Sha256Hash>;

@@ -1,5 +1,6 @@
 //! The system: its random bytes, and both ends of a socket in one process: clients send first, and
 //! read at the end.
+use crate::checks::{holds, same};
 use crate::rows::{TABLE, Tenants};
 use judy_disk::Locks;
 use judy_many::{Ending, Limits, serve_many};
@@ -13,7 +14,6 @@ use std::os::unix::net::UnixStream;
 use std::process::Abort;
 use std::rt::Clock;
 use std::test::Fail;
-use test_checks::{holds, same};
 
 // A service of the two tenants, none of whom has an entry.
 fn open(alloc: Global) -> Result<Tenants, Fail> {

@@ -1,4 +1,5 @@
 //! The table before the script: its end, its faults, and failing reads and writes.
+use crate::checks::{holds_at, same, same_at};
 use crate::rows::{TABLE, input, run};
 use judy_programs::{Hosted, Ran, finish, finish_hosted};
 use judy_protocol::End;
@@ -7,7 +8,6 @@ use judy_table::TableFault;
 use std::alloc::{AllocError, Global};
 use std::process::Abort;
 use std::test::Fail;
-use test_checks::{holds_at, same, same_at};
 
 // How a run of this input ends.
 fn run_bytes(alloc: Global, bytes: &[u8]) -> Ran {

@@ -2,10 +2,10 @@
 ghost use Rattle.std.specs.Prelude.{◌≤◌};
 ghost use Rattle.test_refusals.specs.Kept.{KeepsBlocks};
 
+use crate::checks::{holds, holds_at};
 use judy_arena::{Arena, Block, NoMemory};
 use std::alloc::Global;
 use std::process::Abort;
-use test_checks::{holds, holds_at};
 
 /// The words of an arena that asked the machine for memory once.
 pub(crate) const CHUNK: u64 = 65_536;

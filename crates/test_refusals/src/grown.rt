@@ -3,13 +3,13 @@
 //! shows what a refusal leaves. In the other runs the arena grows.
 ghost use Rattle.std.specs.Prelude.{◌≤◌};
 
+use crate::checks::{holds, holds_at, same, same_at};
 use crate::full::{CHUNK, SIZES, arena_with};
 use crate::words::{Case, key};
 use judy_arena::{Arena, Block, NoMemory};
 use judy_refs::Ref;
 use std::alloc::Global;
 use std::process::Abort;
-use test_checks::{holds, holds_at, same, same_at};
 
 /// What is inserted, entry by entry.
 #[derive(Clone, Copy, Debug, PartialEq, Eq)]

@@ -7,6 +7,8 @@ mod branches;
 #[cfg(test)]
 mod byte_keys;
 #[cfg(test)]
+mod checks;
+#[cfg(test)]
 mod full;
 #[cfg(test)]
 mod grown;

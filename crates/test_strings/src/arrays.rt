@@ -1,6 +1,7 @@
 //! Two JudySL arrays and a JudyL in one arena.
 ghost use Rattle.judy_string.specs.StringArrays.{IsStringArray, StringBecomes};
 
+use crate::checks::{holds, holds_at};
 use arrayvec::ArrayVec;
 use judy_arena::{Arena, NoMemory};
 use judy_model::{KEY_LIMIT, Key, LongCall, Reply, StrCall};
@@ -9,7 +10,6 @@ use judy_words::JudyL;
 use std::alloc::Global;
 use std::marker::Model;
 use std::process::Abort;
-use test_checks::{holds, holds_at};
 
 /// One of the two JudySL arrays.
 #[derive(Clone, Copy, Debug, PartialEq, Eq)]

@@ -2,13 +2,13 @@
 ghost use Rattle.std.specs.Prelude.{◌≡◌, ◌≤◌, ◌-◌, length, slice_index_or};
 ghost use Rattle.judy_bytes.specs.BytesArrays.{IsBytesArray};
 
+use crate::checks::{holds, holds_at, same, same_at};
 use judy_arena::{Arena, NoMemory};
 use judy_bytes::{JudyHS, KeyHash, Sha256Hash};
 use judy_model::Given;
 use std::alloc::Global;
 use std::process::Abort;
 use std::test::Fail;
-use test_checks::{holds, holds_at, same, same_at};
 
 // Every key has the word 0.
 #[derive(Clone, Copy)]

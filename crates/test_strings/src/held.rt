@@ -1,4 +1,5 @@
 //! For tests: a map with its arena.
+use crate::checks::{holds, same, same_at};
 use arrayvec::ArrayVec;
 use judy_arena::Arena;
 use judy_model::{Given, KEY_LIMIT};
@@ -6,7 +7,6 @@ use judy_string::{JudySL, is_string};
 use std::alloc::Global;
 use std::marker::Model;
 use std::process::Abort;
-use test_checks::{holds, same, same_at};
 
 /// A map and its arena.
 #[derive(Drop)]

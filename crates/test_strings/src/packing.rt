@@ -1,6 +1,6 @@
 //! Words of bytes, compared with words written out by hand.
+use crate::checks::same;
 use judy_packing::{byte, pack, word_at};
-use test_checks::same;
 
 #[test]
 fn bytes_stand_highest_first(rt: HostRuntime) {

@@ -1,5 +1,6 @@
 //! Strings by hand. The expected results come from the manual page and the byte order. Each request
 //! for memory may be refused once.
+use crate::checks::{holds, holds_at, same, same_at};
 use crate::held::Held;
 use arrayvec::ArrayVec;
 use judy_model::Given;
@@ -7,7 +8,6 @@ use judy_string::is_string;
 use std::alloc::Global;
 use std::process::Abort;
 use std::test::Fail;
-use test_checks::{holds, holds_at, same, same_at};
 
 const A: &[u8] = b"aaaaaaaaaaaaaaaaaaaaaaaa";
 

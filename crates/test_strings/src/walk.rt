@@ -1,5 +1,6 @@
 //! A walk of mixed calls compared with the plain store.
 use crate::arrays::{Arrays, Which};
+use crate::checks::{holds_at, same, same_at};
 use arrayvec::ArrayVec;
 use judy_arena::NoMemory;
 use judy_model::{Call, Given, Key, LongCall, Name, OwnedReply, Quota, Reply, Right, StrCall};
@@ -7,7 +8,6 @@ use judy_reference::Store;
 use std::alloc::{AllocError, Global};
 use std::process::Abort;
 use std::test::Fail;
-use test_checks::{holds_at, same, same_at};
 
 const MAX: u64 = 18_446_744_073_709_551_615;
 

@@ -1,10 +1,10 @@
 //! Another table is put in force: what tenants that stay, come and go have.
+use crate::checks::{holds, same, same_at};
 use crate::house::House;
 use judy_model::{Call, Name, OneCall, Reply};
 use judy_tenants::Speaker;
 use std::process::Abort;
 use std::test::Fail;
-use test_checks::{holds, same, same_at};
 
 // Tables of tenants with the token `abc`: alice may have 2 entries, or 1, or none, and bob 9.
 const BOTH: &str = "[alice]

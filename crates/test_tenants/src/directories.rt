@@ -2,6 +2,7 @@
 ghost use Rattle.std.specs.Prelude.{OnOk, IsTrue};
 ghost use Rattle.std.specs.FinMap as map;
 
+use crate::checks::{holds, holds_at, same, same_at};
 use judy_arena::NoMemory;
 use judy_directory::{ArrayKind, Directory, Place, Spot};
 use judy_model::Name;
@@ -9,7 +10,6 @@ use judy_refs::Ref;
 use std::alloc::Global;
 use std::process::Abort;
 use std::test::Fail;
-use test_checks::{holds, holds_at, same, same_at};
 
 /// A directory without a name. If memory is refused, a second try succeeds.
 fn empty(alloc: Global) -> Result<Directory, NoMemory> {

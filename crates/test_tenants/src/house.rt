@@ -1,4 +1,5 @@
 //! A service that is called as a client calls it.
+use crate::checks::{holds_at, same, same_at};
 use arrayvec::ArrayVec;
 use judy_model::{Call, OwnedReply, Reply};
 use judy_tenants::{
@@ -7,7 +8,6 @@ use judy_tenants::{
 use std::alloc::{AllocError, Global};
 use std::process::Abort;
 use std::test::Fail;
-use test_checks::{holds_at, same, same_at};
 
 /// A service, and the allocator that its memory comes from.
 #[derive(Drop)]

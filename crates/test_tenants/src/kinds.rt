@@ -3,6 +3,7 @@
 ghost use Rattle.std.specs.Prelude.{◌≡◌, true};
 ghost use Rattle.judy_kinds.specs.Calls.{is_of_array, kind_of_call};
 
+use crate::checks::{holds, holds_at, same, same_at};
 use crate::spelled::{call_of, compare};
 use arrayvec::ArrayVec;
 use judy_arena::{Arena, NoMemory};
@@ -14,7 +15,6 @@ use std::alloc::Global;
 use std::marker::Model;
 use std::process::Abort;
 use std::test::Fail;
-use test_checks::{holds, holds_at, same, same_at};
 
 /// Whether the call is of an array of this kind.
 fn is_of(call: &Call<'_>, kind: ArrayKind) -> bool

@@ -1,4 +1,5 @@
 //! Worked rows: the calls of lines, each with the text of the reply that it should get.
+use crate::checks::{same, same_at};
 use crate::house::House;
 use crate::spelled::{call_of, compare};
 use judy_model::{Call, KEY_LIMIT, Name, OneCall, Reply};
@@ -6,7 +7,6 @@ use judy_tenants::Speaker;
 use std::alloc::Global;
 use std::process::Abort;
 use std::test::Fail;
-use test_checks::{same, same_at};
 
 /// alice has the token `abc` and the read-only token `hello`; bob has the token `hello`.
 const TABLE: &str = r#"

@@ -1,5 +1,6 @@
 //! Many calls made at once, compared with the same calls one after another and with the plain store
 //! of each tenant.
+use crate::checks::{holds_at, same, same_at};
 use crate::dice::Dice;
 use crate::house::{House, room_for};
 use crate::walk::{TABLE, Tenant, five, frees, name};
@@ -8,7 +9,6 @@ use judy_tenants::Event;
 use std::alloc::Global;
 use std::process::Abort;
 use std::test::Fail;
-use test_checks::{holds_at, same, same_at};
 
 /// This many calls of these tenants, drawn from this seed.
 fn drawn(

@@ -1,5 +1,6 @@
 //! Worked rows: two tenants at once, many names of both, and a first entry when memory runs out. Each
 //! row may be run with any one request for memory refused.
+use crate::checks::{same, same_at};
 use crate::house::House;
 use crate::lines::ask;
 use arrayvec::ArrayString;
@@ -9,7 +10,6 @@ use std::fmt::Write;
 use std::io::Print;
 use std::process::Abort;
 use std::test::Fail;
-use test_checks::{same, same_at};
 
 /// alice has the token `abc`, bob has the token `hello`.
 const TABLE: &str = r#"

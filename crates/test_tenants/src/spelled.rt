@@ -1,10 +1,10 @@
 //! Calls and replies as the texts of their lines.
+use crate::checks::same_at;
 use arrayvec::ArrayVec;
 use judy_model::{Call, KEY_LIMIT, OwnedReply};
 use judy_protocol::{Line, read_line, write_reply};
 use std::process::Abort;
 use std::test::Fail;
-use test_checks::same_at;
 
 /// The call of a line.
 pub(crate) fn call_of<'a>(line: &str, room: &'a mut [u8; KEY_LIMIT]) -> Result<Call<'a>, Fail> {

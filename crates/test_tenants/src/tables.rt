@@ -1,11 +1,11 @@
 //! Tables of tenants, with their faults. Each request for memory may be refused once.
+use crate::checks::{holds, holds_at, same, same_at};
 use arrayvec::ArrayString;
 use judy_table::{Quota, Right, Table, TableFault};
 use std::alloc::{AllocError, Global};
 use std::fmt::Write;
 use std::process::Abort;
 use std::test::Fail;
-use test_checks::{holds, holds_at, same, same_at};
 
 const ABC: &str = "ba7816bf8f01cfea414140de5dae2223b00361a396177a9cb410ff61f20015ad";
 

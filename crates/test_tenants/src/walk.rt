@@ -1,6 +1,7 @@
 //! A walk of mixed calls by five tenants. Each call is compared with the plain store of its tenant.
 ghost use Rattle.std.specs.Prelude.{◌<◌};
 
+use crate::checks::{holds_at, same, same_at};
 use crate::dice::Dice;
 use crate::house::House;
 use arrayvec::ArrayVec;
@@ -10,7 +11,6 @@ use judy_tenants::Speaker;
 use std::alloc::{AllocError, Global};
 use std::process::Abort;
 use std::test::Fail;
-use test_checks::{holds_at, same, same_at};
 
 /// Five tenants. The third has a read-only token.
 pub(crate) const TABLE: &str = r#"

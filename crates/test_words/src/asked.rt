@@ -1,10 +1,10 @@
 //! Calls of the sets and maps, each with the reply that it should give.
 use crate::arrays::{Arrays, Which};
+use crate::checks::same_at;
 use judy_arena::NoMemory;
 use judy_model::{LongCall, OneCall, Reply};
 use std::alloc::Global;
 use std::process::Abort;
-use test_checks::same_at;
 
 /// The reply of a set. If memory is refused, nothing has changed, and a second try succeeds.
 pub(crate) fn ask_set(

@@ -2,12 +2,12 @@
 //! and a walk compares them with a rising list after each step, by First and Next.
 use crate::arrays::{Arrays, Which};
 use crate::asked::{long, one};
+use crate::checks::{holds_at, same, same_at};
 use judy_arena::NoMemory;
 use judy_model::{Given, LongCall, OneCall, Reply};
 use std::alloc::Global;
 use std::process::Abort;
 use std::test::Fail;
-use test_checks::{holds_at, same, same_at};
 
 const MAX: u64 = 18_446_744_073_709_551_615;
 

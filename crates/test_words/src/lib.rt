@@ -7,6 +7,8 @@ mod arrays;
 #[cfg(test)]
 mod asked;
 #[cfg(test)]
+mod checks;
+#[cfg(test)]
 mod held;
 #[cfg(test)]
 mod hostile;

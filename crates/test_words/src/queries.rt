@@ -1,11 +1,11 @@
 //! Every query compared with a list of keys, at 0, at the greatest word, and next to the first and
 //! the last key. Each request for memory may be refused once.
+use crate::checks::{holds_at, same, same_at};
 use crate::held::Held;
 use judy_arena::NoMemory;
 use std::alloc::Global;
 use std::process::Abort;
 use std::test::Fail;
-use test_checks::{holds_at, same, same_at};
 
 /// The least key from a word on.
 fn from(keys: &[u64], x: u64) -> Option<u64> {

@@ -1,12 +1,12 @@
 //! What a set takes from the machine: the exact places at which it takes words, over fixed series
 //! of calls.
 use crate::arrays::{Arrays, Which};
+use crate::checks::{same, same_at};
 use judy_arena::NoMemory;
 use judy_model::{OneCall, Reply};
 use std::alloc::Global;
 use std::process::Abort;
 use std::test::Fail;
-use test_checks::{same, same_at};
 
 /// Inserts a key into the first set. If memory is refused, a second try succeeds.
 fn put(alloc: Global, arrays: &mut Arrays, key: u64) -> Result<Reply<'static>, NoMemory> {

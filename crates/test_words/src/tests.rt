@@ -5,6 +5,7 @@ ghost use Rattle.judy_model.specs.Contents.{word_order, has_key};
 
 use crate::arrays::{Arrays, Which};
 use crate::asked::{ask_map, ask_set, long, one};
+use crate::checks::{holds, same, same_at};
 use arrayvec::ArrayVec;
 use judy_arena::{Arena, NoMemory};
 use judy_model::{Call, Given, LongCall, Name, OneCall, OwnedReply, Quota, Reply, Right};
@@ -13,7 +14,6 @@ use judy_words::JudyL;
 use std::alloc::{AllocError, Global};
 use std::process::Abort;
 use std::test::Fail;
-use test_checks::{holds, same, same_at};
 
 const MAX: u64 = 18_446_744_073_709_551_615;
 

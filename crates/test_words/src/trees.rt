@@ -3,11 +3,11 @@
 mod held;
 mod row;
 
+use crate::checks::{holds, holds_at, same, same_at};
 use held::{HeldMap, HeldSet};
 use std::alloc::Global;
 use std::process::Abort;
 use std::test::Fail;
-use test_checks::{holds, holds_at, same, same_at};
 
 /// Inserts a key into a set. If memory is refused, nothing has changed, and a second try succeeds.
 fn put(rt: &impl Abort, alloc: Global, set: &mut HeldSet, key: u64) -> bool {

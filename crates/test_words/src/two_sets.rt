@@ -3,12 +3,12 @@
 ghost use Rattle.std.specs.Prelude.{◌<◌, length};
 ghost use Rattle.test_words.specs.TwoSets.{AreTwoSets};
 
+use crate::checks::{holds, holds_at, same, same_at};
 use judy_arena::{Arena, NoMemory};
 use judy_words::Judy1;
 use std::alloc::Global;
 use std::process::Abort;
 use std::test::Fail;
-use test_checks::{holds, holds_at, same, same_at};
 
 const INDEXES: [u64; 8] = [0, 1, 255, 256, 65_536, 1 << 32, u64::MAX - 1, u64::MAX];
 

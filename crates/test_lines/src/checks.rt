@@ -1,9 +1,5 @@
-//! What tests say of what they got.
-//!
-//! A test that calls these costs the prover a fraction of one that expands `assert_eq!` at each
-//! place. The message of a failure has the values; the runner names the test.
-#![tactic(auto)]
-
+//! What tests say of what they got. A call costs the prover a fraction of an assertion that is
+//! expanded at its place; the message of a failure has the values, and the runner names the test.
 ghost use Rattle.std.specs.Prelude.{◌≡◌, true};
 
 use std::fmt::Debug;
@@ -12,13 +8,6 @@ use std::process::Abort;
 /// Ends the test unless both are equal.
 pub fn same<T: PartialEq + Debug + Drop>(rt: &impl Abort, got: T, wanted: T) {
     assert_eq!(rt; got, wanted);
-}
-
-/// Ends the test unless it holds.
-pub fn holds(rt: &impl Abort, it: bool)
-    ensures { it ≡ true }
-{
-    assert!(rt; it);
 }
 
 /// Ends the test unless both are equal. The message also has where they should be.
@@ -31,9 +20,9 @@ pub fn same_at<T: PartialEq + Debug + Drop, A: Debug + Drop>(
     assert_eq!(rt; got, wanted, "{at:?}");
 }
 
-/// Ends the test unless it holds. The message also has where it should.
-pub fn holds_at<A: Debug + Drop>(rt: &impl Abort, it: bool, at: A)
+/// Ends the test unless it holds.
+pub fn holds(rt: &impl Abort, it: bool)
     ensures { it ≡ true }
 {
-    assert!(rt; it, "{at:?}");
+    assert!(rt; it);
 }
