@@ -7,6 +7,10 @@ use crate::scan::{Found, arrange, out_of_memory};
 use std::alloc::Global;
 use std::fs::{self, Files, OpenFile, OpenOptions};
 use std::io;
+use std::os::unix::fs::OpenOptionsExt;
+
+/// The rights to a new file: only its owner may read and write it.
+const OWNER_ALONE: u32 = 0o600;
 
 /// Puts a number with the others.
 fn put_number(numbers: &mut Vec<u64>, number: u64) -> Result<(), DiskFault> {
@@ -63,7 +67,9 @@ impl<'a, F: Files> Folder<'a, F> {
     /// Makes a new segment, which has no byte yet. It is there after a crash too.
     pub fn begin(&self, number: u64) -> Result<Growing<F>, DiskFault> {
         let place = Place::Segment(number);
-        let file = self.open_with(OpenOptions::new().append(true).create_new(true), place)?;
+        let mut how = OpenOptions::new();
+        how.append(true).create_new(true).mode(OWNER_ALONE);
+        let file = self.open_with(&how, place)?;
         self.sync()?;
         Ok(Growing::new(file, place))
     }
@@ -83,7 +89,8 @@ impl<'a, F: Files> Folder<'a, F> {
     pub fn begin_snapshot(&self) -> Result<NewSnapshot<F>, DiskFault> {
         let place = Place::NewSnapshot;
         let mut how = OpenOptions::new();
-        let file = self.open_with(how.write(true).create(true).truncate(true), place)?;
+        how.write(true).create(true).truncate(true).mode(OWNER_ALONE);
+        let file = self.open_with(&how, place)?;
         Ok(NewSnapshot::new(Growing::new(file, place)))
     }
 
@@ -143,7 +150,8 @@ impl<'a, F: Locks> Folder<'a, F> {
     /// Opens the file of a lock, which is made if it is not there.
     fn open_lock(&self, place: Place) -> Result<F::File, DiskFault> {
         let mut how = OpenOptions::new();
-        self.open_with(how.append(true).create(true), place)
+        how.append(true).create(true).mode(OWNER_ALONE);
+        self.open_with(&how, place)
     }
 
     /// Locks a file, until what is returned is dropped. None if another program has locked it.
@@ -173,23 +181,31 @@ impl<'a, F: Locks> Folder<'a, F> {
             .ok_or(DiskFault::Compacted)
     }
 
-    /// Keeps the closed files as they are for a reader, until what is returned is dropped, without
-    /// making a file. It waits while a compaction has them. If there was no compaction yet, or the lock
-    /// cannot be had, they are not kept.
-    pub fn hold_closed_if_there(&self) -> Option<F::File> {
-        let file = self
-            .open_with(OpenOptions::new().read(true), Place::CompactLock)
-            .ok()?;
-        self.files.lock(&file).ok()?;
-        Some(file)
+    /// The lock of the closed files, not yet locked.
+    pub fn closed_lock(&self) -> Result<F::File, DiskFault> {
+        self.open_lock(Place::CompactLock)
     }
 
-    /// Keeps the closed files as they are, until what is returned is dropped. It waits while a
-    /// compaction has them.
-    pub fn hold_closed(&self) -> Result<F::File, DiskFault> {
-        let place = Place::CompactLock;
-        let file = self.open_lock(place)?;
-        self.files.lock(&file).map_err(|e| DiskFault::at(place, e))?;
-        Ok(file)
+    /// The lock of the closed files, not yet locked, without making a file. None if there was no
+    /// compaction yet, or if it cannot be opened.
+    pub fn closed_lock_if_there(&self) -> Option<F::File> {
+        self.open_with(OpenOptions::new().read(true), Place::CompactLock)
+            .ok()
+    }
+
+    /// Whether the closed files are kept as they are from now on, until their lock is dropped. False if
+    /// another program has them: a compaction, or a reader.
+    pub fn may_hold_closed(&self, lock: &F::File) -> Result<bool, DiskFault> {
+        self.files
+            .try_lock(lock)
+            .map_err(|e| DiskFault::at(Place::CompactLock, e))
+    }
+
+    /// Keeps the closed files as they are, until their lock is dropped. It waits while another program
+    /// has them.
+    pub fn hold_closed(&self, lock: &F::File) -> Result<(), DiskFault> {
+        self.files
+            .lock(lock)
+            .map_err(|e| DiskFault::at(Place::CompactLock, e))
     }
 }

@@ -43,7 +43,8 @@ pub enum Named {
     Segment(u64),
     /// The snapshot with this number, from 1 on.
     Snapshot(u64),
-    /// A lock, or a file that is not finished yet.
+    /// A lock, a file that is not finished yet, or one that is no part of the journal: a hidden file, or
+    /// what a file system keeps in each of its roots.
     Passed,
     /// None that a journal's directory has.
     Other,
@@ -59,9 +60,15 @@ fn read_number(digits: &str) -> Option<u64>
     digits.parse::<u64>().ok().filter(|number| *number >= 1)
 }
 
+/// Whether a file of this name is no segment and no snapshot, and may be there.
+fn is_passed(name: &str) -> bool {
+    let is_lock = name == "lock" || name == "compact.lock";
+    is_lock || name == "lost+found" || name.starts_with(".") || name.ends_with(".new")
+}
+
 /// What a file is, by its name.
 pub fn read_name(name: &str) -> Named {
-    if name == "lock" || name == "compact.lock" || name.ends_with(".new") {
+    if is_passed(name) {
         return Named::Passed;
     }
     if let Some(digits) = name.strip_suffix(".journal")

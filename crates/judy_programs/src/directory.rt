@@ -53,6 +53,26 @@ fn tell_cut<F: Locks + Eprint>(rt: &F, folder: &Folder<'_, F>, end: &Option<End>
     );
 }
 
+/// Keeps the closed files as they are, until their lock is dropped. If another program has them, it
+/// tells that it waits, and waits.
+fn hold_closed<F: Locks + Eprint>(
+    rt: &F,
+    folder: &Folder<'_, F>,
+    lock: &F::File,
+) -> Result<(), DiskFault> {
+    if folder.may_hold_closed(lock)? {
+        return Ok(());
+    }
+    let (path, file) = (folder.path(), Place::CompactLock);
+    tell_line(
+        rt,
+        format_args!(
+            "judyd: {path}/{file}: waits until another program that compacts or reads the journal ends"
+        ),
+    );
+    folder.hold_closed(lock)
+}
+
 impl<'a, F: Locks + Eprint + Clone + Drop> Directory<'a, F> {
     /// No directory yet.
     pub fn new(rt: &'a F) -> Self {
@@ -80,7 +100,8 @@ impl<'a, F: Locks + Eprint + Clone + Drop> Directory<'a, F> {
         ensures { IfOk result (λ at. (kept : Kept) × HasResumed P.plays kept player.old at player.new) }
     {
         let folder = folder_at(self.rt, alloc, path)?;
-        let _closed = folder.hold_closed().map_err(|e| of_disk(e))?;
+        let closed = folder.closed_lock().map_err(|e| of_disk(e))?;
+        hold_closed(self.rt, &folder, &closed).map_err(|e| of_disk(e))?;
         let lock = folder.take().map_err(|e| of_disk(e))?;
         let found = folder.scan().map_err(|e| of_disk(e))?;
         let end = recover(&folder, alloc, &found, player)?;
@@ -124,7 +145,11 @@ impl<'a, F: Locks + Eprint + Clone + Drop> Directory<'a, F> {
         ensures { OnOk result ((kept : Kept) × HasPlayedJournal P.plays kept player.old player.new) }
     {
         let folder = folder_at(self.rt, alloc, path)?;
-        let _closed = folder.hold_closed_if_there();
+        let closed = folder.closed_lock_if_there();
+        if let Some(lock) = &closed {
+            // Without the lock the files are read as they are.
+            let _held = hold_closed(self.rt, &folder, lock);
+        }
         let found = folder.scan().map_err(|e| of_disk(e))?;
         recover(&folder, alloc, &found, player)?;
         Ok(())
@@ -175,6 +200,11 @@ impl<'a, F: Locks + Eprint + Clone + Drop> Directory<'a, F> {
         };
         let done = current.append(bytes);
         self.did(done)
+    }
+
+    /// Secures the current file, if there is one. False if that fails.
+    pub fn secure(&mut self) -> bool {
+        self.current.is_none() || self.sync()
     }
 
     /// Secures the current file.

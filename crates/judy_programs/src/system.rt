@@ -138,6 +138,11 @@ impl<'a, F: Locks + Net + Clock + Eprint + Clone + Drop> System<'a, F> {
         self.directory.take_fault()
     }
 
+    /// Secures the journal, if there is one. False if that fails.
+    pub fn secure_journal(&mut self) -> bool {
+        self.directory.secure()
+    }
+
     /// The clients that were not served.
     pub fn unserved(&self) -> Unserved {
         self.unserved

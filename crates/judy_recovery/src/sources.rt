@@ -1,11 +1,38 @@
 //! A source over a file that keeps why a read failed.
-ghost use Rattle.std.specs.Prelude.{◌≡◌};
+ghost use Rattle.std.specs.Prelude.{◌≡◌, ◌<◌, IfOk, OnErr, length, take};
+ghost use Rattle.std.specs.Io.{ReadsAtMost};
+ghost use Rattle.std.specs.Io.KnownBytes.{Consumes, IsAtEnd, Keeps};
 ghost use Rattle.judy_stream.specs.Streams.{any_pull};
 
 use judy_stream::{Pull, Source};
 use std::io::{self, Read};
 
-/// A source over a file: each pull is one read. The error of a read that failed is kept.
+/// How often a read is tried that a signal interrupts.
+const TRIES: u32 = 1_000_000;
+
+/// Reads once. A read that a signal interrupts is tried again.
+fn read_once<R: Read>(file: &mut R, buf: &mut [u8]) -> io::Result<usize>
+    ensures bound { ReadsAtMost result buf.new }
+    ensures ok { IfOk result
+        (λ n. Consumes (R.remaining file.old) (R.remaining file.new) (take n buf.new)) }
+    ensures end { IfOk result (λ n. n ≡ 0 → 0 < length buf.old → IsAtEnd (R.remaining file.new)) }
+    ensures err { OnErr result (Keeps (R.remaining file.old) (R.remaining file.new)) }
+{
+    for _ in 0..TRIES {
+        match file.read(buf) {
+            Ok(n) => return Ok(n),
+            Err(e) => {
+                if e.kind() != io::ErrorKind::Interrupted {
+                    return Err(e);
+                }
+            }
+        }
+    }
+    Err(io::Error::from(io::ErrorKind::Interrupted))
+}
+
+/// A source over a file: each pull is one read, which a signal does not end. The error of a read that
+/// failed is kept.
 #[derive(Drop)]
 pub struct FileReads<R> {
     file: R,
@@ -45,7 +72,7 @@ impl<R: Read> Source for FileReads<R> {
     } };
 
     fn pull(&mut self, buf: &mut [u8]) -> Pull {
-        match self.file.read(buf) {
+        match read_once(&mut self.file, buf) {
             Ok(0) => {
                 self.ends = self.ends.saturating_add(1);
                 Pull::End

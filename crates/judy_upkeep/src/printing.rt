@@ -85,7 +85,10 @@ pub fn print<F: Locks + Clone + Drop, W: Write + Drop>(
     output: W,
     tenant: Option<&[u8]>,
 ) -> Result<(), Unprinted> {
-    let _closed = folder.hold_closed_if_there();
+    let closed = folder.closed_lock_if_there();
+    if let Some(lock) = &closed {
+        let _held = folder.hold_closed(lock);
+    }
     let found = folder
         .scan()
         .map_err(|e| Unprinted::Journal(JournalFault::Disk(e)))?;

@@ -12,7 +12,9 @@ mod standard;
 use built::BUILT;
 use judy_command::{Job, Refusal, Sync, VERSION, Word, parse_words};
 use judy_disk::{DiskFault, Folder};
-use judy_programs::{Failed, System, Unserved, read_secret, tell_line};
+use judy_programs::{
+    Failed, Hosted, System, Unserved, finish_hosted, read_secret, tell_line,
+};
 use judy_recovery::JournalFault;
 use judy_server::{Server, do_job_on};
 use judy_stream::{Reads, Writes};
@@ -321,6 +323,25 @@ fn tell_end(rt: &HostRuntime, job: &Job, text: &str) {
     }
 }
 
+/// Secures the journal of a server that ended well, however often it is secured while it serves. If that
+/// fails, the server ended by a fault of the journal.
+fn secure(
+    job: &Job,
+    system: &mut System<'_, HostRuntime>,
+    ended: (u8, Option<&'static str>),
+) -> (u8, Option<&'static str>)
+    requires { IsFinished job.now ended.0 (option_map (λ s. s.now) ended.1) }
+    ensures { IsFinished job.now result.0 (option_map (λ s. s.now) result.1) }
+{
+    let Job::Serve { .. } = job else {
+        return ended;
+    };
+    if ended.0 != 0 || system.secure_journal() {
+        return ended;
+    }
+    finish_hosted(Hosted::Journal)
+}
+
 /// Runs or serves, and prints how it ended. Returns the status of the program.
 fn obey_program(rt: &HostRuntime, job: &Job) -> u8
     requires { IsProgram job.now }
@@ -328,7 +349,8 @@ fn obey_program(rt: &HostRuntime, job: &Job) -> u8
 {
     let mut system = System::new(rt);
     announce(rt, job, &mut system);
-    let (status, text) = do_job(rt, job, &mut system);
+    let ended = do_job(rt, job, &mut system);
+    let (status, text) = secure(job, &mut system, ended);
     tell_stop(rt, status, &system);
     leave(job, &mut system);
     if let Some(text) = text {

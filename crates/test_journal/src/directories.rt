@@ -19,7 +19,11 @@ fn names_are_read(rt: HostRuntime) -> Result<(), Fail> {
         ("0000000000001.journal", Named::Other),
         ("00000000000x.journal", Named::Other),
         ("000000000001.JOURNAL", Named::Other),
-        (".journal", Named::Other),
+        (".journal", Named::Passed),
+        (".", Named::Passed),
+        (".000000000001.journal.swp", Named::Passed),
+        ("lost+found", Named::Passed),
+        ("lost", Named::Other),
         ("lock~", Named::Other),
     ];
     for row in rows.iter() {
