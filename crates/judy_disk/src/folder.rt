@@ -89,7 +89,10 @@ impl<'a, F: Files> Folder<'a, F> {
     pub fn begin_snapshot(&self) -> Result<NewSnapshot<F>, DiskFault> {
         let place = Place::NewSnapshot;
         let mut how = OpenOptions::new();
-        how.write(true).create(true).truncate(true).mode(OWNER_ALONE);
+        how.write(true)
+            .create(true)
+            .truncate(true)
+            .mode(OWNER_ALONE);
         let file = self.open_with(&how, place)?;
         Ok(NewSnapshot::new(Growing::new(file, place)))
     }

@@ -12,9 +12,7 @@ mod standard;
 use built::BUILT;
 use judy_command::{Job, Refusal, Sync, VERSION, Word, parse_words};
 use judy_disk::{DiskFault, Folder};
-use judy_programs::{
-    Failed, Hosted, System, Unserved, finish_hosted, read_secret, tell_line,
-};
+use judy_programs::{Failed, Hosted, System, Unserved, finish_hosted, read_secret, tell_line};
 use judy_recovery::JournalFault;
 use judy_server::{Server, do_job_on};
 use judy_stream::{Reads, Writes};
