@@ -13,6 +13,3 @@ mod rewriting;
 
 pub use compacting::{Compacted, Uncompacted, compact};
 pub use printing::{Unprinted, print};
-
-#[cfg(test)]
-mod tests;
