@@ -1,5 +1,6 @@
 //! The handles over std's readers and writers in memory, and over some that fail.
 use super::*;
+use crate::checks::{holds, same};
 use std::io;
 use std::io::ErrorKind;
 use std::test::Fail;
@@ -62,10 +63,10 @@ fn reads_of_a_slice(rt: HostRuntime) {
         (Pull::End, b"zy"),
         (Pull::End, b"zy"),
     ] {
-        assert_eq!(rt; reads.pull(&mut buf), answer);
-        assert_eq!(rt; buf, *want);
+        same(&rt, reads.pull(&mut buf), answer);
+        same(&rt, buf, *want);
     }
-    assert_eq!(rt; (reads.gave, reads.ends, reads.faults), (2, 2, 0));
+    same(&rt, (reads.gave, reads.ends, reads.faults), (2, 2, 0));
 }
 
 #[test]
@@ -79,8 +80,8 @@ fn a_failed_read_is_a_fault(rt: HostRuntime) {
         (Pull::Bytes(1), (2, 0, 2)),
         (Pull::End, (2, 1, 2)),
     ] {
-        assert_eq!(rt; reads.pull(&mut buf), answer);
-        assert_eq!(rt; (reads.gave, reads.ends, reads.faults), counts);
+        same(&rt, reads.pull(&mut buf), answer);
+        same(&rt, (reads.gave, reads.ends, reads.faults), counts);
     }
 }
 
@@ -95,11 +96,11 @@ fn writes_to_a_vector(rt: HostRuntime) -> Result<(), Fail> {
         faults = 1;
         took = writes.push(b"xy");
     }
-    assert_eq!(rt; took, Push::Took(2));
-    assert!(rt; writes.flush());
-    assert_eq!(rt; writes.push(b"z"), Push::Took(1));
-    assert_eq!(rt; writes.faults, faults);
-    assert_eq!(rt; vector.as_slice(), b"xyz".as_slice());
+    same(&rt, took, Push::Took(2));
+    holds(&rt, writes.flush());
+    same(&rt, writes.push(b"z"), Push::Took(1));
+    same(&rt, writes.faults, faults);
+    same(&rt, vector.as_slice(), b"xyz".as_slice());
     Ok(())
 }
 
@@ -116,13 +117,13 @@ fn a_failed_write_is_counted(rt: HostRuntime) {
         (Push::Took(0), 3),
         (Push::Took(1), 3),
     ] {
-        assert_eq!(rt; writes.push(b"ab"), answer);
-        assert_eq!(rt; writes.faults, faults);
+        same(&rt, writes.push(b"ab"), answer);
+        same(&rt, writes.faults, faults);
     }
-    assert!(rt; !writes.flush());
-    assert_eq!(rt; writes.faults, 4);
-    assert!(rt; writes.flush());
-    assert_eq!(rt; writes.faults, 4);
+    holds(&rt, !writes.flush());
+    same(&rt, writes.faults, 4);
+    holds(&rt, writes.flush());
+    same(&rt, writes.faults, 4);
 }
 
 // Counts the calls made to it.
@@ -161,19 +162,19 @@ fn one_call_for_one_call(rt: HostRuntime) {
         flushes: 0,
     };
     let mut reads = Reads::new(&mut counting);
-    assert_eq!(rt; reads.pull(&mut [0u8; 2]), Pull::Bytes(2));
-    assert_eq!(rt; reads.pull(&mut [0u8; 1]), Pull::Bytes(1));
-    assert_eq!(rt; counting.reads, 2);
+    same(&rt, reads.pull(&mut [0u8; 2]), Pull::Bytes(2));
+    same(&rt, reads.pull(&mut [0u8; 1]), Pull::Bytes(1));
+    same(&rt, counting.reads, 2);
     let mut writes = Writes::new(&mut counting);
-    assert_eq!(rt; writes.push(b"ab"), Push::Took(2));
-    assert!(rt; writes.pending);
-    assert!(rt; writes.flush());
-    assert!(rt; !writes.pending);
-    assert_eq!(rt; writes.push(b"ab"), Push::Took(2));
-    assert_eq!(rt; writes.push(b"c"), Push::Took(1));
-    assert!(rt; writes.flush());
-    assert!(rt; writes.flush());
-    assert_eq!(rt; (counting.writes, counting.flushes), (3, 3));
+    same(&rt, writes.push(b"ab"), Push::Took(2));
+    holds(&rt, writes.pending);
+    holds(&rt, writes.flush());
+    holds(&rt, !writes.pending);
+    same(&rt, writes.push(b"ab"), Push::Took(2));
+    same(&rt, writes.push(b"c"), Push::Took(1));
+    holds(&rt, writes.flush());
+    holds(&rt, writes.flush());
+    same(&rt, (counting.writes, counting.flushes), (3, 3));
 }
 
 // Fails with an error at its first call, and gives or takes all at the next.
@@ -220,14 +221,14 @@ fn one_call_for_a_late_call(rt: HostRuntime) {
         ErrorKind::Interrupted,
     ] {
         let mut late = Late { kind, calls: 0 };
-        assert_eq!(rt; Reads::new(&mut late).pull(&mut [0u8; 2]), Pull::Fault);
-        assert_eq!(rt; late.calls, 1);
+        same(&rt, Reads::new(&mut late).pull(&mut [0u8; 2]), Pull::Fault);
+        same(&rt, late.calls, 1);
         late.calls = 0;
-        assert_eq!(rt; Writes::new(&mut late).push(b"ab"), Push::Fault);
-        assert_eq!(rt; late.calls, 1);
+        same(&rt, Writes::new(&mut late).push(b"ab"), Push::Fault);
+        same(&rt, late.calls, 1);
         late.calls = 0;
-        assert!(rt; !Writes::new(&mut late).flush());
-        assert_eq!(rt; late.calls, 1);
+        holds(&rt, !Writes::new(&mut late).flush());
+        same(&rt, late.calls, 1);
     }
 }
 
@@ -241,7 +242,7 @@ fn all_is_offered(rt: HostRuntime) {
     };
     let mut buf = [0u8; 4096];
     let mut reads = Reads::new(&mut counting);
-    assert_eq!(rt; reads.pull(&mut buf), Pull::Bytes(4096));
+    same(&rt, reads.pull(&mut buf), Pull::Bytes(4096));
     let mut writes = Writes::new(&mut counting);
-    assert_eq!(rt; writes.push(&buf), Push::Took(4096));
+    same(&rt, writes.push(&buf), Push::Took(4096));
 }

@@ -3,6 +3,7 @@
 ghost use Rattle.std.specs.Prelude.{◌≤◌};
 
 use super::*;
+use crate::checks::{holds, same};
 use std::process::Abort;
 
 const TEXT: &[u8] = b"abcd";
@@ -42,11 +43,11 @@ fn pulls_as_told(rt: &impl Abort, cuts: &[usize], step: usize, fails_at: Option<
     for _ in 0..7u8 {
         let mut buf = [b'-'; 5];
         let answer = tape.pull(&mut buf[..room]);
-        assert_eq!(rt; answer, plain_pull(at, cuts, step, fails_at, room));
+        same(rt, answer, plain_pull(at, cuts, step, fails_at, room));
         match answer {
             Pull::Bytes(n) => {
                 let next = at.saturating_add(n);
-                assert_eq!(rt; buf.get(..n), TEXT.get(at..next));
+                same(rt, buf.get(..n), TEXT.get(at..next));
                 at = next;
                 gave = gave.saturating_add(1);
             }
@@ -57,9 +58,10 @@ fn pulls_as_told(rt: &impl Abort, cuts: &[usize], step: usize, fails_at: Option<
             }
         }
     }
-    assert_eq!(rt;
+    same(
+        rt,
         (tape.at, tape.gave, tape.ends, tape.faults),
-        (at, gave, ends, faults)
+        (at, gave, ends, faults),
     );
 }
 
@@ -92,12 +94,12 @@ fn tape_by_hand(rt: HostRuntime) {
         (Pull::End, b"hge"),
         (Pull::End, b"hge"),
     ] {
-        assert_eq!(rt; tape.pull(&mut buf), answer);
-        assert_eq!(rt; buf, *want);
+        same(&rt, tape.pull(&mut buf), answer);
+        same(&rt, buf, *want);
     }
     let mut empty = Tape::new(b"", &[], 4, None);
-    assert_eq!(rt; empty.pull(&mut buf), Pull::End);
-    assert_eq!(rt; buf, *b"hge");
+    same(&rt, empty.pull(&mut buf), Pull::End);
+    same(&rt, buf, *b"hge");
 }
 
 // Where a page fails: at a push after this many bytes, or at a flush.
@@ -129,24 +131,24 @@ fn pushes_as_told(rt: &impl Abort, limit: usize, refusal: Refusal, fails: Fails,
             .take_while(|place| { fails.push != Some(*place) || *place == held })
             .count();
         if fails.push == Some(held) || fits == 0 {
-            assert_eq!(rt; answer, refused);
+            same(rt, answer, refused);
             if fails.push == Some(held) {
                 fails.push = None;
             }
             faults = faults.saturating_add(1);
         } else {
-            assert_eq!(rt; answer, Push::Took(fits));
-            assert_eq!(rt; page.bytes().get(held..), PUSHED.get(..fits));
+            same(rt, answer, Push::Took(fits));
+            same(rt, page.bytes().get(held..), PUSHED.get(..fits));
             held = held.saturating_add(fits);
         }
-        assert_eq!(rt; page.bytes().len(), held);
+        same(rt, page.bytes().len(), held);
         let flushes = fails.flush != Some(held);
-        assert_eq!(rt; page.flush(), flushes);
+        same(rt, page.flush(), flushes);
         if !flushes {
             fails.flush = None;
             faults = faults.saturating_add(1);
         }
-        assert_eq!(rt; page.faults, faults);
+        same(rt, page.faults, faults);
     }
 }
 
@@ -173,22 +175,22 @@ fn page_at_every_limit_length_and_fault(rt: HostRuntime) {
 #[test]
 fn page_by_hand(rt: HostRuntime) {
     let mut page: Page<4> = Page::new(3, Refusal::TakesNothing, Some(1), Some(3));
-    assert_eq!(rt; page.bytes(), b"".as_slice());
-    assert_eq!(rt; page.push(b"ab"), Push::Took(1));
-    assert_eq!(rt; page.push(b"b"), Push::Took(0));
-    assert_eq!(rt; page.push(b"bcd"), Push::Took(2));
-    assert!(rt; page.pending);
-    assert!(rt; !page.flush());
-    assert!(rt; page.pending);
-    assert!(rt; page.flush());
-    assert!(rt; !page.pending);
-    assert_eq!(rt; page.push(b"d"), Push::Took(0));
-    assert_eq!(rt; page.bytes(), b"abc".as_slice());
-    assert_eq!(rt; page.faults, 3);
+    same(&rt, page.bytes(), b"".as_slice());
+    same(&rt, page.push(b"ab"), Push::Took(1));
+    same(&rt, page.push(b"b"), Push::Took(0));
+    same(&rt, page.push(b"bcd"), Push::Took(2));
+    holds(&rt, page.pending);
+    holds(&rt, !page.flush());
+    holds(&rt, page.pending);
+    holds(&rt, page.flush());
+    holds(&rt, !page.pending);
+    same(&rt, page.push(b"d"), Push::Took(0));
+    same(&rt, page.bytes(), b"abc".as_slice());
+    same(&rt, page.faults, 3);
     let mut full: Page<2> = Page::new(2, Refusal::Fails, None, None);
-    assert_eq!(rt; full.push(b"abc"), Push::Took(2));
-    assert_eq!(rt; full.push(b"c"), Push::Fault);
-    assert!(rt; full.flush());
-    assert_eq!(rt; full.bytes(), b"ab".as_slice());
-    assert_eq!(rt; full.faults, 1);
+    same(&rt, full.push(b"abc"), Push::Took(2));
+    same(&rt, full.push(b"c"), Push::Fault);
+    holds(&rt, full.flush());
+    same(&rt, full.bytes(), b"ab".as_slice());
+    same(&rt, full.faults, 1);
 }
