@@ -178,7 +178,7 @@ impl House {
         events: &[Event<'_>],
         replies: &mut [OwnedReply],
     ) {
-        same(rt, replies.len(), events.len());
+        assert_eq!(rt; replies.len(), events.len());
         holds_at(
             rt,
             self.service.can_answer(events),

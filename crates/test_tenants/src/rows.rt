@@ -1,6 +1,6 @@
 //! Worked rows: two tenants at once, many names of both, and a first entry when memory runs out. Each
 //! row may be run with any one request for memory refused.
-use crate::checks::{same, same_at};
+use crate::checks::same;
 use crate::house::House;
 use crate::lines::ask;
 use arrayvec::ArrayString;
@@ -38,7 +38,7 @@ fn each(
 ) -> Result<(), Fail> {
     for i in 0..300u32 {
         let reply = house.ask(rt, bob, &Call::One(numbered(i)?, call));
-        same_at(rt, &reply.reply(), want, (call, "of the name", i));
+        assert_eq!(rt; reply.reply(), *want, "{call:?} of the name {i}");
     }
     Ok(())
 }
