@@ -151,7 +151,7 @@ fn row<H: KeyHash>(rt: &impl Abort, alloc: Global, hash: H) -> Result<(), NoMemo
     same(rt, map.get(&arena, &empty), Some(1));
     same(rt, map.get(&arena, &[0, 0]), None);
     holds(rt, map.delete(&mut arena, &empty));
-    same(rt, map.get(&arena, &[0]), Some(2));
+    assert_eq!(rt; map.get(&arena, &[0]), Some(2));
     map.write(&mut arena, &[0], 3);
     same(rt, map.get(&arena, &[0]), Some(3));
     let back = JudyHS::from_reference(hash, map.reference());
