@@ -92,6 +92,12 @@ class WrongUses(WithServer):
             for timeout, error in (("30", TypeError), ([], TypeError), (0, ValueError), (-1, ValueError), (float("nan"), ValueError)):
                 self.assertRaisesRegex(error, "a timeout is .* seconds, or None, and not", make, self.served.path, timeout)
 
+    def test_pools(self):
+        for make in (Pool, aio.Pool):
+            for size, name, token, error in ((0, "a", "b", ValueError), (1, "a b", "c", ValueError), (1, "a", "b c", ValueError), (1, 5, "b", TypeError), (1, "a", b"b", TypeError)):
+                self.assertRaises(error, make, "nowhere", size, name, token)
+            self.assertIn("Pool nowhere, a, 0 of 1 in use>", repr(make("nowhere", 1, "a", "b")))
+
     def test_addresses(self):
         for address in (7000, None, ("localhost",), ("localhost", 1, 2), ["localhost", 1]):
             self.assertRaisesRegex(TypeError, "an address is the path of a socket, or a tuple of a host and a port", Client, address)

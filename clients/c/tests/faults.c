@@ -27,29 +27,9 @@
 #include <unistd.h>
 
 #include "../judyd.h"
-
-#define CHECK(wanted, given) check(__LINE__, #given, wanted, given)
+#include "checks.h"
 
 enum { UNTOUCHED = 77 };
-
-static void check(int line, const char *what, int wanted, int given)
-{
-    if (wanted == given)
-        return;
-    fprintf(stderr, "faults.c:%d: %s: wanted %d (%s), got %d (%s)\n", line, what, wanted, jd_strerror(wanted), given, jd_strerror(given));
-    exit(1);
-}
-
-/* A connection to a server that is there. */
-static jd *open_at(const char *path)
-{
-    jd *c = jd_open(path);
-    if (!c) {
-        perror(path);
-        exit(1);
-    }
-    return c;
-}
 
 static jd *log_in(const char *path, const char *tenant, const char *token)
 {

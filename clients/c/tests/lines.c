@@ -14,17 +14,9 @@
 #include <sys/un.h>
 
 #include "../judyd.h"
+#include "checks.h"
 
-#define CHECK(wanted, given) check(__LINE__, #given, wanted, given)
 #define SAID(wanted, given) check_text(__LINE__, wanted, given)
-
-static void check(int line, const char *what, int wanted, int given)
-{
-    if (wanted == given)
-        return;
-    fprintf(stderr, "lines.c:%d: %s: wanted %d (%s), got %d (%s)\n", line, what, wanted, jd_strerror(wanted), given, jd_strerror(given));
-    exit(1);
-}
 
 static void check_text(int line, const char *wanted, const char *given)
 {
@@ -32,16 +24,6 @@ static void check_text(int line, const char *wanted, const char *given)
         return;
     fprintf(stderr, "lines.c:%d: wanted %s, got %s\n", line, wanted, given);
     exit(1);
-}
-
-static jd *open_at(const char *path)
-{
-    jd *c = jd_open(path);
-    if (!c) {
-        perror(path);
-        exit(1);
-    }
-    return c;
 }
 
 /* A line, the code that it returns, and its reply. */

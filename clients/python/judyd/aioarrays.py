@@ -1,11 +1,14 @@
 """The arrays of an asyncio client."""
 
+from functools import partial
+from itertools import compress
 from typing import Any, AsyncIterator, Callable, Coroutine, Generic, Iterable, List, Mapping, Optional, Tuple, TypeVar, Union, overload
 
 from .calls import Judy1Calls, JudyHSCalls, JudyLCalls, JudySLCalls, MapCalls, given
 from .connection import SameServer
-from .fields import MAX, is_word, stop_of, word_of
-from .many import windows
+from .errors import all_checked
+from .fields import MAX, flag, is_word, stop_of, value_or_none, word_of
+from .many import ABSENT, windows
 from .strings import Item, StringWalk
 from .walks import Ask, RankedWalk, Steps, index_of_item, indexes_of, items_of
 
@@ -41,16 +44,29 @@ class Many:
 
     _asker: Any
 
-    async def _many(self, things: Iterable[T], call: Callable[[Any, T], Any], is_quiet: bool = False) -> AsyncIterator[List[Tuple[T, Any]]]:
-        """These things in windows, each with the later result of its call. A refusal is raised after the
-        window that has it."""
+    async def _many(
+        self, things: Iterable[T], lines_of: Callable[[List[T]], Optional[List[bytes]]], call: Callable[[Any, T], Any],
+        is_quiet: bool = False,
+    ) -> AsyncIterator[Tuple[List[T], List[bytes]]]:  # fmt: skip
+        """These things in windows, each with the replies to its calls. A refusal is raised after the
+        window that has it. `lines_of` makes the lines of a window at once. Where it gives none, `call`
+        makes the call of each thing."""
         same = SameServer(self._asker._server)
         for window in windows(things):
-            async with self._asker.pipeline(None, is_quiet=is_quiet) as pipe:
-                calls = self._in(pipe)
-                late = [(thing, call(calls, thing)) for thing in window]
+            lines = lines_of(window)
+            if lines is None:
+                replies = await self._piped(window, call, is_quiet)
+            else:
+                replies = all_checked(await self._asker._exchange(lines, is_quiet))
             same.check()
-            yield late
+            yield window, replies
+
+    async def _piped(self, window: List[T], call: Callable[[Any, T], Any], is_quiet: bool) -> List[bytes]:
+        """The replies to the calls of these things. If one of them raises an exception, nothing is sent."""
+        async with self._asker.pipeline(None, is_quiet=is_quiet) as pipe:
+            calls = self._in(pipe)
+            late = [call(calls, thing) for thing in window]
+        return [ABSENT if it is None else it._reply for it in late]
 
     def _in(self, pipe: Any) -> Any:
         """The calls of this array in a pipeline."""
@@ -71,21 +87,22 @@ class Judy1(Many, Judy1Calls[SoonYes, SoonNumber, SoonFound]):
     async def update(self, indexes: Iterable[int]) -> None:
         """Inserts all of these indexes, with many lines in flight at once. A refusal is raised
         after the window that has it."""
-        async for _ in self._many(indexes, lambda calls, index: calls.set(index), is_quiet=True):
+        async for _ in self._many(indexes, partial(self._lines, b"S"), lambda calls, index: calls.set(index), is_quiet=True):
             pass
 
     async def difference_update(self, indexes: Iterable[int]) -> None:
         """Removes all of these indexes, with many lines in flight at once."""
-        async for _ in self._many(filter(is_word, indexes), lambda calls, index: calls.unset(index), is_quiet=True):
+        words = filter(is_word, indexes)
+        async for _ in self._many(words, partial(self._lines, b"U"), lambda calls, index: calls.unset(index), is_quiet=True):
             pass
 
     async def among(self, indexes: Iterable[int]) -> AsyncIterator[int]:
         """Those of these indexes that are in the set, in the order given, with many lines in flight
         at once."""
-        async for late in self._many(filter(is_word, indexes), lambda calls, index: calls.test(index)):
-            for index, is_there in late:
-                if is_there.result():
-                    yield index
+        words = filter(is_word, indexes)
+        async for window, replies in self._many(words, partial(self._lines, b"T"), lambda calls, index: calls.test(index)):
+            for index in compress(window, map(flag, replies)):
+                yield index
 
     def walk(self, start: int = 0, stop: Optional[int] = None) -> AsyncIterator[int]:
         """The indexes in order from `start` on, up to `stop`, which is left out, read in windows of many
@@ -122,22 +139,22 @@ class Map(Many, MapCalls[K, SoonYes, SoonNumber, SoonFound], Generic[K]):
         """Stores all of these entries, with many lines in flight at once. A refusal is raised after
         the window that has it."""
         items: Iterable[Tuple[Any, int]] = entries.items() if isinstance(entries, Mapping) else entries
-        async for _ in self._many(items, lambda calls, entry: calls.insert(entry[0], given(entry[1])), is_quiet=True):
+        async for _ in self._many(items, self._insert_lines, lambda calls, entry: calls.insert(entry[0], given(entry[1])), is_quiet=True):
             pass
 
     async def get_many(self, keys: Iterable[K]) -> AsyncIterator[Tuple[K, Optional[int]]]:
         """Each of these keys with its value, or with None, with many lines in flight at once. A key
         that is out of range is absent."""
-        async for late in self._many(keys, _get_late):
-            for key, answer in late:
-                yield key, answer if answer is None else answer.result()
+        async for window, replies in self._many(keys, partial(self._lines, b"G"), _get_late):
+            for item in zip(window, map(value_or_none, replies)):
+                yield item
 
     async def delete_many(self, keys: Iterable[K]) -> int:
         """Removes all of these keys, with many lines in flight at once, and returns how many were
         present."""
         count = 0
-        async for late in self._many(keys, lambda calls, key: calls.delete(key)):
-            count += sum(answer.result() for _, answer in late)
+        async for _, replies in self._many(keys, partial(self._lines, b"D"), lambda calls, key: calls.delete(key)):
+            count += sum(map(flag, replies))
         return count
 
 

@@ -1,21 +1,15 @@
 """A pool of clients for asyncio."""
 
 import asyncio
-import ssl
 from collections import deque
 from contextlib import asynccontextmanager
-from typing import AsyncIterator, Callable, Deque, List, Optional
+from typing import AsyncIterator, Deque
 
 from .aioclient import Client
-from .bound import Bound
-from .client import TIMEOUT
-from .connection import Address, checked_address, checked_timeout, place_of
-from .errors import Closed, PoolEmpty
-from .fields import name_field, token_field
-from .retry import QUERIES, Retry, checked_retry
+from .pool import AnyPool
 
 
-class Pool(Bound):
+class Pool(AnyPool[Client]):
     """Up to `size` clients of one tenant, each with a connection and a log-in of its own:
 
         async with aio.Pool("/run/judyd/socket", 8, "alice", "abc") as pool:
@@ -28,28 +22,12 @@ class Pool(Bound):
     lost is not given out again. It is for one event loop.
     """
 
-    def __init__(
-        self, address: Address, size: int, name: str, token: str, wait: Optional[float] = TIMEOUT,
-        timeout: Optional[float] = TIMEOUT, tls: Optional[ssl.SSLContext] = None, reconnect: bool = False, retry: Retry = QUERIES,
-    ) -> None:  # fmt: skip
-        if size < 1:
-            raise ValueError("a pool has at least one client")
-        checked_retry(retry, reconnect)
-        checked_timeout(timeout)
-        self._place = "%s, %s" % (place_of(checked_address(address)), name_field(name).decode())
-        token_field(token)
-        self._made: Callable[[], Client] = lambda: Client(address, timeout, tls, reconnect, retry)
-        self._name = name
-        self._token = token
-        self._size = size
-        self._wait = wait
-        self._is_closed = False
-        self._idle: List[Client] = []
-        self._used = 0
-        self._turns: Deque["asyncio.Future[None]"] = deque()
+    _client_type = Client
+    _shown = "aio.Pool"
 
-    def __repr__(self) -> str:
-        return "<aio.Pool %s, %s>" % (self._place, "closed" if self._is_closed else "%d of %d in use" % (self._used, self._size))
+    def _reset(self) -> None:
+        super()._reset()
+        self._turns: Deque["asyncio.Future[None]"] = deque()
 
     async def __aenter__(self) -> "Pool":
         return self
@@ -81,7 +59,7 @@ class Pool(Bound):
         for client in idle:
             await client.close()
         for turn in self._turns:
-            turn.set_exception(Closed("this pool was closed"))
+            turn.set_exception(self._closed_error())
         self._turns.clear()
 
     async def _taken(self) -> Client:
@@ -101,7 +79,7 @@ class Pool(Bound):
     async def _place_taken(self) -> None:
         """Waits until one more client may be in use."""
         if self._is_closed:
-            raise Closed("this pool was closed")
+            raise self._closed_error()
         if self._used < self._size:
             self._used += 1
             return
@@ -116,7 +94,7 @@ class Pool(Bound):
             raise
         if not turn.done():
             self._forget(turn)
-            raise PoolEmpty("all %d clients of the pool were in use for %g s" % (self._size, self._wait or 0))
+            raise self._empty_error()
         turn.result()
 
     def _forget(self, turn: "asyncio.Future[None]") -> None:

@@ -9,12 +9,12 @@ None. `K` is the type of keys: int, bytes, or str.
 # mypy: no-warn-return-any
 
 import re
-from typing import Any, Callable, Generic, Optional, Tuple, TypeVar
+from typing import Any, Callable, Generic, List, Optional, Sequence, Tuple, TypeVar
 
 from .bound import Bound
 from .fields import (
-    KEY_LIMIT, MAX, bytes_item_of, bytes_of, count_of, flag, index_of, item_of, key_field, name_field, no_zeros, step_field,
-    value_of, value_or_none, word_field,
+    KEY_LIMIT, MAX, bytes_item_of, bytes_of, count_of, flag, index_of, item_of, key_field, name_field, no_zeros, plain_keys,
+    plain_words, step_field, value_of, value_or_none, word_field,
 )  # fmt: skip
 
 K = TypeVar("K")
@@ -49,6 +49,7 @@ class Calls(Bound, Generic[Number]):
     """The calls of one array, over an asker: a client or a pipeline."""
 
     _prefix = b""
+    _form = b"%d"  # how a line has a key
 
     def __init__(self, asker: Any, name: str) -> None:
         self._field = name_field(name)
@@ -60,6 +61,15 @@ class Calls(Bound, Generic[Number]):
 
     def _line(self, letters: bytes, *fields: bytes) -> bytes:
         return b" ".join((self._prefix + letters, self._field, *fields))
+
+    def _formed(self, keys: Sequence[Any]) -> Optional[List[Any]]:
+        """Many keys, as `_form` takes them; None if one of them needs a look of its own."""
+        return plain_words(keys)
+
+    def _lines(self, letters: bytes, keys: Sequence[Any]) -> Optional[List[bytes]]:
+        """The lines of a call for many keys, made at once; None if a key needs a look of its own."""
+        formed, line = self._formed(keys), self._line(letters, self._form)
+        return None if formed is None else [line % key for key in formed]
 
     def _ask(self, letters: bytes, read: Callable[[bytes], object], *fields: bytes, is_quiet: bool = False) -> Any:
         """The result of a call. It is quiet if nobody looks at the result."""
@@ -164,6 +174,14 @@ class MapCalls(Calls[Number], Generic[K, Yes, Number, Found]):
         as 0, and becomes present. `n` may be negative."""
         return self._add(key, n)
 
+    def _insert_lines(self, entries: Sequence[Any]) -> Optional[List[bytes]]:
+        """The lines that store many entries, made at once; None if an entry needs a look of its own."""
+        if not set(map(type, entries)) <= {tuple, list} or set(map(len, entries)) != {2}:
+            return None
+        keys, values = zip(*entries)
+        formed, words, line = self._formed(keys), plain_words(values), self._line(b"I", self._form, b"%d")
+        return None if formed is None or words is None else [line % entry for entry in zip(formed, words)]
+
     def _add(self, key: K, n: int) -> Any:
         return self._put(b"A", value_of, self._key(key), step_field(n))
 
@@ -208,6 +226,8 @@ class JudyLCalls(MapCalls[int, Yes, Number, Found], Empties[Number, Found], Gene
 class KeyCalls(MapCalls[K, Yes, Number, Found], Generic[K, Yes, Number, Found]):
     """Keys that are bytes, or text in an encoding."""
 
+    _form = b"x%b"
+
     def __init__(self, asker: Any, name: str, encoding: Optional[str] = None) -> None:
         super().__init__(asker, name)
         self.encoding = encoding
@@ -215,6 +235,14 @@ class KeyCalls(MapCalls[K, Yes, Number, Found], Generic[K, Yes, Number, Found]):
     def _plain(self, key: K) -> bytes:
         """The bytes of a key."""
         return bytes_of(key, self.encoding)
+
+    def _plain_many(self, keys: Sequence[Any]) -> Optional[List[bytes]]:
+        """The bytes of many keys; None if one of them needs a look of its own."""
+        return plain_keys(keys, self.encoding)
+
+    def _formed(self, keys: Sequence[Any]) -> Optional[List[Any]]:
+        plain = self._plain_many(keys)
+        return None if plain is None else [key.hex().encode() for key in plain]
 
     def _bound(self, key: Optional[K]) -> Optional[bytes]:
         """The bytes of a key where a walk begins or stops, if there is one."""
@@ -240,6 +268,10 @@ class JudySLCalls(KeyCalls[K, Yes, Number, Found], Generic[K, Yes, Number, Found
 
     def _plain(self, key: K) -> bytes:
         return no_zeros(super()._plain(key))
+
+    def _plain_many(self, keys: Sequence[Any]) -> Optional[List[bytes]]:
+        plain = super()._plain_many(keys)
+        return None if plain is None or b"\0" in b"".join(plain) else plain
 
     def first(self, key: Optional[K] = None) -> Item:
         """First: the least string from `key` on (without a key: of all), and its value; or None."""

@@ -132,6 +132,13 @@ def refusal_of(reply: bytes) -> Refused:
     return REFUSALS[reply](reply.decode())
 
 
+def all_checked(replies: List[bytes]) -> List[bytes]:
+    """The replies. The first refusal among them raises its exception."""
+    if not REFUSALS.keys().isdisjoint(replies):
+        raise refusal_of(next(reply for reply in replies if reply in REFUSALS))
+    return replies
+
+
 def checked(reply: bytes) -> bytes:
     """The reply. A refusal raises its exception."""
     if reply in REFUSALS:

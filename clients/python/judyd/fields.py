@@ -2,7 +2,7 @@
 
 import operator
 import re
-from typing import Any, Iterable, List, NamedTuple, Optional, SupportsIndex, Tuple
+from typing import Any, Iterable, List, NamedTuple, Optional, Sequence, SupportsIndex, Tuple
 
 from .errors import JudyError, KeyTooLong
 
@@ -68,11 +68,22 @@ def word_field(word: SupportsIndex) -> bytes:
 
 def is_word(thing: Any) -> bool:
     """Whether a thing is a word. A set has nothing else."""
+    if type(thing) is int:
+        return 0 <= thing <= MAX
     try:
         word_of(thing)
     except (TypeError, ValueError):
         return False
     return True
+
+
+def plain_words(things: Sequence[Any]) -> Optional[List[int]]:
+    """Many words, checked at once; None if one of the things is no word."""
+    try:
+        words = list(map(operator.index, things))
+    except Exception:  # `word_of` raises what there is to say of it
+        return None
+    return words if min(words, default=0) >= 0 and max(words, default=0) <= MAX else None
 
 
 def step_field(step: SupportsIndex) -> bytes:
@@ -102,6 +113,18 @@ def bytes_of(key: object, encoding: Optional[str]) -> bytes:
     if len(plain) > KEY_LIMIT:
         raise KeyTooLong("a key has at most %d bytes, and this one has %d: shorten it, or use a digest of it" % (KEY_LIMIT, len(plain)))
     return plain
+
+
+def plain_keys(keys: Sequence[Any], encoding: Optional[str]) -> Optional[List[bytes]]:
+    """The bytes of many keys, checked at once; None if one of them is neither bytes nor, with an encoding,
+    str, or is no key."""
+    if any(kind is not (bytes if encoding is None else str) for kind in set(map(type, keys))):
+        return None
+    try:
+        plain = list(keys) if encoding is None else [key.encode(encoding) for key in keys]
+    except (LookupError, UnicodeError):
+        return None
+    return plain if max(map(len, plain), default=0) <= KEY_LIMIT else None
 
 
 def key_field(plain: bytes) -> bytes:
@@ -153,7 +176,10 @@ def count_of(reply: bytes) -> int:
 
 def value_of(reply: bytes) -> int:
     """A value."""
-    return _numbers(reply, b"V", 1)[0]
+    digits = reply[2:]
+    if reply[:2] != b"V " or not digits.isdigit():
+        raise JudyError("no such answer: %r" % reply)
+    return int(digits)
 
 
 def value_or_none(reply: bytes) -> Optional[int]:

@@ -1,9 +1,11 @@
 """What arrays have in Python besides the manual's calls: many calls at once, and ranks."""
 
 import operator
+from itertools import islice
 from typing import Any, Callable, Generic, Iterable, Iterator, List, Optional, Sequence, Tuple, TypeVar, Union, overload
 
 from .connection import SameServer
+from .errors import all_checked
 from .fields import MAX, stop_of, word_of
 from .walks import RankedWalk, walked
 
@@ -12,15 +14,15 @@ T = TypeVar("T")
 WINDOW = 1000
 """How many lines are in flight at once."""
 
+ABSENT = b"NULL"
+"""What stands for the reply where a thing has no call, since it can't be in the array."""
+
 
 def windows(things: Iterable[T], size: int = WINDOW) -> Iterator[List[T]]:
     """The things in lists of at most `size`."""
-    window = []
-    for thing in things:
-        window.append(thing)
-        if len(window) == size:
-            yield window
-            window = []
+    left = iter(things)
+    while len(window := list(islice(left, size))) == size:
+        yield window
     if window:
         yield window
 
@@ -30,17 +32,32 @@ class Many:
 
     _asker: Any
 
-    def _many(self, things: Iterable[T], call: Callable[[Any, T], Any], is_quiet: bool = False) -> Iterator[List[Tuple[T, Any]]]:
-        """These things in windows, each with the result of its call. A refusal is raised after the
-        window that has it. The calls are quiet if nobody looks at their results."""
+    def _many(
+        self, things: Iterable[T], lines_of: Callable[[List[T]], Optional[List[bytes]]], call: Callable[[Any, T], Any],
+        is_quiet: bool = False,
+    ) -> Iterator[Tuple[List[T], List[bytes]]]:  # fmt: skip
+        """These things in windows, each with the replies to its calls. A refusal is raised after the
+        window that has it. The calls are quiet if nobody looks at their results.
+
+        `lines_of` makes the lines of a window at once. Where it gives none, and for a client with a
+        catalogue, which has lines of its own among them, `call` makes the call of each thing."""
         same = SameServer(self._asker._server)
         for window in windows(things):
-            with self._asker.pipeline(None, is_quiet=is_quiet) as pipe:
-                calls = self._in(pipe)
-                late = [(thing, call(calls, thing)) for thing in window]
+            lines = lines_of(window) if self._asker._catalogue is None else None
+            if lines is None:
+                replies = self._piped(window, call, is_quiet)
+            else:
+                replies = all_checked(self._asker._exchange(lines, is_quiet))
             self._asker._pause()
             same.check()
-            yield late
+            yield window, replies
+
+    def _piped(self, window: List[T], call: Callable[[Any, T], Any], is_quiet: bool) -> List[bytes]:
+        """The replies to the calls of these things. If one of them raises an exception, nothing is sent."""
+        with self._asker.pipeline(None, is_quiet=is_quiet) as pipe:
+            calls = self._in(pipe)
+            late = [call(calls, thing) for thing in window]
+        return [ABSENT if it is None else it._reply for it in late]
 
     def _in(self, pipe: Any) -> Any:
         """The calls of this array in a pipeline."""

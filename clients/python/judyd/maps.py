@@ -1,5 +1,6 @@
 """JudyL, JudySL and JudyHS as mappings of Python, over a client."""
 
+from functools import partial
 from threading import get_ident
 from typing import (
     Any, Callable, Dict, Generic, ItemsView, Iterable, Iterator, KeysView, List, Mapping, MutableMapping, Optional, Tuple, TypeVar,
@@ -9,7 +10,7 @@ from weakref import ReferenceType, ref
 
 from .calls import JudyHSCalls, JudyLCalls, JudySLCalls, MapCalls, given
 from .catalogue import keys_of
-from .fields import MAX
+from .fields import MAX, flag, value_or_none
 from .many import Many, Ranked
 from .strings import Item, Listing, StringWalk
 from .walks import Steps, items_of, walked
@@ -159,8 +160,8 @@ class MapBase(Many, MapCalls[K, bool, int, Optional[int]], Generic[K]):
     def get_many(self, keys: Iterable[K]) -> Iterator[Tuple[K, Optional[int]]]:
         """Each of these keys with its value, or with None, with many lines in flight at once. A key
         that is out of range is absent."""
-        for late in self._many(keys, self._get_late):
-            yield from ((key, answer if answer is None else answer.result()) for key, answer in late)
+        for window, replies in self._many(keys, partial(self._lines, b"G"), self._get_late):
+            yield from zip(window, map(value_or_none, replies))
 
     def _get_late(self, calls: Any, key: K) -> Any:
         """The later value of a key, with the calls of a pipeline; None for a key out of range."""
@@ -177,13 +178,14 @@ class MapBase(Many, MapCalls[K, bool, int, Optional[int]], Generic[K]):
         """Stores all of these entries, with many lines in flight at once. A refusal is raised after
         the window that has it."""
         items: Iterable[Tuple[Any, int]] = entries.items() if hasattr(entries, "items") else entries
-        for _ in self._many((*items, *more.items()) if more else items, _insert, is_quiet=True):
+        for _ in self._many((*items, *more.items()) if more else items, self._insert_lines, _insert, is_quiet=True):
             pass
 
     def delete_many(self, keys: Iterable[K]) -> int:
         """Removes all of these keys, with many lines in flight at once, and returns how many were
         present."""
-        return sum(answer.result() for late in self._many(keys, lambda calls, key: calls.delete(key)) for _, answer in late)
+        found = self._many(keys, partial(self._lines, b"D"), lambda calls, key: calls.delete(key))
+        return sum(flag(reply) for _, replies in found for reply in replies)
 
 
 def _insert(calls: Any, entry: Tuple[Any, int]) -> Any:

@@ -1,20 +1,65 @@
-"""A pool of clients, for threads that each need a connection of their own."""
+"""A pool of clients, for threads that each need a connection of their own, and what it shares with the
+pool for asyncio."""
 
 import os
 import ssl
 import threading
 import time
 from contextlib import contextmanager
-from typing import Callable, Iterator, List, Optional
+from typing import Any, Callable, Generic, Iterator, List, Optional, Type, TypeVar
 
 from .bound import Bound
 from .client import TIMEOUT, Client
 from .connection import Address, checked_address, checked_timeout, place_of
 from .errors import Closed, PoolEmpty
+from .fields import name_field, token_field
 from .retry import QUERIES, Retry, checked_retry
 
+C = TypeVar("C")
 
-class Pool(Bound):
+
+class AnyPool(Bound, Generic[C]):
+    """What pools share: their parameters, which are checked at once, what is shown of them, and their
+    errors."""
+
+    _client_type: Type[Any]  # a C
+    _shown: str  # the name of the class
+
+    def __init__(
+        self, address: Address, size: int, name: str, token: str, wait: Optional[float] = TIMEOUT,
+        timeout: Optional[float] = TIMEOUT, tls: Optional[ssl.SSLContext] = None, reconnect: bool = False, retry: Retry = QUERIES,
+    ) -> None:  # fmt: skip
+        if size < 1:
+            raise ValueError("a pool has at least one client")
+        checked_retry(retry, reconnect)
+        checked_timeout(timeout)
+        self._place = "%s, %s" % (place_of(checked_address(address)), name_field(name).decode())
+        token_field(token)
+        client_type: Callable[..., C] = self._client_type
+        self._made: Callable[[], C] = lambda: client_type(address, timeout, tls, reconnect=reconnect, retry=retry)
+        self._name = name
+        self._token = token
+        self._size = size
+        self._wait = wait
+        self._is_closed = False
+        self._reset()
+
+    def _reset(self) -> None:
+        """No client is in use or idle."""
+        self._idle: List[C] = []
+        self._used = 0
+
+    def __repr__(self) -> str:
+        return "<%s %s, %s>" % (self._shown, self._place, "closed" if self._is_closed else "%d of %d in use" % (self._used, self._size))
+
+    def _closed_error(self) -> Closed:
+        return Closed("this pool was closed")
+
+    def _empty_error(self) -> PoolEmpty:
+        return PoolEmpty("all %d clients of the pool were in use for %g s" % (self._size, self._wait or 0))
+
+
+class Pool(AnyPool[Client]):
     """Up to `size` clients of one tenant, each with a connection and a log-in of its own:
 
         pool = Pool("/run/judyd/socket", 8, "alice", "abc")
@@ -29,32 +74,16 @@ class Pool(Bound):
     `reconnect` and `retry` are those of a `Client`.
     """
 
-    def __init__(
-        self, address: Address, size: int, name: str, token: str, wait: Optional[float] = TIMEOUT,
-        timeout: Optional[float] = TIMEOUT, tls: Optional[ssl.SSLContext] = None, reconnect: bool = False, retry: Retry = QUERIES,
-    ) -> None:  # fmt: skip
-        if size < 1:
-            raise ValueError("a pool has at least one client")
-        checked_retry(retry, reconnect)
-        checked_timeout(timeout)
-        self._place = "%s, %s" % (place_of(checked_address(address)), name)
-        self._open: Callable[[], Client] = lambda: _logged_in(Client(address, timeout, tls, reconnect=reconnect, retry=retry), name, token)
-        self._size = size
-        self._wait = wait
-        self._is_closed = False
-        self._reset()
+    _client_type = Client
+    _shown = "Pool"
 
     def _reset(self) -> None:
+        super()._reset()
         self._process = os.getpid()
-        self._idle: List[Client] = []
-        self._used = 0
         self._change = threading.Condition()
 
     def __enter__(self) -> "Pool":
         return self
-
-    def __repr__(self) -> str:
-        return "<Pool %s, %s>" % (self._place, "closed" if self._is_closed else "%d of %d in use" % (self._used, self._size))
 
     def __exit__(self, *_: object) -> None:
         self.close()
@@ -93,11 +122,20 @@ class Pool(Bound):
             if client is not None and not client._link.is_idle():
                 client.close()
                 client = None
-            return client or self._open()
+            return client or self._logged_in()
         except BaseException:
             with self._change:
                 self._used -= 1
                 self._change.notify()
+            raise
+
+    def _logged_in(self) -> Client:
+        """A new client."""
+        client = self._made()
+        try:
+            return client.auth(self._name, self._token)
+        except BaseException:
+            client.close()
             raise
 
     def _wait_for_room(self) -> None:
@@ -105,10 +143,10 @@ class Pool(Bound):
         while not self._is_closed and self._used >= self._size:
             left = None if until is None else until - time.monotonic()
             if left is not None and left <= 0:
-                raise PoolEmpty("all %d clients of the pool were in use for %g s" % (self._size, self._wait or 0))
+                raise self._empty_error()
             self._change.wait(left)
         if self._is_closed:
-            raise Closed("this pool was closed")
+            raise self._closed_error()
 
     def _give_back(self, client: Client, is_same_tenant: bool) -> None:
         with self._change:
@@ -124,11 +162,3 @@ class Pool(Bound):
         """In a child process: leaves the clients to the parent."""
         if self._process != os.getpid():
             self._reset()
-
-
-def _logged_in(client: Client, name: str, token: str) -> Client:
-    try:
-        return client.auth(name, token)
-    except BaseException:
-        client.close()
-        raise

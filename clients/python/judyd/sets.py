@@ -1,5 +1,7 @@
 """Judy1 as a set of Python, over a client."""
 
+from functools import partial
+from itertools import compress
 from typing import Any, Iterable, Iterator, List, MutableSet, Optional, Set
 
 from .calls import Judy1Calls
@@ -87,19 +89,19 @@ class Judy1(Ranked[int], Many, Judy1Calls[bool, int, Optional[int]], MutableSet[
     def update(self, indexes: Iterable[int]) -> None:
         """Inserts all of these indexes, with many lines in flight at once. A refusal is raised
         after the window that has it."""
-        for _ in self._many(indexes, lambda calls, index: calls.set(index), is_quiet=True):
+        for _ in self._many(indexes, partial(self._lines, b"S"), lambda calls, index: calls.set(index), is_quiet=True):
             pass
 
     def difference_update(self, indexes: Iterable[int]) -> None:
         """Removes all of these indexes, with many lines in flight at once."""
-        for _ in self._many(filter(is_word, indexes), lambda calls, index: calls.unset(index), is_quiet=True):
+        for _ in self._many(filter(is_word, indexes), partial(self._lines, b"U"), lambda calls, index: calls.unset(index), is_quiet=True):
             pass
 
     def among(self, indexes: Iterable[int]) -> Iterator[int]:
         """Those of these indexes that are in the set, in the order given, with many lines in flight
         at once."""
-        for late in self._many(filter(is_word, indexes), lambda calls, index: calls.test(index)):
-            yield from (index for index, is_there in late if is_there.result())
+        for window, replies in self._many(filter(is_word, indexes), partial(self._lines, b"T"), lambda calls, index: calls.test(index)):
+            yield from compress(window, map(flag, replies))
 
     def _in(self, pipe: Any) -> Any:
         return pipe.judy1(self.name)
