@@ -1,5 +1,4 @@
 //! Limits of time, and accepts that fail.
-use crate::checks::same;
 use crate::stage::Offer;
 use crate::theatre::{Part, giving, limits, play, stage};
 use judy_many::{Ending, Limits};
@@ -42,11 +41,10 @@ fn a_silent_client_is_closed(rt: HostRuntime) -> Result<(), Fail> {
         ..limits(2, 2)
     };
     let ending = play(alloc, &mut stage, limits)?;
-    same(&rt, ending, Ending::Done);
-    same(
-        &rt,
+    assert_eq!(rt; ending, Ending::Done);
+    assert_eq!(rt;
         stage.asked(),
-        b".a0a1r0r1w0:r0r1:r1:r1:r1:r1:r1c0I:r1:c1I".as_slice(),
+        b".a0a1r0r1w0:r0r1:r1:r1:r1:r1:r1c0I:r1:c1I".as_slice()
     );
     Ok(())
 }
@@ -78,8 +76,8 @@ fn a_client_without_a_log_in_is_closed(rt: HostRuntime) -> Result<(), Fail> {
         ..limits(2, 2)
     };
     let ending = play(alloc, &mut stage, limits)?;
-    same(&rt, ending, Ending::Done);
-    same(&rt, stage.asked(), b".a0a1r0r1w0w1:r0r1:c0L:c1I".as_slice());
+    assert_eq!(rt; ending, Ending::Done);
+    assert_eq!(rt; stage.asked(), b".a0a1r0r1w0w1:r0r1:c0L:c1I".as_slice());
     Ok(())
 }
 
@@ -99,8 +97,8 @@ fn a_long_connection_is_closed(rt: HostRuntime) -> Result<(), Fail> {
         ..limits(1, 1)
     };
     let ending = play(alloc, &mut stage, limits)?;
-    same(&rt, ending, Ending::Done);
-    same(&rt, stage.asked(), b".a0r0w0:r0w0:r0w0:r0w0c0O".as_slice());
+    assert_eq!(rt; ending, Ending::Done);
+    assert_eq!(rt; stage.asked(), b".a0r0w0:r0w0:r0w0:r0w0c0O".as_slice());
     Ok(())
 }
 
@@ -120,8 +118,8 @@ fn a_clock_that_fails(rt: HostRuntime) -> Result<(), Fail> {
         ..limits(1, 1)
     };
     let ending = play(alloc, &mut stage, limits)?;
-    same(&rt, ending, Ending::Done);
-    same(&rt, stage.asked(), b".a0r0w0:r0c0I".as_slice());
+    assert_eq!(rt; ending, Ending::Done);
+    assert_eq!(rt; stage.asked(), b".a0r0w0:r0c0I".as_slice());
     Ok(())
 }
 
@@ -135,8 +133,8 @@ fn accepts_again_after_a_close(rt: HostRuntime) -> Result<(), Fail> {
     stage.offers = &offers;
     stage.times = &times;
     let ending = play(alloc, &mut stage, limits(2, 2))?;
-    same(&rt, ending, Ending::Done);
-    same(&rt, stage.asked(), b".a0xr0w0c0Q.a1r1w1c1Q".as_slice());
+    assert_eq!(rt; ending, Ending::Done);
+    assert_eq!(rt; stage.asked(), b".a0xr0w0c0Q.a1r1w1c1Q".as_slice());
     Ok(())
 }
 
@@ -150,8 +148,8 @@ fn accepts_again_after_a_second(rt: HostRuntime) -> Result<(), Fail> {
     stage.offers = &offers;
     stage.times = &times;
     let ending = play(alloc, &mut stage, limits(2, 1))?;
-    same(&rt, ending, Ending::Done);
-    same(&rt, stage.asked(), b".x:x:::a0r0w0c0Q".as_slice());
+    assert_eq!(rt; ending, Ending::Done);
+    assert_eq!(rt; stage.asked(), b".x:x:::a0r0w0c0Q".as_slice());
     Ok(())
 }
 
@@ -163,6 +161,6 @@ fn a_broken_listener(rt: HostRuntime) -> Result<(), Fail> {
     let mut stage = stage(alloc, &[giving(b"QUIT\n")])?;
     stage.offers = &offers;
     let ending = play(alloc, &mut stage, limits(2, 2))?;
-    same(&rt, ending, Ending::Socket);
+    assert_eq!(rt; ending, Ending::Socket);
     Ok(())
 }

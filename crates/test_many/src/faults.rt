@@ -1,5 +1,4 @@
 //! Cut writes and faults, at each place.
-use crate::checks::{holds, holds_at, same, same_at};
 use crate::theatre::{Part, giving, limits, play, stage};
 use judy_many::Ending;
 use judy_stream::Refusal;
@@ -24,13 +23,12 @@ fn writes_cut_at_each_byte(rt: HostRuntime) -> Result<(), Fail> {
         let parts = [cut, giving(b"J1T a 1\nQUIT\n")];
         let mut stage = stage(alloc, &parts)?;
         let ending = play(alloc, &mut stage, limits(2, 2))?;
-        same(&rt, ending, Ending::Done);
-        same(&rt, stage.scripts.len(), 2);
-        same_at(&rt, stage.scripts[0].page.bytes(), TEXT, ("cut at", place));
-        same(
-            &rt,
+        assert_eq!(rt; ending, Ending::Done);
+        assert_eq!(rt; stage.scripts.len(), 2);
+        assert_eq!(rt; stage.scripts[0].page.bytes(), TEXT, "cut at {place}");
+        assert_eq!(rt;
             stage.scripts[1].page.bytes(),
-            b"ERR AUTH\nBYE\n".as_slice(),
+            b"ERR AUTH\nBYE\n".as_slice()
         );
     }
     Ok(())
@@ -48,11 +46,11 @@ fn writes_that_fail_at_each_byte(rt: HostRuntime) -> Result<(), Fail> {
         let parts = [giving(LINES), broken];
         let mut stage = stage(alloc, &parts)?;
         let ending = play(alloc, &mut stage, limits(2, 2))?;
-        same(&rt, ending, Ending::Done);
-        same(&rt, stage.scripts.len(), 2);
-        same(&rt, stage.scripts[0].page.bytes(), TEXT);
-        same(&rt, stage.scripts[1].page.bytes(), &LATER[..place]);
-        holds_at(&rt, stage.asked().ends_with(b"c1F"), ("at", place));
+        assert_eq!(rt; ending, Ending::Done);
+        assert_eq!(rt; stage.scripts.len(), 2);
+        assert_eq!(rt; stage.scripts[0].page.bytes(), TEXT);
+        assert_eq!(rt; stage.scripts[1].page.bytes(), &LATER[..place]);
+        assert!(rt; stage.asked().ends_with(b"c1F"), "at {place}");
     }
     Ok(())
 }
@@ -70,15 +68,10 @@ fn reads_that_fail_at_each_byte(rt: HostRuntime) -> Result<(), Fail> {
         let parts = [broken, giving(LINES)];
         let mut stage = stage(alloc, &parts)?;
         let ending = play(alloc, &mut stage, limits(2, 2))?;
-        same(&rt, ending, Ending::Done);
-        same(&rt, stage.scripts.len(), 2);
-        same_at(
-            &rt,
-            stage.scripts[0].page.bytes(),
-            text,
-            ("fault at", place),
-        );
-        same(&rt, stage.scripts[1].page.bytes().len(), TEXT.len());
+        assert_eq!(rt; ending, Ending::Done);
+        assert_eq!(rt; stage.scripts.len(), 2);
+        assert_eq!(rt; stage.scripts[0].page.bytes(), text, "fault at {place}");
+        assert_eq!(rt; stage.scripts[1].page.bytes().len(), TEXT.len());
     }
     Ok(())
 }
@@ -94,11 +87,10 @@ fn one_after_another(rt: HostRuntime) -> Result<(), Fail> {
     let parts = [giving(LINES), broken, giving(b"J1T a 1\nhalf")];
     let mut stage = stage(alloc, &parts)?;
     let ending = play(alloc, &mut stage, limits(1, 3))?;
-    same(&rt, ending, Ending::Done);
-    same(
-        &rt,
+    assert_eq!(rt; ending, Ending::Done);
+    assert_eq!(rt;
         stage.asked(),
-        b".a0r0w0c0Q.a1r1c1F.a2r2w2|r2c2E".as_slice(),
+        b".a0r0w0c0Q.a1r1c1F.a2r2w2|r2c2E".as_slice()
     );
     Ok(())
 }
@@ -114,16 +106,16 @@ fn without_memory_for_a_client(rt: HostRuntime) -> Result<(), Fail> {
     if ending == Ending::Memory {
         return Ok(());
     }
-    same(&rt, ending, Ending::Done);
+    assert_eq!(rt; ending, Ending::Done);
     let text = b"ERR AUTH\nBYE\n".as_slice();
     let mut served = false;
     for script in &stage.scripts {
         let bytes = script.page.bytes();
-        holds(&rt, bytes.is_empty() || bytes == text);
+        assert!(rt; bytes.is_empty() || bytes == text);
         if bytes == text {
             served = true;
         }
     }
-    holds(&rt, served);
+    assert!(rt; served);
     Ok(())
 }

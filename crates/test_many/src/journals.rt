@@ -1,5 +1,4 @@
 //! The journal: what is kept and synced, and when, before answers are written.
-use crate::checks::{holds, same};
 use crate::theatre::{Part, giving, limits, play, play_with, stage};
 use judy_many::{Ending, Limits, Sync};
 use judy_protocol::cut_line;
@@ -67,20 +66,13 @@ fn two_clients_share_a_sync(rt: HostRuntime) -> Result<(), Fail> {
     ];
     let mut stage = stage(alloc, &parts)?;
     let ending = play_with(alloc, &mut stage, journaled(2, Sync::Round), 0)?;
-    same(&rt, ending, Ending::Done);
-    same(&rt, stage.asked(), b".a0a1r0r1ksw0c0Qw1c1Q".as_slice());
+    assert_eq!(rt; ending, Ending::Done);
+    assert_eq!(rt; stage.asked(), b".a0a1r0r1ksw0c0Qw1c1Q".as_slice());
     let text = stage.journal.as_slice();
-    holds(
-        &rt,
-        has_records(text, &[b"alice J1S a 1", b"bob JLI b 7 8"]),
-    );
-    same(&rt, count(text, b"# 2 "), 1);
-    same(&rt, stage.scripts.len(), 2);
-    same(
-        &rt,
-        stage.scripts[0].page.bytes(),
-        b"OK\n1\nBYE\n".as_slice(),
-    );
+    assert!(rt; has_records(text, &[b"alice J1S a 1", b"bob JLI b 7 8"]));
+    assert_eq!(rt; count(text, b"# 2 "), 1);
+    assert_eq!(rt; stage.scripts.len(), 2);
+    assert_eq!(rt; stage.scripts[0].page.bytes(), b"OK\n1\nBYE\n".as_slice());
     Ok(())
 }
 
@@ -94,12 +86,11 @@ fn only_changes_are_recorded(rt: HostRuntime) -> Result<(), Fail> {
     let parts = [giving(lines)];
     let mut stage = stage(alloc, &parts)?;
     let ending = play_with(alloc, &mut stage, journaled(1, Sync::Round), 0)?;
-    same(&rt, ending, Ending::Done);
-    same(&rt, stage.scripts.len(), 1);
-    same(
-        &rt,
+    assert_eq!(rt; ending, Ending::Done);
+    assert_eq!(rt; stage.scripts.len(), 1);
+    assert_eq!(rt;
         stage.scripts[0].page.bytes(),
-        b"ERR AUTH\nOK\n1\n1\nFULL\n1\nERR SYNTAX\n1\n0\nBYE\n".as_slice(),
+        b"ERR AUTH\nOK\n1\n1\nFULL\n1\nERR SYNTAX\n1\n0\nBYE\n".as_slice()
     );
     let records: [&[u8]; 4] = [
         b"alice J1S a 1",
@@ -107,7 +98,7 @@ fn only_changes_are_recorded(rt: HostRuntime) -> Result<(), Fail> {
         b"alice J1U a 1",
         b"alice J1U a 1",
     ];
-    holds(&rt, has_records(stage.journal.as_slice(), &records));
+    assert!(rt; has_records(stage.journal.as_slice(), &records));
     Ok(())
 }
 
@@ -118,13 +109,13 @@ fn no_change_costs_nothing(rt: HostRuntime) -> Result<(), Fail> {
     let parts = [giving(b"AUTH alice abc\nJ1T a 1\nQUIT\n")];
     let mut looking = stage(alloc, &parts)?;
     let ending = play_with(alloc, &mut looking, journaled(1, Sync::Round), 0)?;
-    same(&rt, ending, Ending::Done);
-    same(&rt, looking.asked(), b".a0r0w0c0Q".as_slice());
+    assert_eq!(rt; ending, Ending::Done);
+    assert_eq!(rt; looking.asked(), b".a0r0w0c0Q".as_slice());
     let parts = [giving(b"AUTH alice abc\nJ1S a 1\nQUIT\n")];
     let mut without = stage(alloc, &parts)?;
     let ending = play(alloc, &mut without, limits(1, 1))?;
-    same(&rt, ending, Ending::Done);
-    same(&rt, without.asked(), b".a0r0w0c0Q".as_slice());
+    assert_eq!(rt; ending, Ending::Done);
+    assert_eq!(rt; without.asked(), b".a0r0w0c0Q".as_slice());
     Ok(())
 }
 
@@ -137,15 +128,15 @@ fn a_journal_that_fails_ends_the_server(rt: HostRuntime) -> Result<(), Fail> {
         let mut stage = stage(alloc, &parts)?;
         stage.fails_at = place;
         let ending = play_with(alloc, &mut stage, journaled(1, Sync::Round), 0)?;
-        same(&rt, ending, Ending::Journal);
+        assert_eq!(rt; ending, Ending::Journal);
         let asked = if place == 0 {
             b".a0r0z".as_slice()
         } else {
             b".a0r0kz"
         };
-        same(&rt, stage.asked(), asked);
-        same(&rt, stage.scripts.len(), 1);
-        same(&rt, stage.scripts[0].page.bytes(), b"".as_slice());
+        assert_eq!(rt; stage.asked(), asked);
+        assert_eq!(rt; stage.scripts.len(), 1);
+        assert_eq!(rt; stage.scripts[0].page.bytes(), b"".as_slice());
     }
     Ok(())
 }
@@ -161,13 +152,9 @@ fn a_full_segment_is_followed_by_the_next(rt: HostRuntime) -> Result<(), Fail> {
     }];
     let mut stage = stage(alloc, &parts)?;
     let ending = play_with(alloc, &mut stage, journaled(1, Sync::Never), SEGMENT_LIMIT)?;
-    same(&rt, ending, Ending::Done);
-    same(&rt, stage.asked(), b".a0r0ksbksw0|r0kw0c0Q".as_slice());
-    same(
-        &rt,
-        count(stage.journal.as_slice(), b"judyd journal 1 2 "),
-        1,
-    );
+    assert_eq!(rt; ending, Ending::Done);
+    assert_eq!(rt; stage.asked(), b".a0r0ksbksw0|r0kw0c0Q".as_slice());
+    assert_eq!(rt; count(stage.journal.as_slice(), b"judyd journal 1 2 "), 1);
     for place in 0..5usize {
         let mut failing = crate::theatre::stage(alloc, &parts)?;
         failing.fails_at = place;
@@ -177,9 +164,9 @@ fn a_full_segment_is_followed_by_the_next(rt: HostRuntime) -> Result<(), Fail> {
             journaled(1, Sync::Never),
             SEGMENT_LIMIT,
         )?;
-        same(&rt, ending, Ending::Journal);
-        same(&rt, failing.scripts.len(), 1);
-        same(&rt, failing.scripts[0].page.bytes(), b"".as_slice());
+        assert_eq!(rt; ending, Ending::Journal);
+        assert_eq!(rt; failing.scripts.len(), 1);
+        assert_eq!(rt; failing.scripts[0].page.bytes(), b"".as_slice());
     }
     Ok(())
 }
@@ -200,8 +187,8 @@ fn syncs_by_seconds(rt: HostRuntime) -> Result<(), Fail> {
     let mut timed = stage(alloc, &parts)?;
     timed.times = &times;
     let ending = play_with(alloc, &mut timed, journaled(1, Sync::Seconds(5)), 0)?;
-    same(&rt, ending, Ending::Done);
-    same(&rt, timed.asked(), b".a0r0kw0:r0ksw0c0Q".as_slice());
+    assert_eq!(rt; ending, Ending::Done);
+    assert_eq!(rt; timed.asked(), b".a0r0kw0:r0ksw0c0Q".as_slice());
     Ok(())
 }
 
@@ -216,8 +203,8 @@ fn never_syncs(rt: HostRuntime) -> Result<(), Fail> {
     }];
     let mut never = stage(alloc, &parts)?;
     let ending = play_with(alloc, &mut never, journaled(1, Sync::Never), 0)?;
-    same(&rt, ending, Ending::Done);
-    same(&rt, never.asked(), b".a0r0kw0|r0kw0c0Q".as_slice());
+    assert_eq!(rt; ending, Ending::Done);
+    assert_eq!(rt; never.asked(), b".a0r0kw0|r0kw0c0Q".as_slice());
     Ok(())
 }
 
@@ -242,21 +229,20 @@ fn records_beyond_one_commit(rt: HostRuntime) -> Result<(), Fail> {
     let parts = [part, part, part, part, part];
     let mut stage = stage(alloc, &parts)?;
     let ending = play_with(alloc, &mut stage, journaled(5, Sync::Round), 0)?;
-    same(&rt, ending, Ending::Done);
-    same(
-        &rt,
+    assert_eq!(rt; ending, Ending::Done);
+    assert_eq!(rt;
         stage.asked(),
-        b".a0a1a2a3a4r0r1r2r3kr4ksw0c0Qw1c1Qw2c2Qw3w4c4Q.ksw3c3Q".as_slice(),
+        b".a0a1a2a3a4r0r1r2r3kr4ksw0c0Qw1c1Qw2c2Qw3w4c4Q.ksw3c3Q".as_slice()
     );
     let text = stage.journal.as_slice();
-    same(&rt, count(text, b"bob J1S a 1"), 1500);
-    same(&rt, count(text, b"# "), 3);
+    assert_eq!(rt; count(text, b"bob J1S a 1"), 1500);
+    assert_eq!(rt; count(text, b"# "), 3);
     for script in stage.scripts.iter() {
         let (zeros, ones) = (
             count(script.page.bytes(), b"0"),
             count(script.page.bytes(), b"1"),
         );
-        same(&rt, zeros.saturating_add(ones), 300);
+        assert_eq!(rt; zeros.saturating_add(ones), 300);
     }
     Ok(())
 }

@@ -1,5 +1,4 @@
 //! Connections that the operator closes.
-use crate::checks::{holds, same};
 use crate::theatre::{giving, limits, play, stage};
 use judy_many::{Ending, Limits, Question};
 use std::test::Fail;
@@ -26,11 +25,11 @@ fn those_of_a_tenant_are_closed(rt: HostRuntime) -> Result<(), Fail> {
     stage.questions = &questions;
     stage.name = b"alice";
     let ending = play(alloc, &mut stage, watched())?;
-    same(&rt, ending, Ending::Done);
+    assert_eq!(rt; ending, Ending::Done);
     let asked = stage.asked();
     let head = b".a0a1a2r0r1r2w0w1w2*c0Kc2K-".as_slice();
-    holds(&rt, asked.starts_with(head));
-    same(&rt, stage.reported.as_slice(), b"OK 2\nOK 0\n".as_slice());
+    assert!(rt; asked.starts_with(head));
+    assert_eq!(rt; stage.reported.as_slice(), b"OK 2\nOK 0\n".as_slice());
     Ok(())
 }
 
@@ -48,7 +47,7 @@ fn a_name_that_no_tenant_has_closes_nothing(rt: HostRuntime) -> Result<(), Fail>
         ..limits(1, 1)
     };
     let ending = play(alloc, &mut stage, limits)?;
-    same(&rt, ending, Ending::Done);
-    same(&rt, stage.reported.as_slice(), b"ERR TENANT\n".as_slice());
+    assert_eq!(rt; ending, Ending::Done);
+    assert_eq!(rt; stage.reported.as_slice(), b"ERR TENANT\n".as_slice());
     Ok(())
 }

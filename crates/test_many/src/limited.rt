@@ -1,5 +1,4 @@
 //! A limit for the connections of each tenant.
-use crate::checks::same;
 use crate::theatre::{Part, giving, limits, play, stage};
 use judy_many::{Ending, Limits};
 use std::alloc::Global;
@@ -43,7 +42,7 @@ fn a_second_connection_is_refused(rt: HostRuntime) -> Result<(), Fail> {
         b"OK\nERR CLIENTS\nERR AUTH\nERR AUTH\n",
         b"OK\n0\n",
     ];
-    same(&rt, differences(rt.alloc(), &parts, &wanted)?, 0);
+    assert_eq!(rt; differences(rt.alloc(), &parts, &wanted)?, 0);
     Ok(())
 }
 
@@ -58,7 +57,7 @@ fn a_connection_that_ended_does_not_count(rt: HostRuntime) -> Result<(), Fail> {
         },
     ];
     let wanted: [&[u8]; 2] = [b"OK\nBYE\n", b"ERR CLIENTS\nOK\nBYE\n"];
-    same(&rt, differences(rt.alloc(), &parts, &wanted)?, 0);
+    assert_eq!(rt; differences(rt.alloc(), &parts, &wanted)?, 0);
     Ok(())
 }
 
@@ -71,6 +70,6 @@ fn a_reading_connection_counts(rt: HostRuntime) -> Result<(), Fail> {
         giving(b"AUTH alice look\n"),
     ];
     let wanted: [&[u8]; 3] = [b"OK\n0\n", b"ERR CLIENTS\n", b"ERR CLIENTS\n"];
-    same(&rt, differences(rt.alloc(), &parts, &wanted)?, 0);
+    assert_eq!(rt; differences(rt.alloc(), &parts, &wanted)?, 0);
     Ok(())
 }

@@ -1,5 +1,4 @@
 //! Questions on the status socket.
-use crate::checks::same;
 use crate::theatre::{Part, giving, limits, play, stage};
 use judy_many::{Ending, Limits, Question};
 use judy_protocol::cut_line;
@@ -43,8 +42,8 @@ fn a_status_is_that_of_its_round(rt: HostRuntime) -> Result<(), Fail> {
     let mut stage = stage(alloc, &parts)?;
     stage.questions = &questions;
     let ending = play(alloc, &mut stage, watched())?;
-    same(&rt, ending, Ending::Done);
-    same(&rt, stage.asked(), b".a0r0w0?=|r0w0c0Q?=".as_slice());
+    assert_eq!(rt; ending, Ending::Done);
+    assert_eq!(rt; stage.asked(), b".a0r0w0?=|r0w0c0Q?=".as_slice());
     let text = stage.reported.as_slice();
     for line in [
         b"judyd_tenant_entries{tenant=\"alice\"} 1".as_slice(),
@@ -52,7 +51,7 @@ fn a_status_is_that_of_its_round(rt: HostRuntime) -> Result<(), Fail> {
         b"judyd_tenant_connections{tenant=\"alice\"} 1".as_slice(),
         b"judyd_tenant_connections{tenant=\"alice\"} 0".as_slice(),
     ] {
-        same(&rt, count(text, line), 1);
+        assert_eq!(rt; count(text, line), 1);
     }
     for line in [
         b"judyd_tenant_entries{tenant=\"bob\"} 0".as_slice(),
@@ -63,7 +62,7 @@ fn a_status_is_that_of_its_round(rt: HostRuntime) -> Result<(), Fail> {
         b"judyd_refused_requests_total 0".as_slice(),
         b"# TYPE judyd_live_words gauge".as_slice(),
     ] {
-        same(&rt, count(text, line), 2);
+        assert_eq!(rt; count(text, line), 2);
     }
     Ok(())
 }
@@ -78,10 +77,10 @@ fn a_stop_comes_after_the_replies(rt: HostRuntime) -> Result<(), Fail> {
     let mut stage = stage(alloc, &parts)?;
     stage.questions = &questions;
     let ending = play(alloc, &mut stage, watched())?;
-    same(&rt, ending, Ending::Stopped);
-    same(&rt, stage.asked(), b".a0r0w0!".as_slice());
-    same(&rt, stage.scripts.len(), 1);
-    same(&rt, stage.scripts[0].page.bytes(), b"OK\n1\n".as_slice());
+    assert_eq!(rt; ending, Ending::Stopped);
+    assert_eq!(rt; stage.asked(), b".a0r0w0!".as_slice());
+    assert_eq!(rt; stage.scripts.len(), 1);
+    assert_eq!(rt; stage.scripts[0].page.bytes(), b"OK\n1\n".as_slice());
     Ok(())
 }
 
@@ -94,7 +93,7 @@ fn no_question_without_a_socket(rt: HostRuntime) -> Result<(), Fail> {
     let mut stage = stage(alloc, &parts)?;
     stage.questions = &questions;
     let ending = play(alloc, &mut stage, limits(1, 1))?;
-    same(&rt, ending, Ending::Done);
-    same(&rt, stage.asked(), b".a0r0w0c0Q".as_slice());
+    assert_eq!(rt; ending, Ending::Done);
+    assert_eq!(rt; stage.asked(), b".a0r0w0c0Q".as_slice());
     Ok(())
 }

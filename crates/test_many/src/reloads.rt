@@ -1,5 +1,4 @@
 //! A table that is read again.
-use crate::checks::same;
 use crate::theatre::{giving, limits, play, stage};
 use judy_many::{Ending, Limits, Question};
 use std::test::Fail;
@@ -30,13 +29,12 @@ fn a_tenant_that_is_gone_is_closed(rt: HostRuntime) -> Result<(), Fail> {
     stage.questions = &questions;
     stage.tables = &tables;
     let ending = play(alloc, &mut stage, watched())?;
-    same(&rt, ending, Ending::Done);
-    same(&rt, stage.asked(), b".a0r0w0^tc0G-".as_slice());
-    same(&rt, stage.reported.as_slice(), b"OK\n".as_slice());
-    same(
-        &rt,
+    assert_eq!(rt; ending, Ending::Done);
+    assert_eq!(rt; stage.asked(), b".a0r0w0^tc0G-".as_slice());
+    assert_eq!(rt; stage.reported.as_slice(), b"OK\n".as_slice());
+    assert_eq!(rt;
         stage.warned.as_slice(),
-        b"table read again: 1 tenant\n".as_slice(),
+        b"table read again: 1 tenant\n".as_slice()
     );
     Ok(())
 }
@@ -52,11 +50,11 @@ fn a_table_with_a_fault_changes_nothing(rt: HostRuntime) -> Result<(), Fail> {
     stage.questions = &questions;
     stage.tables = &tables;
     let ending = play(alloc, &mut stage, watched())?;
-    same(&rt, ending, Ending::Done);
+    assert_eq!(rt; ending, Ending::Done);
     let said = b"ERR fault Toml\nERR the file cannot be read\n".as_slice();
-    same(&rt, stage.reported.as_slice(), said);
+    assert_eq!(rt; stage.reported.as_slice(), said);
     for script in stage.scripts.iter() {
-        same(&rt, script.page.bytes(), b"OK\n1\n".as_slice());
+        assert_eq!(rt; script.page.bytes(), b"OK\n1\n".as_slice());
     }
     Ok(())
 }

@@ -1,5 +1,4 @@
 //! The order of turns.
-use crate::checks::{holds, same};
 use crate::theatre::{Part, giving, limits, play, stage};
 use judy_many::Ending;
 use judy_stream::Refusal;
@@ -20,11 +19,10 @@ fn turns_go_by_readiness_in_two_halves(rt: HostRuntime) -> Result<(), Fail> {
     let mut stage = stage(alloc, &parts)?;
     stage.order = &order;
     let ending = play(alloc, &mut stage, limits(3, 3))?;
-    same(&rt, ending, Ending::Done);
-    same(
-        &rt,
+    assert_eq!(rt; ending, Ending::Done);
+    assert_eq!(rt;
         stage.asked(),
-        b".a0a1a2r0r1r2w0w1w2|r2r0r1w2c2Qw0c0Qw1c1Q".as_slice(),
+        b".a0a1a2r0r1r2w0w1w2|r2r0r1w2c2Qw0c0Qw1c1Q".as_slice()
     );
     Ok(())
 }
@@ -56,13 +54,12 @@ fn nobody_has_a_second_turn_first(rt: HostRuntime) -> Result<(), Fail> {
     let mut stage = stage(alloc, &parts)?;
     stage.order = &order;
     let ending = play(alloc, &mut stage, limits(3, 3))?;
-    same(&rt, ending, Ending::Done);
-    holds(
-        &rt,
+    assert_eq!(rt; ending, Ending::Done);
+    assert!(rt;
         begin_with(
             stage.asked(),
-            b".a0a1a2r0r1r2w0w1w2.r1r2w0w1w2.r2r1w0w2w1.r1c1Er2c2E",
-        ),
+            b".a0a1a2r0r1r2w0w1w2.r1r2w0w1w2.r2r1w0w2w1.r1c1Er2c2E"
+        )
     );
     Ok(())
 }
@@ -83,18 +80,16 @@ fn a_full_output_waits(rt: HostRuntime) -> Result<(), Fail> {
     ];
     let mut stage = stage(alloc, &parts)?;
     let ending = play(alloc, &mut stage, limits(2, 2))?;
-    same(&rt, ending, Ending::Done);
-    same(&rt, stage.scripts.len(), 2);
-    same(&rt, stage.scripts[0].page.bytes().len(), 2000 * 11);
-    same(
-        &rt,
+    assert_eq!(rt; ending, Ending::Done);
+    assert_eq!(rt; stage.scripts.len(), 2);
+    assert_eq!(rt; stage.scripts[0].page.bytes().len(), 2000 * 11);
+    assert_eq!(rt;
         stage.scripts[1].page.bytes(),
-        b"ERR AUTH\nBYE\n".as_slice(),
+        b"ERR AUTH\nBYE\n".as_slice()
     );
-    same(
-        &rt,
+    assert_eq!(rt;
         stage.asked(),
-        b".a0a1r0r1w0w1c1Q|w0|w0.w0.r0c0E".as_slice(),
+        b".a0a1r0r1w0w1c1Q|w0|w0.w0.r0c0E".as_slice()
     );
     Ok(())
 }
@@ -114,13 +109,12 @@ fn a_blocked_client_is_not_read(rt: HostRuntime) -> Result<(), Fail> {
     let mut stage = stage(alloc, &parts)?;
     stage.order = &order;
     let ending = play(alloc, &mut stage, limits(1, 1))?;
-    same(&rt, ending, Ending::Done);
-    same(&rt, stage.asked(), b".a0r0w0|w0.r0w0|r0c0E".as_slice());
-    same(&rt, stage.scripts.len(), 1);
-    same(
-        &rt,
+    assert_eq!(rt; ending, Ending::Done);
+    assert_eq!(rt; stage.asked(), b".a0r0w0|w0.r0w0|r0c0E".as_slice());
+    assert_eq!(rt; stage.scripts.len(), 1);
+    assert_eq!(rt;
         stage.scripts[0].page.bytes(),
-        b"ERR AUTH\nERR AUTH\n".as_slice(),
+        b"ERR AUTH\nERR AUTH\n".as_slice()
     );
     Ok(())
 }

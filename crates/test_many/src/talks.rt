@@ -1,5 +1,4 @@
 //! Connections whose lines and bytes are mixed.
-use crate::checks::same;
 use crate::theatre::{Part, giving, limits, play, stage};
 use judy_many::Ending;
 use judy_stream::Refusal;
@@ -55,16 +54,16 @@ fn by_turns(rt: HostRuntime) -> Result<(), Fail> {
     let mut stage = stage(alloc, &parts)?;
     stage.order = &order;
     let ending = play(alloc, &mut stage, limits(4, 4))?;
-    same(&rt, ending, Ending::Done);
+    assert_eq!(rt; ending, Ending::Done);
     let wanted: [&[u8]; 4] = [
         b"OK\n1\n1\nQ 2 2 2 252\nBYE\n",
         b"ERR AUTH\nOK\n0\n1\nN 1\n",
         b"OK\n1\nFULL\nERR SYNTAX\nBYE\n",
         b"OK\n1\n",
     ];
-    same(&rt, stage.scripts.len(), 4);
+    assert_eq!(rt; stage.scripts.len(), 4);
     for (script, text) in stage.scripts.iter().zip(wanted) {
-        same(&rt, script.page.bytes(), text);
+        assert_eq!(rt; script.page.bytes(), text);
     }
     Ok(())
 }
@@ -79,17 +78,12 @@ fn a_log_in_is_the_connections_own(rt: HostRuntime) -> Result<(), Fail> {
     ];
     let mut stage = stage(alloc, &parts)?;
     let ending = play(alloc, &mut stage, limits(2, 2))?;
-    same(&rt, ending, Ending::Done);
-    same(&rt, stage.scripts.len(), 2);
-    same(
-        &rt,
-        stage.scripts[0].page.bytes(),
-        b"OK\n1\nBYE\n".as_slice(),
-    );
-    same(
-        &rt,
+    assert_eq!(rt; ending, Ending::Done);
+    assert_eq!(rt; stage.scripts.len(), 2);
+    assert_eq!(rt; stage.scripts[0].page.bytes(), b"OK\n1\nBYE\n".as_slice());
+    assert_eq!(rt;
         stage.scripts[1].page.bytes(),
-        b"ERR AUTH\nERR AUTH\nERR AUTH\nBYE\n".as_slice(),
+        b"ERR AUTH\nERR AUTH\nERR AUTH\nBYE\n".as_slice()
     );
     Ok(())
 }
