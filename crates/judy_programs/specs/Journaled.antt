@@ -1,10 +1,15 @@
 -- What `judyd serve` does with a journal.
+--     Replay S                        how records are played to a service of kind S
+--     HasGoneOn replay kept fresh at before   records were played to a new service without its quotas; then its table was
+--                                     put in force
+--     HasLooked replay kept fresh after       the same, and nobody goes on with the journal
 --     HasMade at w log log'           this writer goes on there, and the next segment was begun first if it had to be
 --     HasNoJournal ..                 there is a service, and the journal cannot be gone on with
 --     HasServedOn ..                  there is a service, the journal was played to it, and connections were served with it
 --     HostsJournaled hosted ..        the whole
 -- The service with which serving begins is the new one of the table after exactly the records that were read: those
--- of a snapshot, if there is one, and of the whole commits of the segments after it, in order. The writer goes on
+-- of a snapshot, if there is one, and of the whole commits of the segments after it, in order. No quota was in force
+-- while they were played, since each of them was admitted once; then the table was put in force. The writer goes on
 -- behind these commits, with their checksum. What was read is what the directory may have (`has`). For the disk of
 -- a real system this says nothing: that it gives the bytes that an earlier run has written is what the system promises.
 use Rattle.std.specs.Prelude.{◌≡◌, ◌⊎◌, ℕ, true, false, List, [], Option, Some}
@@ -21,6 +26,35 @@ use Rattle.judy_programs.specs.declared.socket.Hosted.TheVariants as hosted
 use Rattle.judy_recovery.specs.Whole.{HasPlayedJournal, HasResumed, Kept}
 use Rattle.judy_recovery.specs.declared.resuming.Resumed.{Resumed}
 use Rattle.judy_table.specs.declared.tenant.Tenant.{Tenant}
+
+-- How records are played to a service of kind S: the quotas of a table are taken away, records are played, and a
+-- table is put in force.
+pub record Replay (S : Type 0) : Type 1 where
+  pub lifted : S → List Tenant → S → Type 0
+  pub replayed : S → List (List ℕ) → S → Type 0
+  pub limited : S → List Tenant → S → Type 0
+
+abbrev pub replay_of : {S : Type 0} → (S → List Tenant → S → Type 0) → (S → List (List ℕ) → S → Type 0) → (S → List Tenant → S → Type 0) → Replay S
+replay_of lifted replayed limited = record { lifted = lifted; replayed = replayed; limited = limited }
+
+-- The quotas of the new service were taken away, and the records of a journal were played to it. Then the table that
+-- has these quotas was put in force. A writer goes on behind the journal.
+pub record HasGoneOn {S : Type 0} (replay : Replay S) (kept : Kept) (fresh : S) (at : Resumed) (before : S) : Type 0 where
+  pub table : List Tenant
+  pub free : S
+  pub lifted : replay.lifted fresh table free
+  pub played : S
+  pub resumed : HasResumed replay.replayed kept free at played
+  pub limited : replay.limited played table before
+
+-- The same, and nobody goes on with the journal.
+pub record HasLooked {S : Type 0} (replay : Replay S) (kept : Kept) (fresh after : S) : Type 0 where
+  pub table : List Tenant
+  pub free : S
+  pub lifted : replay.lifted fresh table free
+  pub played : S
+  pub read : HasPlayedJournal replay.replayed kept free played
+  pub limited : replay.limited played table after
 
 -- a writer that goes on there, and has no record yet
 abbrev pub writer_there : Resumed → Writing
@@ -41,8 +75,8 @@ abbrev pub HasNoWriter : Hosted → Type 0
 HasNoWriter how = (how ≡ hosted.Recovery) ⊎ (how ≡ hosted.Memory) ⊎ (how ≡ hosted.Journal)
 
 -- a service is new by how many megabytes were taken for its arrays; so many are wanted, if any are. Records can be
--- played to it (`replays`). The directory may have some journal (`has`)
-module _ {S : Type 0} (rules : Rules S) (replays : S → List (List ℕ) → S → Type 0) (has : Kept → Type 0)
+-- played to it (`replay`). The directory may have some journal (`has`)
+module _ {S : Type 0} (rules : Rules S) (replay : Replay S) (has : Kept → Type 0)
     (is_new : Option ℕ → List Tenant → S → Type 0) (reserve : Option ℕ) where
   -- the file gave a service, and the journal cannot be gone on with. No socket was made
   pub record HasNoJournal (how : Hosted) (config : List ℕ) (log : Log) : Type 0 where
@@ -62,7 +96,7 @@ module _ {S : Type 0} (rules : Rules S) (replays : S → List (List ℕ) → S �
     pub read : has kept
     pub at : Resumed
     pub before : S
-    pub played : HasResumed replays kept fresh at before
+    pub played : HasGoneOn replay kept fresh at before
     pub writer : Writing
     pub ready : Log
     pub made : HasMade at writer start ready
@@ -74,18 +108,18 @@ module _ {S : Type 0} (rules : Rules S) (replays : S → List (List ℕ) → S �
       ⊎ HasNoJournal how config log ⊎ HasServedOn how config socket watch limits log log'
 
 -- the table's file gave a service, and its journal can be played; or why not
-module _ {S : Type 0} (replays : S → List (List ℕ) → S → Type 0) (has : Kept → Type 0)
+module _ {S : Type 0} (replay : Replay S) (has : Kept → Type 0)
     (is_new : Option ℕ → List Tenant → S → Type 0) (reserve : Option ℕ) where
-  -- the file gave a service, and the records of the journal were played to it
+  -- the file gave a service, the records of the journal were played to it, and its table was put in force
   pub record HasPlayedAll (config : List ℕ) (log log' : Log) : Type 0 where
     pub fresh : S
     pub begun : HasBegun (is_new reserve) config log log' fresh
     pub kept : Kept
     pub read : has kept
     pub after : S
-    pub played : HasPlayedJournal replays kept fresh after
+    pub played : HasLooked replay kept fresh after
 
   abbrev pub ChecksJournaled : Hosted → List ℕ → Log → Log → Type 0
   ChecksJournaled how config log log' = Refuses is_new reserve how config log log'
       ⊎ ((how ≡ hosted.Done) × HasPlayedAll config log log')
-      ⊎ ((how ≡ hosted.Recovery) × ((fresh : S) × HasBegun (is_new reserve) config log log' fresh))
+      ⊎ (((how ≡ hosted.Recovery) ⊎ (how ≡ hosted.Memory)) × ((fresh : S) × HasBegun (is_new reserve) config log log' fresh))

@@ -2,9 +2,10 @@
 ghost use Rattle.std.specs.Prelude.{IfOk, IfSome, IsTrue, OnOk};
 ghost use Rattle.judy_recovery.specs.Whole.{HasPlayedJournal, HasResumed, Kept};
 
+use crate::journals::Readies;
 use judy_disk::{DiskFault, Folder, Growing, Locks, Place};
 use judy_many::tell_line;
-use judy_recovery::{End, JournalFault, Player, Resumed, recover, resume};
+use judy_recovery::{End, JournalFault, Resumed, recover, resume};
 use std::alloc::Global;
 use std::io::{self, Eprint};
 
@@ -90,14 +91,16 @@ impl<'a, F: Locks + Eprint + Clone + Drop> Directory<'a, F> {
         self.fault.take()
     }
 
-    /// Takes the directory, gives its records to a player, and makes it ready for a writer.
-    fn try_resume<P: Player>(
+    /// Takes the directory, gives its records to a player, makes the player ready, and then the
+    /// directory for a writer.
+    fn try_resume<P: Readies>(
         &mut self,
         alloc: Global,
         path: &str,
         player: &mut P,
     ) -> Result<Resumed, JournalFault>
-        ensures { IfOk result (λ at. (kept : Kept) × HasResumed P.plays kept player.old at player.new) }
+        ensures { IfOk result (λ at. (kept : Kept) × (played : P)
+            × HasResumed P.plays kept player.old at played × P.readied played player.new) }
     {
         let folder = folder_at(self.rt, alloc, path)?;
         let closed = folder.closed_lock().map_err(|e| of_disk(e))?;
@@ -105,6 +108,7 @@ impl<'a, F: Locks + Eprint + Clone + Drop> Directory<'a, F> {
         let lock = folder.take().map_err(|e| of_disk(e))?;
         let found = folder.scan().map_err(|e| of_disk(e))?;
         let end = recover(&folder, alloc, &found, player)?;
+        player.ready()?;
         let (resumed, current) = match resume(&folder, end) {
             Ok(ready) => ready,
             Err(fault) => return Err(of_disk(fault)),
@@ -116,15 +120,16 @@ impl<'a, F: Locks + Eprint + Clone + Drop> Directory<'a, F> {
         Ok(resumed)
     }
 
-    /// Takes the directory, gives its records to a player, and makes it ready for a writer. None if
-    /// that fails.
-    pub fn resume<P: Player>(
+    /// Takes the directory, gives its records to a player, makes the player ready, and then the
+    /// directory for a writer. None if that fails.
+    pub fn resume<P: Readies>(
         &mut self,
         alloc: Global,
         path: &str,
         player: &mut P,
     ) -> Option<Resumed>
-        ensures { IfSome result (λ at. (kept : Kept) × HasResumed P.plays kept player.old at player.new) }
+        ensures { IfSome result (λ at. (kept : Kept) × (played : P)
+            × HasResumed P.plays kept player.old at played × P.readied played player.new) }
     {
         match self.try_resume(alloc, path, player) {
             Ok(resumed) => Some(resumed),
@@ -135,14 +140,15 @@ impl<'a, F: Locks + Eprint + Clone + Drop> Directory<'a, F> {
         }
     }
 
-    /// Gives the records of a journal to a player, and changes nothing.
-    fn try_look<P: Player>(
+    /// Gives the records of a journal to a player, and makes the player ready. The journal is unchanged.
+    fn try_look<P: Readies>(
         &self,
         alloc: Global,
         path: &str,
         player: &mut P,
     ) -> Result<(), JournalFault>
-        ensures { OnOk result ((kept : Kept) × HasPlayedJournal P.plays kept player.old player.new) }
+        ensures { OnOk result ((kept : Kept) × (played : P)
+            × HasPlayedJournal P.plays kept player.old played × P.readied played player.new) }
     {
         let folder = folder_at(self.rt, alloc, path)?;
         let closed = folder.closed_lock_if_there();
@@ -152,12 +158,15 @@ impl<'a, F: Locks + Eprint + Clone + Drop> Directory<'a, F> {
         }
         let found = folder.scan().map_err(|e| of_disk(e))?;
         recover(&folder, alloc, &found, player)?;
+        player.ready()?;
         Ok(())
     }
 
-    /// Gives the records of a journal to a player, and changes nothing. False if that fails.
-    pub fn look<P: Player>(&mut self, alloc: Global, path: &str, player: &mut P) -> bool
-        ensures { IsTrue result → (kept : Kept) × HasPlayedJournal P.plays kept player.old player.new }
+    /// Gives the records of a journal to a player, and makes the player ready. The journal is
+    /// unchanged. False if that fails.
+    pub fn look<P: Readies>(&mut self, alloc: Global, path: &str, player: &mut P) -> bool
+        ensures { IsTrue result → (kept : Kept) × (played : P)
+            × HasPlayedJournal P.plays kept player.old played × P.readied played player.new }
     {
         match self.try_look(alloc, path, player) {
             Ok(()) => true,

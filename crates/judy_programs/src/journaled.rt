@@ -1,39 +1,58 @@
 //! `judyd serve` with a journal: the service begins with what the journal has.
-ghost use Rattle.std.specs.Prelude.{◌≡◌, IfOk, IfErr, option_map};
+ghost use Rattle.std.specs.Prelude.{◌≡◌, List, IfOk, IfErr, Some, option_map};
+ghost use Rattle.std.proofs.Common.{◌∙◌, refl};
 ghost use Rattle.judy_many.specs.Rules.{rules_of};
 ghost use Rattle.judy_stream.specs.Streams.{MayAlwaysPull};
 ghost use Rattle.judy_protocol.specs.Serving.{pull_limit};
 ghost use Rattle.judy_programs.specs.Hosting.{desks_at};
-ghost use Rattle.judy_programs.specs.Journaled.{ChecksJournaled, HasMade, HasNoWriter, HostsJournaled};
-ghost use Rattle.judy_recovery.specs.Whole.{HasResumed, Kept};
+ghost use Rattle.judy_programs.specs.Journaled.{ChecksJournaled, HasGoneOn, HasMade, HasNoWriter, HostsJournaled, replay_of};
+ghost use Rattle.judy_recovery.specs.Whole.{Kept};
 ghost use Rattle.judy_recovery.specs.declared.resuming.Resumed.{Resumed as At};
+ghost use Rattle.judy_table.specs.declared.tenant.Tenant.{Tenant};
 
 use crate::hosts::Hosts;
-use crate::journals::{Journals, Replays};
+use crate::journals::{Journals, Readies, Replays};
 use crate::opens::Opens;
 use crate::socket::{Hosted, begin_on, serve_on};
 use judy_journal::{LAST_SEGMENT, Writer};
 use judy_many::{Limits, Shows, begin_segment};
-use judy_recovery::{Halt, Player, Resumed};
+use judy_recovery::{Halt, JournalFault, Player, Resumed};
+use judy_table::Table;
 use std::alloc::Global;
 
-/// A service that the records of a journal are given to.
+/// A service without quotas that the records of a journal are given to, and the table that has them.
 #[derive(Drop)]
 struct Playing<S> {
     alloc: Global,
     service: S,
+    table: Option<Table>,
 }
 
 impl<S: Replays> Player for Playing<S> {
-    ghost plays = { λ before records after. S.replayed before.service records after.service };
+    ghost plays = { λ before records after. S.replayed before.service records after.service
+        × (after.table ≡ before.table) };
 
     fn play(&mut self, records: &[u8]) -> Result<(), Halt> {
         self.service.replay(self.alloc, records)
     }
 
-    ghost rests = { λ player. S.rests player.service };
+    ghost rests = { λ player. (S.rests player.service, refl) };
 
-    ghost joins = { λ before middle after. S.joins before.service middle.service after.service };
+    ghost joins = { λ before middle after records more first then.
+        (S.joins before.service middle.service after.service records more first.0 then.0, then.1 ∙ first.1) };
+}
+
+impl<S: Replays> Readies for Playing<S> {
+    /// The table was put in force.
+    ghost readied = { λ played ready. (table : List Tenant) × (played.table ≡ Some table)
+        × S.limited played.service table ready.service };
+
+    fn ready(&mut self) -> Result<(), JournalFault> {
+        match self.table.take() {
+            Some(table) => self.service.limit(self.alloc, table),
+            None => Err(JournalFault::Memory),
+        }
+    }
 }
 
 /// A writer that goes on here.
@@ -53,6 +72,19 @@ fn writer_at<H: Hosts>(alloc: Global, system: &mut H, at: Resumed) -> Result<Box
     Ok(writer)
 }
 
+/// The service without its quotas, and the table that has them.
+fn lift<S: Replays + Drop>(alloc: Global, mut service: S) -> Option<Playing<S>>
+    ensures { IfSome result (λ playing. (table : List Tenant) × (playing.table ≡ Some table)
+        × S.lifted service table playing.service) }
+{
+    let table = service.lift(alloc)?;
+    Some(Playing {
+        alloc,
+        service,
+        table: Some(table),
+    })
+}
+
 /// The service with all that the journal has, and the writer that goes on with it.
 fn resume_on<S: Replays + Drop, H: Journals>(
     alloc: Global,
@@ -60,12 +92,14 @@ fn resume_on<S: Replays + Drop, H: Journals>(
     system: &mut H,
     directory: &str,
 ) -> Result<(S, Box<Writer>), Hosted>
-    ensures made { IfOk result (λ r. (kept : Kept) × (at : At)
-        × H.may_have directory.now kept × HasResumed S.replayed kept service at r.0
+    ensures made { IfOk result (λ r. (kept : Kept) × (at : At) × H.may_have directory.now kept
+        × HasGoneOn (replay_of S.lifted S.replayed S.limited) kept service at r.0
         × HasMade at r.1.value (H.log system.old) (H.log system.new)) }
     ensures none { IfErr result HasNoWriter }
 {
-    let mut playing = Playing { alloc, service };
+    let Some(mut playing) = lift(alloc, service) else {
+        return Err(Hosted::Memory);
+    };
     let Some(at) = system.resume(alloc, directory, &mut playing) else {
         return Err(Hosted::Recovery);
     };
@@ -90,7 +124,8 @@ pub fn host_journaled<S: Opens + Shows + Replays + Drop, H: Journals>(
     directory: &str,
 ) -> Hosted
     requires files { MayAlwaysPull H.File.source pull_limit }
-    ensures { HostsJournaled (rules_of S.made S.seen S.noted S.status S.changed) S.replayed
+    ensures { HostsJournaled (rules_of S.made S.seen S.noted S.status S.changed)
+        (replay_of S.lifted S.replayed S.limited)
         (H.may_have directory.now) (S.is_new secret.now) reserve result config.now socket.now
         (desks_at (option_map (λ s. s.now) status.entry) (option_map (λ s. s.now) control.entry)) limits (H.log system.old) (H.log system.new) }
 {
@@ -117,7 +152,8 @@ pub fn host_journaled<S: Opens + Shows + Replays + Drop, H: Journals>(
     }
 }
 
-/// Checks the table as `check_on` does, and then that the journal in this directory can be played.
+/// Checks the table as `check_on` does, and then that the journal in this directory can be played, and
+/// that no tenant holds more then than its quota.
 pub fn check_journaled<S: Opens + Replays + Drop, H: Journals>(
     alloc: Global,
     secret: &[u8],
@@ -127,7 +163,7 @@ pub fn check_journaled<S: Opens + Replays + Drop, H: Journals>(
     directory: &str,
 ) -> Hosted
     requires files { MayAlwaysPull H.File.source pull_limit }
-    ensures { ChecksJournaled S.replayed (H.may_have directory.now)
+    ensures { ChecksJournaled (replay_of S.lifted S.replayed S.limited) (H.may_have directory.now)
         (S.is_new secret.now) reserve result config.now
         (H.log system.old) (H.log system.new) }
 {
@@ -136,7 +172,9 @@ pub fn check_journaled<S: Opens + Replays + Drop, H: Journals>(
         Ok(service) => service,
         Err(hosted) => return hosted,
     };
-    let mut playing = Playing { alloc, service };
+    let Some(mut playing) = lift(alloc, service) else {
+        return Hosted::Memory;
+    };
     if system.look(alloc, directory, &mut playing) {
         return Hosted::Done;
     }

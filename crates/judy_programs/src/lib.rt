@@ -19,7 +19,7 @@ mod table_end;
 
 pub use hosts::Hosts;
 pub use journaled::{check_journaled, host_journaled};
-pub use journals::{Journals, Replays};
+pub use journals::{Journals, Readies, Replays};
 pub use judy_many::tell_line;
 pub use opens::{Opens, Unopened};
 pub use program::{Ran, run_on, run_with};

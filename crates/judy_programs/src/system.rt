@@ -4,14 +4,14 @@ ghost use Rattle.std.specs.Prelude.{None};
 use crate::config::{FileRead, read_file};
 use crate::directory::Directory;
 use crate::hosts::Hosts;
-use crate::journals::Journals;
+use crate::journals::{Journals, Readies};
 use crate::limits::{FILE_LIMIT, PATH_LIMIT};
 use crate::marks::{Mark, remove_marked};
 use arrayvec::ArrayVec;
 use judy_disk::Locks;
 use judy_many::{Accept, Connection, Got, How, Network, Put, Question, Queue, Sockets, Unread};
 use judy_model::Name;
-use judy_recovery::{JournalFault, Player, Resumed};
+use judy_recovery::{JournalFault, Resumed};
 use judy_stream::Reads;
 use std::alloc::Global;
 use std::fs::{self, Files};
@@ -347,11 +347,11 @@ impl<'a, F: Locks + Net + Clock + Eprint + Clone + Drop> Hosts for System<'a, F>
 }
 
 impl<'a, F: Locks + Net + Clock + Eprint + Clone + Drop> Journals for System<'a, F> {
-    fn resume<P: Player>(&mut self, alloc: Global, path: &str, player: &mut P) -> Option<Resumed> {
+    fn resume<P: Readies>(&mut self, alloc: Global, path: &str, player: &mut P) -> Option<Resumed> {
         self.directory.resume(alloc, path, player)
     }
 
-    fn look<P: Player>(&mut self, alloc: Global, path: &str, player: &mut P) -> bool {
+    fn look<P: Readies>(&mut self, alloc: Global, path: &str, player: &mut P) -> bool {
         self.directory.look(alloc, path, player)
     }
 }

@@ -1,6 +1,7 @@
 //! Why a journal cannot be read.
 use judy_disk::{DiskFault, Place};
 use judy_journal::Damage;
+use judy_model::Name;
 use std::fmt;
 
 /// Why a record cannot be played.
@@ -47,6 +48,10 @@ pub enum JournalFault {
         /// What is wrong.
         flaw: Flaw,
     },
+    /// In the table this tenant has a lower quota than what it holds.
+    Quota(Name),
+    /// Out of memory for the table.
+    Memory,
 }
 
 /// What an operator reads of a flaw.
@@ -62,7 +67,7 @@ fn text_of(flaw: Flaw) -> &'static str {
         Flaw::Version => "another version of the journal",
         Flaw::Unplayed(Reason::Record) => "no record of a change",
         Flaw::Unplayed(Reason::Tenant) => "the table lacks the tenant of this record",
-        Flaw::Unplayed(Reason::Full) => "FULL: the quota is less than what this record needs",
+        Flaw::Unplayed(Reason::Full) => "FULL: no quota is enough for this record",
         Flaw::Unplayed(Reason::Memory) => "MEMORY: out of memory for this record",
         Flaw::Unplayed(Reason::Tenants) => "more than 64 tenants",
         Flaw::Unplayed(Reason::Write) => "what comes of this record cannot be written",
@@ -79,6 +84,11 @@ impl fmt::Display for JournalFault {
                 let text = text_of(*flaw);
                 write!(f, "/{place}: byte {byte}: {text}")
             }
+            JournalFault::Quota(tenant) => {
+                let name = str::from_utf8(tenant.as_bytes()).unwrap_or("a tenant");
+                write!(f, ": the quota of {name} is less than what it holds")
+            }
+            JournalFault::Memory => write!(f, ": out of memory for the table"),
         }
     }
 }

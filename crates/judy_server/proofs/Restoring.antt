@@ -45,7 +45,8 @@ use Rattle.judy_server.specs.Crashes.{CrashesLoseNothing, HasCrashed, HasResumed
 use Rattle.judy_server.specs.Replays.{AreReplayed, places_in}
 use Rattle.judy_server.specs.Rules.{server_rules}
 use Rattle.judy_server.specs.Tally.{Tallied}
-use Rattle.judy_server.proofs.lemmas.Crashes.{IsReplayedRun, named-by-place, replayed-run, replayed-tells}
+use Rattle.judy_server.proofs.lemmas.Begun.{begun-tells, begun-with}
+use Rattle.judy_server.proofs.lemmas.Crashes.{named-by-place}
 use Rattle.judy_server.proofs.lemmas.Recorded.{HasLasted, Leads, asks-there, lasting, leads-before, leads-itself, story-answered, story-recorded}
 
 -- ---- lists
@@ -189,29 +190,25 @@ same-arrays : RecordedCallsTellAll → (s : Stock) (w : Writing) (before : Talli
     → (d : Story) (now : Tallied) → Lasts server_rules true before d now
     → all_records crash.found ≡ all_records s.commits ++ records_in (turns_in d) → HaveSame now restored
 same-arrays all s w before resumed j story restored crash d now lasts is name t u here there =
-    let known = resumed.new.3 in
-    let fresh = crash.new.3 in
-    let first = resumed.first in
+    let known = resumed.started.new.3 in
+    let fresh = crash.started.new.3 in
+    let first = resumed.started.first in
     let start : List (List ℕ) = records_with s s.commits in
-    let begun = replayed-run (places_in first) start first before known.sound (λ bytes event e. e) resumed.played in
-    let rows = subst AreRows (sym begun.tenants) known.rows in
+    let begun = begun-with (places_in first) start before resumed.started (λ bytes event e. e) in
+    let rows = begun.rows in
     let lasted = lasting d before now begun.sound rows lasts in
     let leads : Leads now.held.tenants (places_in now) = leads-itself now.held.tenants lasted.rows.distinct in
     let leads-first : Leads first.held.tenants (places_in now) =
     subst (λ ts. Leads ts (places_in now)) begun.tenants
     (leads-before before.held.tenants now.held.tenants (places_in now) lasted.names leads) in
-    let run =
-    replayed-run (places_in now) start first before known.sound (asks-there first.held.tenants (places_in now) leads-first) resumed.played in
+    let run = begun-with (places_in now) start before resumed.started (asks-there first.held.tenants (places_in now) leads-first) in
     let calls =
     HaveAnswered-append (states_of first.held) (states_of before.held) (states_of before.held) (states_of now.held) run.answered
     (answered_in (turns_in d)) run.run (λ v. refl) (story-answered d before now begun.sound lasts) in
     let records =
     AreRecords-append (places_in now) run.answered (answered_in (turns_in d)) start (records_in (turns_in d)) run.are
     (story-recorded (places_in now) d before now begun.sound rows lasts leads) in
-    let kept =
-    replayed-run (places_in crash.fresh) (records_with s crash.found) crash.fresh restored fresh.sound (λ bytes event e. e) crash.played in
-    replayed-tells all (records_with s crash.found) crash.fresh restored fresh.sound crash.played u name
-    (subst (λ ts. place_of name ts ≡ Some u) kept.tenants there)
+    begun-tells all (records_with s crash.found) restored crash.started u name there
     ∙ ap (λ x. after_calls x (calls_named name (records_with s crash.found))) (fresh.states u ∙ sym (known.states t))
     ∙ ap (λ rs. after_calls (states_of first.held t) (calls_named name rs))
     (ap (λ x. s.snapshot ++ x) is ∙ sym (append_assoc s.snapshot (all_records s.commits) (records_in (turns_in d))))

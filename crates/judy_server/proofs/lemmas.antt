@@ -1,6 +1,7 @@
 -- The lemmas that proofs of other crates may cite. All other files here are private to this crate.
 pub mod Answering
 pub mod Beginning
+pub mod Begun
 pub mod Calls
 pub mod Commands
 pub mod Counts

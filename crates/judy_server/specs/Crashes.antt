@@ -3,6 +3,7 @@
 --     IsNew service         a service of a table, where no tenant has an entry
 --     Stock                 a journal: the records of a snapshot, whole files, and their commits
 --     records_with s cs     all records, where the files have these commits
+--     HasBegunWith rs t     a new service played these records without its quotas; then its table was put in force
 --     HasResumed s w t      the service has played this journal, and the writer goes on with it
 --     HasCrashed s j story t   the crash came after this story; what it left was played on a new service
 --     HaveSame a b          the tenants of one name have the same arrays in both services
@@ -38,6 +39,7 @@ use Rattle.judy_recovery.specs.Whole.{Kept, segment_before}
 use Rattle.judy_table.specs.declared.tenant.Tenant.{Tenant}
 use Rattle.judy_table.specs.Tenants.{place_of}
 use Rattle.judy_tenants.specs.Held.{states_of}
+use Rattle.judy_server.specs.Limits.{IsLifted, IsLimited, server_replay}
 use Rattle.judy_server.specs.Replays.{AreReplayed}
 use Rattle.judy_server.specs.Rules.{server_rules}
 use Rattle.judy_server.specs.Served.{IsNewService}
@@ -67,8 +69,20 @@ pub record Stock : Type 0 where
 abbrev pub records_with : Stock → List Commit → Commit
 records_with s commits = s.snapshot ++ all_records commits
 
--- The files are whole and synced, and the writer goes on after them. All of their records were played on a
--- new service, which is now this one.
+-- The quotas of a new service were taken away, and these records were played on it. Then its table was put in
+-- force. It is now this service.
+pub record HasBegunWith (records : Commit) (service : Tallied) : Type 0 where
+  pub first : Tallied
+  pub new : IsNew first
+  pub table : List Tenant
+  pub free : Tallied
+  pub lifted : IsLifted first table free
+  pub played : Tallied
+  pub are : AreReplayed free records played
+  pub limited : IsLimited played table service
+
+-- The files are whole and synced, and the writer goes on after them. The service has begun with all of their
+-- records.
 pub record HasResumed (s : Stock) (w : Writing) (service : Tallied) : Type 0 where
   pub line : IsTrue (is_line s.sum)
   pub some : s.files ≢ []
@@ -76,12 +90,10 @@ pub record HasResumed (s : Stock) (w : Writing) (service : Tallied) : Type 0 whe
   pub segment_is : w.segment ≡ s.segment + length s.files
   pub sum_is : w.sum ≡ sum_at s.sum s.commits
   pub none : w.records ≡ []
-  pub first : Tallied
-  pub new : IsNew first
-  pub played : AreReplayed first (records_with s s.commits) service
+  pub started : HasBegunWith (records_with s s.commits) service
 
--- The machine crashed after this story. These files are left, and these commits are found in them. All
--- records were played on a new service, which is now this one.
+-- The machine crashed after this story. These files are left, and these commits are found in them. This
+-- service has begun with all records.
 pub record HasCrashed (s : Stock) (j : Journal) (story : Story) (restored : Tallied) : Type 0 where
   pub few : (journal_since j story).segment < 2 ^ 64
   pub left : List Left
@@ -89,9 +101,7 @@ pub record HasCrashed (s : Stock) (j : Journal) (story : Story) (restored : Tall
   pub found : List Commit
   pub tail : List ℕ
   pub is_found : FoundAll s.segment s.sum left found tail
-  pub fresh : Tallied
-  pub new : IsNew fresh
-  pub played : AreReplayed fresh (records_with s found) restored
+  pub started : HasBegunWith (records_with s found) restored
 
 -- ---- what is restored
 
@@ -125,9 +135,10 @@ CrashesLoseNothing = (s : Stock) (limits : Limits) (rule : Sync) (w : Writing) (
     → (now : Tallied) × Lasts server_rules true before story now × IsRestored rule before story now restored
 
 -- A server that started with a journal has played it on a new service, and its writer goes on behind it. The
--- snapshot, the segment that it stands for and its checksum are those of the directory.
+-- snapshot, the segment that it stands for and its checksum are those of the directory. The table of its file is in
+-- force, with its quotas.
 abbrev pub StartsGoOn : Type 1
 StartsGoOn = (has : Kept → Type 0) (secret : List ℕ) (reserve : Option ℕ) (how : Hosted) (config socket : List ℕ) (watch : Desks) (limits : Limits) (log log' : Log)
-    → (h : HasServedOn server_rules AreReplayed has (IsNewService secret) reserve how config socket watch limits log log')
+    → (h : HasServedOn server_rules server_replay has (IsNewService secret) reserve how config socket watch limits log log')
     → (s : Stock) × (s.snapshot ≡ all_records h.kept.unpacked) × (s.segment ≡ segment_before h.kept.snapshot) × (s.sum ≡ h.kept.sum)
-    × HasResumed s h.writer h.before
+    × HasResumed s h.writer h.before × (h.before.held.tenants ≡ h.begun.opened.tenants)

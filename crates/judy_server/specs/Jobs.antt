@@ -17,7 +17,7 @@ use Rattle.judy_programs.specs.Finish.{host_status, host_text, run_status, run_t
 use Rattle.judy_programs.specs.declared.program.Ran.{Ran}
 use Rattle.judy_programs.specs.declared.socket.Hosted.{Hosted}
 use Rattle.judy_recovery.specs.Whole.{Kept}
-use Rattle.judy_server.specs.Replays.{AreReplayed}
+use Rattle.judy_server.specs.Limits.{server_replay}
 use Rattle.judy_server.specs.Served.{IsServedStep, IsNewService, seen_of, held_words}
 use Rattle.judy_server.specs.Rules.{server_rules}
 
@@ -71,12 +71,12 @@ module _ (has : List ℕ → Kept → Type 0) where
   HostsBy None secret reserve hosted config socket watch limits log log' =
       Hosts server_rules (IsNewService secret) reserve hosted config socket watch limits log log'
   HostsBy (Some directory) secret reserve hosted config socket watch limits log log' =
-      HostsJournaled server_rules AreReplayed (has directory) (IsNewService secret) reserve hosted config socket watch limits log log'
+      HostsJournaled server_rules server_replay (has directory) (IsNewService secret) reserve hosted config socket watch limits log log'
 
   -- the file was only checked, and the journal if a directory is given
   abbrev pub ChecksBy : Option (List ℕ) → List ℕ → Option ℕ → Hosted → List ℕ → Log → Log → Type 0
   ChecksBy None secret reserve hosted config log log' = Checks (IsNewService secret) reserve hosted config log log'
-  ChecksBy (Some directory) secret reserve hosted config log log' = ChecksJournaled AreReplayed (has directory) (IsNewService secret) reserve hosted config log log'
+  ChecksBy (Some directory) secret reserve hosted config log log' = ChecksJournaled server_replay (has directory) (IsNewService secret) reserve hosted config log log'
 
   -- Connections were served, or the file was only checked. First this many megabytes were taken for the
   -- arrays, if so many are wanted.

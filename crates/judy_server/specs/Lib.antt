@@ -1,6 +1,7 @@
 pub mod Counts
 pub mod Crashes
 pub mod Jobs
+pub mod Limits
 pub mod Metrics
 pub mod Present
 pub mod Reloads

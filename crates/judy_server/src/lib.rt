@@ -5,6 +5,7 @@
 mod calls;
 mod jobs;
 mod laws;
+mod limits;
 mod metrics;
 mod present;
 mod records;

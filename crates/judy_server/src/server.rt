@@ -6,6 +6,7 @@ ghost use Rattle.judy_protocol.specs.Sending.{MaySend};
 ghost use Rattle.judy_protocol.specs.Serving.{wire};
 ghost use Rattle.judy_programs.specs.Program.{HasRun, IsSent, MayPullScript, is_refused};
 ghost use Rattle.judy_tenants.proofs.lemmas.Changed.{keeps-or-empties};
+ghost use Rattle.judy_server.specs.Limits.{IsLifted, IsLimited};
 ghost use Rattle.judy_server.specs.Reloads.{AllStay, IsReload};
 ghost use Rattle.judy_server.specs.Served.{IsServedStep, IsNewService, IsNoted, seen_of, held_words};
 ghost use Rattle.judy_model.specs.Stream.{lines_of};
@@ -14,6 +15,7 @@ ghost use Rattle.judy_server.specs.Replays.{AreReplayed, AreReplayed-append, Pla
 ghost use Rattle.judy_server.specs.Status.{status_of};
 ghost use Rattle.judy_server.specs.Tally.{Tallied};
 
+use crate::limits::{lift, limit};
 use crate::records::{Halt, replay, replay_all};
 use crate::reload::{change, keeps_all};
 use crate::status::add_status;
@@ -24,7 +26,7 @@ use judy_many::Shows;
 use judy_model::{Call, KEY_LIMIT, Reply};
 use judy_programs::{Opens, Ran, Replays, Unopened, run_with};
 use judy_protocol::{Line, Refusal, Served};
-use judy_recovery::{Halt as Stopped, Reason};
+use judy_recovery::{Halt as Stopped, JournalFault, Reason};
 use judy_stream::{Sink, Source};
 use judy_table::{Speaker, Table, TableFault, TenantId};
 use judy_tenants::{KeyHash, Service, Sha256Hash};
@@ -281,6 +283,18 @@ fn reason_of(why: Unplayed) -> Reason {
 }
 
 impl<H: Chosen> Replays for Server<H> {
+    ghost lifted = { IsLifted };
+
+    fn lift(&mut self, alloc: Global) -> Option<Table> {
+        lift(alloc, &mut self.service)
+    }
+
+    ghost limited = { IsLimited };
+
+    fn limit(&mut self, alloc: Global, table: Table) -> Result<(), JournalFault> {
+        limit(alloc, &mut self.service, table)
+    }
+
     ghost replayed = { AreReplayed };
 
     fn replay(&mut self, alloc: Global, records: &[u8]) -> Result<(), Stopped> {

@@ -95,7 +95,7 @@ row-each P v name (t ∷ ts) h = by (row-each P v name ts h.1) (bytes_eq t.name 
 -- ---- its place
 
 -- the place of a name, row by row
-place-more : (name : List ℕ) (t : Tenant) (ts : List Tenant)
+pub place-more : (name : List ℕ) (t : Tenant) (ts : List Tenant)
     → place_of name (t ∷ ts) ≡ cond (bytes_eq t.name name) (Some 0) (option_map suc (place_of name ts))
 place-more name t ts = by (bytes_eq t.name name)
   where

@@ -3,3 +3,4 @@ pub mod Seats
 pub mod Shown
 pub mod Meaning
 pub mod Faults
+pub mod Unlimited

@@ -3,6 +3,7 @@ ghost use Rattle.std.specs.Prelude.{◌≡◌, ◌∷◌, List, IfOk};
 ghost use Rattle.std.specs.Vec.Iter.{into_iter_items};
 ghost use Rattle.judy_table.specs.declared.tenant.Tenant.{Tenant as TheTenant};
 ghost use Rattle.judy_table.specs.Seats.{has_name, row_of, is_fresh, fresh_in, placed};
+ghost use Rattle.judy_table.specs.Unlimited.{unlimited};
 
 use crate::tenant::Tenant;
 use std::alloc::{AllocError, Global};
@@ -75,4 +76,15 @@ pub fn placed(
     }
     seats.extend(fresh)?;
     Ok(seats)
+}
+
+/// The rows of the same tenants, each with the greatest quota.
+pub fn unlimited(alloc: Global, rows: &[Tenant]) -> Result<Vec<Tenant>, AllocError>
+    ensures { IfOk result (λ v. v.items ≡ unlimited rows.now) }
+{
+    let mut free = Vec::new(alloc);
+    for row in rows {
+        free.push(row.unlimited())?;
+    }
+    Ok(free)
 }

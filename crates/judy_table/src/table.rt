@@ -4,9 +4,10 @@ ghost use Rattle.toml.specs.View.{table_view};
 ghost use Rattle.judy_table.specs.Tenants.{size, have_shape, tenants_in, read_table, read_tree, place_of, login_of, HasRisingNames, is_vacant};
 ghost use Rattle.judy_table.specs.Seats.{seated, AreRows, knows};
 ghost use Rattle.judy_table.specs.Shown.{seen};
+ghost use Rattle.judy_table.specs.Unlimited.{unlimited};
 
 use crate::fault::TableFault;
-use crate::seating::{fresh_in, placed};
+use crate::seating::{fresh_in, placed, unlimited};
 use crate::tenant::{Speaker, Tenant, TenantId, digest_of};
 use crate::written::{is_written, read_written, size};
 use judy_model::{ENTRIES_LIMIT, PIECES_LIMIT, Quota};
@@ -213,6 +214,16 @@ impl Table {
     {
         let fresh = fresh_in(alloc, &self.tenants, &table.tenants)?;
         let tenants = placed(alloc, &self.tenants, &table.tenants, fresh)?;
+        Ok(Table { tenants })
+    }
+
+    /// The same tenants at the same places, each with the greatest quota.
+    ///
+    /// Err: out of memory.
+    pub fn unlimited(&self, alloc: Global) -> Result<Table, AllocError>
+        ensures { IfOk result (λ t. t ≡ unlimited self.now) }
+    {
+        let tenants = unlimited(alloc, &self.tenants)?;
         Ok(Table { tenants })
     }
 }

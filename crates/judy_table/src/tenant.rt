@@ -4,6 +4,7 @@ ghost use Rattle.std.specs.Str.{bytes_eq};
 ghost use Rattle.judy_table.specs.Shown.{told_of};
 ghost use Rattle.judy_table.specs.Tenants.{tenant_of, up_to, pieces_for, right_of, is_digest, look_digest, is_vacant, vacant};
 ghost use Rattle.judy_table.specs.Seats.{has_token};
+ghost use Rattle.judy_table.specs.Unlimited.{unlimited_row};
 ghost use Rattle.sha2.specs.Sha256.{sha256};
 
 use crate::fault::TableFault;
@@ -167,6 +168,20 @@ impl Tenant {
             look: self.look,
             quota: self.quota,
         }
+    }
+
+    /// The row of the same tenant, with the greatest quota. A vacant row stays as it is.
+    pub(crate) fn unlimited(&self) -> Tenant
+        ensures { result ≡ unlimited_row self.now }
+    {
+        let mut row = self.copied();
+        if !self.is_vacant() {
+            row.quota = Quota {
+                entries: ENTRIES_LIMIT,
+                pieces: PIECES_LIMIT,
+            };
+        }
+        row
     }
 
     /// Whether this is the digest of the read-only token.

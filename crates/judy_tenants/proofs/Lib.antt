@@ -20,4 +20,5 @@ mod Sound
 mod Frees
 mod Marked
 mod Carried
+mod Lifted
 pub mod lemmas

@@ -4,10 +4,13 @@
 --     HasChanged old new           the later rows were put in force
 --     IsCarried rows later ..      what the account of a place becomes
 --     HasReasonIn, HasReason       why the rows were not put in force, by the accounts and by the arrays
+--     lifted held                  each tenant has the greatest quota
+--     regranted held               what the quotas of earlier tables allowed counts no more
 use Rattle.std.specs.Prelude.{◌≡◌, ◌⊎◌, ◌<◌, ◌≤◌, ℕ, Bool, false, ◌&&◌, not, List, IsTrue, IsFalse, MatchBool, map, max, option_map, unwrap_or, slice_get}
 use Rattle.judy_model.specs.Tenant.{no_arrays, used, pieces}
 use Rattle.judy_table.specs.declared.tenant.Tenant.{Tenant}
 use Rattle.judy_table.specs.Tenants.{is_vacant}
+use Rattle.judy_table.specs.Unlimited.{unlimited}
 use Rattle.judy_tenants.specs.declared.accounts.Account.{Account}
 use Rattle.judy_tenants.specs.declared.changing.Unchanged.{Unchanged}
 use Rattle.judy_tenants.specs.declared.changing.Unchanged.TheVariants.{Memory, Quota}
@@ -57,3 +60,12 @@ HasReason old later Memory = Unit {0}
 HasReason old later (Quota t) =
     IsTrue (stays_at old.tenants later t)
     × (((quotas_of later t).entries < used (states_of old t)) ⊎ ((quotas_of later t).pieces < pieces (states_of old t)))
+
+-- each tenant has the greatest quota, and nothing else changed
+abbrev pub lifted : Held → Held
+lifted held = record held { tenants = unlimited held.tenants; granted = max held.granted (words_for (unlimited held.tenants)) }
+
+-- What the quotas of earlier tables allowed counts no more, but for the words that were live at once.
+-- Nothing else changed.
+abbrev pub regranted : Held → Held
+regranted held = record held { granted = max held.peak (words_for held.tenants) }

@@ -8,7 +8,7 @@ ghost use Rattle.judy_kinds.specs.Calls.{has_string};
 ghost use Rattle.judy_table.specs.Shown.{seen};
 ghost use Rattle.judy_table.specs.Seats.{AreRows, knows, seated};
 ghost use Rattle.judy_table.specs.Tenants.{is_vacant, login_of, place_of};
-ghost use Rattle.judy_tenants.specs.Changes.{HasChanged, HasReason};
+ghost use Rattle.judy_tenants.specs.Changes.{HasChanged, HasReason, lifted, regranted};
 ghost use Rattle.judy_tenants.specs.Held.{states_of, quotas_of, words_for, HasCause, HasNoReserve, HasServiceSpace, HasNames, IsReserved, IsSoundService, Keeps};
 
 use crate::accounts::{account_of, no_accounts};
@@ -25,6 +25,7 @@ use judy_model::{Call, KEY_LIMIT, Reply};
 use judy_table::{Speaker, Table, TenantId};
 use std::alloc::Global;
 use std::marker::Model;
+use std::mem::replace;
 
 /// The tenants of a table, each with its own arrays. All arrays lie in one arena.
 #[derive(Drop)]
@@ -224,6 +225,36 @@ impl<H: KeyHash> Service<H> {
         }
         self.is_at_all_times();
         changed
+    }
+
+    /// Gives each tenant the greatest quota, so that each call that was ever admitted has room. Returns
+    /// the table with the quotas that they had.
+    ///
+    /// Err: out of memory. Nothing changed.
+    pub fn lift_quotas(&mut self, alloc: Global) -> Result<Table, NoMemory>
+        ensures table { IfOk result (λ table. table ≡ self.old.tenants) }
+        ensures lifted { OnOk result (self.new ≡ lifted self.old) }
+        ensures refused { OnErr result (self.new ≡ self.old) }
+        ensures sound { IsSoundService self.new }
+    {
+        self.table.rows_are_sound();
+        let Ok(free) = self.table.unlimited(alloc) else {
+            self.is_at_all_times();
+            return Err(NoMemory);
+        };
+        self.stock.granted = self.stock.granted.max(words_for(&free));
+        let table = replace(&mut self.table, free);
+        self.is_at_all_times();
+        Ok(table)
+    }
+
+    /// Forgets what the quotas of earlier tables allowed. The words that were live at once count still.
+    pub fn forget_grants(&mut self)
+        ensures granted { self.new ≡ regranted self.old }
+        ensures sound { IsSoundService self.new }
+    {
+        self.stock.granted = self.stock.arena.peak().max(words_for(&self.table));
+        self.is_at_all_times();
     }
 
     /// Answers a call as if its tenant were alone, with one exception: `Memory`, if a new entry is

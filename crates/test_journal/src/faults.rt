@@ -2,6 +2,7 @@
 use crate::checks::same;
 use judy_disk::Place;
 use judy_journal::Damage;
+use judy_model::Name;
 use judy_recovery::{Flaw, JournalFault, Reason};
 use std::test::Fail;
 
@@ -28,6 +29,13 @@ fn faults_tell_file_and_byte(rt: HostRuntime) -> Result<(), Fail> {
         &rt,
         text.as_str(),
         "judyd: DIR/000000000012.snapshot: byte 0: damaged: another first line than it should have",
+    );
+    let fault = JournalFault::Quota(Name::of(b"alice"));
+    let text = format!(in rt.alloc(); "judyd: DIR{fault}")?;
+    same(
+        &rt,
+        text.as_str(),
+        "judyd: DIR: the quota of alice is less than what it holds",
     );
     Ok(())
 }

@@ -7,8 +7,8 @@ use crate::rows::{TABLE, Tenants, input};
 use judy_command::Job;
 use judy_many::{Accept, Got, How, Limits, Network, Put, Question, Queue, Unread};
 use judy_model::Name;
-use judy_programs::{Hosted, Hosts, Journals, check_on, host_on};
-use judy_recovery::{Player, Resumed};
+use judy_programs::{Hosted, Hosts, Journals, Readies, check_on, host_on};
+use judy_recovery::Resumed;
 use judy_server::do_job_on;
 use judy_stream::{Page, Pull, Push, Refusal, Sink, Source, Tape};
 use judy_table::TableFault;
@@ -186,11 +186,11 @@ impl<'a> Hosts for Play<'a> {
 
 // It has no journal.
 impl<'a> Journals for Play<'a> {
-    fn resume<P: Player>(&mut self, _: Global, _: &str, _: &mut P) -> Option<Resumed> {
+    fn resume<P: Readies>(&mut self, _: Global, _: &str, _: &mut P) -> Option<Resumed> {
         None
     }
 
-    fn look<P: Player>(&mut self, _: Global, _: &str, _: &mut P) -> bool {
+    fn look<P: Readies>(&mut self, _: Global, _: &str, _: &mut P) -> bool {
         false
     }
 }

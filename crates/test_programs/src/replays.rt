@@ -6,8 +6,9 @@ use arrayvec::ArrayVec;
 use judy_journal::Unplayed;
 use judy_model::{KEY_LIMIT, Reply};
 use judy_protocol::{Line, read_line, write_reply};
-use judy_server::{Halt, replay, replay_all};
-use judy_tenants::{Right, Service, Sha256Hash, Speaker, Table, is_callable};
+use judy_programs::{Opens, Replays};
+use judy_server::{Halt, Server, replay, replay_all};
+use judy_tenants::{Right, Service, Sha256Hash, Speaker, Table, Unchanged, is_callable};
 use std::alloc::Global;
 use std::process::Abort;
 use std::test::Fail;
@@ -284,6 +285,83 @@ fn reasons(rt: HostRuntime) -> Result<(), Fail> {
     let mut text = ArrayVec::new();
     ask(alloc, &mut service, "abe", "USED", &mut text)?;
     same(&rt, text.as_slice(), b"Q 5 5 5 630\n".as_slice());
+    Ok(())
+}
+
+/// Six entries of abe, of which two are removed: never more than one above its quota of 5.
+const SIX: &str = "abe J1S a 0
+abe J1S a 1
+abe J1S a 2
+abe J1S a 3
+abe J1S a 4
+abe J1S a 5
+abe J1U a 0
+abe J1U a 1
+";
+
+/// Records are played without quotas. Then the table is put in force, and what abe holds counts, not
+/// what it held once.
+#[test]
+fn lower_quotas(rt: HostRuntime) -> Result<(), Fail> {
+    let alloc = rt.alloc();
+    let mut service = open(alloc, LATER)?;
+    let table = service.lift_quotas(alloc)?;
+    assert_eq!(rt; play_all(alloc, &mut service, SIX), Ok(()));
+    assert_eq!(rt; service.change(alloc, table), Ok(()));
+    let mut text = ArrayVec::new();
+    for line in &["USED", "J1S a 6", "J1S a 7", "J1C a 0 -1"] {
+        ask(alloc, &mut service, "abe", line, &mut text)?;
+    }
+    assert_eq!(rt; text.as_slice(), b"Q 4 5 4 630\n1\nFULL\nN 5\n".as_slice());
+    Ok(())
+}
+
+/// If abe holds more than its quota, the table is not put in force.
+#[test]
+fn a_quota_below_what_is_held(rt: HostRuntime) -> Result<(), Fail> {
+    let alloc = rt.alloc();
+    let mut service = open(alloc, LATER)?;
+    let table = service.lift_quotas(alloc)?;
+    for number in 0..6u64 {
+        let record = format!(in alloc; "abe J1S a {number}")?;
+        assert_eq!(rt; play(alloc, &mut service, record.as_str()), Ok(()));
+    }
+    let abe = service.find(b"abe").ok_or("abe")?;
+    assert_eq!(rt;
+        service.change(alloc, table),
+        Err(Unchanged::Quota(abe))
+    );
+    let mut text = ArrayVec::new();
+    ask(alloc, &mut service, "abe", "J1C a 0 -1", &mut text)?;
+    assert_eq!(rt; text.as_slice(), b"N 6\n".as_slice());
+    Ok(())
+}
+
+/// What a server tells that begins with these records.
+fn begin(alloc: Global, records: &str) -> Result<String, Fail> {
+    let Ok(mut server) = Server::<Sha256Hash>::open(alloc, b"secret", LATER.as_bytes()) else {
+        return Err("a server")?;
+    };
+    let table = server.lift(alloc).ok_or("a table")?;
+    if Replays::replay(&mut server, alloc, records.as_bytes()).is_err() {
+        return Err("records that are played")?;
+    }
+    Ok(match server.limit(alloc, table) {
+        Ok(()) => format!(in alloc; "well")?,
+        Err(fault) => format!(in alloc; "DIR{fault}")?,
+    })
+}
+
+/// A server that begins with records names the tenant that holds more than its quota.
+#[test]
+fn a_start_names_the_tenant(rt: HostRuntime) -> Result<(), Fail> {
+    let alloc = rt.alloc();
+    assert_eq!(rt; begin(alloc, SIX)?.as_str(), "well");
+    let more = format!(in alloc; "{SIX}abe J1S a 6\nabe J1S a 7\nbea J1S a 1\n")?;
+    assert_eq!(rt;
+        begin(alloc, more.as_str())?.as_str(),
+        "DIR: the quota of abe is less than what it holds"
+    );
     Ok(())
 }
 

@@ -11,10 +11,10 @@ use Rattle.judy_programs.specs.Asking.{Log}
 use Rattle.judy_programs.specs.Journaled.{HasMade, HasServedOn, writer_there}
 use Rattle.judy_programs.specs.declared.socket.Hosted.{Hosted}
 use Rattle.judy_recovery.specs.Whole.{IsStart, Kept, segment_before}
-use Rattle.judy_server.specs.Crashes.{HasResumed, IsNew, StartsGoOn, Stock}
-use Rattle.judy_server.specs.Replays.{AreReplayed}
+use Rattle.judy_server.specs.Crashes.{HasBegunWith, HasResumed, IsNew, StartsGoOn, Stock}
+use Rattle.judy_server.specs.Replays.{places_in}
 use Rattle.judy_server.specs.Rules.{server_rules}
-use Rattle.judy_server.specs.Served.{IsNewService}
+use Rattle.judy_server.proofs.lemmas.Begun.{begun-with}
 
 -- the checksum after commits and more
 sum-append : (sum : List ℕ) (a b : List Commit) → sum_at sum (a ++ b) ≡ sum_at (sum_at sum a) b
@@ -65,10 +65,10 @@ start-goes-on has secret reserve how config socket watch limits log log' h = by 
     segment = segment_before h.kept.snapshot
 
     files : List File
-    files = h.played.files
+    files = h.played.resumed.files
 
     commits : List Commit
-    commits = h.played.journal.commits
+    commits = h.played.resumed.journal.commits
 
     stock : List File → Stock
     stock f = record { snapshot = all_records h.kept.unpacked; segment = segment; sum = sum; files = f; commits = commits }
@@ -77,13 +77,31 @@ start-goes-on has secret reserve how config socket watch limits log log' h = by 
     new = (secret, reserve, h.begun.opened.tenants, h.begun.opened.fresh)
 
     line : IsTrue (is_line sum)
-    line = start-line h.kept.snapshot sum h.kept.unpacked h.played.journal.start
+    line = start-line h.kept.snapshot sum h.kept.unpacked h.played.resumed.journal.start
 
     number_is : h.at.segment ≡ segment + length files
-    number_is = h.played.segment_is
+    number_is = h.played.resumed.segment_is
+
+    started : HasBegunWith (all_records h.kept.unpacked ++ all_records commits) h.before
+    started = record {
+      first = h.fresh;
+      new = new;
+      table = h.played.table;
+      free = h.played.free;
+      lifted = h.played.lifted;
+      played = h.played.played;
+      are = h.played.resumed.journal.played;
+      limited = h.played.limited;
+    }
+
+    in-force : h.before.held.tenants ≡ h.begun.opened.tenants
+    in-force =
+        (begun-with (places_in h.fresh) (all_records h.kept.unpacked ++ all_records commits) h.before started (λ bytes event e. e)).tenants
+        ∙ h.begun.opened.fresh.tenants
 
     Goal : Type 0
     Goal = (s : Stock) × (s.snapshot ≡ all_records h.kept.unpacked) × (s.segment ≡ segment) × (s.sum ≡ sum) × HasResumed s h.writer h.before
+        × (h.before.held.tenants ≡ h.begun.opened.tenants)
 
     there : h.writer ≡ writer_there h.at → (files ≡ [] → ⊥) → Goal
     there is some = (
@@ -94,14 +112,13 @@ start-goes-on has secret reserve how config socket watch limits log log' h = by 
       record {
         line = line;
         some = some;
-        whole = h.played.whole;
+        whole = h.played.resumed.whole;
         segment_is = ap (λ (x : Writing). x.segment) is ∙ number_is;
-        sum_is = ap (λ (x : Writing). x.sum) is ∙ h.played.sum_is;
+        sum_is = ap (λ (x : Writing). x.sum) is ∙ h.played.resumed.sum_is;
         none = ap (λ (x : Writing). x.records) is;
-        first = h.fresh;
-        new = new;
-        played = h.played.journal.played;
+        started = started;
       },
+      in-force,
     )
 
     anew : h.writer ≡ begun (writer_there h.at) → Goal
@@ -114,18 +131,17 @@ start-goes-on has secret reserve how config socket watch limits log log' h = by 
           record {
             line = line;
             some = longer files last;
-            whole = whole-append segment sum files commits h.played.whole;
+            whole = whole-append segment sum files commits h.played.resumed.whole;
             segment_is = ap (λ (x : Writing). x.segment) is ∙ omega (arith, number_is, length-append files (last ∷ []));
-            sum_is = ap (λ (x : Writing). x.sum) is ∙ h.played.sum_is;
+            sum_is = ap (λ (x : Writing). x.sum) is ∙ h.played.resumed.sum_is;
             none = ap (λ (x : Writing). x.records) is;
-            first = h.fresh;
-            new = new;
-            played = h.played.journal.played;
+            started = started;
           },
+          in-force,
         )
 
     by : HasMade h.at h.writer h.start h.ready → Goal
     by (inl (goes, is, same)) =
-        let (others, last, joins, size) = h.played.size_is goes in
+        let (others, last, joins, size) = h.played.resumed.size_is goes in
         there is (λ none. longer others last (sym joins ∙ none))
     by (inr (begins, next)) = anew next.0

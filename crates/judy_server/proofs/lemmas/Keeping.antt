@@ -1,4 +1,5 @@
 -- A table that has all tenants in force.
+--     place-stays  a place keeps its arrays and its name when a table that has all tenants is put in force
 --     keeps-all    each tenant keeps its arrays and its name when it is put in force
 --     keeps-if     so they do where a look at its text said so
 --     name-of      the name of a place, by its row
@@ -95,7 +96,7 @@ row-named name (t ∷ ts) h = by (row-named name ts) (bytes_eq t.name name) refl
 -- ---- all places
 
 -- a place keeps its arrays and its name
-abbrev KeepsPlace : Held → Held → ℕ → Type 0
+abbrev pub KeepsPlace : Held → Held → ℕ → Type 0
 KeepsPlace old new t =
     (states_of new t ≡ states_of old t) × ((name_at old.tenants t ≡ []) ⊎ (name_at new.tenants t ≡ name_at old.tenants t))
 
@@ -121,7 +122,7 @@ module _ (table : List Tenant) (old new : Held) (sound : IsSoundService old) (ro
         inr (name-of new.tenants t (Some (row_of r.name table)) row ∙ row-named r.name table named ∙ sym (name-of old.tenants t (Some r) here)),
       )
 
-  place-stays : (t : ℕ) (o : Option Tenant) → slice_get old.tenants t ≡ o → KeepsPlace old new t
+  pub place-stays : (t : ℕ) (o : Option Tenant) → slice_get old.tenants t ≡ o → KeepsPlace old new t
   place-stays t None here = (
     stays-empty t (tenant-of old.tenants t None here) (ap (λ (q : Quota). q.entries) (quota-of old.tenants t None here)),
     inl (name-of old.tenants t None here),

@@ -5,7 +5,9 @@ pub returns : goal.returns
 returns g c = (
   kept_by g.P.Player.plays g.F.File.Read.remaining c.in_ok-found.found.snapshot c.in_ok-found.found.last
       c.args.player.now c.in_ok-end.end c.recover.new.player c.in_ok-end.ensures,
+  c.recover.new.player,
   journal_resumed g.P.Player.plays g.F.File.Read.remaining c.in_ok-found.found.snapshot c.in_ok-found.found.last
       c.args.player.now c.in_ok-end.end c.in-Ok.ready.0 c.recover.new.player
       c.in_ok-end.ensures c.in-Ok.ensures,
+  c.in_ok-ready.ensures,
 )

@@ -1,0 +1,54 @@
+//! The quotas of a service are taken away while records are played, and put in force again.
+ghost use Rattle.std.specs.Prelude.{IfSome, OnOk};
+ghost use Rattle.judy_server.specs.Limits.{IsLifted, IsLimited};
+ghost use Rattle.judy_server.specs.Tally.{tallied};
+ghost use Rattle.judy_server.specs.declared.tally.Tally.{Tally as TallyLem};
+
+use judy_model::Name;
+use judy_recovery::JournalFault;
+use judy_table::{Table, TenantId};
+use judy_tenants::{KeyHash, Service, Unchanged};
+use std::alloc::Global;
+
+/// The name of a tenant; none if the place has no tenant.
+fn name_of<H: KeyHash>(service: &Service<H>, tenant: TenantId) -> Name {
+    if service.has(tenant)
+        && let Some(name) = Name::read(service.name(tenant))
+    {
+        return name;
+    }
+    Name::of(b"")
+}
+
+/// Takes the quotas away, and returns the table that has them. None if there is no memory for it.
+pub fn lift<H: KeyHash>(alloc: Global, service: &mut Service<H>) -> Option<Table>
+    ensures { IfSome result (λ table. (tally : TallyLem)
+        → IsLifted (tallied service.old tally) table (tallied service.new tally)) }
+{
+    match service.lift_quotas(alloc) {
+        Ok(table) => Some(table),
+        Err(_) => None,
+    }
+}
+
+/// Puts a table in force, and forgets what the quotas before it allowed.
+///
+/// Err: out of memory, or a tenant holds more than its quota.
+pub fn limit<H: KeyHash>(
+    alloc: Global,
+    service: &mut Service<H>,
+    table: Table,
+) -> Result<(), JournalFault>
+    ensures { OnOk result ((tally : TallyLem)
+        → IsLimited (tallied service.old tally) table (tallied service.new tally)) }
+{
+    match service.change(alloc, table) {
+        Ok(()) => {
+            service.forget_grants();
+            service.rows_are_sound();
+            Ok(())
+        }
+        Err(Unchanged::Memory) => Err(JournalFault::Memory),
+        Err(Unchanged::Quota(tenant)) => Err(JournalFault::Quota(name_of(&*service, tenant))),
+    }
+}
