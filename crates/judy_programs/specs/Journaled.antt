@@ -4,6 +4,7 @@
 --                                     put in force
 --     HasLooked replay kept fresh after       the same, and nobody goes on with the journal
 --     HasMade at w log log'           this writer goes on there, and the next segment was begun first if it had to be
+--     HasNotGoneOn ..                 why nobody goes on with the journal, and all that was done since the service began
 --     HasNoJournal ..                 there is a service, and the journal cannot be gone on with
 --     HasServedOn ..                  there is a service, the journal was played to it, and connections were served with it
 --     HostsJournaled hosted ..        the whole
@@ -12,8 +13,9 @@
 -- while they were played, since each of them was admitted once; then the table was put in force. The writer goes on
 -- behind these commits, with their checksum. What was read is what the directory may have (`has`). For the disk of
 -- a real system this says nothing: that it gives the bytes that an earlier run has written is what the system promises.
-use Rattle.std.specs.Prelude.{◌≡◌, ◌⊎◌, ℕ, true, false, List, [], Option, Some}
+use Rattle.std.specs.Prelude.{◌≡◌, ◌⊎◌, ◌≤◌, ℕ, true, false, List, [], Option, Some}
 use Rattle.judy_journal.specs.Writes.{Writing, begun}
+use Rattle.judy_journal.specs.declared.format.TheConstants.{LAST_SEGMENT}
 use Rattle.judy_many.specs.Books.{journal_of}
 use Rattle.judy_many.specs.Journaling.{HasWritten}
 use Rattle.judy_many.specs.Rules.{Rules}
@@ -70,20 +72,32 @@ abbrev pub HasMade : Resumed → Writing → Log → Log → Type 0
 HasMade at w log log' = ((at.begins ≡ false) × (w ≡ writer_there at) × (log' ≡ log))
     ⊎ ((at.begins ≡ true) × HasOpenedNext (writer_there at) w log log')
 
--- there is no writer: no memory for it, or the file of the next segment cannot be made or written
-abbrev pub HasNoWriter : Hosted → Type 0
-HasNoWriter how = (how ≡ hosted.Recovery) ⊎ (how ≡ hosted.Memory) ⊎ (how ≡ hosted.Journal)
+-- the segment after that of this writer can't be begun: there is none, or its file can't be made, written or synced
+abbrev pub HasFailedNext : Writing → Log → Log → Type 0
+HasFailedNext old log log' = ((LAST_SEGMENT ≤ old.segment) × (log' ≡ log))
+    ⊎ ((rule : Sync) → HasWritten false (journal_of rule true old) (journal_of rule true (begun old)) log log')
+
+-- there is no writer that goes on there: no memory for it, or the next segment can't be begun
+abbrev pub HasNoWriter : Resumed → Hosted → Log → Log → Type 0
+HasNoWriter at how log log' = ((how ≡ hosted.Memory) × (log' ≡ log))
+    ⊎ ((how ≡ hosted.Journal) × (at.begins ≡ true) × HasFailedNext (writer_there at) log log')
+
+-- The journal can't be played, or there is no memory for that: then nothing more was done. Or it was played, and
+-- there is no writer that goes on behind it.
+abbrev pub HasNotGoneOn : {S : Type 0} → Replay S → (Kept → Type 0) → S → Hosted → Log → Log → Type 0
+HasNotGoneOn {S} replay has fresh how log log' = (((how ≡ hosted.Recovery) ⊎ (how ≡ hosted.Memory)) × (log' ≡ log))
+    ⊎ ((kept : Kept) × (at : Resumed) × (before : S) × has kept × HasGoneOn replay kept fresh at before × HasNoWriter at how log log')
 
 -- a service is new by how many megabytes were taken for its arrays; so many are wanted, if any are. Records can be
 -- played to it (`replay`). The directory may have some journal (`has`)
 module _ {S : Type 0} (rules : Rules S) (replay : Replay S) (has : Kept → Type 0)
     (is_new : Option ℕ → List Tenant → S → Type 0) (reserve : Option ℕ) where
   -- the file gave a service, and the journal cannot be gone on with. No socket was made
-  pub record HasNoJournal (how : Hosted) (config : List ℕ) (log : Log) : Type 0 where
+  pub record HasNoJournal (how : Hosted) (config : List ℕ) (log log' : Log) : Type 0 where
     pub fresh : S
     pub start : Log
     pub begun : HasBegun (is_new reserve) config log start fresh
-    pub cause : HasNoWriter how
+    pub cause : HasNotGoneOn replay has fresh how start log'
 
   -- The file gave a service, and the records of the journal were played to it. The writer goes on behind them.
   -- Then the sockets were made, and the connections that came were served by the service that had played them: no
@@ -105,7 +119,7 @@ module _ {S : Type 0} (rules : Rules S) (replay : Replay S) (has : Kept → Type
 
   abbrev pub HostsJournaled : Hosted → List ℕ → List ℕ → Desks → Limits → Log → Log → Type 0
   HostsJournaled how config socket watch limits log log' = Refuses is_new reserve how config log log'
-      ⊎ HasNoJournal how config log ⊎ HasServedOn how config socket watch limits log log'
+      ⊎ HasNoJournal how config log log' ⊎ HasServedOn how config socket watch limits log log'
 
 -- the table's file gave a service, and its journal can be played; or why not
 module _ {S : Type 0} (replay : Replay S) (has : Kept → Type 0)

@@ -5,7 +5,7 @@ ghost use Rattle.judy_many.specs.Rules.{rules_of};
 ghost use Rattle.judy_stream.specs.Streams.{MayAlwaysPull};
 ghost use Rattle.judy_protocol.specs.Serving.{pull_limit};
 ghost use Rattle.judy_programs.specs.Hosting.{desks_at};
-ghost use Rattle.judy_programs.specs.Journaled.{ChecksJournaled, HasGoneOn, HasMade, HasNoWriter, HostsJournaled, replay_of};
+ghost use Rattle.judy_programs.specs.Journaled.{ChecksJournaled, HasGoneOn, HasMade, HasNoWriter, HasNotGoneOn, HostsJournaled, replay_of};
 ghost use Rattle.judy_recovery.specs.Whole.{Kept};
 ghost use Rattle.judy_recovery.specs.declared.resuming.Resumed.{Resumed as At};
 ghost use Rattle.judy_table.specs.declared.tenant.Tenant.{Tenant};
@@ -58,7 +58,7 @@ impl<S: Replays> Readies for Playing<S> {
 /// A writer that goes on here.
 fn writer_at<H: Hosts>(alloc: Global, system: &mut H, at: Resumed) -> Result<Box<Writer>, Hosted>
     ensures made { IfOk result (λ w. HasMade at w.value (H.log system.old) (H.log system.new)) }
-    ensures none { IfErr result HasNoWriter }
+    ensures none { IfErr result (λ how. HasNoWriter at how (H.log system.old) (H.log system.new)) }
 {
     let Ok(mut writer) = Box::new(alloc, Writer::new(at.segment, &at.sum, at.size)) else {
         return Err(Hosted::Memory);
@@ -95,7 +95,8 @@ fn resume_on<S: Replays + Drop, H: Journals>(
     ensures made { IfOk result (λ r. (kept : Kept) × (at : At) × H.may_have directory.now kept
         × HasGoneOn (replay_of S.lifted S.replayed S.limited) kept service at r.0
         × HasMade at r.1.value (H.log system.old) (H.log system.new)) }
-    ensures none { IfErr result HasNoWriter }
+    ensures none { IfErr result (λ how. HasNotGoneOn (replay_of S.lifted S.replayed S.limited)
+        (H.may_have directory.now) service how (H.log system.old) (H.log system.new)) }
 {
     let Some(mut playing) = lift(alloc, service) else {
         return Err(Hosted::Memory);

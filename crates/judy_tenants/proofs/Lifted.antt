@@ -1,6 +1,6 @@
 -- A service whose tenants have the greatest quotas.
 --     lifted-stocked    it is sound
---     lifted-seen       what contracts see of it
+--     lifted-granted    its words are bounded by the quotas
 use Rattle.std.proofs.Common.{◌≡◌, ◌≤◌, ◌*◌, ℕ, zero, suc, Bool, true, false, cond, List, [], ◌∷◌, length, max, ap, sym, ◌∙◌, subst, arith}
 use Rattle.std.proofs.lemmas.List.{length-map}
 use Rattle.std.proofs.lemmas.List.Elements.{recursion_from_All}
@@ -10,10 +10,8 @@ use Rattle.judy_table.specs.Seats.{AreRows}
 use Rattle.judy_table.specs.Tenants.{IsLimited, is_vacant}
 use Rattle.judy_table.specs.Unlimited.{most_quota, unlimited, unlimited_row}
 use Rattle.judy_tenants.specs.declared.stock.Stock.{Stock}
-use Rattle.judy_tenants.specs.Changes.{lifted}
-use Rattle.judy_tenants.specs.Held.{firsts, quotas_of, words_for}
-use Rattle.judy_tenants.specs.States.{state_in, sizes_in}
-use Rattle.judy_tenants.specs.Stocks.{held_of, IsStocked}
+use Rattle.judy_tenants.specs.Held.{quotas_of, words_for}
+use Rattle.judy_tenants.specs.Stocks.{IsGranted, IsStocked}
 
 -- no quota is less
 abbrev IsNoLess : List Tenant → ℕ → Type 0
@@ -50,12 +48,7 @@ lifted-stocked rows stock r s =
       owned = record { rooted = s.owned.rooted; outside = λ t h. s.owned.outside t (subst (λ n. n ≤ t) many h) };
     }
 
--- what contracts see of it
-pub lifted-seen : (rows : List Tenant) (stock : Stock) (granted : ℕ) → granted ≡ max stock.granted (words_for (unlimited rows))
-    → held_of (unlimited rows) (record stock { granted = granted }) ≡ lifted (held_of rows stock)
-lifted-seen rows stock granted e =
-    ap (λ n. record (held_of (unlimited rows) (record stock { granted = granted })) {
-      arrays = firsts n (state_in stock.arena.blocks stock.directory.0);
-      sizes = firsts n (sizes_in stock.arena.blocks stock.directory.0);
-    }) (length-map rows unlimited_row)
-    ∙ ap (λ g. record (held_of rows stock) { tenants = unlimited rows; granted = g }) e
+-- its words are bounded by the quotas
+pub lifted-granted : (rows : List Tenant) (stock : Stock) (granted : ℕ) → granted ≡ max stock.granted (words_for (unlimited rows))
+    → IsGranted rows stock → IsGranted (unlimited rows) (record stock { granted = granted })
+lifted-granted rows stock granted e g = record { peak = omega (arith, e, g.peak); table = omega (arith, e) }
