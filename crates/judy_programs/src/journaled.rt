@@ -1,11 +1,11 @@
 //! `judyd serve` with a journal: the service begins with what the journal has.
-ghost use Rattle.std.specs.Prelude.{◌≡◌, List, IfOk, IfErr, Some, option_map};
+ghost use Rattle.std.specs.Prelude.{◌≡◌, List, IfOk, IfErr, IfSome, IsFalse, IsTrue, Some, [], option_map};
 ghost use Rattle.std.proofs.Common.{◌∙◌, refl};
 ghost use Rattle.judy_many.specs.Rules.{rules_of};
 ghost use Rattle.judy_stream.specs.Streams.{MayAlwaysPull};
 ghost use Rattle.judy_protocol.specs.Serving.{pull_limit};
 ghost use Rattle.judy_programs.specs.Hosting.{desks_at};
-ghost use Rattle.judy_programs.specs.Journaled.{ChecksJournaled, HasGoneOn, HasMade, HasNoWriter, HasNotGoneOn, HostsJournaled, replay_of};
+ghost use Rattle.judy_programs.specs.Journaled.{ChecksJournaled, HasFailedNext, HasGoneOn, HasMade, HasNoWriter, HasNotGoneOn, HasOpenedNext, HostsJournaled, replay_of};
 ghost use Rattle.judy_recovery.specs.Whole.{Kept};
 ghost use Rattle.judy_recovery.specs.declared.resuming.Resumed.{Resumed as At};
 ghost use Rattle.judy_table.specs.declared.tenant.Tenant.{Tenant};
@@ -55,6 +55,18 @@ impl<S: Replays> Readies for Playing<S> {
     }
 }
 
+/// Begins the segment after that of the writer. False if there is none, or if the journal fails.
+fn begin_next<H: Hosts>(system: &mut H, writer: &mut Writer) -> bool
+    requires ended { writer.old.records ≡ [] }
+    ensures begun { IsTrue result → HasOpenedNext writer.old writer.new (H.log system.old) (H.log system.new) }
+    ensures failed { IsFalse result → HasFailedNext writer.old (H.log system.old) (H.log system.new) }
+{
+    if writer.segment() >= LAST_SEGMENT {
+        return false;
+    }
+    begin_segment(system, writer)
+}
+
 /// A writer that goes on here.
 fn writer_at<H: Hosts>(alloc: Global, system: &mut H, at: Resumed) -> Result<Box<Writer>, Hosted>
     ensures made { IfOk result (λ w. HasMade at w.value (H.log system.old) (H.log system.new)) }
@@ -66,7 +78,7 @@ fn writer_at<H: Hosts>(alloc: Global, system: &mut H, at: Resumed) -> Result<Box
     if !at.begins {
         return Ok(writer);
     }
-    if at.segment >= LAST_SEGMENT || !begin_segment(system, &mut *writer) {
+    if !begin_next(system, &mut *writer) {
         return Err(Hosted::Journal);
     }
     Ok(writer)
