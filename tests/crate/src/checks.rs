@@ -20,13 +20,11 @@ pub fn same_at<T: PartialEq + Debug + Drop, A: Debug + Drop>(
 }
 
 /// Ends the test unless it holds.
-pub fn holds(rt: &impl Abort, it: bool)
-{
+pub fn holds(rt: &impl Abort, it: bool) {
     assert!(rt; it);
 }
 
 /// Ends the test unless it holds. The message also has where it should.
-pub fn holds_at<A: Debug + Drop>(rt: &impl Abort, it: bool, at: A)
-{
+pub fn holds_at<A: Debug + Drop>(rt: &impl Abort, it: bool, at: A) {
     assert!(rt; it, "{at:?}");
 }

@@ -21,8 +21,7 @@ struct Place {
 
 /// Asks for a block. If it is refused, nothing but the count has changed, and a second request
 /// follows.
-fn ask(rt: &impl Abort, alloc: Global, arena: &mut Arena, len: usize) -> Result<Block, NoMemory>
-{
+fn ask(rt: &impl Abort, alloc: Global, arena: &mut Arena, len: usize) -> Result<Block, NoMemory> {
     let before = (arena.live_words(), arena.region(), arena.refusals());
     if let Ok(block) = arena.alloc(alloc, len) {
         same(rt, arena.refusals(), before.2);
@@ -61,8 +60,7 @@ fn take(
     arena: &mut Arena,
     place: &mut Place,
     len: usize,
-) -> Result<(), NoMemory>
-{
+) -> Result<(), NoMemory> {
     let block = ask(rt, alloc, arena, len)?;
     let words = arena.words(block);
     let wanted = len.next_power_of_two().max(4);
@@ -288,8 +286,7 @@ fn many_of(
     arena: &mut Arena,
     many: usize,
     len: usize,
-) -> Result<Vec<Block>, Fail>
-{
+) -> Result<Vec<Block>, Fail> {
     let mut taken: Vec<Block> = list(alloc, many)?;
     for _ in 0..many {
         taken.push(ask(rt, alloc, arena, len)?)?;

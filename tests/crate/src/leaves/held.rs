@@ -26,8 +26,7 @@ pub(crate) struct Part {
 }
 
 /// The value of a key in a map, and 0 in a set.
-pub(crate) fn given(values: bool, value: u64) -> u64
-{
+pub(crate) fn given(values: bool, value: u64) -> u64 {
     if values { value } else { 0 }
 }
 

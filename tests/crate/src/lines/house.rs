@@ -34,8 +34,7 @@ pub struct House {
 
 impl House {
     /// A house in which no tenant has an entry.
-    pub fn new(alloc: Global) -> House
-    {
+    pub fn new(alloc: Global) -> House {
         House {
             alice: Store::new(alloc),
             bob: Store::new(alloc),
@@ -59,8 +58,7 @@ fn answer<'a>(
     quota: Quota,
     call: &Call<'_>,
     found: &'a mut ArrayVec<u8, KEY_LIMIT>,
-) -> Reply<'a>
-{
+) -> Reply<'a> {
     match store.step(alloc, right, quota, call, found) {
         Ok(reply) => reply,
         Err(_) => Reply::Memory,
@@ -69,13 +67,16 @@ fn answer<'a>(
 
 impl Served for House {
     type Speaker = Guest;
+
     ghost who = { ? };
+
     ghost seen = { ? };
+
     ghost made = { ? };
+
     ghost apart = { ? };
 
-    fn login(&self, name: &[u8], token: &[u8]) -> Option<Guest>
-    {
+    fn login(&self, name: &[u8], token: &[u8]) -> Option<Guest> {
         if name == b"alice".as_slice() {
             if token == b"abc".as_slice() {
                 return Some(Guest {
@@ -103,8 +104,7 @@ impl Served for House {
         None
     }
 
-    fn name(&self, speaker: Guest) -> &[u8]
-    {
+    fn name(&self, speaker: Guest) -> &[u8] {
         match speaker.tenant {
             Tenant::Alice => b"alice",
             Tenant::Bob => b"bob",
@@ -135,5 +135,4 @@ impl Served for House {
             }
         }
     }
-
 }

@@ -1,6 +1,6 @@
 //! The line of each reply.
-use crate::lines::asks::{Want, reply_of};
 use crate::checks::{holds, same};
+use crate::lines::asks::{Want, reply_of};
 use arrayvec::ArrayVec;
 use judy_protocol::write_reply;
 

@@ -1,6 +1,6 @@
 //! Lines of each request, and lines that are no request.
-use crate::lines::asks::{Ask, call_of, name};
 use crate::checks::{holds, same, same_at};
+use crate::lines::asks::{Ask, call_of, name};
 use arrayvec::ArrayVec;
 use judy_model::{Call, Given, KEY_LIMIT, Line, LongCall, OneCall, Token};
 use judy_protocol::{Syntax, read_line};

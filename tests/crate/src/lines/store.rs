@@ -1,6 +1,6 @@
 //! Worked rows: calls of one tenant, each with the reply that it should give.
-use crate::lines::asks::{Ask, Want, call_of, reply_of};
 use crate::checks::{same, same_at};
+use crate::lines::asks::{Ask, Want, call_of, reply_of};
 use arrayvec::ArrayVec;
 use judy_model::{
     Call, ENTRY_PIECES_LIMIT, Given, KEY_LIMIT, LongCall, OneCall, Quota, Reply, Right,

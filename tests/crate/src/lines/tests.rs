@@ -20,8 +20,7 @@ const REPLIES: &[u8] =
     b"ERR AUTH\nOK\n1\nERR SYNTAX\nERR SYNTAX\nERR SYNTAX\nERR SYNTAX\n1\nERR AUTH\nERR AUTH\nERR AUTH\nOK\n0\nQ 0 1000 0 126000\nOK\nERR READONLY\nQ 1 4 1 504\nBYE\n";
 
 // The number of line feeds among the bytes.
-fn count_lines(bytes: &[u8]) -> usize
-{
+fn count_lines(bytes: &[u8]) -> usize {
     bytes.iter().filter(|b| **b == b'\n').count()
 }
 

@@ -183,16 +183,14 @@ fn wait_letter(time: Option<u32>) -> u8 {
 }
 
 /// These slots became ready, in this order.
-fn mark(queue: &mut Queue, slots: &[usize])
-{
+fn mark(queue: &mut Queue, slots: &[usize]) {
     for slot in slots {
         queue.mark_ready(*slot);
     }
 }
 
 /// This many slots became ready, from the first on.
-fn mark_all(queue: &mut Queue, count: usize)
-{
+fn mark_all(queue: &mut Queue, count: usize) {
     for slot in 0..count {
         queue.mark_ready(slot);
     }
@@ -200,7 +198,9 @@ fn mark_all(queue: &mut Queue, count: usize)
 
 impl<'a> Network for Stage<'a> {
     type Connection = Seat;
+
     ghost log = { ? };
+
     ghost number = { ? };
 
     fn accept(&mut self, id: u64, _slot: usize) -> Accept<Seat> {

@@ -56,8 +56,7 @@ struct Play<'a> {
 }
 
 /// The first eight slots became ready.
-fn mark_all(queue: &mut Queue)
-{
+fn mark_all(queue: &mut Queue) {
     for slot in 0..8usize {
         queue.mark_ready(slot);
     }
@@ -65,7 +64,9 @@ fn mark_all(queue: &mut Queue)
 
 impl<'a> Network for Play<'a> {
     type Connection = Call;
+
     ghost log = { ? };
+
     ghost number = { ? };
 
     fn accept(&mut self, id: u64, _slot: usize) -> Accept<Call> {

@@ -107,8 +107,7 @@ struct Dice {
 
 impl Dice {
     /// A number below this one.
-    fn roll(&mut self, sides: u64) -> u64
-    {
+    fn roll(&mut self, sides: u64) -> u64 {
         self.seed = self
             .seed
             .wrapping_mul(6_364_136_223_846_793_005)

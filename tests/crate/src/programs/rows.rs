@@ -14,8 +14,7 @@ use std::test::Fail;
 pub type Tenants = Server<Sha256Hash>;
 
 /// Runs an input with the service of the program. Names are looked up with this secret.
-pub fn run<R: Source, W: Sink>(alloc: Global, r: &mut R, w: &mut W, words: bool) -> Ran
-{
+pub fn run<R: Source, W: Sink>(alloc: Global, r: &mut R, w: &mut W, words: bool) -> Ran {
     judy_server::run::<Sha256Hash, R, W>(alloc, b"secret", r, w, words)
 }
 

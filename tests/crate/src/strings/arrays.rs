@@ -80,8 +80,7 @@ fn answer<'a>(
     arena: &mut Arena,
     call: &StrCall<'_>,
     found: &'a mut ArrayVec<u8, KEY_LIMIT>,
-) -> Result<Reply<'a>, NoMemory>
-{
+) -> Result<Reply<'a>, NoMemory> {
     match call {
         StrCall::Insert(key, given) => {
             holds(rt, is_string(key.as_bytes()));
@@ -108,8 +107,7 @@ fn look<'a>(
     arena: &Arena,
     call: &StrCall<'_>,
     buffer: &'a mut ArrayVec<u8, KEY_LIMIT>,
-) -> Reply<'a>
-{
+) -> Reply<'a> {
     let found = match call {
         StrCall::Get(key) => {
             holds(rt, is_string(key.as_bytes()));

@@ -44,8 +44,7 @@ fn put<H: KeyHash>(
     map: &mut JudyHS<H>,
     key: &[u8],
     given: Given,
-) -> Result<Option<u64>, NoMemory>
-{
+) -> Result<Option<u64>, NoMemory> {
     let words = arena.live_words();
     let refusals = arena.refusals();
     let reference = map.reference();

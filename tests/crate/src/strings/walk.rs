@@ -1,6 +1,6 @@
 //! A walk of mixed calls compared with the plain store.
-use crate::strings::arrays::{Arrays, Which};
 use crate::checks::{holds_at, same, same_at};
+use crate::strings::arrays::{Arrays, Which};
 use arrayvec::ArrayVec;
 use judy_arena::NoMemory;
 use judy_model::{Call, Given, Key, LongCall, Name, OwnedReply, Quota, Reply, Right, StrCall};

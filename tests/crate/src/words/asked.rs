@@ -1,6 +1,6 @@
 //! Calls of the sets and maps, each with the reply that it should give.
-use crate::words::arrays::{Arrays, Which};
 use crate::checks::same_at;
+use crate::words::arrays::{Arrays, Which};
 use judy_arena::NoMemory;
 use judy_model::{LongCall, OneCall, Reply};
 use std::alloc::Global;

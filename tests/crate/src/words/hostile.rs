@@ -1,8 +1,8 @@
 //! Arrays that grow and shrink across each change of kind. The words of their blocks are checked,
 //! and a walk compares them with a rising list after each step, by First and Next.
+use crate::checks::{holds_at, same, same_at};
 use crate::words::arrays::{Arrays, Which};
 use crate::words::asked::{long, one};
-use crate::checks::{holds_at, same, same_at};
 use judy_arena::NoMemory;
 use judy_model::{Given, LongCall, OneCall, Reply};
 use std::alloc::Global;

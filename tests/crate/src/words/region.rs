@@ -1,7 +1,7 @@
 //! What a set takes from the machine: the exact places at which it takes words, over fixed series
 //! of calls.
-use crate::words::arrays::{Arrays, Which};
 use crate::checks::{same, same_at};
+use crate::words::arrays::{Arrays, Which};
 use judy_arena::NoMemory;
 use judy_model::{OneCall, Reply};
 use std::alloc::Global;

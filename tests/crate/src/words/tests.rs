@@ -1,8 +1,8 @@
 //! Worked rows, and a walk of mixed calls compared with the plain store.
 
+use crate::checks::{holds, same, same_at};
 use crate::words::arrays::{Arrays, Which};
 use crate::words::asked::{ask_map, ask_set, long, one};
-use crate::checks::{holds, same, same_at};
 use arrayvec::ArrayVec;
 use judy_arena::{Arena, NoMemory};
 use judy_model::{Call, Given, LongCall, Name, OneCall, OwnedReply, Quota, Reply, Right};
@@ -349,8 +349,7 @@ fn insert_seven(
     alloc: Global,
     arena: &mut Arena,
     map: &mut JudyL,
-) -> Result<Option<u64>, NoMemory>
-{
+) -> Result<Option<u64>, NoMemory> {
     if let Ok(answer) = map.insert(alloc, arena, 7) {
         return Ok(answer.before);
     }

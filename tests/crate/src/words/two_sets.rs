@@ -19,8 +19,7 @@ fn set_one_of_two(
     first: &mut Judy1,
     second: Judy1,
     x: u64,
-) -> Result<bool, NoMemory>
-{
+) -> Result<bool, NoMemory> {
     judy_tree::laws::others_stay();
     let words = arena.live_words();
     let refusals = arena.refusals();
@@ -54,8 +53,7 @@ fn call_one_of_two(
     call: u64,
     place: usize,
     is_set: &mut [bool; 8],
-) -> Result<(), NoMemory>
-{
+) -> Result<(), NoMemory> {
     judy_tree::laws::others_stay();
     let x = INDEXES[place];
     let was = is_set[place];

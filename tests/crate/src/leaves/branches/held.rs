@@ -23,8 +23,7 @@ pub(crate) enum Left {
 }
 
 /// The reference of a word, if it refers to a block.
-pub(crate) fn reference_of(word: u64) -> Option<Ref>
-{
+pub(crate) fn reference_of(word: u64) -> Option<Ref> {
     if word == 0 {
         return None;
     }
@@ -39,8 +38,7 @@ impl Held {
         at: u64,
         low: (u8, Ref),
         high: (u8, Ref),
-    ) -> Result<Held, NoMemory>
-    {
+    ) -> Result<Held, NoMemory> {
         let mut arena = Arena::new(alloc);
         let children = [low, high];
         if let Ok(branch) = make(alloc, &mut arena, 3, at, &children, 2) {
@@ -100,8 +98,7 @@ impl Held {
         byte: u8,
         given: Ref,
         population: u64,
-    ) -> Option<Result<(), NoMemory>>
-    {
+    ) -> Option<Result<(), NoMemory>> {
         if child(&self.arena, self.branch, byte).is_some() {
             return None;
         }
@@ -115,8 +112,7 @@ impl Held {
     }
 
     /// Replaces the child of a byte. False if it has none.
-    pub(crate) fn set(&mut self, byte: u8, given: Ref, population: u64) -> bool
-    {
+    pub(crate) fn set(&mut self, byte: u8, given: Ref, population: u64) -> bool {
         if child(&self.arena, self.branch, byte).is_none() {
             return false;
         }
