@@ -1,0 +1,13 @@
+//! Many connections in memory, whose turns come in a scripted order.
+
+mod clocks;
+mod faults;
+mod journals;
+mod kicks;
+mod limited;
+mod questions;
+mod reloads;
+mod rounds;
+mod stage;
+mod talks;
+mod theatre;

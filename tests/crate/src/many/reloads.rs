@@ -1,0 +1,60 @@
+//! A table that is read again.
+use crate::many::theatre::{giving, limits, play, stage};
+use judy_many::{Ending, Limits, Question};
+use std::test::Fail;
+
+// bob alone, with the token `hello`.
+const BOB: &[u8] = b"[bob]
+sha256 = \"2cf24dba5fb0a30e26e83b2ac5b9e29e1b161e5c1fa7425e73043362938b9824\"
+quota = 1000
+";
+
+// One client, with a status socket.
+fn watched() -> Limits {
+    Limits {
+        status: true,
+        ..limits(1, 1)
+    }
+}
+
+// The table is read after the replies of the round. The connection of a tenant that is gone is closed
+// before the answer.
+#[test]
+fn a_tenant_that_is_gone_is_closed(rt: HostRuntime) -> Result<(), Fail> {
+    let alloc = rt.alloc();
+    let parts = [giving(b"AUTH alice abc\nJ1S a 1\n")];
+    let questions = [Question::Reload];
+    let tables = [BOB];
+    let mut stage = stage(alloc, &parts)?;
+    stage.questions = &questions;
+    stage.tables = &tables;
+    let ending = play(alloc, &mut stage, watched())?;
+    assert_eq!(rt; ending, Ending::Done);
+    assert_eq!(rt; stage.asked(), b".a0r0w0^tc0G-".as_slice());
+    assert_eq!(rt; stage.reported.as_slice(), b"OK\n".as_slice());
+    assert_eq!(rt;
+        stage.warned.as_slice(),
+        b"table read again: 1 tenant\n".as_slice()
+    );
+    Ok(())
+}
+
+// A table with a fault, and a file that cannot be read, change nothing.
+#[test]
+fn a_table_with_a_fault_changes_nothing(rt: HostRuntime) -> Result<(), Fail> {
+    let alloc = rt.alloc();
+    let parts = [giving(b"AUTH alice abc\nJ1S a 1\n")];
+    let questions = [Question::Reload, Question::Reload];
+    let tables = [b"[bob".as_slice()];
+    let mut stage = stage(alloc, &parts)?;
+    stage.questions = &questions;
+    stage.tables = &tables;
+    let ending = play(alloc, &mut stage, watched())?;
+    assert_eq!(rt; ending, Ending::Done);
+    let said = b"ERR fault Toml\nERR the file cannot be read\n".as_slice();
+    assert_eq!(rt; stage.reported.as_slice(), said);
+    for script in stage.scripts.iter() {
+        assert_eq!(rt; script.page.bytes(), b"OK\n1\n".as_slice());
+    }
+    Ok(())
+}

@@ -1,0 +1,385 @@
+//! Records that are played again: each reason why one is not played, and a run of random lines.
+
+use crate::checks::{holds_at, same, same_at};
+use arrayvec::ArrayVec;
+use judy_journal::Unplayed;
+use judy_model::{KEY_LIMIT, Reply};
+use judy_protocol::{Line, read_line, write_reply};
+use judy_programs::{Opens, Replays};
+use judy_server::{Halt, Server, replay, replay_all};
+use judy_tenants::{Right, Service, Sha256Hash, Speaker, Table, Unchanged, is_callable};
+use std::alloc::Global;
+use std::process::Abort;
+use std::test::Fail;
+
+/// ann may have 12 entries, bob and cid 1,000.
+const TABLE: &str = r#"
+[ann]
+sha256 = "ba7816bf8f01cfea414140de5dae2223b00361a396177a9cb410ff61f20015ad"
+quota = 12
+[bob]
+sha256 = "2cf24dba5fb0a30e26e83b2ac5b9e29e1b161e5c1fa7425e73043362938b9824"
+quota = 1000
+[cid]
+sha256 = "2cf24dba5fb0a30e26e83b2ac5b9e29e1b161e5c1fa7425e73043362938b9824"
+quota = 1000
+"#;
+
+/// The same tenants at other places, with other quotas.
+const LATER: &str = r#"
+[abe]
+sha256 = "ba7816bf8f01cfea414140de5dae2223b00361a396177a9cb410ff61f20015ad"
+quota = 5
+[ann]
+sha256 = "ba7816bf8f01cfea414140de5dae2223b00361a396177a9cb410ff61f20015ad"
+quota = 13
+[bea]
+sha256 = "ba7816bf8f01cfea414140de5dae2223b00361a396177a9cb410ff61f20015ad"
+quota = 5
+[bob]
+sha256 = "2cf24dba5fb0a30e26e83b2ac5b9e29e1b161e5c1fa7425e73043362938b9824"
+quota = 900
+[cid]
+sha256 = "2cf24dba5fb0a30e26e83b2ac5b9e29e1b161e5c1fa7425e73043362938b9824"
+quota = 900
+"#;
+
+static TENANTS: [&str; 3] = ["ann", "bob", "cid"];
+
+/// Commands that change arrays, each with the fields before a number from 0 to 9, and what follows it.
+static CHANGES: [(&str, &str); 16] = [
+    ("J1S a ", ""),
+    ("J1S b 25", ""),
+    ("J1S a 1", ""),
+    ("J1U a ", ""),
+    ("JLI a ", " 7"),
+    ("JLI l 99999", " 18446744073709551615"),
+    ("JLA l 99999", " 3"),
+    ("JLD l 99999", ""),
+    ("JSLI s x6", " 5"),
+    ("JSLA s x6162636465666768696", " 2"),
+    ("JSLD s x6", ""),
+    ("JHSI h x0", " 5"),
+    ("JHSI h x0", ""),
+    ("JHSA h x616263646566676800", "1 9"),
+    ("JHSD h x0", ""),
+    ("J1T a ", ""),
+];
+
+/// Lines that read all that those commands can change, each before a number from 0 to 9.
+static LOOKS: [&str; 11] = [
+    "J1T a ",
+    "J1T a 1",
+    "J1T b 25",
+    "JLG a ",
+    "JLG l 99999",
+    "J1BC a ",
+    "JLBC l ",
+    "JSLN s x6",
+    "JSLG s x6162636465666768696",
+    "JHSG h x0",
+    "JHSG h x6162636465666768001",
+];
+
+/// Records that are not played by a service of `LATER` where abe has all that it may have, and why.
+static REFUSED: [(&str, Unplayed); 15] = [
+    ("abe J1S a 5", Unplayed::Full),
+    ("abe JLI l 1 1", Unplayed::Full),
+    ("eve J1S a 5", Unplayed::Tenant),
+    ("ab J1S a 5", Unplayed::Tenant),
+    ("", Unplayed::Record),
+    (" J1S a 5", Unplayed::Record),
+    ("abe", Unplayed::Record),
+    ("abe ", Unplayed::Record),
+    ("abe J1S a", Unplayed::Record),
+    ("abe J1T a 5", Unplayed::Record),
+    ("abe USED", Unplayed::Record),
+    ("abe QUIT", Unplayed::Record),
+    ("abe AUTH abe abc", Unplayed::Record),
+    ("eve J1T a 5", Unplayed::Record),
+    ("a*e J1S a 5", Unplayed::Record),
+];
+
+/// A generator of random numbers.
+#[derive(Clone, Copy)]
+struct Dice {
+    seed: u64,
+}
+
+impl Dice {
+    /// A number below this one.
+    fn roll(&mut self, sides: u64) -> u64 {
+        self.seed = self
+            .seed
+            .wrapping_mul(6_364_136_223_846_793_005)
+            .wrapping_add(1_442_695_040_888_963_407);
+        (self.seed >> 33) % sides
+    }
+}
+
+/// A service of the tenants of this table.
+fn open(alloc: Global, table: &str) -> Result<Service<Sha256Hash>, Fail> {
+    let table = Table::parse(alloc, table.as_bytes())?;
+    Ok(Service::new(alloc, table, b"secret", Sha256Hash)?)
+}
+
+/// Plays one record.
+fn play(alloc: Global, service: &mut Service<Sha256Hash>, record: &str) -> Result<(), Unplayed> {
+    let mut key = [0u8; KEY_LIMIT];
+    let mut found = ArrayVec::new();
+    replay(alloc, service, record.as_bytes(), &mut key, &mut found)
+}
+
+/// Plays the records of a text.
+fn play_all(alloc: Global, service: &mut Service<Sha256Hash>, text: &str) -> Result<(), Halt> {
+    let mut key = [0u8; KEY_LIMIT];
+    let mut found = ArrayVec::new();
+    replay_all(alloc, service, text.as_bytes(), &mut key, &mut found)
+}
+
+/// Writes the reply to the call of a line that a tenant asks for. Returns whether the call is recorded.
+fn ask(
+    alloc: Global,
+    service: &mut Service<Sha256Hash>,
+    name: &str,
+    line: &str,
+    text: &mut ArrayVec<u8, 4096>,
+) -> Result<bool, Fail> {
+    let mut key = [0u8; KEY_LIMIT];
+    let mut found = ArrayVec::new();
+    let Ok(Line::Call(call)) = read_line(line.as_bytes(), &mut key) else {
+        return Err("a call")?;
+    };
+    let tenant = service.find(name.as_bytes()).ok_or("a tenant")?;
+    if !service.has(tenant) || !is_callable(&call) {
+        return Err("a call of a tenant")?;
+    }
+    let speaker = Speaker {
+        tenant,
+        right: Right::Change,
+    };
+    let reply = service.call(alloc, speaker, &call, &mut found);
+    write_reply(&reply, text);
+    let refused = matches!(reply, Reply::Full | Reply::ReadOnly | Reply::Memory);
+    Ok(call.changes() && !refused)
+}
+
+/// Checks that a tenant gets the same reply to a line from both services.
+fn compare(
+    rt: &impl Abort,
+    alloc: Global,
+    first: &mut Service<Sha256Hash>,
+    second: &mut Service<Sha256Hash>,
+    name: &str,
+    line: &str,
+) -> Result<(), Fail> {
+    let mut one = ArrayVec::new();
+    let mut other = ArrayVec::new();
+    ask(alloc, first, name, line, &mut one)?;
+    ask(alloc, second, name, line, &mut other)?;
+    same_at(rt, one.as_slice(), other.as_slice(), (name, line));
+    Ok(())
+}
+
+/// Checks that a tenant gets the same replies from both services to a line that ends in each digit.
+fn compare_looks(
+    rt: &impl Abort,
+    alloc: Global,
+    first: &mut Service<Sha256Hash>,
+    second: &mut Service<Sha256Hash>,
+    name: &str,
+    look: &str,
+) -> Result<(), Fail> {
+    for number in 0..10u64 {
+        let line = format!(in alloc; "{look}{number}")?;
+        compare(rt, alloc, first, second, name, line.as_str())?;
+    }
+    Ok(())
+}
+
+/// Checks that each tenant has the same in both services.
+fn compare_all(
+    rt: &impl Abort,
+    alloc: Global,
+    first: &mut Service<Sha256Hash>,
+    second: &mut Service<Sha256Hash>,
+) -> Result<(), Fail> {
+    for name in &TENANTS {
+        for look in &LOOKS {
+            compare_looks(rt, alloc, first, second, name, look)?;
+        }
+    }
+    same_at(rt, first.live_words(), second.live_words(), "words");
+    Ok(())
+}
+
+/// A random line that mostly changes an array.
+fn draw(alloc: Global, dice: &mut Dice) -> Result<String, Fail> {
+    if dice.roll(60) == 0 {
+        return Ok(format!(in alloc; "JLFA l")?);
+    }
+    let (front, back) = CHANGES[dice.roll(16) as usize];
+    let number = dice.roll(10);
+    Ok(format!(in alloc; "{front}{number}{back}")?)
+}
+
+/// Adds a random line of a random tenant to the records, if it is recorded. Returns whether it is.
+fn record(
+    alloc: Global,
+    service: &mut Service<Sha256Hash>,
+    dice: &mut Dice,
+    records: &mut String,
+) -> Result<bool, Fail> {
+    let name = TENANTS[dice.roll(3) as usize];
+    let line = draw(alloc, dice)?;
+    let mut text = ArrayVec::new();
+    let kept = ask(alloc, service, name, line.as_str(), &mut text)?;
+    if kept {
+        let record = format!(in alloc; "{name} {line}\n")?;
+        records.push_str(record.as_str())?;
+    }
+    Ok(kept)
+}
+
+/// A run of random lines of three tenants is recorded, and its records are played on another service,
+/// where the tenants have other places and other quotas.
+#[test]
+fn random_lines(rt: HostRuntime) -> Result<(), Fail> {
+    let alloc = rt.alloc();
+    let mut service = open(alloc, TABLE)?;
+    let mut records = String::new(alloc);
+    let mut dice = Dice { seed: 5 };
+    let mut kept: u64 = 0;
+    for _ in 0..300 {
+        if record(alloc, &mut service, &mut dice, &mut records)? {
+            kept = kept.saturating_add(1);
+        }
+    }
+    holds_at(&rt, kept > 150, ("few lines are recorded", kept));
+    holds_at(&rt, kept < 290, ("no line is refused", kept));
+    let mut restored = open(alloc, LATER)?;
+    same(
+        &rt,
+        play_all(alloc, &mut restored, records.as_str()),
+        Ok(()),
+    );
+    compare_all(&rt, alloc, &mut service, &mut restored)
+}
+
+/// Records that are not played, and why. They change nothing.
+#[test]
+fn reasons(rt: HostRuntime) -> Result<(), Fail> {
+    let alloc = rt.alloc();
+    let mut service = open(alloc, LATER)?;
+    for number in 0..5u64 {
+        let record = format!(in alloc; "abe J1S a {number}")?;
+        same(&rt, play(alloc, &mut service, record.as_str()), Ok(()));
+    }
+    for (record, why) in &REFUSED {
+        same_at(&rt, play(alloc, &mut service, record), Err(*why), record);
+    }
+    let mut text = ArrayVec::new();
+    ask(alloc, &mut service, "abe", "USED", &mut text)?;
+    same(&rt, text.as_slice(), b"Q 5 5 5 630\n".as_slice());
+    Ok(())
+}
+
+/// Six entries of abe, of which two are removed: never more than one above its quota of 5.
+const SIX: &str = "abe J1S a 0
+abe J1S a 1
+abe J1S a 2
+abe J1S a 3
+abe J1S a 4
+abe J1S a 5
+abe J1U a 0
+abe J1U a 1
+";
+
+/// Records are played without quotas. Then the table is put in force, and what abe holds counts, not
+/// what it held once.
+#[test]
+fn lower_quotas(rt: HostRuntime) -> Result<(), Fail> {
+    let alloc = rt.alloc();
+    let mut service = open(alloc, LATER)?;
+    let table = service.lift_quotas(alloc)?;
+    assert_eq!(rt; play_all(alloc, &mut service, SIX), Ok(()));
+    assert_eq!(rt; service.change(alloc, table), Ok(()));
+    let mut text = ArrayVec::new();
+    for line in &["USED", "J1S a 6", "J1S a 7", "J1C a 0 -1"] {
+        ask(alloc, &mut service, "abe", line, &mut text)?;
+    }
+    assert_eq!(rt; text.as_slice(), b"Q 4 5 4 630\n1\nFULL\nN 5\n".as_slice());
+    Ok(())
+}
+
+/// If abe holds more than its quota, the table is not put in force.
+#[test]
+fn a_quota_below_what_is_held(rt: HostRuntime) -> Result<(), Fail> {
+    let alloc = rt.alloc();
+    let mut service = open(alloc, LATER)?;
+    let table = service.lift_quotas(alloc)?;
+    for number in 0..6u64 {
+        let record = format!(in alloc; "abe J1S a {number}")?;
+        assert_eq!(rt; play(alloc, &mut service, record.as_str()), Ok(()));
+    }
+    let abe = service.find(b"abe").ok_or("abe")?;
+    assert_eq!(rt;
+        service.change(alloc, table),
+        Err(Unchanged::Quota(abe))
+    );
+    let mut text = ArrayVec::new();
+    ask(alloc, &mut service, "abe", "J1C a 0 -1", &mut text)?;
+    assert_eq!(rt; text.as_slice(), b"N 6\n".as_slice());
+    Ok(())
+}
+
+/// What a server tells that begins with these records.
+fn begin(alloc: Global, records: &str) -> Result<String, Fail> {
+    let Ok(mut server) = Server::<Sha256Hash>::open(alloc, b"secret", LATER.as_bytes()) else {
+        return Err("a server")?;
+    };
+    let table = server.lift(alloc).ok_or("a table")?;
+    if Replays::replay(&mut server, alloc, records.as_bytes()).is_err() {
+        return Err("records that are played")?;
+    }
+    Ok(match server.limit(alloc, table) {
+        Ok(()) => format!(in alloc; "well")?,
+        Err(fault) => format!(in alloc; "DIR{fault}")?,
+    })
+}
+
+/// A server that begins with records names the tenant that holds more than its quota.
+#[test]
+fn a_start_names_the_tenant(rt: HostRuntime) -> Result<(), Fail> {
+    let alloc = rt.alloc();
+    assert_eq!(rt; begin(alloc, SIX)?.as_str(), "well");
+    let more = format!(in alloc; "{SIX}abe J1S a 6\nabe J1S a 7\nbea J1S a 1\n")?;
+    assert_eq!(rt;
+        begin(alloc, more.as_str())?.as_str(),
+        "DIR: the quota of abe is less than what it holds"
+    );
+    Ok(())
+}
+
+/// The first record of a text that is not played, after how many that are.
+#[test]
+fn halts(rt: HostRuntime) -> Result<(), Fail> {
+    let alloc = rt.alloc();
+    let mut service = open(alloc, LATER)?;
+    let text = "bob J1S a 1\nbob J1S a 2\neve J1S a 3\nbob J1S a 4\n";
+    let why = Unplayed::Tenant;
+    same(
+        &rt,
+        play_all(alloc, &mut service, text),
+        Err(Halt { played: 2, why }),
+    );
+    let mut answer = ArrayVec::new();
+    ask(alloc, &mut service, "bob", "J1C a 0 -1", &mut answer)?;
+    same(&rt, answer.as_slice(), b"N 2\n".as_slice());
+    same(&rt, play_all(alloc, &mut service, ""), Ok(()));
+    same(&rt, play_all(alloc, &mut service, "bob J1S a 9"), Ok(()));
+    answer.clear();
+    ask(alloc, &mut service, "bob", "J1C a 0 -1", &mut answer)?;
+    same(&rt, answer.as_slice(), b"N 2\n".as_slice());
+    Ok(())
+}
