@@ -20,6 +20,14 @@ fn name_of<H: KeyHash>(service: &Service<H>, tenant: TenantId) -> Name {
     Name::of(b"")
 }
 
+/// Why a table is not put in force, as an operator reads it.
+fn fault_of<H: KeyHash>(service: &Service<H>, why: Unchanged) -> JournalFault {
+    match why {
+        Unchanged::Memory => JournalFault::Memory,
+        Unchanged::Quota(tenant) => JournalFault::Quota(name_of(service, tenant)),
+    }
+}
+
 /// Takes the quotas away, and returns the table that has them. None if there is no memory for it.
 pub fn lift<H: KeyHash>(alloc: Global, service: &mut Service<H>) -> Option<Table>
     ensures { IfSome result (λ table. (tally : TallyLem)
@@ -48,7 +56,6 @@ pub fn limit<H: KeyHash>(
             service.rows_are_sound();
             Ok(())
         }
-        Err(Unchanged::Memory) => Err(JournalFault::Memory),
-        Err(Unchanged::Quota(tenant)) => Err(JournalFault::Quota(name_of(&*service, tenant))),
+        Err(why) => Err(fault_of(&*service, why)),
     }
 }

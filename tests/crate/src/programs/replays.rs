@@ -302,13 +302,18 @@ fn lower_quotas(rt: HostRuntime) -> Result<(), Fail> {
     let alloc = rt.alloc();
     let mut service = open(alloc, LATER)?;
     let table = service.lift_quotas(alloc)?;
-    assert_eq!(rt; play_all(alloc, &mut service, SIX), Ok(()));
-    assert_eq!(rt; service.change(alloc, table), Ok(()));
+    same(&rt, play_all(alloc, &mut service, SIX), Ok(()));
+    same(&rt, service.change(alloc, table), Ok(()));
     let mut text = ArrayVec::new();
-    for line in &["USED", "J1S a 6", "J1S a 7", "J1C a 0 -1"] {
+    for (line, wanted) in &[
+        ("USED", "Q 4 5 4 630\n"),
+        ("J1S a 6", "1\n"),
+        ("J1S a 7", "FULL\n"),
+        ("J1C a 0 -1", "N 5\n"),
+    ] {
         ask(alloc, &mut service, "abe", line, &mut text)?;
+        same_at(&rt, text.as_slice(), wanted.as_bytes(), line);
     }
-    assert_eq!(rt; text.as_slice(), b"Q 4 5 4 630\n1\nFULL\nN 5\n".as_slice());
     Ok(())
 }
 
@@ -320,16 +325,17 @@ fn a_quota_below_what_is_held(rt: HostRuntime) -> Result<(), Fail> {
     let table = service.lift_quotas(alloc)?;
     for number in 0..6u64 {
         let record = format!(in alloc; "abe J1S a {number}")?;
-        assert_eq!(rt; play(alloc, &mut service, record.as_str()), Ok(()));
+        same(&rt, play(alloc, &mut service, record.as_str()), Ok(()));
     }
     let abe = service.find(b"abe").ok_or("abe")?;
-    assert_eq!(rt;
+    same(
+        &rt,
         service.change(alloc, table),
-        Err(Unchanged::Quota(abe))
+        Err(Unchanged::Quota(abe)),
     );
     let mut text = ArrayVec::new();
     ask(alloc, &mut service, "abe", "J1C a 0 -1", &mut text)?;
-    assert_eq!(rt; text.as_slice(), b"N 6\n".as_slice());
+    same(&rt, text.as_slice(), b"N 6\n".as_slice());
     Ok(())
 }
 
@@ -352,11 +358,12 @@ fn begin(alloc: Global, records: &str) -> Result<String, Fail> {
 #[test]
 fn a_start_names_the_tenant(rt: HostRuntime) -> Result<(), Fail> {
     let alloc = rt.alloc();
-    assert_eq!(rt; begin(alloc, SIX)?.as_str(), "well");
+    same(&rt, begin(alloc, SIX)?.as_str(), "well");
     let more = format!(in alloc; "{SIX}abe J1S a 6\nabe J1S a 7\nbea J1S a 1\n")?;
-    assert_eq!(rt;
+    same(
+        &rt,
         begin(alloc, more.as_str())?.as_str(),
-        "DIR: the quota of abe is less than what it holds"
+        "DIR: the quota of abe is less than what it holds",
     );
     Ok(())
 }
