@@ -15,5 +15,5 @@ invariant_of-self g c =
     subst P (sym is) (
       lifted-stocked rows c.self.inside.stock c.rows_are_sound.ensures c.self.invariant.0,
       lifted-granted rows c.self.inside.stock c.max-self-inside.result
-      (c.max-self-inside.ensures ∙ ap (λ w. max c.self.inside.stock.granted w) (c.words_for.ensures ∙ ap words_for c.in-Ok.ensures)) c.self.invariant.1,
+          (c.max-self-inside.ensures ∙ ap (λ w. max c.self.inside.stock.granted w) (c.words_for.ensures ∙ ap words_for c.in-Ok.ensures)) c.self.invariant.1,
     )
