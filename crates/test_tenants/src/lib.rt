@@ -1,5 +1,5 @@
 //! Tests of the service of many tenants: a walk of mixed calls, compared with the plain store of
-//! each tenant, and worked rows. Tables, directories and arrays of each kind are tested by hand.
+//! each tenant, and worked rows. Arrays of each kind are tested by hand.
 #![tactic(auto)]
 
 #[cfg(test)]
@@ -8,8 +8,6 @@ mod changes;
 mod checks;
 #[cfg(test)]
 mod dice;
-#[cfg(test)]
-mod directories;
 #[cfg(test)]
 mod house;
 #[cfg(test)]
@@ -22,7 +20,5 @@ mod replays;
 mod rows;
 #[cfg(test)]
 mod spelled;
-#[cfg(test)]
-mod tables;
 #[cfg(test)]
 mod walk;

@@ -14,4 +14,6 @@ mod programs;
 #[cfg(test)]
 mod strings;
 #[cfg(test)]
+mod tenants;
+#[cfg(test)]
 mod words;

