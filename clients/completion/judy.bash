@@ -1,7 +1,7 @@
 # Completion of the command line judy in bash. ./install puts it where bash-completion finds it; otherwise
 # source it.
 
-_judy_commands="add status top stop reload kick wait dump load check backup move table digest help"
+_judy_commands="add status top stop reload kick wait dump load check backup compact move table digest help"
 _judy_calls="AUTH J1BC J1C J1F J1FA J1FE J1L J1LE J1N J1NE J1P J1PE J1S J1T J1U JHSA JHSD JHSFA JHSG JHSI \
 JLA JLBC JLC JLD JLF JLFA JLFE JLG JLI JLL JLLE JLN JLNE JLP JLPE JSLA JSLD JSLF JSLFA JSLG JSLI \
 JSLL JSLN JSLP QUIT USED"
@@ -33,6 +33,7 @@ _judy_words() {
         load) echo "--unchecked $_judy_options --help" ;;
         check) echo "--unchecked --whole $_judy_options --help" ;;
         backup) echo "--folder $_judy_options --help" ;;
+        compact) echo "--when --help" ;;
         move) echo "J1: JL: JSL: JHS: --to --new-token-file --free --part --all $_judy_options --help" ;;
         table) echo "add set remove --quota --pieces --token --look --help" ;;
         digest) echo "--look --help" ;;
@@ -47,14 +48,14 @@ _judy() {
             mapfile -t COMPREPLY < <(compgen -f -- "$current")
             return
             ;;
-        -t | --tcp | -u | --user | --timeout | --quota | --pieces)
+        -t | --tcp | -u | --user | --timeout | --quota | --pieces | --when)
             return
             ;;
     esac
     command=$(_judy_command)
     mapfile -t COMPREPLY < <(compgen -W "$(_judy_words "$command")" -- "$current")
     case $command in
-        '' | status | top | stop | reload | kick | load | check | backup | table)
+        '' | status | top | stop | reload | kick | load | check | backup | compact | table)
             [ ${#COMPREPLY[@]} -gt 0 ] || mapfile -t COMPREPLY < <(compgen -f -- "$current")
             ;;
     esac

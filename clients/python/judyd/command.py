@@ -8,7 +8,7 @@ import sys
 from difflib import get_close_matches
 from typing import List, Optional
 
-from . import backups, metrics, moves, screen, service, tables, transfer
+from . import backups, compactions, metrics, moves, screen, service, tables, transfer
 from .client import Client
 from .copies import all_arrays, check, open_input, read_name
 from .dumpfile import Reader, is_regular, verify
@@ -118,6 +118,11 @@ def run_backup(options: argparse.Namespace) -> int:
         return client_of(address, options.timeout or None, tls, tenant, token)
 
     return backups.backup(backups.Server(wire, client), options.list, options.folder)
+
+
+def run_compact(options: argparse.Namespace) -> int:
+    """judy compact"""
+    return compactions.compact(options.folder, options.when)
 
 
 def name_of(path: Optional[str]) -> str:
@@ -250,6 +255,7 @@ SUBCOMMANDS = {
     "load": run_load,
     "check": run_check,
     "backup": run_backup,
+    "compact": run_compact,
     "move": run_move,
     "table": run_table,
     "digest": run_digest,

@@ -5,6 +5,7 @@ from typing import Dict, NamedTuple
 
 from . import __version__
 from .client import TIMEOUT
+from .compactions import growth
 
 USAGE = """judy: a command line for a judyd. At a terminal it asks for lines, with history and completion, and
 makes a connection for each line. With a call on the command line it makes that call. Otherwise it runs
@@ -28,6 +29,7 @@ and goes on. If the connection is lost it says how many lines were answered, and
   judy load [FILE]                           loads a dump, if it is whole
   judy check [FILE]                          compares a dump with the arrays: status 1 if they differ
   judy backup --folder DIR LIST              a dump of each tenant of a list, and the one before it
+  judy compact [--when GROWTH] DIR           makes a journal smaller, if it has grown by 100% or 1G
   judy move --to WHERE [--free] J1:ids ..    copies arrays to another server, and compares the two
   judy table FILE                            the faults of a table of tenants: status 3 if it has any
   judy table FILE add | set | remove TENANT  changes a table, if judyd takes the new one
@@ -62,6 +64,7 @@ ABOUT: Dict[str, About] = {
     "load": About("Inserts the entries of a dump, if it is whole.", "judy -u alice load alice.dump", "0 if all are loaded, 1 if the dump is not whole, a call was refused or it was cut short, 4 if no connection was made"),
     "check": About("Compares a dump with the arrays of a server.", "judy -u alice check alice.dump", "0 if they are alike, 1 if they differ or the dump is not whole, 4 if no connection was made"),
     "backup": About("Writes a dump of each tenant of a list, and keeps the one before it.", "judy backup --folder /var/lib/judyd /etc/judyd/backups", "0 if each tenant was dumped, 1 if one was not, 4 if no connection was made"),
+    "compact": About("Makes the files of a journal smaller, once it has grown by so much since the last time.", "judy compact --when 100% /var/lib/judyd/journal", "0 if it was compacted or has not grown so much, 1 if it was not compacted"),
     "move": About("Copies arrays to another server, and compares the two.", "judy -s old.sock -u alice move --to new.sock --free J1:ids", "0 if both are alike, 1 if they are not or a call was refused, 4 if a connection failed"),
     "table": About("Tells the faults of a table of tenants, or changes it if judyd takes the new one.", "judy table /etc/judyd/tenants.toml add joe --quota 1000", "0; 1 if the table was not changed or not read, 3 if it has a fault"),
     "digest": About("Asks for a token, and prints the line of a table for it.", "judy digest --look", "0; 1 if it is no token"),
@@ -134,6 +137,9 @@ def subcommand(name: str) -> argparse.ArgumentParser:
     elif name == "backup":
         sub.add_argument("--folder", required=True, metavar="DIR", help="where the dumps are")
         sub.add_argument("list", metavar="LIST", help="a file with a row for each tenant: TENANT TOKEN ARRAY.. or --all")
+    elif name == "compact":
+        sub.add_argument("--when", type=growth, metavar="GROWTH", help="do nothing below this growth: 100%% of the snapshot, or 1G")
+        sub.add_argument("folder", metavar="DIR", help="the directory of the journal")
     elif name == "move":
         sub.add_argument("--to", required=True, metavar="WHERE", help="the second server: the path of its socket, or HOST:PORT")
         sub.add_argument("--new-token-file", metavar="FILE", help="the tenant's token there, if it is another one (else JUDY_NEW_TOKEN)")

@@ -50,7 +50,7 @@ def program() -> str:
             return path
     found = shutil.which("judyd")
     if found is None:
-        raise ValueError("judyd, which reads the table, is not on the PATH: put its path into the environment's JUDYD")
+        raise ValueError("judyd is not on the PATH: put its path into the environment's JUDYD")
     return found
 
 

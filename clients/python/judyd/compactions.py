@@ -1,0 +1,84 @@
+"""`judy compact`: runs `judyd compact`, once a journal has grown by so much since its last snapshot.
+
+A server goes on meanwhile: `judyd compact` leaves it the last segment. So what counts here are the bytes of
+the closed segments, which are all others that the snapshot does not stand for.
+"""
+
+import os
+import re
+import subprocess
+from contextlib import suppress
+from typing import Dict, NamedTuple, Optional
+
+from .session import complain
+from .tables import program
+
+_FILE = re.compile(r"([0-9]{12})\.(journal|snapshot)")
+_GROWTH = re.compile(r"([0-9]{1,12})([%KMGT]?)")
+_FACTORS = {"": 1, "K": 1 << 10, "M": 1 << 20, "G": 1 << 30, "T": 1 << 40}
+
+
+class Sizes(NamedTuple):
+    """The last segment that a journal's snapshot stands for, or 0, the bytes of the snapshot, and how many
+    closed segments come after it, with how many bytes."""
+
+    covered: int
+    snapshot: int
+    count: int
+    closed: int
+
+    def __str__(self) -> str:
+        segments = "%s closed segment%s" % (self.count or "no", "s" if self.count > 1 else "")
+        return "a snapshot of %d bytes, and %s%s" % (self.snapshot, segments, " of %d bytes" % self.closed if self.count else "")
+
+
+class Growth(NamedTuple):
+    """How much the closed segments must have: bytes, or hundredths of the snapshot's bytes."""
+
+    text: str
+    number: int
+    is_percent: bool
+
+    def is_reached(self, sizes: Sizes) -> bool:
+        """Whether closed segments have so much. Without any there is nothing to compact."""
+        most = sizes.snapshot * self.number if self.is_percent else self.number * 100
+        return sizes.count > 0 and sizes.closed * 100 >= most
+
+
+def growth(text: str) -> Growth:
+    """The growth that a word says, as 100% or 1G. Raises ValueError if it says none."""
+    found = _GROWTH.fullmatch(text)
+    if not found:
+        raise ValueError("a growth is a number with %, K, M, G or T, as 100% or 1G, or a number of bytes")
+    return Growth(text, int(found[1]) * _FACTORS.get(found[2], 1), found[2] == "%")
+
+
+def sizes_in(folder: str) -> Sizes:
+    """The sizes of the files of a journal."""
+    sizes: Dict[str, Dict[int, int]] = {"journal": {}, "snapshot": {}}
+    for name in os.listdir(folder):
+        found = _FILE.fullmatch(name)
+        if found:
+            with suppress(FileNotFoundError):  # a compaction removes files
+                sizes[found[2]][int(found[1])] = os.stat(os.path.join(folder, name)).st_size
+    covered = max(sizes["snapshot"], default=0)
+    closed = [size for number, size in sorted(sizes["journal"].items()) if number > covered][:-1]
+    return Sizes(covered, sizes["snapshot"].get(covered, 0), len(closed), sum(closed))
+
+
+def compact(folder: str, least: Optional[Growth]) -> int:
+    """Compacts a journal, if it has grown by so much, and says in one line what was done. Returns the status."""
+    before = sizes_in(folder)
+    if least is not None and not least.is_reached(before):
+        print("%s: nothing done below %s: %s" % (folder, least.text, before))
+        return 0
+    status = subprocess.run([program(), "compact", folder], stdin=subprocess.DEVNULL, check=False).returncode
+    if status:
+        complain("%s: judyd compact %s" % (folder, "ended with status %d" % status if status > 0 else "was ended by signal %d" % -status))
+        return 1
+    after = sizes_in(folder)
+    if after.covered == before.covered:
+        print("%s: nothing to do: %s" % (folder, before))
+    else:
+        print("%s: compacted: before, %s; now, %s" % (folder, before, after))
+    return 0
