@@ -27,6 +27,14 @@ impl DiskFault {
     pub fn at(place: Place, reason: io::Error) -> DiskFault {
         DiskFault::System { place, reason }
     }
+
+    /// Whether a file was not made since it is there.
+    pub(crate) fn is_there(&self) -> bool {
+        match self {
+            DiskFault::System { reason, .. } => reason.kind() == io::ErrorKind::AlreadyExists,
+            _ => false,
+        }
+    }
 }
 
 /// What follows the directory's path in a line for the operator.

@@ -58,6 +58,16 @@ impl<F: Files> Growing<F> {
         self.file.sync_all()
     }
 
+    /// A file that has a byte is at fault.
+    pub(crate) fn check_empty(&self) -> Result<(), DiskFault> {
+        let kind = match self.file.metadata() {
+            Ok(found) if found.len() == 0 => return Ok(()),
+            Ok(_) => io::Error::from(io::ErrorKind::AlreadyExists),
+            Err(e) => e,
+        };
+        Err(DiskFault::at(self.place, kind))
+    }
+
     /// Secures the file whole.
     fn secure(&self) -> Result<(), DiskFault> {
         self.file

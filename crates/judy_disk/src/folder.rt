@@ -7,10 +7,13 @@ use crate::scan::{Found, arrange, out_of_memory};
 use std::alloc::Global;
 use std::fs::{self, Files, OpenFile, OpenOptions};
 use std::io;
-use std::os::unix::fs::OpenOptionsExt;
+use std::os::unix::fs::{MetadataExt, OpenOptionsExt};
 
 /// The rights to a new file: only its owner may read and write it.
 const OWNER_ALONE: u32 = 0o600;
+
+/// The user number of root.
+const ROOT: u32 = 0;
 
 /// Puts a number with the others.
 fn put_number(numbers: &mut Vec<u64>, number: u64) -> Result<(), DiskFault> {
@@ -64,16 +67,6 @@ impl<'a, F: Files> Folder<'a, F> {
         file.sync_all().map_err(|e| DiskFault::at(Place::Folder, e))
     }
 
-    /// Makes a new segment, which has no byte yet. It is there after a crash too.
-    pub fn begin(&self, number: u64) -> Result<Growing<F>, DiskFault> {
-        let place = Place::Segment(number);
-        let mut how = OpenOptions::new();
-        how.append(true).create_new(true).mode(OWNER_ALONE);
-        let file = self.open_with(&how, place)?;
-        self.sync()?;
-        Ok(Growing::new(file, place))
-    }
-
     /// Goes on in a segment after its first `len` bytes. What follows them is cut off. What is left is
     /// secured, since a server that was killed may have left it unsecured.
     pub fn resume(&self, number: u64, len: u64) -> Result<Growing<F>, DiskFault> {
@@ -83,18 +76,6 @@ impl<'a, F: Files> Folder<'a, F> {
         growing.cut(len)?;
         self.sync()?;
         Ok(growing)
-    }
-
-    /// Begins a snapshot, which is none until it has its name.
-    pub fn begin_snapshot(&self) -> Result<NewSnapshot<F>, DiskFault> {
-        let place = Place::NewSnapshot;
-        let mut how = OpenOptions::new();
-        how.write(true)
-            .create(true)
-            .truncate(true)
-            .mode(OWNER_ALONE);
-        let file = self.open_with(&how, place)?;
-        Ok(NewSnapshot::new(Growing::new(file, place)))
     }
 
     /// Gives the snapshot that was written its name, so that it stands for the segments up to this
@@ -150,16 +131,64 @@ impl<'a, F: Files + Clone + Drop> Folder<'a, F> {
 }
 
 impl<'a, F: Locks> Folder<'a, F> {
-    /// Opens the file of a lock, which is made if it is not there.
-    fn open_lock(&self, place: Place) -> Result<F::File, DiskFault> {
+    /// Gives a file that root made to the directory's owner and group, if the system allows it. A
+    /// service that has the directory could not open it otherwise.
+    fn hand_over(&self, file: &F::File) {
+        let Ok(made) = file.metadata() else {
+            return;
+        };
+        let Ok(folder) = fs::metadata(self.files, self.path.as_str()) else {
+            return;
+        };
+        if made.uid() != ROOT || (folder.uid() == made.uid() && folder.gid() == made.gid()) {
+            return;
+        }
+        let _given = self.files.give(file, folder.uid(), folder.gid());
+    }
+
+    /// Makes a file, which grows at its end. One that is there is a fault.
+    fn make(&self, place: Place) -> Result<F::File, DiskFault> {
         let mut how = OpenOptions::new();
-        how.append(true).create(true).mode(OWNER_ALONE);
-        self.open_with(&how, place)
+        how.append(true).create_new(true).mode(OWNER_ALONE);
+        let file = self.open_with(&how, place)?;
+        self.hand_over(&file);
+        Ok(file)
+    }
+
+    /// Makes a file, or opens the one that is there.
+    fn make_or_open(&self, place: Place) -> Result<F::File, DiskFault> {
+        match self.make(place) {
+            Ok(file) => Ok(file),
+            Err(fault) => {
+                if !fault.is_there() {
+                    return Err(fault);
+                }
+                self.open_with(OpenOptions::new().append(true), place)
+            }
+        }
+    }
+
+    /// Makes a new segment, which has no byte yet. It is there after a crash too. One that is there is a
+    /// fault, but for one without a byte, which is taken.
+    pub fn begin(&self, number: u64) -> Result<Growing<F>, DiskFault> {
+        let place = Place::Segment(number);
+        let growing = Growing::new(self.make_or_open(place)?, place);
+        growing.check_empty()?;
+        self.sync()?;
+        Ok(growing)
+    }
+
+    /// Begins a snapshot, which is none until it has its name. One that was begun before is removed.
+    pub fn begin_snapshot(&self) -> Result<NewSnapshot<F>, DiskFault> {
+        let place = Place::NewSnapshot;
+        let _removed = self.remove(place);
+        let file = self.make(place)?;
+        Ok(NewSnapshot::new(Growing::new(file, place)))
     }
 
     /// Locks a file, until what is returned is dropped. None if another program has locked it.
     fn try_lock(&self, place: Place) -> Result<Option<F::File>, DiskFault> {
-        let file = self.open_lock(place)?;
+        let file = self.make_or_open(place)?;
         let locked = self
             .files
             .try_lock(&file)
@@ -186,7 +215,7 @@ impl<'a, F: Locks> Folder<'a, F> {
 
     /// The lock of the closed files, not yet locked.
     pub fn closed_lock(&self) -> Result<F::File, DiskFault> {
-        self.open_lock(Place::CompactLock)
+        self.make_or_open(Place::CompactLock)
     }
 
     /// The lock of the closed files, not yet locked, without making a file. None if there was no

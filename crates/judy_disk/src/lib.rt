@@ -11,6 +11,7 @@ mod folder;
 mod locks;
 mod names;
 mod scan;
+mod spares;
 
 pub use faults::DiskFault;
 pub use files::{Growing, NewSnapshot};
@@ -18,3 +19,4 @@ pub use folder::Folder;
 pub use locks::Locks;
 pub use names::{Named, Place, read_name};
 pub use scan::{Found, arrange};
+pub use spares::Spares;

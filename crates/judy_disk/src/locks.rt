@@ -1,14 +1,18 @@
-//! Locks of files, which end with the program that has them.
+//! Locks of files, which end with the program that has them, and their owners.
 use std::fs::{Files, TryLockError};
 use std::io;
+use std::os::unix::fs::fchown;
 
-/// A system whose files can be locked.
+/// A system whose files can be locked, and given to another user.
 pub trait Locks: Files {
     /// Locks a file until it is closed. False if another program has locked it.
     fn try_lock(&self, file: &Self::File) -> io::Result<bool>;
 
     /// Locks a file until it is closed, once no other program has locked it.
     fn lock(&self, file: &Self::File) -> io::Result<()>;
+
+    /// Gives a file to a user and a group, by their numbers.
+    fn give(&self, file: &Self::File, user: u32, group: u32) -> io::Result<()>;
 }
 
 impl Locks for HostRuntime {
@@ -22,5 +26,9 @@ impl Locks for HostRuntime {
 
     fn lock(&self, file: &std::fs::File) -> io::Result<()> {
         file.lock()
+    }
+
+    fn give(&self, file: &std::fs::File, user: u32, group: u32) -> io::Result<()> {
+        fchown(file, Some(user), Some(group))
     }
 }

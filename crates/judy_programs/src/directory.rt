@@ -3,7 +3,7 @@ ghost use Rattle.std.specs.Prelude.{IfOk, IfSome, IsTrue, OnOk};
 ghost use Rattle.judy_recovery.specs.Whole.{HasPlayedJournal, HasResumed, Kept};
 
 use crate::journals::Readies;
-use judy_disk::{DiskFault, Folder, Growing, Locks, Place};
+use judy_disk::{DiskFault, Folder, Growing, Locks, Place, Spares};
 use judy_many::tell_line;
 use judy_recovery::{End, JournalFault, Resumed, recover, resume};
 use std::alloc::Global;
@@ -17,6 +17,7 @@ pub struct Directory<'a, F: Locks> {
     folder: Option<Folder<'a, F>>,
     lock: Option<F::File>,
     current: Option<Growing<F>>,
+    spares: Spares<F>,
     fault: Option<JournalFault>,
 }
 
@@ -82,6 +83,7 @@ impl<'a, F: Locks + Eprint + Clone + Drop> Directory<'a, F> {
             folder: None,
             lock: None,
             current: None,
+            spares: Spares::new(),
             fault: None,
         }
     }
@@ -114,6 +116,7 @@ impl<'a, F: Locks + Eprint + Clone + Drop> Directory<'a, F> {
             Err(fault) => return Err(of_disk(fault)),
         };
         tell_cut(self.rt, &folder, &end);
+        self.spares.take(&folder);
         self.folder = Some(folder);
         self.lock = Some(lock);
         self.current = current;
@@ -188,14 +191,17 @@ impl<'a, F: Locks + Eprint + Clone + Drop> Directory<'a, F> {
         }
     }
 
-    /// Makes the file of a segment.
+    /// Makes the file of a segment. The spare descriptors are given up for it, and taken again once the
+    /// file before is closed.
     pub fn begin(&mut self, segment: u64) -> bool {
         let Some(folder) = &self.folder else {
             return false;
         };
+        self.spares.give_up();
         match folder.begin(segment) {
             Ok(current) => {
                 self.current = Some(current);
+                self.spares.take(folder);
                 true
             }
             Err(fault) => self.did(Err(fault)),

@@ -4,7 +4,7 @@ ghost use Rattle.judy_recovery.specs.Whole.{GoesOn};
 
 use crate::ends::{End, FIRST_SUM};
 use crate::reading::first_line_len;
-use judy_disk::{DiskFault, Folder, Growing, Place};
+use judy_disk::{DiskFault, Folder, Growing};
 use judy_journal::SUM_LEN;
 use std::fs::Files;
 
@@ -24,7 +24,8 @@ pub struct Resumed {
 }
 
 /// Cuts off what a crash left behind the last whole commit, and opens the last segment. If not even
-/// its first line is whole, it is removed, and a writer begins it anew.
+/// its first line is whole, it has no byte afterwards, and a writer begins it anew. It is never removed:
+/// without it the segment after a snapshot could be missing.
 pub fn resume<F: Files>(
     folder: &Folder<'_, F>,
     end: Option<End>,
@@ -44,8 +45,7 @@ pub fn resume<F: Files>(
     };
     let sum = end.sum;
     if end.size == 0 {
-        folder.remove(Place::Segment(end.segment))?;
-        folder.sync()?;
+        let _empty = folder.resume(end.segment, 0)?;
         let before = Resumed {
             segment: end.segment.saturating_sub(1),
             sum,

@@ -2,7 +2,7 @@
 ghost use Rattle.std.specs.Prelude.{◌≡◌, ◌<◌, []};
 
 use crate::compacting::Uncompacted;
-use judy_disk::{DiskFault, Folder};
+use judy_disk::{DiskFault, Folder, Growing, Locks, Place};
 use judy_journal::{LAST_SEGMENT, Writer};
 use judy_recovery::{Halt, Player, Resumed, recover, resume};
 use std::alloc::Global;
@@ -25,19 +25,33 @@ impl Player for Nobody {
     ghost joins = { λ _ _ _ _ _ _ _. tt };
 }
 
-/// Begins the segment after this one, with its first line.
-fn begin_next<F: Files>(folder: &Folder<'_, F>, writer: &mut Writer) -> Result<(), DiskFault>
+/// Writes the first line of a segment, and secures it.
+fn put_first<F: Files>(growing: &mut Growing<F>, text: &[u8]) -> Result<(), DiskFault> {
+    growing.append(text)?;
+    growing.sync()
+}
+
+/// Begins the segment after this one, with its first line. If the line cannot be written, there is no
+/// such segment, unless it was there before.
+fn begin_next<F: Locks>(
+    folder: &Folder<'_, F>,
+    writer: &mut Writer,
+    is_there: bool,
+) -> Result<(), DiskFault>
     requires ended { writer.old.records ≡ [] }
     requires number { writer.old.segment < LAST_SEGMENT }
 {
     writer.next_segment();
     let mut growing = folder.begin(writer.segment())?;
-    growing.append(writer.text())?;
-    growing.sync()
+    let put = put_first(&mut growing, writer.text());
+    if put.is_err() && !is_there {
+        let _removed = folder.remove(Place::Segment(writer.segment()));
+    }
+    put
 }
 
 /// Begins the segment after the one where a writer would go on, unless that one has no commit.
-fn begin_after<F: Files>(
+fn begin_after<F: Locks>(
     alloc: Global,
     folder: &Folder<'_, F>,
     at: Resumed,
@@ -48,13 +62,14 @@ fn begin_after<F: Files>(
     let Ok(mut writer) = Box::new(alloc, Writer::new(at.segment, &at.sum, at.size)) else {
         return Err(Uncompacted::Memory);
     };
-    begin_next(folder, &mut *writer)?;
+    begin_next(folder, &mut *writer, at.begins)?;
     Ok(())
 }
 
 /// Closes the last segment, if there is one and it has a commit: what a crash left behind its last
-/// whole commit is cut off, and the next segment is begun. No server may have the directory.
-pub fn close_last<F: Files + Clone + Drop>(
+/// whole commit is cut off, and the next segment is begun. If it cannot be, the last one stays the
+/// last. No server may have the directory.
+pub fn close_last<F: Locks + Clone + Drop>(
     alloc: Global,
     folder: &Folder<'_, F>,
 ) -> Result<(), Uncompacted> {

@@ -4,7 +4,7 @@ use crate::names::Names;
 use crate::replacing::{Replacing, remove_stale, replace};
 use crate::replaying::Replaying;
 use crate::rewriting::Rewriting;
-use judy_disk::{DiskFault, Folder, Found, Locks, NewSnapshot};
+use judy_disk::{DiskFault, Folder, Found, Locks, NewSnapshot, Place};
 use judy_journal::Writer;
 use judy_programs::Opens;
 use judy_recovery::{End, JournalFault, recover_closed};
@@ -61,7 +61,7 @@ fn replay_closed<S: Opens + Drop, F: Files>(
 }
 
 /// Begins a snapshot of the segments up to this end.
-fn begin<F: Files>(
+fn begin<F: Locks>(
     alloc: Global,
     folder: &Folder<'_, F>,
     end: &End,
@@ -76,7 +76,7 @@ fn begin<F: Files>(
 }
 
 /// Writes all entries of a service to a new snapshot, which has no name yet.
-fn rewrite<S: Opens + Drop, F: Files>(
+fn rewrite<S: Opens + Drop, F: Locks>(
     alloc: Global,
     folder: &Folder<'_, F>,
     found: &Found,
@@ -102,17 +102,12 @@ fn rewrite<S: Opens + Drop, F: Files>(
     Ok(file)
 }
 
-/// Makes one snapshot of the snapshot before and of the closed segments. In it each entry is written
-/// once. Then the files that it stands for are removed. All segments but the last are closed; if no
-/// server has the directory, the last is closed first.
-///
-/// If the program ends at any moment, the directory has a journal of the same entries.
-pub fn compact<S: Opens + Drop, F: Locks + Clone + Drop>(
+/// Makes one snapshot of the snapshot before and of the closed segments, which this program has taken.
+fn compact_closed<S: Opens + Drop, F: Locks + Clone + Drop>(
     alloc: Global,
     secret: &[u8],
     folder: &Folder<'_, F>,
 ) -> Result<Compacted, Uncompacted> {
-    let _closed = folder.take_closed()?;
     if let Some(_lock) = folder.take_if_free()? {
         close_last(alloc, folder)?;
     }
@@ -127,4 +122,23 @@ pub fn compact<S: Opens + Drop, F: Locks + Clone + Drop>(
     let file = rewrite(alloc, folder, &found, &end, state)?;
     replace(&mut Replacing::new(folder, Some(file)), &found, end.segment)?;
     Ok(Compacted::Snapshot(end.segment))
+}
+
+/// Makes one snapshot of the snapshot before and of the closed segments. In it each entry is written
+/// once. Then the files that it stands for are removed. All segments but the last are closed; if no
+/// server has the directory, the last is closed first.
+///
+/// If the program ends at any moment, the directory has a journal of the same entries. If the snapshot
+/// cannot be written, what was written of it is removed, so that it takes no room.
+pub fn compact<S: Opens + Drop, F: Locks + Clone + Drop>(
+    alloc: Global,
+    secret: &[u8],
+    folder: &Folder<'_, F>,
+) -> Result<Compacted, Uncompacted> {
+    let _closed = folder.take_closed()?;
+    let compacted = compact_closed::<S, F>(alloc, secret, folder);
+    if compacted.is_err() {
+        let _removed = folder.remove(Place::NewSnapshot);
+    }
+    compacted
 }
