@@ -24,12 +24,12 @@ class Sizes(NamedTuple):
 
     covered: int
     snapshot: int
-    count: int
+    segments: int
     closed: int
 
     def __str__(self) -> str:
-        segments = "%s closed segment%s" % (self.count or "no", "s" if self.count > 1 else "")
-        return "a snapshot of %d bytes, and %s%s" % (self.snapshot, segments, " of %d bytes" % self.closed if self.count else "")
+        closed = "%s closed segment%s" % (self.segments or "no", "s" if self.segments > 1 else "")
+        return "a snapshot of %d bytes, and %s%s" % (self.snapshot, closed, " of %d bytes" % self.closed if self.segments else "")
 
 
 class Growth(NamedTuple):
@@ -42,7 +42,7 @@ class Growth(NamedTuple):
     def is_reached(self, sizes: Sizes) -> bool:
         """Whether closed segments have so much. Without any there is nothing to compact."""
         most = sizes.snapshot * self.number if self.is_percent else self.number * 100
-        return sizes.count > 0 and sizes.closed * 100 >= most
+        return sizes.segments > 0 and sizes.closed * 100 >= most
 
 
 def growth(text: str) -> Growth:
