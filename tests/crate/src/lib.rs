@@ -4,6 +4,8 @@
 #[cfg(test)]
 mod checks;
 #[cfg(test)]
+mod journal;
+#[cfg(test)]
 mod leaves;
 #[cfg(test)]
 mod lines;
@@ -11,6 +13,8 @@ mod lines;
 mod many;
 #[cfg(test)]
 mod programs;
+#[cfg(test)]
+mod refusals;
 #[cfg(test)]
 mod strings;
 #[cfg(test)]

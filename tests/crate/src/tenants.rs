@@ -1,4 +1,14 @@
-//! Tests of the tables of tenants and of directories, by hand.
+//! Tests of the service of many tenants: a walk of mixed calls, compared with the plain store of
+//! each tenant, and worked rows. Tables, directories and the arrays of each kind are tested by hand.
 
+mod changes;
+mod dice;
 mod directories;
+mod house;
+mod kinds;
+mod lines;
+mod replays;
+mod rows;
+mod spelled;
 mod tables;
+mod walk;
