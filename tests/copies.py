@@ -3,25 +3,38 @@
 The compiler gives a verdict for each function and goes on after one that is not proved. So each wrong
 body becomes one more function beside the real one: a copy under another name, with the same contract,
 the edit in its text, and a copy of the real one's proof. Nothing calls it, so the crate stays as it
-was. A copy without an edit is the control: it must be proved. A function that calls itself, or a
-method of a trait's impl, can't be copied so; it is edited in its place, one edit of each such function
-at a time. All other functions keep their contracts and lose their proofs: these are holes, which the
-compiler takes as proved, so that only what is tried is checked (`--allow-holes`, `--only`)."""
+was. A copy without an edit is the control: it must be proved. The only wrong body of a function that no
+other one calls is put in the function's place: that needs no control, since the proof is the real one.
+A function that calls itself, or a method of a trait's impl, can't be copied; it is edited in its place
+too, one edit of each such function at a time. All other functions keep their contracts and lose their proofs: these are holes, which the
+compiler takes as proved, so that only what is tried is checked (`--allow-holes`, `--only`).
+
+A copy that is made without tactics (`#[tactic(none)]`) has its written answers checked, and the check
+names the goals that are left. That is quick, and most wrong bodies fall there: an answer that the
+control has too is refused. The others are copied again with their tactics. Where an edit names the goal
+that refuses it, all other goals that were left are holes, so that this one alone is searched."""
 
 import re
 
 from functions import CYCLE, own_impl_around
 
+TACTIC = re.compile(r"^ *#!?\[tactic\([^\n]*\)\]\n", re.M)
+FN = re.compile(r"^( *)(?=(?:pub(?:\([a-z]+\))? )?(?:const |unsafe )*fn )", re.M)
+GOALS = "use Rattle.%s.proofs.%s.Goals as %s\n"
+ANSWER = "\npub %s : %s.%s\n%s = ?\n"
 HOLE = "use %s.{statement}\n\npub %s_spec : {M : Type 1} → statement M\n%s_spec 𝓤 𝓛 𝓜 𝓡 w = ?\n"
-COPIED, PLACED, WHOLE = "as a copy", "in its place", "alone"
+COPIED, PLACED, FILED, WHOLE = "as a copy", "in its place", "as files", "alone"
+CARRIED = "use %s\n"
 
 
 class Try:
-    """How an edit is tried: its function, for COPIED the name of the copy, and the text of the function
-    with the edit."""
+    """How an edit is tried: its function, for COPIED the name of the copy (None: it is put in the place of
+    its function), and the text of the function with the edit; with tactics, the goals that are holes. For
+    FILED the files that are copied, and what is added to their names."""
 
     def __init__(self, edit, how, function=None, text=None):
         self.edit, self.how, self.function, self.text, self.name = edit, how, function, text, None
+        self.holes, self.files, self.suffix = None, None, None
 
     def path(self):
         """The path of what is tried, below the crate."""
@@ -54,6 +67,38 @@ def how_to_try(edit, sources):
     return Try(edit, PLACED if function.cycle or function.of_trait else COPIED, function, text)
 
 
+def named(tries, others=()):
+    """Gives each copy its name. The only one of a function that no other function of `tries` or `others`
+    calls has none: it is put in its place."""
+    numbers = {}
+    for it in tries:
+        numbers[it.function] = numbers.get(it.function, 0) + 1
+        it.name = "%s_w%d" % (it.function.name, numbers[it.function])
+    for it in tries:
+        call = re.compile(r"\b%s\b" % it.function.name)
+        called = any(one.function is not it.function and call.search(one.text) for one in [*tries, *others])
+        if numbers[it.function] == 1 and not called:
+            it.name = None
+    return tries
+
+
+def filed(tries, modules):
+    """Has the edits of definitions that can be copied as files tried so."""
+    for count, it in enumerate(tries, 1):
+        changed = {part.file for part in it.edit.parts}
+        if it.how == WHOLE and (it.edit.by or "").startswith("proofs/") and changed | {it.edit.by} <= set(modules.texts):
+            if not any(one.startswith("src/") for one in changed):
+                it.files = modules.between(changed, it.edit.by)
+        if it.files:
+            it.how, it.suffix = FILED, "_w%d" % count
+    return tries
+
+
+def without_tactics(text):
+    """The text of a function whose goals no tactic tries."""
+    return FN.sub(r"\1#[tactic(none)]\n\1", TACTIC.sub("", text), count=1)
+
+
 class Batch:
     """A crate's texts with copies and changed functions in them, and what is tried there."""
 
@@ -62,8 +107,10 @@ class Batch:
         self.texts, self.changes, self.imports = dict(sources.texts), {}, {}
         self.asked, self.spans = [], []
 
-    def copy(self, function, text, name, tried=None):
-        """Adds a copy of a function, with this text, under this name."""
+    def copy(self, function, text, name, tried=None, goals=None):
+        """Adds a copy of a function, with this text, under this name. Without tactics if `goals` is None,
+        otherwise with a hole for each of these goals."""
+        text = without_tactics(text) if goals is None else text
         shown, at = CYCLE.sub("", re.sub(r"\bfn %s\b" % function.name, "fn " + name, text, count=1)).lstrip("\n"), function.end
         if function.of_trait:
             header, at = own_impl_around(self.sources.texts[function.file], function.end)
@@ -73,23 +120,68 @@ class Batch:
         cited = ["Rattle.%s.proofs.%s" % (self.crate, ".".join(function.place(it))) for it in (None, name)]
         for path, proof in {} if function.cycle else self.sources.proof_of(function).items():
             self.texts[as_copy + path[len(below) :]] = re.sub(re.escape(cited[0]) + r"(?![\w-])", cited[1], proof)
+        if goals:
+            self.dig_goals(as_copy + "Answers.antt", cited[1], goals)
         self.asked.append(function.path(name))
 
-    def copy_all(self, tries):
-        """Adds a copy of the function of each of these, and gives it its name."""
-        numbers = {}
-        for it in tries:
-            numbers[it.function] = numbers.get(it.function, 0) + 1
-            it.name = "%s_w%d" % (it.function.name, numbers[it.function])
-            self.copy(it.function, it.text, it.name, it)
-            self.change_imports(it.edit)
+    def dig_goals(self, path, cited, goals):
+        """Answers goals of a function by holes."""
+        text = self.texts.get(path, "")
+        found = re.search(r"^use %s\.Goals as (\S+)$" % re.escape(cited), text, re.M)
+        alias = found[1] if found else "goal_of_copy"
+        head = "" if found else GOALS % (self.crate, cited.split(".proofs.")[1], alias)
+        self.texts[path] = head + text + "".join(ANSWER % (it, alias, it, it) for it in goals)
 
-    def place(self, tried):
+    def copy_all(self, tries):
+        """Adds a copy of the function of each of these, under its name, or puts it in its place."""
+        for it in tries:
+            if it.name:
+                self.copy(it.function, it.text, it.name, it, it.holes)
+                self.change_imports(it.edit)
+                continue
+            self.place(it, without_tactics(it.text) if it.holes is None else it.text)
+            if it.holes:
+                place = it.function.place()
+                self.dig_goals("/".join(["proofs", *place, "Answers.antt"]), "Rattle.%s.proofs.%s" % (self.crate, ".".join(place)), it.holes)
+
+    def place(self, tried, text=None):
         """Gives a function the text that is tried."""
         one = tried.function
-        self.changes.setdefault(one.file, []).append((one.start, one.end, tried.text, tried))
+        self.changes.setdefault(one.file, []).append((one.start, one.end, text or tried.text, tried))
         self.change_imports(tried.edit)
         self.asked.append(one.path())
+
+    def copy_files(self, tries, modules):
+        """Adds copies of the files of each of these, and their controls. Returns the suffix of the control
+        of each set of files."""
+        controls, imports = {}, []
+        for it in tries:
+            changed, set_of = it.edit.edited()[0], frozenset(it.files)
+            copies = [(changed, it.suffix)]
+            if set_of not in controls:
+                controls[set_of] = "_c%d" % len(controls)
+                copies.append(({}, controls[set_of]))
+            for texts, suffix in copies:
+                made, declared = modules.copies(it.files, texts, suffix)
+                self.texts.update(made)
+                for file, line, added in declared:
+                    self.texts[file] = re.sub("^%s$" % re.escape(line), lambda found: found[0] + "\n" + added, self.texts[file], count=1, flags=re.M)
+                imports.append(modules.name(it.edit.by) + suffix)
+        self.carry(imports)
+        return controls
+
+    def carry(self, imports):
+        """Has files read: a function that is not tried imports them, in a proof that is a hole."""
+        busy = {one.place()[-1] for one in self.sources.functions if one.path() in self.asked}
+        for it in self.sources.functions:
+            odd = it.is_odd or it.cycle or it.of_trait or "tests" in it.module()
+            if not odd and it.name not in busy and it.path() not in self.asked:
+                for path in self.sources.proof_of(it):
+                    self.texts.pop(path, None)
+                hole = HOLE % (self.cited(it) + ".Statement", it.name, it.name)
+                self.texts["/".join(["proofs", *it.place(), "Proof.antt"])] = "".join(CARRIED % one for one in imports) + hole
+                self.asked.append(it.path())
+                return
 
     def keep(self, function):
         """Has a function checked as it is."""

@@ -2,7 +2,8 @@
 lines are `file: PATH`, `old: TEXT` and `new: TEXT`: each text is one line, since the kit reads no more
 of it. A line `by: FUNCTION` or `by: proofs/FILE.antt` names a function of the crate, or a file of
 lemmas, that the prover refuses with the edit. Only an edit of a definition needs it, so that not all
-functions are tried."""
+functions are tried. A line `goal: NAME` names the goal of the function that no tactic proves with the
+edit. `tests/wrong --record` writes it, so that no other goal is searched."""
 
 import os
 
@@ -43,7 +44,7 @@ class Edit:
     def __init__(self, crate, path):
         self.crate, self.path = crate, path
         self.name = "/".join(path.split("/")[-3:]).removesuffix(".edit")
-        self.parts, self.by, self.faults = [], None, []
+        self.parts, self.by, self.goal, self.faults = [], None, None, []
         file, old = None, None
         for line in read(path).split("\n"):
             if line.startswith("file: "):
@@ -52,11 +53,13 @@ class Edit:
                 old = line[len("old: ") :]
             elif line.startswith("by: "):
                 self.by = line[len("by: ") :].strip()
+            elif line.startswith("goal: "):
+                self.goal = line[len("goal: ") :].strip()
             elif line.startswith("new:") and file and old:
                 self.parts.append(Part(file, old, line[len("new:") :].removeprefix(" ")))
                 old = None
             elif line:
-                self.faults.append("a line is no `file:`, `old:`, `new:` or `by:` in this order: " + line)
+                self.faults.append("a line is no `file:`, `old:`, `new:`, `by:` or `goal:` in this order: " + line)
 
     def edited(self):
         """The texts of the files that it changes, and why it does not fit the crate; None if it does."""
@@ -72,6 +75,11 @@ class Edit:
                 return texts, "it changes nothing: " + part.old
             texts[part.file] = text.replace(part.old, part.new)
         return texts, None if texts else "it changes no file"
+
+    def files(self):
+        """The files that it changes, and all sources and definitions of the crate."""
+        of_crate = (os.path.join(at, it) for part in PARTS[:2] for at, _, names in os.walk(os.path.join(CRATES, self.crate, part)) for it in names)
+        return {it.file for it in self.parts} | {os.path.relpath(it, os.path.join(CRATES, self.crate)) for it in of_crate}
 
     def fault(self):
         """Why the edit does not fit its crate; None if it does."""

@@ -53,7 +53,7 @@ class Ran:
         refused = {"::".join(file.split("/")[1:-1]) for file, _, _, _ in self.errors() if file.startswith("proofs/")}
         for it in VERDICT.finditer(self.said):
             name, said = it[1].partition("::")[2], it[2]
-            if said.startswith("not proved") and OPEN_GOAL in self.said[ended : it.start()]:
+            if said.startswith("not proved") and "which antt refuses" not in said and OPEN_GOAL in self.said[ended : it.start()]:
                 said = GOAL_IS_OPEN
             elif said == "not proved" and name in refused:
                 said = ANSWER_IS_REFUSED
