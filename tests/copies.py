@@ -3,10 +3,10 @@
 The compiler gives a verdict for each function and goes on after one that is not proved. So each wrong
 body becomes one more function beside the real one: a copy under another name, with the same contract,
 the edit in its text, and a copy of the real one's proof. Nothing calls it, so the crate stays as it
-was. A copy without an edit is the control: it must be proved. The only wrong body of a function that no
-other one calls is put in the function's place: that needs no control, since the proof is the real one.
-A function that calls itself, or a method of a trait's impl, can't be copied; it is edited in its place
-too, one edit of each such function at a time. All other functions keep their contracts and lose their proofs: these are holes, which the
+was. A copy without an edit is the control: it must be proved. The only wrong body of a function is put in
+the function's place: that needs no control, since the proof is the real one. A function that calls
+itself, or a method of a trait's impl, can't be copied; it is edited in its place too, one edit of each
+such function at a time. All other functions keep their contracts and lose their proofs: these are holes, which the
 compiler takes as proved, so that only what is tried is checked (`--allow-holes`, `--only`).
 
 A copy that is made without tactics (`#[tactic(none)]`) has its written answers checked, and the check
@@ -67,19 +67,25 @@ def how_to_try(edit, sources):
     return Try(edit, PLACED if function.cycle or function.of_trait else COPIED, function, text)
 
 
-def named(tries, others=()):
-    """Gives each copy its name. The only one of a function that no other function of `tries` or `others`
-    calls has none: it is put in its place."""
+def named(tries):
+    """Gives each copy its name. The only one of a function has none: it is put in its place."""
     numbers = {}
     for it in tries:
         numbers[it.function] = numbers.get(it.function, 0) + 1
         it.name = "%s_w%d" % (it.function.name, numbers[it.function])
     for it in tries:
-        call = re.compile(r"\b%s\b" % it.function.name)
-        called = any(one.function is not it.function and call.search(one.text) for one in [*tries, *others])
-        if numbers[it.function] == 1 and not called:
-            it.name = None
+        it.name = it.name if numbers[it.function] > 1 else None
     return tries
+
+
+def one_of_each(tries):
+    """The first of these of each function, and of each cycle of functions; and the others."""
+    first, others, seen = [], [], set()
+    for it in tries:
+        those = {it.function, it.function.cycle} - {None}
+        (others if those & seen else first).append(it)
+        seen |= those
+    return first, others
 
 
 def filed(tries, modules):
@@ -212,6 +218,10 @@ class Batch:
             name = "+" + it.cycle if it.cycle else it.name
             stated = cited if it.cycle else cited + ".Statement"
             self.texts[cited[len("Rattle.%s." % self.crate) :].replace(".", "/") + "/Proof.antt"] = HOLE % (stated, name, name)
+
+    def folder(self, it):
+        """The front of the names of all that stands in the folder of a function's proof."""
+        return self.cited(it) + "."
 
     def cited(self, it):
         """The name by which proofs cite a function, or its cycle."""
