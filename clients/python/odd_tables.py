@@ -79,7 +79,7 @@ def told_by_judyd(program, path, data):
         return ""
     if ran.returncode != 3 or not said.startswith("judyd: table: "):
         raise AssertionError("%r: status %d, %r" % (data, ran.returncode, said))
-    return said[len("judyd: table: ") :]
+    return said[len("judyd: table: ") :].partition(":")[0]
 
 
 def by_hand():

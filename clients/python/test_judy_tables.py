@@ -16,10 +16,13 @@ except ImportError:
 
 import odd_tables  # noqa: E402
 from judy_runs import JudyTest, run_judy, start_judy  # noqa: E402
-from judyd.tables import faults_in, judged, with_keys  # noqa: E402
+from judyd.tablefaults import faults_in, judged  # noqa: E402
+from judyd.tables import with_keys  # noqa: E402
 from served import PROGRAM, table  # noqa: E402
 
 LINE = 'sha256 = "%s"\n' % hashlib.sha256(b"abc").hexdigest()
+OTHER = 'sha256 = "%s"\n' % hashlib.sha256(b"hello").hexdigest()
+SAME_TOKEN = "-: line 9, tenant empty: warning: sha256 equals sha256 of alice in line 2: one token opens both tenants\n"
 
 
 def text_of(path):
@@ -54,11 +57,75 @@ class Tables(JudyTest):
         path = self.file("table.toml", text.encode())
         status, said, _ = run_judy(b"", "table", path)
         places = [line[len(path) + 2 :].split(": ")[0] + line.rpartition(" ")[2] for line in said.splitlines()]
-        self.assertEqual((status, places), (3, ["line 4(Quota)", "line 6(Shape)", "line 11(Digest)"]))
-        self.assertEqual(run_judy(table().encode(), "table", "-")[:2], (0, "-: no fault\n"))
-        for text, said in (("[alice]\nquota 4\n", "line 2: this is not TOML (Toml)"), ("", "a table has 1 to 64 tenants (Count)"), ("[a]\n%squota = 1\n" % LINE * 2, "(Toml)")):
+        wanted = ["line 4, tenant alice(Quota)", "line 6, tenant bob(Shape)", "line 7, tenant bob(Shape)", "line 11, tenant carol(Digest)"]
+        self.assertEqual((status, places[:-1]), (3, wanted))
+        self.assertEqual(said.splitlines()[-1], path + ": line 8, tenant bob: warning: sha256 equals sha256 of alice in line 3: one token opens both tenants")
+        self.assertEqual(run_judy(table().encode(), "table", "-")[:2], (0, SAME_TOKEN + "-: no fault\n"))
+        self.assertEqual(run_judy(table().partition("[empty]")[0].encode(), "table", "-")[:2], (0, "-: no fault\n"))
+        for text, said in (("[alice]\nquota 4\n", "line 2, tenant alice: this is not TOML (Toml)"), ("", "a table has 1 to 64 tenants (Count)"), ("[a]\n%squota = 1\n" % LINE * 2, "(Toml)")):
             status, wrong, _ = run_judy(text.encode(), "table", "-")
             self.assertEqual((status, said in wrong), (3, True), wrong)
+
+    def told(self, text, status=3):
+        """What judy table says of a table, without the path."""
+        got, said, wrong = run_judy(text.encode(), "table", "-")
+        self.assertEqual((got, wrong), (status, ""), said)
+        return [line[3:] for line in said.splitlines()]
+
+    def test_the_line_of_each_key(self):
+        digest = "%s must be the SHA-256 of a token, 64 hexadecimal digits in quotes: judy digest prints its line (%s)"
+        quota, pieces = "quota must be a whole number from 0 to 16777216 (%s)", "pieces must be a whole number from 0 to 2113929216 (%s)"
+        for line, said in (
+            ('read_sha256 = "abc"', digest % ("read_sha256", "Digest")), ("read_sha256 = 5", digest % ("read_sha256", "Shape")), ("pieces = -1", pieces % "Pieces"),
+            ('pieces = "4"', pieces % "Shape"), ("more = 1", "the key more is unknown: the keys are sha256, quota, pieces and read_sha256 (Shape)"),
+            ("quota = 5", "quota stands twice: line 6 has it already (Toml)"), ("'quota' = 5", "'quota' stands twice: line 6 has it already (Toml)"), ("x", "this is not TOML (Toml)"),
+        ):  # fmt: skip
+            self.assertEqual(self.told("# all\n[z]\n%squota = 1\n[alice]\n%s\n\n" % (LINE, "quota = 4\n%s# %s\n%s" % (OTHER, "sha256 = 1", line))), ["line 9, tenant alice: " + said])
+        for line, said in (('quota = "4"', quota % "Shape"), ("quota = 16777217", quota % "Quota")):
+            self.assertEqual(self.told("[alice]\n%s%s\n" % (LINE, line)), ["line 3, tenant alice: " + said])
+        self.assertEqual(self.told('[alice]\nsha256 = "abc"\nread_%squota = 1\n' % LINE), ["line 2, tenant alice: " + digest % ("sha256", "Digest")])
+        self.assertEqual(self.told("[alice]\nquota = 1\n"), ["line 1, tenant alice: sha256 is missing: add the line that judy digest prints (Shape)"])
+        self.assertEqual(self.told("[alice]\n%s" % LINE), ["line 1, tenant alice: quota is missing: add quota = N, a whole number from 0 to 16777216 (Shape)"])
+        self.assertEqual(self.told("\n['a b']\nquota = 1\n%s" % LINE), ['line 2, tenant "a b": the name of a tenant must be 1 to 32 of A-Z a-z 0-9 _ - . (Name)'])
+        self.assertEqual(self.told("quota = 1\n"), ["line 1: quota stands above the first heading: a tenant's keys stand below its name, [NAME] (Shape)"])
+        inline = "\nalice = {%s, quota = 1}\nbob = {%s, quota = 16777217}\n" % (LINE.strip(), OTHER.strip())
+        self.assertEqual(self.told(inline), ["line 3, tenant bob: " + quota % "Quota"])
+        self.assertEqual(self.told("alice.%salice.quota = -1\n" % LINE), ["line 2, tenant alice: " + quota % "Quota"])
+
+    def test_headings(self):
+        whole = "quota = 1\n%s" % LINE
+        self.assertEqual(self.told("[a]\n%s\n[b]\nquota = 1\n%s\n[a]\nquota = 2\n" % (whole, OTHER)), ["line 9, tenant a: the tenant stands twice: it begins in line 1 already (Toml)"])
+        self.assertEqual(self.told("[b]\nquota = 1\n%s['a']\n%s[\"\\u0061\"]\n%s" % (OTHER, whole, whole))[0], "line 7, tenant a: the tenant stands twice: it begins in line 4 already (Toml)")
+        self.assertEqual(self.told("a.quota = 1\n[b]\n%s[a]\n%s" % (whole, OTHER))[-1], "line 5, tenant a: the tenant stands twice: it begins in line 1 already (Toml)")
+        dotted = '[%s] is a table within the table a: the tenant a.b is written ["a.b"] (Shape)'
+        self.assertEqual(self.told("[a.b]\n" + whole), ["line 1, tenant a: " + dotted % "a.b"])
+        self.assertEqual(self.told("[a]\n%s[ a . 'b' ] # b\nquota = 1\n%s" % (whole, OTHER)), ["line 4, tenant a: " + dotted % "a . 'b'"])
+        self.assertEqual(self.told("[[a]]\n" + whole), ["line 1, tenant a: [[a]] is a list of tables: write [a] (Shape)"])
+        self.assertEqual(self.told('["a.b"]\n' + whole, 0), ["no fault"])
+
+    def test_warnings(self):
+        short = "line %d, tenant alice: warning: 3 pieces are less than the quota of 4 entries needs: an entry takes 1 to 126, so ERR FULL comes before"
+        self.assertEqual(self.told("[alice]\npieces = 3\nquota = 0x4 # few\n" + LINE, 0), [short % 2, "no fault"])
+        self.assertEqual(self.told("alice = {quota = 4, pieces = 3, %s}\n" % LINE.strip(), 0), [short % 1, "no fault"])
+        self.assertEqual(self.told("[alice]\npieces = 4\nquota = 4\n" + LINE, 0), ["no fault"])
+        both = "read_sha256 equals sha256 of alice in line 3: the read-only token may change too"
+        self.assertEqual(self.told("[alice]\nquota = 4\n%sread_%s" % (LINE, LINE.upper().replace("SHA256 ", "sha256 ")), 0), ["line 4, tenant alice: warning: " + both, "no fault"])
+        two = "[alice]\nquota = 4\n%sread_%s[bob]\nquota = 4\n%s" % (LINE, OTHER, OTHER)
+        self.assertEqual(self.told(two, 0), ["line 7, tenant bob: warning: sha256 equals read_sha256 of alice in line 4: one token opens both tenants", "no fault"])
+        path = self.file("short.toml", b"")
+        said = run_judy(b"abc\n", "table", path, "add", "alice", "--quota", "4", "--pieces", "3")
+        self.assertEqual((said[0], said[1].splitlines()[1:]), (0, [path + ": " + short % 4]))
+        self.assertEqual(len(run_judy(b"hello\n", "table", path, "add", "bob", "--quota", "4")[1].splitlines()), 1)
+        self.assertEqual(run_judy(b"", "table", path, "set", "alice", "--pieces", "4")[1].count("warning"), 0)
+
+    def test_a_tenant_that_is_there(self):
+        for text, line in (("\n[alice]\nquota = 1\n" + LINE, " in line 2"), ("alice.quota = 1\nalice." + LINE, " in line 1"), ('["\\u0061lice"]\nquota = 1\n%s' % LINE, " in line 1")):
+            path = self.file("there.toml", text.encode())
+            for words in (("--quota", "4"), ()):
+                status, said, wrong = run_judy(b"abc\n", "table", path, "add", "alice", *words)
+                self.assertEqual((status, said, text_of(path)), (1, "", text))
+                self.assertIn("stays as it was: it has the tenant alice already%s, which judy table FILE set alice changes" % line, wrong)
+                self.assertNotIn("token", wrong)
 
     def test_odd_tables(self):
         draw, words, path = random.Random(int(os.environ.get("SEED", "1"))), set(), os.path.join(self.folder(), "odd")
@@ -81,7 +148,8 @@ class Tables(JudyTest):
         wanted = '[alice]\nsha256 = "%s"\nquota = 2000\n\n["b.ob"]\nsha256 = "%s"\nquota = 5\npieces = 9\nread_sha256 = "%s"\n' % tuple(digests)
         self.assertEqual(text_of(path), wanted)
         for words, said in (
-            (("add", "alice", "--quota", "4"), "stays as it was: the new one would be refused: this is not TOML (Toml)"), (("set", "alice", "--quota", "-1"), "(Quota)"),
+            (("add", "alice", "--quota", "4"), "stays as it was: it has the tenant alice already in line 1, which judy table FILE set alice changes"),
+            (("set", "alice", "--quota", "-1"), "stays as it was: the new one would be refused: line 3, tenant alice: quota must be"),
             (("set", "carol", "--quota", "1"), "no [carol] in the table"), (("add", "a/b", "--quota", "1"), "a name is 1 to 32"), (("set", "alice"), "set what?"),
             (("add", "carol"), "how many entries may carol have? --quota N"), (("remove", "carol"), "no [carol]"),
         ):  # fmt: skip

@@ -8,7 +8,7 @@ import sys
 from difflib import get_close_matches
 from typing import List, Optional
 
-from . import backups, compactions, metrics, moves, screen, service, tables, transfer
+from . import backups, compactions, metrics, moves, screen, service, tablefaults, tables, transfer
 from .client import Client
 from .copies import all_arrays, check, open_input, read_name
 from .dumpfile import Reader, is_regular, verify
@@ -190,9 +190,10 @@ def run_table(options: argparse.Namespace) -> int:
     if options.action is not None:
         return change_table(options)
     with os.fdopen(open_input(options.file), "rb") as file:
-        faults = tables.faults_in(file.read(1 << 20))
-    for fault in faults:
-        print("%s: %s" % (options.file, fault))
+        data = file.read(1 << 20)
+    faults = tablefaults.faults_in(data)
+    for told in [*faults, *tablefaults.warnings_in(data)]:
+        print("%s: %s" % (options.file, told))
     if not faults:
         print("%s: no fault" % options.file)
     return 3 if faults else 0
@@ -205,6 +206,8 @@ def change_table(options: argparse.Namespace) -> int:
         with open(options.file, encoding="utf-8", errors="surrogateescape", newline="") as file:
             text = file.read()
     keys = {key: str(value) for key, value in (("quota", options.quota), ("pieces", options.pieces)) if value is not None}
+    if options.action == "add":
+        tables.refuse_known(options.file, text, options.tenant)
     if options.action == "add" and "quota" not in keys:
         raise ValueError("how many entries may %s have? --quota N" % options.tenant)
     if options.action == "add" or options.token:
@@ -221,6 +224,9 @@ def change_table(options: argparse.Namespace) -> int:
         raise ValueError("set what? --quota N, --pieces N, --token, --look")
     tables.put(options.file, text)
     print("%s: changed; judyd reads it when it starts, and at a reload" % options.file)
+    for odd in tablefaults.warnings_in(text.encode("utf-8", "surrogateescape")):
+        if odd.tenant == options.tenant:
+            print("%s: %s" % (options.file, odd))
     return 0
 
 

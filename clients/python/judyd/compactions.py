@@ -11,7 +11,7 @@ from contextlib import suppress
 from typing import Dict, NamedTuple, Optional
 
 from .session import complain
-from .tables import program
+from .tablefaults import program
 
 _FILE = re.compile(r"([0-9]{12})\.(journal|snapshot)")
 _GROWTH = re.compile(r"([0-9]{1,12})([%KMGT]?)")

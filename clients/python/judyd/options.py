@@ -31,7 +31,7 @@ and goes on. If the connection is lost it says how many lines were answered, and
   judy backup --folder DIR LIST              a dump of each tenant of a list, and the one before it
   judy compact [--when GROWTH] DIR           makes a journal smaller, if it has grown by 100% or 1G
   judy move --to WHERE [--free] J1:ids ..    copies arrays to another server, and compares the two
-  judy table FILE                            the faults of a table of tenants: status 3 if it has any
+  judy table FILE                            the faults of a table of tenants, with their lines: status 3 if it has any
   judy table FILE add | set | remove TENANT  changes a table, if judyd takes the new one
   judy digest [--look]                       asks for a token, and prints its line for the table
 

@@ -7,7 +7,7 @@ ghost use Rattle.judy_server.specs.Tally.{tallied};
 use crate::tally::Tally;
 use itoa::Buffer;
 use judy_programs::fault_name;
-use judy_table::{Table, TableFault, TenantId};
+use judy_table::{Blame, Table, TableFault, TenantId};
 use judy_tenants::{KeyHash, Service, Unchanged};
 use std::alloc::Global;
 
@@ -30,6 +30,19 @@ fn tell_fault(told: &mut Vec<u8>, fault: TableFault) {
     } else {
         tell(told, b"fault ");
         tell(told, fault_name(fault).as_bytes());
+    }
+}
+
+/// Tells where the fault of a text is, and what is right.
+fn tell_blame(alloc: Global, told: &mut Vec<u8>, text: &[u8], fault: TableFault) {
+    let Some(blame) = Blame::find(alloc, text) else {
+        return;
+    };
+    if blame.fault != fault {
+        return;
+    }
+    if let Ok(line) = format!(in alloc; ": {blame}") {
+        tell(told, line.as_bytes());
     }
 }
 
@@ -74,6 +87,7 @@ pub fn change<H: KeyHash>(
         Ok(table) => table,
         Err(fault) => {
             tell_fault(told, fault);
+            tell_blame(alloc, told, text, fault);
             return false;
         }
     };

@@ -4,3 +4,4 @@ pub mod Shown
 pub mod Meaning
 pub mod Faults
 pub mod Unlimited
+pub mod Blames

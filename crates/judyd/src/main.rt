@@ -7,6 +7,7 @@ ghost use Rattle.judy_server.specs.Jobs.{IsProgram};
 ghost use Rattle.judyd.specs.Obeying.{IsFinished, IsObeyed, IsUpkept, refusal_status};
 
 mod built;
+mod reasons;
 mod standard;
 
 use built::BUILT;
@@ -18,6 +19,7 @@ use judy_server::{Server, do_job_on};
 use judy_stream::{Reads, Writes};
 use judy_tenants::Sha256Hash;
 use judy_upkeep::{Uncompacted, Unprinted, compact, print};
+use reasons::{Kept, explain};
 use standard::fill_standard;
 use std::alloc::Global;
 use std::process::ExitCode;
@@ -50,17 +52,18 @@ fn read_words(rt: &HostRuntime) -> Result<Vec<String>, Refusal> {
     Ok(words)
 }
 
-/// Does what the command line asks for. Returns the status of the program, and its line on standard
-/// error, if any.
+/// Does what the command line asks for, and keeps the front of standard input. Returns the status of the
+/// program, and its line on standard error, if any.
 fn do_job(
     rt: &HostRuntime,
     job: &Job,
     system: &mut System<'_, HostRuntime>,
+    kept: &mut Vec<u8>,
 ) -> (u8, Option<&'static str>)
     requires { IsProgram job.now }
     ensures { IsFinished job.now result.0 (option_map (λ s. s.now) result.1) }
 {
-    let mut reader = Reads::new(rt.stdin());
+    let mut reader = Reads::new(Kept::new(rt.stdin(), kept));
     let mut writer = Writes::new(rt.stdout());
     do_job_on::<Sha256Hash, _, _, _>(rt.alloc(), job, &mut reader, &mut writer, system)
 }
@@ -347,12 +350,14 @@ fn obey_program(rt: &HostRuntime, job: &Job) -> u8
 {
     let mut system = System::new(rt);
     announce(rt, job, &mut system);
-    let ended = do_job(rt, job, &mut system);
+    let mut kept = Vec::new(rt.alloc());
+    let ended = do_job(rt, job, &mut system, &mut kept);
     let (status, text) = secure(job, &mut system, ended);
     tell_stop(rt, status, &system);
     leave(job, &mut system);
     if let Some(text) = text {
-        tell_end(rt, job, text);
+        let line = explain(rt, job, &mut system, &mut kept, text);
+        tell_end(rt, job, line.as_ref().map_or(text, |line| line.as_str()));
     }
     if let Some(failed) = system.failed() {
         tell_reason(rt, job, failed);

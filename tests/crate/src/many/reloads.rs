@@ -51,8 +51,9 @@ fn a_table_with_a_fault_changes_nothing(rt: HostRuntime) -> Result<(), Fail> {
     stage.tables = &tables;
     let ending = play(alloc, &mut stage, watched())?;
     assert_eq!(rt; ending, Ending::Done);
-    let said = b"ERR fault Toml\nERR the file cannot be read\n".as_slice();
-    assert_eq!(rt; stage.reported.as_slice(), said);
+    let fault = b"ERR fault Toml: line 1: this is not TOML: unclosed table, expected `]`\n";
+    let said = stage.reported.as_slice().strip_prefix(fault.as_slice());
+    assert_eq!(rt; said, Some(b"ERR the file cannot be read\n".as_slice()));
     for script in stage.scripts.iter() {
         assert_eq!(rt; script.page.bytes(), b"OK\n1\n".as_slice());
     }

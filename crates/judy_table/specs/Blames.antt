@@ -1,0 +1,60 @@
+-- Where the first fault of a table's text is: the tenant that has it, and a line of the text.
+--
+--     IsBlamed    a tenant of the text has this name and this fault
+--     IsCauseOf   what is told to be wrong is what the fault is of
+--     StandsIn    a word stands in this line of the text
+--     IsLineOf    the text has a line of this number
+use Rattle.std.specs.Prelude.{◌≡◌, ◌⊎◌, ◌≤◌, ℕ, suc, length, ◌==◌, List, [], ◌∷◌, ◌++◌, Err, if◌then◌else◌, take}
+use Rattle.toml.specs.Data.{Data, Members, no_members, member}
+use Rattle.judy_table.specs.Faults.{IsDocument}
+use Rattle.judy_table.specs.Tenants.{tenant_if_written, written}
+use Rattle.judy_table.specs.declared.blames.Cause.{Cause}
+use Rattle.judy_table.specs.declared.blames.Cause.TheVariants as cause
+use Rattle.judy_table.specs.declared.blames.Key.TheVariants as key
+use Rattle.judy_table.specs.declared.fault.TableFault.{TableFault}
+use Rattle.judy_table.specs.declared.fault.TableFault.TheVariants as fault
+
+-- the document has this value under this name
+abbrev pub HasMember : List ℕ → Data → Members → Type 0
+HasMember name d no_members = ⊥
+HasMember name d (member k e ms) = ((name ≡ k) × (d ≡ e)) ⊎ HasMember name d ms
+
+-- the value under this name is that of a tenant with this fault
+abbrev pub IsCulprit : TableFault → List ℕ → Data → Members → Type 0
+IsCulprit f name d ms = HasMember name d ms × (tenant_if_written name (written d) ≡ Err f)
+
+-- a tenant of the text has this name and this fault
+abbrev pub IsBlamed : TableFault → List ℕ → List ℕ → Type 0
+IsBlamed f text name = (ms : Members) × (d : Data) × IsDocument text ms × IsCulprit f name d ms
+
+-- the line after these bytes, which begin in this line
+abbrev pub line_after : ℕ → List ℕ → ℕ
+line_after line [] = line
+line_after line (b ∷ bytes) = line_after (if b == 10 then suc line else line) bytes
+
+-- the line of a place in a text, from 1 on
+abbrev pub line_of : ℕ → List ℕ → ℕ
+line_of at text = line_after 1 (take at text)
+
+-- a word stands at this place of the text
+abbrev pub StandsAt : List ℕ → List ℕ → ℕ → Type 0
+StandsAt word text at = (back : List ℕ) × (text ≡ take at text ++ (word ++ back))
+
+-- a word stands in this line of the text
+abbrev pub StandsIn : List ℕ → List ℕ → ℕ → Type 0
+StandsIn word text line = (at : ℕ) × (at ≤ length text) × StandsAt word text at × (line ≡ line_of at text)
+
+-- the text has a line of this number
+abbrev pub IsLineOf : List ℕ → ℕ → Type 0
+IsLineOf text line = (at : ℕ) × (at ≤ length text) × (line ≡ line_of at text)
+
+-- what is told to be wrong is what the fault is of
+abbrev pub IsCauseOf : TableFault → Cause → Type 0
+IsCauseOf fault.Memory c = Unit {0}
+IsCauseOf fault.Toml c = Unit {0}
+IsCauseOf fault.Shape c = Unit {0}
+IsCauseOf fault.Count c = Unit {0}
+IsCauseOf fault.Name c = c ≡ cause.Name
+IsCauseOf fault.Digest c = (c ≡ cause.Wrong key.Digest) ⊎ (c ≡ cause.Wrong key.Look)
+IsCauseOf fault.Quota c = c ≡ cause.Wrong key.Quota
+IsCauseOf fault.Pieces c = c ≡ cause.Wrong key.Pieces
