@@ -9,6 +9,7 @@ pub mod Crashes
 pub mod Keeping
 pub mod Recorded
 pub mod Space
+pub mod Starting
 pub mod Starts
 pub mod Stays
 pub mod Reserves
