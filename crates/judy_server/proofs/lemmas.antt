@@ -6,6 +6,7 @@ pub mod Calls
 pub mod Commands
 pub mod Counts
 pub mod Crashes
+pub mod Halves
 pub mod Keeping
 pub mod Recorded
 pub mod Space
