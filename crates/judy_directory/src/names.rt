@@ -98,6 +98,15 @@ impl Names {
         Ok(Names { table, kept })
     }
 
+    /// There is room for 256 names at all times. The function is empty: the contract is the law, for
+    /// callers to cite.
+    pub fn there_is_room(&self)
+        ensures { 256 ≤ self.now.1.room }
+    {
+        // The invariant is known once a field is read.
+        let _kept = &self.kept;
+    }
+
     /// The place of a name, if it has one.
     pub fn find(&self, spot: &Spot) -> Option<Place>
         ensures { result ≡ map.get self.now.0 spot.now }

@@ -4,7 +4,7 @@
 --     story-cut          a story is cut after the line of a record, and the lines behind it that have none
 --     crash-restores     after a crash the arrays are those after the first lines
 use Rattle.std.proofs.Common.{◌≡◌, ◌⊎◌, inl, inr, ℕ, ◌<◌, ◌+◌, ◌^◌, Bool, true, false, List, [], ◌∷◌, ◌++◌, length, zip}
-use Rattle.std.proofs.Common.{Option, Some, None, Result, Ok, refl, sym, ◌∙◌, ap, subst, append_assoc, append-nil}
+use Rattle.std.proofs.Common.{Option, Some, None, Result, Ok, refl, sym, ◌∙◌, ap, arith, subst, append_assoc, append-nil, length-append}
 use Rattle.std.proofs.lemmas.List.{append_cancel_left}
 use Rattle.std.specs.Prelude.{is_some}
 use Rattle.judy_journal.specs.Acts.{DiskAct, File, Goes, IsWriting, Journal as Written, phase_with, standing}
@@ -41,7 +41,7 @@ use Rattle.judy_table.specs.Seats.{AreRows, name_at}
 use Rattle.judy_table.specs.Tenants.{place_of}
 use Rattle.judy_table.specs.declared.tenant.Tenant.{Tenant}
 use Rattle.judy_tenants.specs.Held.{IsSoundService, states_of}
-use Rattle.judy_server.specs.Crashes.{CrashesLoseNothing, HasCrashed, HasResumed, HaveSame, IsRestored, Stock, answered_in, records_with}
+use Rattle.judy_server.specs.Crashes.{AreHalves, CrashesLoseNothing, HasCrashed, HasResumed, HaveSame, IsCutWithin, IsRestored, Stock, answered_in, records_with}
 use Rattle.judy_server.specs.Replays.{AreReplayed, places_in}
 use Rattle.judy_server.specs.Rules.{server_rules}
 use Rattle.judy_server.specs.Tally.{Tallied}
@@ -317,6 +317,30 @@ turns-cut (t ∷ turns) before after (mid, one, rest) more front back h =
     by again (inl none) = add [] front none refl (again front (sym (ap (λ x. (x ++ records_in turns) ++ more) none) ∙ h))
     by again (inr (r, is)) = record-cut again r is front refl (sym (ap (λ x. (x ++ records_in turns) ++ more) is) ∙ h)
 
+-- a story is whole, or is cut before a line
+abbrev IsCutAt : Story → Story → Story → Type 0
+IsCutAt done rest story = ((rest ≡ []) × (done ≡ story)) ⊎ ((w : IsCutWithin done rest story) × (0 < length w.others))
+
+cut-after : (m : Moment) (done rest story : Story) → IsCutAt done rest story → IsCutAt (m ∷ done) rest (m ∷ story)
+cut-after m done rest story (inl (none, whole)) = inl (none, ap (λ s. m ∷ s) whole)
+cut-after m done rest story (inr (w, some)) = inr (
+  record {
+    earlier = m ∷ w.earlier;
+    later = w.later;
+    number = w.number;
+    first = w.first;
+    others = w.others;
+    done_is = ap (λ s. m ∷ s) w.done_is;
+    rest_is = w.rest_is;
+    story_is = ap (λ s. m ∷ s) w.story_is;
+  },
+  some,
+)
+
+halves-cut : (done rest story : Story) → IsCutAt done rest story → AreHalves done rest story
+halves-cut done rest story (inl (none, whole)) = inl (ap (λ s. done ++ s) none ∙ append-nil done ∙ whole)
+halves-cut done rest story (inr (w, some)) = inr w
+
 -- a story is cut where these records end, and before a line that has one
 record IsCut (before : Tallied) (story : Story) (after : Tallied) (front : Commit) : Type 0 where
   done : Story
@@ -324,6 +348,7 @@ record IsCut (before : Tallied) (story : Story) (after : Tallied) (front : Commi
   mid : Tallied
   run : Lasts server_rules true before done mid
   later : Lasts server_rules true mid rest after
+  cut : IsCutAt done rest story
   lines : turns_in done ++ turns_in rest ≡ turns_in story
   records : records_in (turns_in done) ≡ front
   tight : Tight (turns_in rest)
@@ -336,13 +361,24 @@ story-cut [] before after same front back h = record {
   mid = before;
   run = refl;
   later = same;
+  cut = inl (refl, refl);
   lines = refl;
   records = sym (front-none front back h);
   tight = tt;
 }
 story-cut (Did a ∷ story) before after lasts front back h =
     let c = story-cut story before after lasts front back h in
-    record { done = Did a ∷ c.done; rest = c.rest; mid = c.mid; run = c.run; later = c.later; lines = c.lines; records = c.records; tight = c.tight }
+    record {
+      done = Did a ∷ c.done;
+      rest = c.rest;
+      mid = c.mid;
+      run = c.run;
+      later = c.later;
+      cut = cut-after (Did a) c.done c.rest story c.cut;
+      lines = c.lines;
+      records = c.records;
+      tight = c.tight;
+    }
 story-cut (Changed text ∷ story) before after (now, step, keeps, rest) front back h =
     let c = story-cut story now after rest front back h in
     record {
@@ -351,6 +387,7 @@ story-cut (Changed text ∷ story) before after (now, step, keeps, rest) front b
       mid = c.mid;
       run = (now, step, keeps, c.run);
       later = c.later;
+      cut = cut-after (Changed text) c.done c.rest story c.cut;
       lines = c.lines;
       records = c.records;
       tight = c.tight;
@@ -369,6 +406,7 @@ story-cut (Ran n turns ∷ story) before after (now, run, rest) front back h =
           mid = c.mid;
           run = (now, run, c.run);
           later = c.later;
+          cut = cut-after (Ran n turns) c.done c.rest story c.cut;
           lines = append_assoc turns (turns_in c.done) (turns_in c.rest) ∙ ap (λ x. turns ++ x) c.lines;
           records = records_in-append turns (turns_in c.done) ∙ ap (λ x. records_in turns ++ x) c.records ∙ sym a.front_is;
           tight = c.tight;
@@ -379,6 +417,19 @@ story-cut (Ran n turns ∷ story) before after (now, run, rest) front back h =
       mid = c.mid;
       run = (c.mid, c.run, refl);
       later = (now, c.later, rest);
+      cut = inr (
+        record {
+          earlier = [];
+          later = story;
+          number = n;
+          first = c.done;
+          others = c.next ∷ c.rest;
+          done_is = refl;
+          rest_is = refl;
+          story_is = ap (λ ts. Ran n ts ∷ story) (sym c.lines);
+        },
+        omega arith,
+      );
       lines = ap (λ x. x ++ ((c.next ∷ c.rest) ++ turns_in story)) (append-nil c.done)
           ∙ sym (append_assoc c.done (c.next ∷ c.rest) (turns_in story))
           ∙ ap (λ x. x ++ turns_in story) c.lines;
@@ -406,6 +457,54 @@ lines-done (t ∷ a) b (u ∷ done) rest extra e h tight =
     tight in
     (more, ap (λ x. x ∷ done) (sym same) ∙ ap (λ ts. t ∷ ts) is)
 
+-- a story begins with one of two that both begin another
+one-first : (p tail w rest : Story) (m : Moment) → p ++ tail ≡ w ++ m ∷ rest
+    → ((more : Story) × (w ≡ p ++ more)) ⊎ ((more : Story) × (p ≡ w ++ m ∷ more))
+one-first [] tail w rest m e = inl (w, refl)
+one-first (x ∷ p) tail [] rest m e = let same : x ≡ m = cc in inr (p, ap (λ y. y ∷ p) same)
+one-first (x ∷ p) tail (y ∷ w) rest m e = by (one-first p tail w rest m cc)
+  where
+    same : x ≡ y
+    same = cc
+
+    by : ((more : Story) × (w ≡ p ++ more)) ⊎ ((more : Story) × (p ≡ w ++ m ∷ more))
+        → ((more : Story) × (y ∷ w ≡ (x ∷ p) ++ more)) ⊎ ((more : Story) × (x ∷ p ≡ (y ∷ w) ++ m ∷ more))
+    by (inl (more, is)) = inl (more, ap (λ v. y ∷ v) is ∙ ap (λ v. v ∷ (p ++ more)) (sym same))
+    by (inr (more, is)) = inr (more, ap (λ v. x ∷ v) is ∙ ap (λ v. v ∷ (w ++ m ∷ more)) same)
+
+-- a first part of a story whose lines were all done is all done
+moments-done : (p tail done rest story : Story) → story ≡ p ++ tail → IsCutAt done rest story → (some : List Turn) → turns_in done ≡ turns_in p ++ some
+    → (more : Story) × (done ≡ p ++ more)
+moments-done p tail done rest story e (inl (none, whole)) some lines = (tail, whole ∙ e)
+moments-done p tail done rest story e (inr (w, later)) some lines =
+    by (one-first p tail w.earlier w.later (Ran w.number (w.first ++ w.others)) (sym e ∙ w.story_is))
+  where
+    by : ((more : Story) × (w.earlier ≡ p ++ more)) ⊎ ((more : Story) × (p ≡ w.earlier ++ Ran w.number (w.first ++ w.others) ∷ more))
+        → (more : Story) × (done ≡ p ++ more)
+    by (inl (more, is)) =
+        let last : Story = Ran w.number w.first ∷ [] in
+        (more ++ last, w.done_is ∙ ap (λ x. x ++ last) is ∙ append_assoc p more last)
+    by (inr (more, is)) =
+        let done_lines : turns_in done ≡ turns_in w.earlier ++ (w.first ++ []) = ap turns_in w.done_is ∙ turns-append w.earlier (Ran w.number w.first ∷ []) in
+        let part_lines : turns_in p ≡ turns_in w.earlier ++ ((w.first ++ w.others) ++ turns_in more) =
+        ap turns_in is ∙ turns-append w.earlier (Ran w.number (w.first ++ w.others) ∷ more) in
+        let a = ap length done_lines in
+        let b = ap length part_lines in
+        let c = ap length lines in
+        absurd (omega (
+          arith,
+          later,
+          a,
+          b,
+          c,
+          length-append (turns_in w.earlier) (w.first ++ []),
+          length-append w.first [],
+          length-append (turns_in w.earlier) ((w.first ++ w.others) ++ turns_in more),
+          length-append (w.first ++ w.others) (turns_in more),
+          length-append w.first w.others,
+          length-append (turns_in p) some,
+        ))
+
 -- ---- the whole
 
 pub crash-restores : RecordedCallsTellAll → JournalIsExact → StoriesAreWritten → AnswersAreKept → CrashesLoseNothing
@@ -423,6 +522,7 @@ crash-restores all exact written answers s limits rule w how log log' before aft
         done = c.done;
         rest = c.rest;
         mid = c.mid;
+        halves = halves-cut c.done c.rest story c.cut;
         lines = c.lines;
         run = c.run;
         later = c.later;
@@ -440,12 +540,14 @@ crash-restores all exact written answers s limits rule w how log log' before aft
             let there =
             found-after written exact s rule w before story restored resumed crash journaled p (Did (Wrote n bytes) ∷ q) e kept
             (subst (λ x. IsWriting (writer_at j s.commits []) (disk_acts (acts_in p)) (writer_at (journal_since j p) kept x)) none d.0) before_is empty in
+            let (some, lines) =
             lines-done (turns_in p) (turns_in q) (turns_in c.done) (turns_in c.rest) there.extra
             (sym (turns-append p (Did (Wrote n bytes) ∷ q)) ∙ ap turns_in (sym e) ∙ sym c.lines)
             (append_cancel_left (all_records s.commits) (records_in (turns_in p) ++ there.extra) (records_in (turns_in c.done))
             (sym (append_assoc (all_records s.commits) (records_in (turns_in p)) there.extra) ∙ sym there.found_is ∙ found_is
             ∙ ap (λ x. all_records s.commits ++ x) (sym c.records)))
-            c.tight;
+            c.tight in
+            moments-done p (Did (Wrote n bytes) ∷ q) c.done c.rest story e c.cut some lines;
         whole = λ none.
             same-arrays all s w before resumed j story restored crash story now first
             (found_is ∙ ap (λ x. all_records s.commits ++ x)

@@ -6,9 +6,11 @@ pub mod Calls
 pub mod Commands
 pub mod Counts
 pub mod Crashes
+pub mod Halves
 pub mod Keeping
 pub mod Recorded
 pub mod Space
+pub mod Starting
 pub mod Starts
 pub mod Stays
 pub mod Reserves

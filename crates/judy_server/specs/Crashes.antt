@@ -7,10 +7,11 @@
 --     HasResumed s w t      the service has played this journal, and the writer goes on with it
 --     HasCrashed s j story t   the crash came after this story; what it left was played on a new service
 --     HaveSame a b          the tenants of one name have the same arrays in both services
---     IsRestored ..         the arrays are those after the first lines, with all that were answered
+--     AreHalves d r story   a story is cut in two, between two moments or within the lines of one
+--     IsRestored ..         the arrays are those after the first half, which has all that was answered
 --     CrashesLoseNothing    so it is after a crash at any moment of any run
 --     StartsGoOn            a server that starts with a journal has played it, and goes on behind it
-use Rattle.std.specs.Prelude.{◌≡◌, ◌≢◌, ◌<◌, ◌+◌, ◌^◌, ℕ, true, List, [], ◌∷◌, ◌++◌, length, zip, IsTrue, Option, Some}
+use Rattle.std.specs.Prelude.{◌≡◌, ◌≢◌, ◌⊎◌, ◌<◌, ◌+◌, ◌^◌, ℕ, true, List, [], ◌∷◌, ◌++◌, length, zip, IsTrue, Option, Some}
 use Rattle.judy_journal.specs.Acts.{AreWhole, File, Left, MayLeaveAll, disk_after}
 use Rattle.judy_journal.specs.Crashes.{FoundAll}
 use Rattle.judy_journal.specs.Journals.{Commit, is_line, sum_at}
@@ -26,7 +27,7 @@ use Rattle.judy_many.specs.Nets.Act.{Wrote}
 use Rattle.judy_many.specs.Sessions.{Turn, records_in}
 use Rattle.judy_many.specs.Statuses.{Lasts}
 use Rattle.judy_many.specs.Stories.{Story, acts_in, turns_in}
-use Rattle.judy_many.specs.Stories.Moment.{Did}
+use Rattle.judy_many.specs.Stories.Moment.{Did, Ran}
 use Rattle.judy_many.specs.declared.network.Sync.{Sync}
 use Rattle.judy_many.specs.declared.network.Sync.TheVariants as sync
 use Rattle.judy_many.specs.declared.serve.Ending.{Ending}
@@ -110,19 +111,35 @@ abbrev pub HaveSame : Tallied → Tallied → Type 0
 HaveSame a b = (name : List ℕ) (t u : ℕ) → place_of name a.held.tenants ≡ Some t → place_of name b.held.tenants ≡ Some u
     → states_of b.held u ≡ states_of a.held t
 
--- The arrays are those of the service at one moment, after the first lines of a story and before the others.
+-- A story is cut within the lines of one connection that were run at one moment.
+pub record IsCutWithin (done rest story : Story) : Type 0 where
+  pub earlier : Story
+  pub later : Story
+  pub number : ℕ
+  pub first : List Turn
+  pub others : List Turn
+  pub done_is : done ≡ earlier ++ Ran number first ∷ []
+  pub rest_is : rest ≡ Ran number others ∷ later
+  pub story_is : story ≡ earlier ++ Ran number (first ++ others) ∷ later
+
+-- These are the halves of a story: it is cut between two moments, or within the lines of one.
+abbrev pub AreHalves : Story → Story → Story → Type 0
+AreHalves done rest story = (done ++ rest ≡ story) ⊎ IsCutWithin done rest story
+
+-- The arrays are those of the service at one moment, after the first half of a story and before the other.
 pub record IsRestored (rule : Sync) (before : Tallied) (story : Story) (after restored : Tallied) : Type 0 where
   pub done : Story
   pub rest : Story
   pub mid : Tallied
+  pub halves : AreHalves done rest story
   pub lines : turns_in done ++ turns_in rest ≡ turns_in story
   pub run : Lasts server_rules true before done mid
   pub later : Lasts server_rules true mid rest after
   pub same : HaveSame mid restored
-  -- where each round is synced, all lines are among them that came before an answer of which a byte was
-  -- written
+  -- where each round is synced, the first half has all that came before an answer of which a byte was written:
+  -- all lines, and all tables that were put in force
   pub answered : rule ≡ sync.Round → (p q : Story) (n : ℕ) (bytes : List ℕ) → story ≡ p ++ Did (Wrote n bytes) ∷ q
-      → (more : List Turn) × (turns_in done ≡ turns_in p ++ more)
+      → (more : Story) × (done ≡ p ++ more)
   -- where no record is lost, they are the arrays at the end of the story
   pub whole : records_in (turns_in rest) ≡ [] → HaveSame after restored
 

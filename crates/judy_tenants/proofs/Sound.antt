@@ -239,8 +239,9 @@ module _ {H : List ℕ → ℕ} (laws : KindLaws H) (small : PlacesAreSmall) (to
   }
 
   pub seen-sound : stock.arena.live ≡ total_words stock.arena.blocks → total_words stock.arena.blocks ≤ stock.arena.peak
-      → stock.arena.region ≤ max stock.arena.reserved (128 * stock.arena.peak + 512) → IsGranted tenants stock → IsSoundService held
-  seen-sound count live region granted = record {
+      → stock.arena.region ≤ max stock.arena.reserved (128 * stock.arena.peak + 512) → IsGranted tenants stock → 256 ≤ stock.directory.1.room
+      → IsSoundService held
+  seen-sound count live region granted room = record {
     form = λ t. subst IsWellFormed (sym (seen-state tenants stock s t)) (form-in laws stock.arena.blocks stock.directory.0 s.held t formed);
     within = λ t. subst (IsWithin (quotas_of tenants t)) (sym (seen-state tenants stock s t)) (within-in t);
     sum = count ∙ seen-sum laws small totals tenants stock s;
@@ -249,6 +250,7 @@ module _ {H : List ℕ → ℕ} (laws : KindLaws H) (small : PlacesAreSmall) (to
         (subst (λ (z : State). IsShare (quotas_of tenants t) z (sizes_in stock.arena.blocks stock.directory.0 t))
         (sym (seen-state tenants stock s t)) (share-in t));
     names = seen-names laws tenants stock s;
+    room = room;
     live = omega (arith, count, live);
     region = region;
     peak = granted.peak;

@@ -184,6 +184,8 @@ pub record IsSoundService (held : Held) : Type 0 where
   pub shares : (t : ℕ) → IsShare (quotas_of held.tenants t) (states_of held t) (sizes_of held t)
   -- the number of names is the number of arrays that have entries
   pub names : HasNames held
+  -- 256 names are sure to get a place
+  pub room : 256 ≤ held.room
   -- the words taken from the machine are bounded by the words that were live at once, or are those
   -- that were taken beforehand
   pub live : held.words ≤ held.peak

@@ -308,8 +308,8 @@ impl<H: KeyHash> Service<H> {
     }
 
     /// What holds of a service at all times: each tenant's arrays are well-formed and within its
-    /// quota, and the blocks have few words, in total and for each tenant. The function is empty:
-    /// the contract is the law, for callers to cite.
+    /// quota, the blocks have few words, in total and for each tenant, and 256 names are sure to get a
+    /// place. The function is empty: the contract is the law, for callers to cite.
     pub fn is_at_all_times(&self)
         ensures { IsSoundService self.now }
     {
@@ -318,6 +318,7 @@ impl<H: KeyHash> Service<H> {
         judy_kinds::laws::contents_are_in_form();
         judy_arena::laws::sizes_add_up_over_the_numbers();
         self.stock.arena.the_region_is_bounded();
+        self.stock.directory.there_is_room();
         // The invariant of a service is known once one of its fields is read.
         let _table = &self.table;
     }

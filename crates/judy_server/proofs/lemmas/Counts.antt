@@ -20,17 +20,18 @@ use Rattle.judy_many.specs.declared.serve.Limits.{Limits}
 use Rattle.judy_model.specs.Speakers.{Event}
 use Rattle.judy_model.specs.declared.replies.Reply.{Reply}
 use Rattle.judy_programs.specs.Asking.{Log}
-use Rattle.judy_programs.specs.Hosting.{Desks, HasServedAll}
+use Rattle.judy_programs.specs.Hosting.{Desks}
 use Rattle.judy_protocol.specs.Services.{AreMade}
 use Rattle.judy_table.specs.Tenants.{is_vacant, place_of}
 use Rattle.judy_table.specs.declared.tenant.Tenant.{Tenant}
 use Rattle.judy_server.specs.Counts.{AreCounted, answers, asks, counted_over, is_place, is_refused_to, is_vacant_at, kept_at, refused_over, refuses, risen, unknown_over}
 use Rattle.judy_server.specs.Reloads.{IsReload, forgotten, rows_with}
 use Rattle.judy_server.specs.Rules.{server_rules}
-use Rattle.judy_server.specs.Served.{IsNewService, IsServedStep}
+use Rattle.judy_server.specs.Served.{IsServedStep}
 use Rattle.judy_server.specs.Tally.{Tallied, bumped, call_place, counted, no_counts, refused_at, refused_name, refused_to, reply_place, with_line}
 use Rattle.judy_server.specs.declared.tally.Tally.{Tally}
 use Rattle.judy_server.proofs.lemmas.Space.{rows-of}
+use Rattle.judy_server.proofs.lemmas.Starting.{HasServedAny, started-keeps}
 
 -- ---- one counter of a list
 
@@ -337,25 +338,28 @@ logins-keep place old text new r fits =
 unknown-keep : Keeps (λ tally. tally.unknown) (λ tally. Unit {0}) (λ rows n. n)
 unknown-keep old text new r fits = (ap (λ (t : Tally). t.unknown) r.tally, tt, λ rows n small. small)
 
--- the counters of a server, however it ended
+-- the counters of a server, however it ended, with a journal or without one: records that are played count nothing
 pub counted-from-start : (secret config socket : List ℕ) (watch : Desks) (reserve : Option ℕ) (limits : Limits) (how : Ending) (log log' : Log)
-    → (h : HasServedAll server_rules (IsNewService secret reserve) config socket watch limits how log log')
+    → (h : HasServedAny secret reserve config socket watch limits how log log')
     → AreCounted h.begun.opened.tenants h.hosted.story h.after.tally
 counted-from-start secret config socket watch reserve limits how log log' h =
     let new = h.begun.opened.fresh in let story = h.hosted.story in let rows = h.before.held.tenants in
-    let none : (count : Tally → ℕ) → count no_counts ≡ 0 → count h.before.tally ≡ 0 = λ count e. ap count new.counts ∙ e in
+    let began = started-keeps secret reserve h.begun.opened.tenants h.fresh h.before new h.started in
+    let counts : h.before.tally ≡ no_counts = began.kept.counts ∙ new.counts in
+    let tenants : rows ≡ h.begun.opened.tenants = began.tenants ∙ new.tenants in
+    let none : (count : Tally → ℕ) → count no_counts ≡ 0 → count h.before.tally ≡ 0 = λ count e. ap count counts ∙ e in
     let low : (n : ℕ) → n ≡ 0 → n ≤ 2 ^ 64 - 1 = λ n e. omega (arith, e) in record {
       lines = λ place few.
           let count : Tally → ℕ = λ tally. slice_index tally.lines place in
           let zero = none count (none-yet.0 place) in
-          let fits : place < length h.before.tally.lines = omega (arith, few, ap (λ (c : Tally). length c.lines) new.counts, counters.0) in
+          let fits : place < length h.before.tally.lines = omega (arith, few, ap (λ (c : Tally). length c.lines) counts, counters.0) in
           story-counted count (λ tally. place < length tally.lines) (λ rows. asks place) (λ rows n. n) (lines-rise place) (lines-keep place) []
           h.before story h.after fits (low _ zero) h.hosted.told
           ∙ plain-counted (asks place) (count h.before.tally) rows story (low _ zero) ∙ ap (λ c. risen c (count_by (asks place) (turns_in story))) zero;
       replies = λ place few.
           let count : Tally → ℕ = λ tally. slice_index tally.replies place in
           let zero = none count (none-yet.1 place) in
-          let fits : place < length h.before.tally.replies = omega (arith, few, ap (λ (c : Tally). length c.replies) new.counts, counters.1) in
+          let fits : place < length h.before.tally.replies = omega (arith, few, ap (λ (c : Tally). length c.replies) counts, counters.1) in
           story-counted count (λ tally. place < length tally.replies) (λ rows. answers place) (λ rows n. n) (replies-rise place) (replies-keep place) []
           h.before story h.after fits (low _ zero) h.hosted.told
           ∙ plain-counted (answers place) (count h.before.tally) rows story (low _ zero) ∙ ap (λ c. risen c (count_by (answers place) (turns_in story))) zero;
@@ -363,13 +367,13 @@ counted-from-start secret config socket watch reserve limits how log log' h =
           let count : Tally → ℕ = λ tally. slice_index tally.refused place in
           let test : List Tenant → Turn → Bool = λ rows. refuses rows (Some place) in
           let zero = none count (none-yet.2 place) in
-          let fits : place < length h.before.tally.refused = omega (arith, few, ap (λ (c : Tally). length c.refused) new.counts, counters.2) in
+          let fits : place < length h.before.tally.refused = omega (arith, few, ap (λ (c : Tally). length c.refused) counts, counters.2) in
           story-counted count (λ tally. place < length tally.refused) test (kept_at place) (logins-rise place) (logins-keep place) []
           h.before story h.after fits (low _ zero) h.hosted.told
-          ∙ ap (λ c. counted_over test (kept_at place) c rows story) zero ∙ ap (λ ts. refused_over place ts story) new.tenants;
+          ∙ ap (λ c. counted_over test (kept_at place) c rows story) zero ∙ ap (λ ts. refused_over place ts story) tenants;
       unknown =
           let zero = none (λ tally. tally.unknown) none-yet.3 in
           story-counted (λ tally. tally.unknown) (λ tally. Unit {0}) (λ rows. refuses rows None) (λ rows n. n) unknown-rise unknown-keep []
           h.before story h.after tt (low _ zero) h.hosted.told
-          ∙ ap (λ c. counted_over (λ rows. refuses rows None) (λ rows n. n) c rows story) zero ∙ ap (λ ts. unknown_over ts story) new.tenants;
+          ∙ ap (λ c. counted_over (λ rows. refuses rows None) (λ rows n. n) c rows story) zero ∙ ap (λ ts. unknown_over ts story) tenants;
     }

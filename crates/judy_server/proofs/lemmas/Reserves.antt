@@ -5,7 +5,7 @@
 --     story-served      nor after new tables, if the megabytes are enough for each of them
 --     never-memory      so it is for a server that began with so many megabytes
 use Rattle.std.specs.Prelude.{◌≡◌, ◌+◌, ◌-◌, ◌*◌, ◌^◌, ◌<◌, ◌≤◌, ℕ, List, [], ◌∷◌, ◌++◌, Option, Some, length, max, zip}
-use Rattle.std.proofs.Common.{◌∙◌, ap, arith, sym, subst}
+use Rattle.std.proofs.Common.{◌∙◌, ap, arith, inl, inr, sym, subst}
 use Rattle.judy_many.specs.Sessions.{AreTurns, Turn}
 use Rattle.judy_many.specs.Statuses.{Passes}
 use Rattle.judy_many.specs.Stories.{Story, changes_in, turns_in}
@@ -17,7 +17,7 @@ use Rattle.judy_model.specs.Speakers.{Event}
 use Rattle.judy_model.specs.Stream.{event_of}
 use Rattle.judy_protocol.specs.Services.{AreMade}
 use Rattle.judy_programs.specs.Asking.{Log}
-use Rattle.judy_programs.specs.Hosting.{Desks, HasServedAll}
+use Rattle.judy_programs.specs.Hosting.{Desks}
 use Rattle.judy_table.specs.declared.tenant.Tenant.{Tenant}
 use Rattle.judy_tenants.specs.Held.{Held, IsCallOf, IsSoundService, all_quotas, quotas_of, words_for}
 use Rattle.judy_tenants.specs.Runs.{AreCallsOf, NoneForMemory}
@@ -27,6 +27,7 @@ use Rattle.judy_server.specs.Rules.{server_rules}
 use Rattle.judy_server.specs.Served.{IsServedStep, IsNewService}
 use Rattle.judy_server.specs.Tally.{Tallied}
 use Rattle.judy_server.proofs.lemmas.Space.{rows-of, rows-stay}
+use Rattle.judy_server.proofs.lemmas.Starting.{HasServedAny, HasStarted, started-grants, started-keeps}
 
 -- so many megabytes are enough: one for 64 pieces of all quotas, and 190 more
 abbrev pub IsMuch : ℕ → List Tenant → Type 0
@@ -136,23 +137,41 @@ story-served megabytes past before (Changed text ∷ story) after a much (mid, s
     story-served megabytes (past ++ Changed text ∷ []) mid story after (change-ample megabytes before text mid a step much.0)
     (subst (λ rows. AreMuch megabytes rows (changes_in story)) (sym (rows-of before text mid step)) much.1) rest
 
+-- of each 128 words that were taken fewer than one was live at once while a journal was played; without a journal
+-- none was played
+abbrev pub IsPlayedWithin : {fresh service : Tallied} → ℕ → HasStarted fresh service → Type 0
+IsPlayedWithin {fresh} {service} megabytes (inl same) = Unit {0}
+IsPlayedWithin {fresh} {service} megabytes (inr played) = service.held.peak < 1024 * megabytes
+
+-- so the quotas allow few words
+started-few : (secret : List ℕ) (megabytes : ℕ) (table : List Tenant) (fresh service : Tallied) → IsNewService secret (Some megabytes) table fresh
+    → (start : HasStarted fresh service) → IsPlayedWithin megabytes start → IsMuch megabytes service.held.tenants
+    → 128 * service.held.granted < 131072 * megabytes
+started-few secret megabytes table fresh service new (inl same) within much =
+    let granted = started-grants secret (Some megabytes) table fresh service new (inl same) in omega (arith, granted, much)
+started-few secret megabytes table fresh service new (inr played) within much =
+    let granted = started-grants secret (Some megabytes) table fresh service new (inr played) in omega (arith, granted, within, much)
+
 -- a server that began with so many megabytes refuses no call for memory, whatever is called, as long as
 -- they are enough for each table that is put in force
 pub never-memory : (secret config socket : List ℕ) (watch : Desks) (megabytes : ℕ) (limits : Limits) (how : Ending) (log log' : Log)
-    → (h : HasServedAll server_rules (IsNewService secret (Some megabytes)) config socket watch limits how log log')
+    → (h : HasServedAny secret (Some megabytes) config socket watch limits how log log') → IsPlayedWithin megabytes h.started
     → IsMuch megabytes h.begun.opened.tenants → AreMuch megabytes h.begun.opened.tenants (changes_in h.hosted.story)
     → NoTurnForMemory (turns_in h.hosted.story)
-never-memory secret config socket watch megabytes limits how log log' h much later =
+never-memory secret config socket watch megabytes limits how log log' h within much later =
     let new = h.begun.opened.fresh in
-    let same : IsMuch megabytes h.before.held.tenants = subst (IsMuch megabytes) (sym new.tenants) much in
-    let none = new.refusals in let granted = new.granted in
+    let began = started-keeps secret (Some megabytes) h.begun.opened.tenants h.fresh h.before new h.started in
+    let tenants : h.before.held.tenants ≡ h.begun.opened.tenants = began.tenants ∙ new.tenants in
+    let same : IsMuch megabytes h.before.held.tenants = subst (IsMuch megabytes) (sym tenants) much in
+    let none = new.refusals in let refusals = began.kept.refusals in
+    let taken = new.taken.0 in let region = began.kept.region in let names = new.taken.1 in let room = began.kept.room in
     story-served megabytes [] h.before h.hosted.story h.after
     (record {
-      sound = new.sound;
-      region = new.taken.0;
-      names = new.taken.1;
-      granted = omega (arith, granted, same);
+      sound = began.kept.sound;
+      region = omega (arith, taken, region);
+      names = omega (arith, names, room);
+      granted = started-few secret megabytes h.begun.opened.tenants h.fresh h.before new h.started within same;
       much = same;
-      low = omega (arith, none);
+      low = omega (arith, none, refusals);
     })
-    (subst (λ rows. AreMuch megabytes rows (changes_in h.hosted.story)) (sym new.tenants) later) h.hosted.told
+    (subst (λ rows. AreMuch megabytes rows (changes_in h.hosted.story)) (sym tenants) later) h.hosted.told

@@ -29,7 +29,7 @@ use Rattle.judy_protocol.specs.Serving.{MaybeBytes, Ends}
 use Rattle.judy_protocol.specs.declared.connection.End.{End}
 use Rattle.judy_protocol.specs.declared.connection.End.TheVariants as ends
 use Rattle.judy_programs.specs.Asking.{Log}
-use Rattle.judy_programs.specs.Hosting.{Desks, HasServedAll}
+use Rattle.judy_programs.specs.Hosting.{Desks}
 use Rattle.judy_programs.specs.Program.{HasServed, tells_words}
 use Rattle.judy_programs.specs.declared.program.Ran.TheVariants as ran
 use Rattle.judy_programs.proofs.lemmas.Words.{told-words}
@@ -39,6 +39,7 @@ use Rattle.judy_server.specs.Rules.{server_rules}
 use Rattle.judy_server.specs.Served.{IsServedStep, IsNewService, seen_of, held_words}
 use Rattle.judy_server.specs.Space.{IsSoundAfter, IsSoundOf, IsBoundedBy, TellsFew, granted_after}
 use Rattle.judy_server.specs.Tally.{Tallied}
+use Rattle.judy_server.proofs.lemmas.Starting.{HasServedAny, granted_first, started-grants, started-keeps}
 
 -- a service is that which it was
 same-sound : (before after : Tallied) → IsSoundService before.held → after ≡ before → IsSoundOf before.held after.held
@@ -172,13 +173,16 @@ sound-story past (Changed text ∷ p) q before after s (now, step, rest) =
     let (mid, did, sound, left) = sound-story (past ++ Changed text ∷ []) p q now after one.sound rest in
     (mid, (now, step, did), after-change text (changes_in p) before.held now.held mid.held one sound, onward past (Changed text) p q mid after left)
 
--- at each moment of a server's story its service is sound, and has the tenants of the tables so far
+-- at each moment of a server's story its service is sound, and has the tenants of the tables so far, with a journal or
+-- without one
 pub sound-server : (secret config socket : List ℕ) (watch : Desks) (reserve : Option ℕ) (limits : Limits) (how : Ending) (log log' : Log)
-    → (h : HasServedAll server_rules (IsNewService secret reserve) config socket watch limits how log log')
+    → (h : HasServedAny secret reserve config socket watch limits how log log')
     → (p q : Story) → h.hosted.story ≡ p ++ q
     → (mid : Tallied) × Passes server_rules [] h.before p mid × IsSoundAfter (changes_in p) h.before.held mid.held × Passes server_rules p mid q h.after
 sound-server secret config socket watch reserve limits how log log' h p q e =
-    sound-story [] p q h.before h.after h.begun.opened.fresh.sound (subst (λ story. Passes server_rules [] h.before story h.after) e h.hosted.told)
+    let new = h.begun.opened.fresh in
+    sound-story [] p q h.before h.after (started-keeps secret reserve h.begun.opened.tenants h.fresh h.before new h.started).kept.sound
+    (subst (λ story. Passes server_rules [] h.before story h.after) e h.hosted.told)
 
 -- a sound service is bounded by what its quotas allow, or by what was taken beforehand
 bounded-by : (granted reserved : ℕ) (held : Held) → IsSoundService held → held.granted ≡ granted → held.reserved ≡ reserved → IsBoundedBy granted reserved held
@@ -213,20 +217,23 @@ run-is-bounded secret words end left left' taken taken' told told' h =
     (subst (λ n. IsBoundedBy n h.before.held.reserved h.after.held) (h.fresh.granted ∙ ap words_for h.fresh.tenants)
     (bounded h.before.held h.after.held (sound-end end _ _ h.before h.after _ _ h.fresh.sound h.run.script.served)))
 
--- and at each moment of a server's story, but for what was taken at its start
+-- and at each moment of a server's story, with a journal or without one, but for what was taken at its start
 pub server-is-bounded : (secret config socket : List ℕ) (watch : Desks) (reserve : Option ℕ) (limits : Limits) (how : Ending) (log log' : Log)
-    → (h : HasServedAll server_rules (IsNewService secret reserve) config socket watch limits how log log')
+    → (h : HasServedAny secret reserve config socket watch limits how log log')
     → (p q : Story) → h.hosted.story ≡ p ++ q
-    → (mid : Tallied) × Passes server_rules [] h.before p mid × (let rows = h.before.held.tenants in
-    IsBoundedBy (granted_after (words_for rows) rows (changes_in p)) h.before.held.region mid.held) × Passes server_rules p mid q h.after
+    → (mid : Tallied) × Passes server_rules [] h.before p mid
+    × IsBoundedBy (granted_after (granted_first h.started) h.before.held.tenants (changes_in p)) h.fresh.held.region mid.held
+    × Passes server_rules p mid q h.after
 server-is-bounded secret config socket watch reserve limits how log log' h p q e =
     let (mid, did, sound, left) = sound-server secret config socket watch reserve limits how log log' h p q e in
-    let fresh = h.begun.opened.fresh in
+    let new = h.begun.opened.fresh in
+    let kept = (started-keeps secret reserve h.begun.opened.tenants h.fresh h.before new h.started).kept in
+    let grants = started-grants secret reserve h.begun.opened.tenants h.fresh h.before new h.started in
     let rows = h.before.held.tenants in (
       mid,
       did,
-      subst (λ n. IsBoundedBy (granted_after (words_for rows) rows (changes_in p)) n mid.held) fresh.reserved
-          (subst (λ n. IsBoundedBy (granted_after n rows (changes_in p)) h.before.held.reserved mid.held) fresh.granted
+      subst (λ n. IsBoundedBy (granted_after (granted_first h.started) rows (changes_in p)) n mid.held) (kept.reserved ∙ new.reserved)
+          (subst (λ n. IsBoundedBy (granted_after n rows (changes_in p)) h.before.held.reserved mid.held) grants
           (bounded-by (granted_after h.before.held.granted rows (changes_in p)) h.before.held.reserved mid.held sound.sound sound.granted sound.reserved)),
       left,
     )

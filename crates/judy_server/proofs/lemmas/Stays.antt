@@ -13,16 +13,17 @@ use Rattle.judy_many.specs.Stories.Moment.{Changed, Did, Ran}
 use Rattle.judy_many.specs.declared.serve.Ending.{Ending}
 use Rattle.judy_many.specs.declared.serve.Limits.{Limits}
 use Rattle.judy_programs.specs.Asking.{Log}
-use Rattle.judy_programs.specs.Hosting.{Desks, HasServedAll}
+use Rattle.judy_programs.specs.Hosting.{Desks}
 use Rattle.judy_table.specs.Tenants.{is_vacant}
 use Rattle.judy_table.specs.declared.tenant.Tenant.{Tenant}
 use Rattle.judy_tenants.specs.Changes.{has_tenant, stays_at}
 use Rattle.judy_tenants.specs.Held.{no_quota, quotas_of}
 use Rattle.judy_server.specs.Reloads.{rows_with}
 use Rattle.judy_server.specs.Rules.{server_rules}
-use Rattle.judy_server.specs.Served.{IsNewService, seen_of}
+use Rattle.judy_server.specs.Served.{seen_of}
 use Rattle.judy_server.specs.Tally.{Tallied}
 use Rattle.judy_server.proofs.lemmas.Space.{rows-of, rows-stay}
+use Rattle.judy_server.proofs.lemmas.Starting.{HasServedAny}
 
 -- Each of these tables, one after another, has the tenant of this place, with the same quota. Its tokens
 -- may be others.
@@ -74,10 +75,10 @@ keeps-tenant t past before (Changed text ∷ story) after (mid, step, rest) (bot
       keeps-tenant t (past ++ Changed text ∷ []) mid story after rest (subst (λ ts. StaysAt t ts (changes_in story)) (sym rows) stays),
     )
 
--- over all lines of a server, whatever tables were put in force between them, its replies are those that
+-- over all lines of a server, with a journal or without one, whatever tables were put in force between them, its replies are those that
 -- it would get alone, and no other server would give others
 pub tenant-alone : (secret config socket : List ℕ) (watch : Desks) (reserve : Option ℕ) (limits : Limits) (how : Ending) (log log' : Log)
-    → (h : HasServedAll server_rules (IsNewService secret reserve) config socket watch limits how log log')
+    → (h : HasServedAny secret reserve config socket watch limits how log log')
     → (t : ℕ) → StaysAt t h.before.held.tenants (changes_in h.hosted.story)
     → IsAloneFor t (seen_of h.before) (turns_in h.hosted.story) (seen_of h.after)
 tenant-alone secret config socket watch reserve limits how log log' h t stays =

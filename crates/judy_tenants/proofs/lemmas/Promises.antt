@@ -5,6 +5,7 @@
 --     start-stays       names are looked up by the same hashes after every call
 --     others-rest       the words of the other tenants' arrays are the same after every call
 --     memory-means      `ERR MEMORY` has one of two causes
+--     few-are-placed    while fewer than 256 arrays have entries, no name is without a place
 --     quota-holds       no tenant has more entries or pieces than its quota
 --     words-add-up      all words are those of the tenants' arrays
 --     words-are-few     a tenant's words are bounded by its quota, those of a Judy1 or JudyL by its
@@ -103,6 +104,12 @@ memory-means old event r new sound h e =
         ⊎ ((new.refusals ≡ old.refusals) × (new.unplaced ≡ count_up old.unplaced) × (old.room ≤ all_arrays (length old.tenants) (states_of old)))
     by (inl s) = inl (s.refusals, s.unplaced)
     by (inr u) = inr (u.refusals, u.unplaced, subst (λ n. old.room ≤ n) sound.names u.many)
+
+-- the second case needs 256 arrays with entries: there is always room for these names
+pub few-are-placed : (old : Held) (event : Event) (new : Held) → IsSoundService old → all_arrays (length old.tenants) (states_of old) < 256
+    → IsUnplaced event old new → ⊥
+few-are-placed old event new sound few u =
+    let room = sound.room in let names = sound.names in let many = u.many in omega (arith, few, room, names, many)
 
 -- in the second case the array that the call names had no entries; so a name that has an array is
 -- never refused for its place

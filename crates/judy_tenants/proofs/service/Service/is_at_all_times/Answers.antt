@@ -9,4 +9,4 @@ returns g c =
     (seen-sound (c.kinds_are_lawful.ensures g.H.KeyHash.hashed) c.places_are_small.ensures c.sizes_add_up_over_the_numbers.ensures
     c.contents_are_in_form.ensures
     c.self.inside.table c.self.inside.stock c.self.invariant.0 c.the_region_is_bounded.ensures.sum
-    c.the_region_is_bounded.ensures.live c.the_region_is_bounded.ensures.bound c.self.invariant.1)
+    c.the_region_is_bounded.ensures.live c.the_region_is_bounded.ensures.bound c.self.invariant.1 c.there_is_room.ensures)
