@@ -5,7 +5,7 @@ use crate::locks::Locks;
 use crate::names::{Named, Place, read_name};
 use crate::scan::{Found, arrange, out_of_memory};
 use std::alloc::Global;
-use std::fs::{self, Files, OpenFile, OpenOptions};
+use std::fs::{self, DirEntry, Files, OpenFile, OpenOptions};
 use std::io;
 use std::os::unix::fs::{MetadataExt, OpenOptionsExt};
 
@@ -116,12 +116,20 @@ impl<'a, F: Files + Clone + Drop> Folder<'a, F> {
     ) -> Result<(), DiskFault> {
         let listed = fs::read_dir(&(self.files, self.alloc), self.path.as_str());
         for entry in done_at(Place::Folder, listed)? {
-            match entry {
-                Ok(entry) => self.put_name(entry.file_name(), segments, snapshots)?,
-                Err(e) => return Err(DiskFault::at(Place::Folder, e)),
-            }
+            self.put_entry(entry, segments, snapshots)?;
         }
         Ok(())
+    }
+
+    /// Puts the number of a file that was listed with the others.
+    fn put_entry(
+        &self,
+        entry: io::Result<DirEntry<(&'a F, Global)>>,
+        segments: &mut Vec<u64>,
+        snapshots: &mut Vec<u64>,
+    ) -> Result<(), DiskFault> {
+        let entry = done_at(Place::Folder, entry)?;
+        self.put_name(entry.file_name(), segments, snapshots)
     }
 
     /// Puts a file's number with the others.
