@@ -1,9 +1,9 @@
 //! The command line, as it is given to `clap`.
 ghost use Rattle.std.specs.Prelude.{◌≡◌, false, true, IfOk};
-ghost use Rattle.clap.specs.Words.{app_of, new_app, rule_of, with_rule, with_subcommand};
+ghost use Rattle.clap.specs.Words.{App, Rule, app_of, new_app, rule_of, with_rule, with_subcommand};
 ghost use Rattle.clap.specs.declared.builder.Command.TheViews.{out-Command as fields_of};
 ghost use Rattle.judy_command.specs.CommandLine.{bare_app, clients_rule, compact_app, connections_rule, flag_rule};
-ghost use Rattle.judy_command.specs.CommandLine.{journal_app, judyd_app, limited_rule, login_rule, number_rule, placed_rule};
+ghost use Rattle.judy_command.specs.CommandLine.{journal_app, judyd_app, limited_rule, login_rule, needed_rule, number_rule, placed_rule};
 ghost use Rattle.judy_command.specs.CommandLine.{reserve_rule, run_app, serve_app, tenant_clients_rule, valued_rule};
 ghost use Rattle.judy_command.specs.CommandLine.{with_clients, with_journal, with_limits, with_places, with_times};
 
@@ -110,6 +110,14 @@ fn valued<'a>(alloc: Global, name: &'a str, value: &'a str, help: &'a str) -> Ar
         .help(help)
 }
 
+/// `--NAME VALUE`, which must be given.
+fn needed<'a>(alloc: Global, name: &'a str, value: &'a str, help: &'a str) -> Arg<'a>
+    ensures rule { rule_of result ≡ needed_rule name.entry.now }
+    ensures local { result.global ≡ false }
+{
+    valued(alloc, name, value, help).required(true)
+}
+
 /// `--NAME VALUE`, a number from 1 to 4294967295.
 fn numbered<'a>(alloc: Global, name: &'a str, value: &'a str, help: &'a str) -> Arg<'a>
     ensures rule { rule_of result ≡ number_rule name.entry.now }
@@ -188,142 +196,167 @@ fn described<'a>(alloc: Global, name: &'a str, about: &'a str, examples: &'a str
     Command::new(alloc, name).about(about).after_help(examples)
 }
 
+/// A command with its purpose, its usage and the text below its help.
+fn used<'a>(
+    alloc: Global,
+    name: &'a str,
+    about: &'a str,
+    usage: &'a str,
+    examples: &'a str,
+) -> Command<'a>
+    ensures app { app_of result ≡ new_app name.entry.now }
+    ensures local { (fields_of result).has_globals ≡ false }
+{
+    described(alloc, name, about, examples).override_usage(usage)
+}
+
+/// A command, if there is memory for it.
+type Made<'a> = Result<Command<'a>, AllocError>;
+
 /// A command with one more argument.
-fn with<'a>(command: Command<'a>, arg: Arg<'a>) -> Result<Command<'a>, AllocError>
-    requires local { (fields_of command).has_globals ≡ false }
+fn with<'a>(command: Made<'a>, arg: Arg<'a>) -> Made<'a>
+    requires local { IfOk command (λ c. (fields_of c).has_globals ≡ false) }
     requires own { arg.global ≡ false }
-    ensures app { IfOk result
-        (λ c. app_of c ≡ with_rule (app_of command.entry) (rule_of arg.entry)) }
+    ensures app { (a : App) → (r : Rule) → IfOk command.entry (λ c. app_of c ≡ a)
+        → rule_of arg.entry ≡ r → IfOk result (λ c. app_of c ≡ with_rule a r) }
     ensures local { IfOk result (λ c. (fields_of c).has_globals ≡ false) }
 {
-    command.arg(arg)
+    command?.arg(arg)
 }
 
 /// `run [--words]`.
-fn run_command<'a>(alloc: Global) -> Result<Command<'a>, AllocError>
+fn run_command<'a>(alloc: Global) -> Made<'a>
     ensures app { IfOk result (λ c. app_of c ≡ run_app) }
     ensures local { IfOk result (λ c. (fields_of c).has_globals ≡ false) }
 {
     let about =
         "Serves one script from standard input: a table of tenants, a line ---, and then requests";
-    let command = described(alloc, "run", about, RUN_EXAMPLES);
+    let command = used(alloc, "run", about, "judyd run [OPTIONS]", RUN_EXAMPLES);
     let words = "At the end, write a last line WORDS n: the words of memory that all arrays hold";
-    with(
-        command.override_usage("judyd run [OPTIONS]"),
-        flag(alloc, "words", words),
-    )
+    with(Ok(command), flag(alloc, "words", words))
 }
 
 /// A command with the options for the table of tenants and the sockets.
-fn with_places<'a>(alloc: Global, command: Command<'a>) -> Result<Command<'a>, AllocError>
-    requires local { (fields_of command).has_globals ≡ false }
-    ensures app { IfOk result (λ c. app_of c ≡ with_places (app_of command.entry)) }
+fn with_places<'a>(alloc: Global, command: Made<'a>) -> Made<'a>
+    requires local { IfOk command (λ c. (fields_of c).has_globals ≡ false) }
+    ensures app { (a : App) → IfOk command.entry (λ c. app_of c ≡ a)
+        → IfOk result (λ c. app_of c ≡ with_places a) }
     ensures local { IfOk result (λ c. (fields_of c).has_globals ≡ false) }
 {
-    let config = valued(alloc, "config", "FILE", CONFIG_HELP);
-    let socket = valued(alloc, "socket", "PATH", SOCKET_HELP);
-    let command = with(command, config.required(true))?;
-    let command = with(command, socket.required(true))?;
-    let command = with(command, valued(alloc, "status", "PATH", STATUS_HELP))?;
+    let command = with(command, needed(alloc, "config", "FILE", CONFIG_HELP));
+    let command = with(command, needed(alloc, "socket", "PATH", SOCKET_HELP));
+    let command = with(command, valued(alloc, "status", "PATH", STATUS_HELP));
     with(command, valued(alloc, "control", "PATH", CONTROL_HELP))
 }
 
 /// A command with the options for the limits of time.
-fn with_times<'a>(alloc: Global, command: Command<'a>) -> Result<Command<'a>, AllocError>
-    requires local { (fields_of command).has_globals ≡ false }
-    ensures app { IfOk result (λ c. app_of c ≡ with_times (app_of command.entry)) }
+fn with_times<'a>(alloc: Global, command: Made<'a>) -> Made<'a>
+    requires local { IfOk command (λ c. (fields_of c).has_globals ≡ false) }
+    ensures app { (a : App) → IfOk command.entry (λ c. app_of c ≡ a)
+        → IfOk result (λ c. app_of c ≡ with_times a) }
     ensures local { IfOk result (λ c. (fields_of c).has_globals ≡ false) }
 {
-    let command = with(command, login(alloc))?;
-    let command = with(command, numbered(alloc, "idle", "SECONDS", IDLE_HELP))?;
+    let command = with(command, login(alloc));
+    let command = with(command, numbered(alloc, "idle", "SECONDS", IDLE_HELP));
     with(command, numbered(alloc, "turn", "SECONDS", TURN_HELP))
 }
 
 /// A command with the options for the numbers of clients.
-fn with_clients<'a>(alloc: Global, command: Command<'a>) -> Result<Command<'a>, AllocError>
-    requires local { (fields_of command).has_globals ≡ false }
-    ensures app { IfOk result (λ c. app_of c ≡ with_clients (app_of command.entry)) }
+fn with_clients<'a>(alloc: Global, command: Made<'a>) -> Made<'a>
+    requires local { IfOk command (λ c. (fields_of c).has_globals ≡ false) }
+    ensures app { (a : App) → IfOk command.entry (λ c. app_of c ≡ a)
+        → IfOk result (λ c. app_of c ≡ with_clients a) }
     ensures local { IfOk result (λ c. (fields_of c).has_globals ≡ false) }
 {
-    let command = with(command, clients(alloc))?;
+    let command = with(command, clients(alloc));
     with(command, tenant_clients(alloc))
 }
 
 /// A command with the options for the limits of connections.
-fn with_limits<'a>(alloc: Global, command: Command<'a>) -> Result<Command<'a>, AllocError>
-    requires local { (fields_of command).has_globals ≡ false }
-    ensures app { IfOk result (λ c. app_of c ≡ with_limits (app_of command.entry)) }
+fn with_limits<'a>(alloc: Global, command: Made<'a>) -> Made<'a>
+    requires local { IfOk command (λ c. (fields_of c).has_globals ≡ false) }
+    ensures app { (a : App) → IfOk command.entry (λ c. app_of c ≡ a)
+        → IfOk result (λ c. app_of c ≡ with_limits a) }
     ensures local { IfOk result (λ c. (fields_of c).has_globals ≡ false) }
 {
-    let command = with_clients(alloc, command)?;
-    let command = with(command, connections(alloc))?;
+    let command = with_clients(alloc, command);
+    let command = with(command, connections(alloc));
     with_times(alloc, command)
 }
 
 /// A command with the options for the journal.
-fn with_journal<'a>(alloc: Global, command: Command<'a>) -> Result<Command<'a>, AllocError>
-    requires local { (fields_of command).has_globals ≡ false }
-    ensures app { IfOk result (λ c. app_of c ≡ with_journal (app_of command.entry)) }
+fn with_journal<'a>(alloc: Global, command: Made<'a>) -> Made<'a>
+    requires local { IfOk command (λ c. (fields_of c).has_globals ≡ false) }
+    ensures app { (a : App) → IfOk command.entry (λ c. app_of c ≡ a)
+        → IfOk result (λ c. app_of c ≡ with_journal a) }
     ensures local { IfOk result (λ c. (fields_of c).has_globals ≡ false) }
 {
-    let command = with(command, valued(alloc, "journal", "DIR", JOURNAL_HELP))?;
+    let command = with(command, valued(alloc, "journal", "DIR", JOURNAL_HELP));
     with(command, valued(alloc, "sync", "WHEN", SYNC_HELP))
 }
 
 /// `serve` with its options.
-fn serve_command<'a>(alloc: Global) -> Result<Command<'a>, AllocError>
+fn serve_command<'a>(alloc: Global) -> Made<'a>
     ensures app { IfOk result (λ c. app_of c ≡ serve_app) }
     ensures local { IfOk result (λ c. (fields_of c).has_globals ≡ false) }
 {
     let about = "Serves clients of a Unix socket, many at once";
-    let command = described(alloc, "serve", about, SERVE_EXAMPLES).override_usage(
-        "judyd serve [OPTIONS] --config <FILE> --socket <PATH>",
-    );
-    let command = with_places(alloc, command)?;
-    let command = with_limits(alloc, command)?;
-    let command = with(command, reserve(alloc))?;
-    let command = with_journal(alloc, command)?;
+    let usage = "judyd serve [OPTIONS] --config <FILE> --socket <PATH>";
+    let command = used(alloc, "serve", about, usage, SERVE_EXAMPLES);
+    let command = with_places(alloc, Ok(command));
+    let command = with_limits(alloc, command);
+    let command = with(command, reserve(alloc));
+    let command = with_journal(alloc, command);
     with(command, flag(alloc, "check", CHECK_HELP))
 }
 
 /// `compact DIR`.
-fn compact_command<'a>(alloc: Global) -> Result<Command<'a>, AllocError>
+fn compact_command<'a>(alloc: Global) -> Made<'a>
     ensures app { IfOk result (λ c. app_of c ≡ compact_app) }
     ensures local { IfOk result (λ c. (fields_of c).has_globals ≡ false) }
 {
     let about = "Makes the files of a journal smaller";
-    let command = described(alloc, "compact", about, COMPACT_EXAMPLES);
+    let command = used(
+        alloc,
+        "compact",
+        about,
+        "judyd compact <DIR>",
+        COMPACT_EXAMPLES,
+    );
     with(
-        command.override_usage("judyd compact <DIR>"),
+        Ok(command),
         placed(alloc, "directory", "DIR", DIRECTORY_HELP),
     )
 }
 
 /// `journal DIR [--tenant NAME]`.
-fn journal_command<'a>(alloc: Global) -> Result<Command<'a>, AllocError>
+fn journal_command<'a>(alloc: Global) -> Made<'a>
     ensures app { IfOk result (λ c. app_of c ≡ journal_app) }
     ensures local { IfOk result (λ c. (fields_of c).has_globals ≡ false) }
 {
     let about = "Prints the requests of a journal, each with its tenant's name";
-    let command = described(alloc, "journal", about, PRINT_EXAMPLES);
+    let usage = "judyd journal [OPTIONS] <DIR>";
+    let command = used(alloc, "journal", about, usage, PRINT_EXAMPLES);
     let command = with(
-        command.override_usage("judyd journal [OPTIONS] <DIR>"),
+        Ok(command),
         placed(alloc, "directory", "DIR", DIRECTORY_HELP),
-    )?;
+    );
     with(command, valued(alloc, "tenant", "NAME", TENANT_HELP))
 }
 
 /// A command with one more command below it.
-fn below<'a>(command: Command<'a>, inner: Command<'a>) -> Result<Command<'a>, AllocError>
-    requires local { (fields_of command).has_globals ≡ false }
-    requires own { (fields_of inner).has_globals ≡ false }
-    ensures app { IfOk result
-        (λ c. app_of c ≡ with_subcommand (app_of command.entry) (app_of inner.entry).top) }
+fn below<'a>(command: Made<'a>, inner: Made<'a>) -> Made<'a>
+    requires local { IfOk command (λ c. (fields_of c).has_globals ≡ false) }
+    requires own { IfOk inner (λ c. (fields_of c).has_globals ≡ false) }
+    requires required { IfOk command (λ c. (fields_of c).subcommand_required ≡ true) }
+    ensures app { (a : App) → (b : App) → IfOk command.entry (λ c. app_of c ≡ a)
+        → IfOk inner.entry (λ c. app_of c ≡ b)
+        → IfOk result (λ c. app_of c ≡ with_subcommand a b.top) }
     ensures local { IfOk result (λ c. (fields_of c).has_globals ≡ false) }
-    ensures required { IfOk result (λ c.
-        (fields_of c).subcommand_required ≡ (fields_of command.entry).subcommand_required) }
+    ensures required { IfOk result (λ c. (fields_of c).subcommand_required ≡ true) }
 {
-    command.subcommand(inner)
+    let inner = inner?;
+    command?.subcommand(inner)
 }
 
 /// The command line without its commands.
@@ -345,9 +378,8 @@ pub fn judyd_command<'a>(alloc: Global) -> Result<Command<'a>, AllocError>
     ensures local { IfOk result (λ c. (fields_of c).has_globals ≡ false) }
     ensures required { IfOk result (λ c. (fields_of c).subcommand_required ≡ true) }
 {
-    let command = bare_command(alloc);
-    let command = below(command, run_command(alloc)?)?;
-    let command = below(command, serve_command(alloc)?)?;
-    let command = below(command, compact_command(alloc)?)?;
-    below(command, journal_command(alloc)?)
+    let command = below(Ok(bare_command(alloc)), run_command(alloc));
+    let command = below(command, serve_command(alloc));
+    let command = below(command, compact_command(alloc));
+    below(command, journal_command(alloc))
 }

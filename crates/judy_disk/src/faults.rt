@@ -37,6 +37,14 @@ impl DiskFault {
     }
 }
 
+/// What was done to a file, or the fault that the system's refusal is.
+pub(crate) fn done_at<T>(place: Place, done: io::Result<T>) -> Result<T, DiskFault> {
+    match done {
+        Ok(value) => Ok(value),
+        Err(e) => Err(DiskFault::at(place, e)),
+    }
+}
+
 /// What follows the directory's path in a line for the operator.
 impl fmt::Display for DiskFault {
     fn fmt<W: fmt::Write>(&self, f: &mut fmt::Formatter<W>) -> fmt::Result {

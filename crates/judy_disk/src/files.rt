@@ -1,5 +1,5 @@
 //! The files of a journal that grow.
-use crate::faults::DiskFault;
+use crate::faults::{DiskFault, done_at};
 use crate::names::Place;
 use std::fs::{Files, OpenFile};
 use std::io::{self, Write};
@@ -24,25 +24,17 @@ impl<F: Files> Growing<F> {
 
     /// Appends all of these bytes. After a fault some of them may be there.
     pub fn append(&mut self, bytes: &[u8]) -> Result<(), DiskFault> {
-        let place = self.place;
-        self.file
-            .write_all(bytes)
-            .map_err(|e| DiskFault::at(place, e))
+        done_at(self.place, self.file.write_all(bytes))
     }
 
     /// Secures the bytes that were appended.
     pub fn sync(&self) -> Result<(), DiskFault> {
-        self.file
-            .sync_data()
-            .map_err(|e| DiskFault::at(self.place, e))
+        done_at(self.place, self.file.sync_data())
     }
 
     /// Cuts off what follows this number of bytes, and secures the rest.
     pub(crate) fn cut(&self, len: u64) -> Result<(), DiskFault> {
-        match self.cut_to(len) {
-            Ok(()) => Ok(()),
-            Err(e) => Err(DiskFault::at(self.place, e)),
-        }
+        done_at(self.place, self.cut_to(len))
     }
 
     /// Cuts off what follows this number of bytes, and secures the rest. A file that has fewer is at
@@ -70,9 +62,7 @@ impl<F: Files> Growing<F> {
 
     /// Secures the file whole.
     fn secure(&self) -> Result<(), DiskFault> {
-        self.file
-            .sync_all()
-            .map_err(|e| DiskFault::at(self.place, e))
+        done_at(self.place, self.file.sync_all())
     }
 }
 

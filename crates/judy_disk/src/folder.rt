@@ -1,11 +1,11 @@
 //! The directory of a journal.
-use crate::faults::DiskFault;
+use crate::faults::{DiskFault, done_at};
 use crate::files::{Growing, NewSnapshot};
 use crate::locks::Locks;
 use crate::names::{Named, Place, read_name};
 use crate::scan::{Found, arrange, out_of_memory};
 use std::alloc::Global;
-use std::fs::{self, Files, OpenFile, OpenOptions};
+use std::fs::{self, DirEntry, Files, OpenFile, OpenOptions};
 use std::io;
 use std::os::unix::fs::{MetadataExt, OpenOptionsExt};
 
@@ -17,7 +17,10 @@ const ROOT: u32 = 0;
 
 /// Puts a number with the others.
 fn put_number(numbers: &mut Vec<u64>, number: u64) -> Result<(), DiskFault> {
-    numbers.push(number).map_err(|_| out_of_memory())
+    match numbers.push(number) {
+        Ok(()) => Ok(()),
+        Err(_) => Err(out_of_memory()),
+    }
 }
 
 /// The directory of a journal, by its path.
@@ -46,14 +49,16 @@ impl<'a, F: Files> Folder<'a, F> {
             Place::Folder => String::from_str(self.alloc, path),
             place => format!(in self.alloc; "{path}/{place}"),
         };
-        made.map_err(|e| DiskFault::at(place, io::Error::from(e)))
+        match made {
+            Ok(path) => Ok(path),
+            Err(e) => Err(DiskFault::at(place, io::Error::from(e))),
+        }
     }
 
     /// Opens one of its files.
     fn open_with(&self, how: &OpenOptions, place: Place) -> Result<F::File, DiskFault> {
         let path = self.path_to(place)?;
-        how.open(self.files, path.as_str())
-            .map_err(|e| DiskFault::at(place, e))
+        done_at(place, how.open(self.files, path.as_str()))
     }
 
     /// Opens one of its files for reading.
@@ -64,7 +69,7 @@ impl<'a, F: Files> Folder<'a, F> {
     /// Secures which files the directory has.
     pub fn sync(&self) -> Result<(), DiskFault> {
         let file = self.open_with(OpenOptions::new().read(true), Place::Folder)?;
-        file.sync_all().map_err(|e| DiskFault::at(Place::Folder, e))
+        done_at(Place::Folder, file.sync_all())
     }
 
     /// Goes on in a segment after its first `len` bytes. What follows them is cut off. What is left is
@@ -83,16 +88,14 @@ impl<'a, F: Files> Folder<'a, F> {
     pub fn name_snapshot(&self, number: u64) -> Result<(), DiskFault> {
         let from = self.path_to(Place::NewSnapshot)?;
         let to = self.path_to(Place::Snapshot(number))?;
-        fs::rename(self.files, from.as_str(), to.as_str()).map_err(|e| DiskFault::at(
-            Place::Snapshot(number),
-            e,
-        ))
+        let named = fs::rename(self.files, from.as_str(), to.as_str());
+        done_at(Place::Snapshot(number), named)
     }
 
     /// Removes a file.
     pub fn remove(&self, place: Place) -> Result<(), DiskFault> {
         let path = self.path_to(place)?;
-        fs::remove_file(self.files, path.as_str()).map_err(|e| DiskFault::at(place, e))
+        done_at(place, fs::remove_file(self.files, path.as_str()))
     }
 }
 
@@ -101,14 +104,32 @@ impl<'a, F: Files + Clone + Drop> Folder<'a, F> {
     pub fn scan(&self) -> Result<Found, DiskFault> {
         let mut segments = Vec::new(self.alloc);
         let mut snapshots = Vec::new(self.alloc);
-        let entries = fs::read_dir(&(self.files, self.alloc), self.path.as_str()).map_err(
-            |e| DiskFault::at(Place::Folder, e),
-        )?;
-        for entry in entries {
-            let entry = entry.map_err(|e| DiskFault::at(Place::Folder, e))?;
-            self.put_name(entry.file_name(), &mut segments, &mut snapshots)?;
-        }
+        self.put_names(&mut segments, &mut snapshots)?;
         arrange(self.alloc, segments.as_mut_slice(), snapshots.as_slice())
+    }
+
+    /// Puts the number of each file with the others.
+    fn put_names(
+        &self,
+        segments: &mut Vec<u64>,
+        snapshots: &mut Vec<u64>,
+    ) -> Result<(), DiskFault> {
+        let listed = fs::read_dir(&(self.files, self.alloc), self.path.as_str());
+        for entry in done_at(Place::Folder, listed)? {
+            self.put_entry(entry, segments, snapshots)?;
+        }
+        Ok(())
+    }
+
+    /// Puts the number of a file that was listed with the others.
+    fn put_entry(
+        &self,
+        entry: io::Result<DirEntry<(&'a F, Global)>>,
+        segments: &mut Vec<u64>,
+        snapshots: &mut Vec<u64>,
+    ) -> Result<(), DiskFault> {
+        let entry = done_at(Place::Folder, entry)?;
+        self.put_name(entry.file_name(), segments, snapshots)
     }
 
     /// Puts a file's number with the others.
@@ -189,10 +210,7 @@ impl<'a, F: Locks> Folder<'a, F> {
     /// Locks a file, until what is returned is dropped. None if another program has locked it.
     fn try_lock(&self, place: Place) -> Result<Option<F::File>, DiskFault> {
         let file = self.make_or_open(place)?;
-        let locked = self
-            .files
-            .try_lock(&file)
-            .map_err(|e| DiskFault::at(place, e))?;
+        let locked = done_at(place, self.files.try_lock(&file))?;
         Ok(locked.then_some(file))
     }
 
@@ -228,16 +246,12 @@ impl<'a, F: Locks> Folder<'a, F> {
     /// Whether the closed files are kept as they are from now on, until their lock is dropped. False if
     /// another program has them: a compaction, or a reader.
     pub fn may_hold_closed(&self, lock: &F::File) -> Result<bool, DiskFault> {
-        self.files
-            .try_lock(lock)
-            .map_err(|e| DiskFault::at(Place::CompactLock, e))
+        done_at(Place::CompactLock, self.files.try_lock(lock))
     }
 
     /// Keeps the closed files as they are, until their lock is dropped. It waits while another program
     /// has them.
     pub fn hold_closed(&self, lock: &F::File) -> Result<(), DiskFault> {
-        self.files
-            .lock(lock)
-            .map_err(|e| DiskFault::at(Place::CompactLock, e))
+        done_at(Place::CompactLock, self.files.lock(lock))
     }
 }

@@ -37,7 +37,10 @@ fn greatest(numbers: &[u64]) -> Option<u64> {
 
 /// Puts a file with those that are no longer needed.
 fn leave(old: &mut Vec<Place>, place: Place) -> Result<(), DiskFault> {
-    old.push(place).map_err(|_| out_of_memory())
+    match old.push(place) {
+        Ok(()) => Ok(()),
+        Err(_) => Err(out_of_memory()),
+    }
 }
 
 /// Arranges the segments and the snapshots of a directory, by their numbers in any order. A segment

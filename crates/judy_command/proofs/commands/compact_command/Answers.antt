@@ -1,0 +1,4 @@
+use Rattle.judy_command.proofs.commands.compact_command.Goals as goal
+
+pub returns-clause-app : goal.returns-clause-app
+returns-clause-app c = c.with.ensures.app _ _ c.used-command.ensures.app c.placed.ensures.rule
