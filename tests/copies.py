@@ -67,14 +67,20 @@ def how_to_try(edit, sources):
     return Try(edit, PLACED if function.cycle or function.of_trait else COPIED, function, text)
 
 
-def named(tries):
-    """Gives each copy its name. The only one of a function has none: it is put in its place."""
+def numbered(tries):
+    """Gives each copy its name."""
     numbers = {}
     for it in tries:
         numbers[it.function] = numbers.get(it.function, 0) + 1
         it.name = "%s_w%d" % (it.function.name, numbers[it.function])
-    for it in tries:
-        it.name = it.name if numbers[it.function] > 1 else None
+    return tries
+
+
+def named(tries):
+    """Gives each copy its name. The only one of a function has none: it is put in its place."""
+    functions = [it.function for it in tries]
+    for it in numbered(tries):
+        it.name = it.name if functions.count(it.function) > 1 else None
     return tries
 
 
