@@ -5,7 +5,7 @@ use crate::locks::Locks;
 use crate::names::{Named, Place, read_name};
 use crate::scan::{Found, arrange, out_of_memory};
 use std::alloc::Global;
-use std::fs::{self, DirEntry, Files, OpenFile, OpenOptions};
+use std::fs::{self, Files, OpenFile, OpenOptions, ReadDir};
 use std::io;
 use std::os::unix::fs::{MetadataExt, OpenOptionsExt};
 
@@ -21,6 +21,38 @@ fn put_number(numbers: &mut Vec<u64>, number: u64) -> Result<(), DiskFault> {
         Ok(()) => Ok(()),
         Err(_) => Err(out_of_memory()),
     }
+}
+
+/// Puts the number of a file with this name with the others.
+fn put_name(
+    alloc: Global,
+    name: &str,
+    segments: &mut Vec<u64>,
+    snapshots: &mut Vec<u64>,
+) -> Result<(), DiskFault> {
+    match read_name(name) {
+        Named::Segment(number) => put_number(segments, number),
+        Named::Snapshot(number) => put_number(snapshots, number),
+        Named::Passed => Ok(()),
+        Named::Other => match String::from_str(alloc, name) {
+            Ok(name) => Err(DiskFault::Name(name)),
+            Err(_) => Err(out_of_memory()),
+        },
+    }
+}
+
+/// Puts the number of each file of a directory with the others.
+fn put_names<R: Files + Clone + Drop>(
+    alloc: Global,
+    entries: ReadDir<R>,
+    segments: &mut Vec<u64>,
+    snapshots: &mut Vec<u64>,
+) -> Result<(), DiskFault> {
+    for entry in entries {
+        let entry = done_at(Place::Folder, entry)?;
+        put_name(alloc, entry.file_name(), segments, snapshots)?;
+    }
+    Ok(())
 }
 
 /// The directory of a journal, by its path.
@@ -102,52 +134,12 @@ impl<'a, F: Files> Folder<'a, F> {
 impl<'a, F: Files + Clone + Drop> Folder<'a, F> {
     /// Which files the directory has. Nothing is changed.
     pub fn scan(&self) -> Result<Found, DiskFault> {
+        let listed = fs::read_dir(&(self.files, self.alloc), self.path.as_str());
+        let entries = done_at(Place::Folder, listed)?;
         let mut segments = Vec::new(self.alloc);
         let mut snapshots = Vec::new(self.alloc);
-        self.put_names(&mut segments, &mut snapshots)?;
+        put_names(self.alloc, entries, &mut segments, &mut snapshots)?;
         arrange(self.alloc, segments.as_mut_slice(), snapshots.as_slice())
-    }
-
-    /// Puts the number of each file with the others.
-    fn put_names(
-        &self,
-        segments: &mut Vec<u64>,
-        snapshots: &mut Vec<u64>,
-    ) -> Result<(), DiskFault> {
-        let listed = fs::read_dir(&(self.files, self.alloc), self.path.as_str());
-        for entry in done_at(Place::Folder, listed)? {
-            self.put_entry(entry, segments, snapshots)?;
-        }
-        Ok(())
-    }
-
-    /// Puts the number of a file that was listed with the others.
-    fn put_entry(
-        &self,
-        entry: io::Result<DirEntry<(&'a F, Global)>>,
-        segments: &mut Vec<u64>,
-        snapshots: &mut Vec<u64>,
-    ) -> Result<(), DiskFault> {
-        let entry = done_at(Place::Folder, entry)?;
-        self.put_name(entry.file_name(), segments, snapshots)
-    }
-
-    /// Puts a file's number with the others.
-    fn put_name(
-        &self,
-        name: &str,
-        segments: &mut Vec<u64>,
-        snapshots: &mut Vec<u64>,
-    ) -> Result<(), DiskFault> {
-        match read_name(name) {
-            Named::Segment(number) => put_number(segments, number),
-            Named::Snapshot(number) => put_number(snapshots, number),
-            Named::Passed => Ok(()),
-            Named::Other => match String::from_str(self.alloc, name) {
-                Ok(name) => Err(DiskFault::Name(name)),
-                Err(_) => Err(out_of_memory()),
-            },
-        }
     }
 }
 

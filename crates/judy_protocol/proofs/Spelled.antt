@@ -77,13 +77,10 @@ no_three command name f g h more =
     (λ k. two_by (λ ns. at_command command (bytes_table k ns)) (λ i j ns. refl) (number_of_field g) (number_of_field h) (numbers_of_fields more)) (key_of f)))
     refl
 
--- a line of too many fields
-pub is_crowded : (line command name read field other : List ℕ) (after_command after_name after_field after_other : List (List ℕ))
-    (last : List ℕ) (more : List (List ℕ))
-    → fields_of line ≡ command ∷ after_command → after_command ≡ name ∷ after_name → after_name ≡ field ∷ after_field
-    → after_field ≡ other ∷ after_other → after_other ≡ last ∷ more
-    → cond (is_name name) (Some name) None ≡ Some read → request_of line ≡ None
-is_crowded line command name read field other after_command after_name after_field after_other last more first second third fourth fifth is =
-    is_named line command name read after_command after_name (field ∷ other ∷ last ∷ more) first second
-    (third ∙ ap (λ fs. field ∷ fs) (fourth ∙ ap (λ fs. other ∷ fs) fifth)) is
-    ∙ no_three command read field other last more
+-- a command of too many fields
+pub is_crowded : (command name field other : List ℕ) (after_name after_field after_other : List (List ℕ)) (last : List ℕ) (more : List (List ℕ))
+    → after_name ≡ field ∷ after_field → after_field ≡ other ∷ after_other → after_other ≡ last ∷ more
+    → named_request command name after_name ≡ None
+is_crowded command name field other after_name after_field after_other last more first second third =
+    ap (λ fs. named_request command name fs) (first ∙ ap (λ fs. field ∷ fs) (second ∙ ap (λ fs. other ∷ fs) third))
+    ∙ no_three command name field other last more

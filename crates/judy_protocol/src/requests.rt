@@ -2,7 +2,7 @@
 ghost use Rattle.std.specs.Prelude.{◌≡◌, None, Some, [], ◌∷◌, IfOk, OnErr, option_map, slice_index, if◌then◌else◌};
 ghost use Rattle.judy_model.specs.declared.calls.Call.TheVariants as calls;
 ghost use Rattle.judy_model.specs.declared.requests.Line.TheVariants as request;
-ghost use Rattle.judy_model.specs.Grammar.{bytes_call as bytes_call_lem, long_call as long_call_lem, is_token, one_call as one_call_lem, string_call as string_call_lem};
+ghost use Rattle.judy_model.specs.Grammar.{bytes_call as bytes_call_lem, fields_of, long_call as long_call_lem, is_token, one_call as one_call_lem, string_call as string_call_lem};
 ghost use Rattle.judy_model.specs.Reading.{auth_of, named_request, request_of, request_of_fields};
 
 use crate::commands::{
@@ -57,78 +57,96 @@ fn of_bytes<'a>(name: Name, call: Option<BytesCall<'a>>) -> Option<Line<'a>>
     Some(Line::Call(Call::Bytes(name, call?)))
 }
 
-/// The call of a set with one more field.
-fn one_with(command: &[u8], index: &[u8]) -> Option<OneCall>
-    ensures { result ≡ one_call_lem command.now (index.now ∷ []) }
+/// The request of a call of a set with one more field.
+fn one_with(command: &[u8], name: Name, index: &[u8]) -> Option<Line<'static>>
+    ensures { result ≡ option_map (λ c. request.Call (calls.One name c))
+        (one_call_lem command.now (index.now ∷ [])) }
 {
-    one_call(command, number(index)?)
+    of_one(name, one_call(command, number(index)?))
 }
 
-/// The call of a set with two more fields.
-fn one_with_two(command: &[u8], from: &[u8], to: &[u8]) -> Option<OneCall>
-    ensures { result ≡ one_call_lem command.now (from.now ∷ to.now ∷ []) }
+/// The request of a call of a set with two more fields.
+fn one_with_two(command: &[u8], name: Name, from: &[u8], to: &[u8]) -> Option<Line<'static>>
+    ensures { result ≡ option_map (λ c. request.Call (calls.One name c))
+        (one_call_lem command.now (from.now ∷ to.now ∷ [])) }
 {
-    one_pair_call(command, number(from)?, number(to)?)
+    of_one(name, one_pair_call(command, number(from)?, number(to)?))
 }
 
-/// The call of a map from words with one more field.
-fn long_with(command: &[u8], index: &[u8]) -> Option<LongCall>
-    ensures { result ≡ long_call_lem command.now (index.now ∷ []) }
+/// The request of a call of a map from words with one more field.
+fn long_with(command: &[u8], name: Name, index: &[u8]) -> Option<Line<'static>>
+    ensures { result ≡ option_map (λ c. request.Call (calls.Long name c))
+        (long_call_lem command.now (index.now ∷ [])) }
 {
-    long_call(command, number(index)?)
+    of_long(name, long_call(command, number(index)?))
 }
 
-/// The call of a map from words with two more fields.
-fn long_with_two(command: &[u8], index: &[u8], other: &[u8]) -> Option<LongCall>
-    ensures { result ≡ long_call_lem command.now (index.now ∷ other.now ∷ []) }
+/// The request of a call of a map from words with two more fields.
+fn long_with_two(command: &[u8], name: Name, index: &[u8], other: &[u8]) -> Option<Line<'static>>
+    ensures { result ≡ option_map (λ c. request.Call (calls.Long name c))
+        (long_call_lem command.now (index.now ∷ other.now ∷ [])) }
 {
-    long_pair_call(command, number(index)?, number(other)?)
+    of_long(
+        name,
+        long_pair_call(command, number(index)?, number(other)?),
+    )
 }
 
-/// The call of a map from strings with one more field.
+/// The request of a call of a map from strings with one more field.
 fn strings_with<'a>(
     command: &[u8],
+    name: Name,
     field: &[u8],
     room: &'a mut [u8; KEY_LIMIT],
-) -> Option<StrCall<'a>>
-    ensures { result ≡ string_call_lem command.now (field.now ∷ []) }
+) -> Option<Line<'a>>
+    ensures { result ≡ option_map (λ c. request.Call (calls.Str name c))
+        (string_call_lem command.now (field.now ∷ [])) }
 {
-    string_call(command, string(field, room)?)
+    of_strings(name, string_call(command, string(field, room)?))
 }
 
-/// The call of a map from strings with two more fields.
+/// The request of a call of a map from strings with two more fields.
 fn strings_with_two<'a>(
     command: &[u8],
+    name: Name,
     field: &[u8],
     value: &[u8],
     room: &'a mut [u8; KEY_LIMIT],
-) -> Option<StrCall<'a>>
-    ensures { result ≡ string_call_lem command.now (field.now ∷ value.now ∷ []) }
+) -> Option<Line<'a>>
+    ensures { result ≡ option_map (λ c. request.Call (calls.Str name c))
+        (string_call_lem command.now (field.now ∷ value.now ∷ [])) }
 {
-    string_put(command, string(field, room)?, number(value)?)
+    of_strings(
+        name,
+        string_put(command, string(field, room)?, number(value)?),
+    )
 }
 
-/// The call of a map from byte keys with one more field.
+/// The request of a call of a map from byte keys with one more field.
 fn bytes_with<'a>(
     command: &[u8],
+    name: Name,
     field: &[u8],
     room: &'a mut [u8; KEY_LIMIT],
-) -> Option<BytesCall<'a>>
-    ensures { result ≡ bytes_call_lem command.now (field.now ∷ []) }
+) -> Option<Line<'a>>
+    ensures { result ≡ option_map (λ c. request.Call (calls.Bytes name c))
+        (bytes_call_lem command.now (field.now ∷ [])) }
 {
-    bytes_call(command, key(field, room)?)
+    of_bytes(name, bytes_call(command, key(field, room)?))
 }
 
-/// The call of a map from byte keys with two more fields.
+/// The request of a call of a map from byte keys with two more fields.
 fn bytes_with_two<'a>(
     command: &[u8],
+    name: Name,
     field: &[u8],
     value: &[u8],
     room: &'a mut [u8; KEY_LIMIT],
-) -> Option<BytesCall<'a>>
-    ensures { result ≡ bytes_call_lem command.now (field.now ∷ value.now ∷ []) }
+) -> Option<Line<'a>>
+    ensures { result ≡ option_map (λ c. request.Call (calls.Bytes name c))
+        (bytes_call_lem command.now (field.now ∷ value.now ∷ [])) }
 {
-    bytes_put(command, key(field, room)?, number(value)?)
+    of_bytes(name, bytes_put(command, key(field, room)?, number(value)?))
 }
 
 /// The token that a field writes. Its bytes are put into the room.
@@ -194,10 +212,10 @@ fn request_of_one<'a>(
     ensures { result ≡ named_request command.now name (field.now ∷ []) }
 {
     match kind_letter(command) {
-        b'1' => of_one(name, one_with(command, field)),
-        b'L' => of_long(name, long_with(command, field)),
-        b'S' => of_strings(name, strings_with(command, field, room)),
-        b'H' => of_bytes(name, bytes_with(command, field, room)),
+        b'1' => one_with(command, name, field),
+        b'L' => long_with(command, name, field),
+        b'S' => strings_with(command, name, field, room),
+        b'H' => bytes_with(command, name, field, room),
         _ => login(command, name, field, room),
     }
 }
@@ -213,11 +231,32 @@ fn request_of_two<'a>(
     ensures { result ≡ named_request command.now name (field.now ∷ other.now ∷ []) }
 {
     match kind_letter(command) {
-        b'1' => of_one(name, one_with_two(command, field, other)),
-        b'L' => of_long(name, long_with_two(command, field, other)),
-        b'S' => of_strings(name, strings_with_two(command, field, other, room)),
-        b'H' => of_bytes(name, bytes_with_two(command, field, other, room)),
+        b'1' => one_with_two(command, name, field, other),
+        b'L' => long_with_two(command, name, field, other),
+        b'S' => strings_with_two(command, name, field, other, room),
+        b'H' => bytes_with_two(command, name, field, other, room),
         _ => None,
+    }
+}
+
+/// The request of a command with a name and what comes after it.
+fn request_after_name<'a>(
+    command: &[u8],
+    name: Name,
+    after_name: &[u8],
+    room: &'a mut [u8; KEY_LIMIT],
+) -> Option<Line<'a>>
+    ensures { result ≡ named_request command.now name (fields_of after_name.now) }
+{
+    let Some((field, after_field)) = next_field(after_name) else {
+        return request_of_name(command, name);
+    };
+    let Some((other, after_other)) = next_field(after_field) else {
+        return request_of_one(command, name, field, room);
+    };
+    match next_field(after_other) {
+        Some(_) => None,
+        None => request_of_two(command, name, field, other, room),
     }
 }
 
@@ -234,16 +273,7 @@ fn request<'a>(line: &[u8], room: &'a mut [u8; KEY_LIMIT]) -> Option<Line<'a>>
     let Some(name) = Name::read(name) else {
         return None;
     };
-    let Some((field, after_field)) = next_field(after_name) else {
-        return request_of_name(command, name);
-    };
-    let Some((other, after_other)) = next_field(after_field) else {
-        return request_of_one(command, name, field, room);
-    };
-    match next_field(after_other) {
-        Some(_) => None,
-        None => request_of_two(command, name, field, other, room),
-    }
+    request_after_name(command, name, after_name, room)
 }
 
 /// The request of a line. The line comes without its LF and without the CR before it.
