@@ -1,11 +1,14 @@
 -- The two halves of a story that a crash cut, by what is in them.
 --     restored-acts     the answers of the system are those of both, in order
 --     restored-changes  and so are the tables that were put in force
+--     answered-changes  where each round is synced, the first half has the tables that were put in force before an answer
 use Rattle.std.proofs.Common.{◌≡◌, inl, inr, ℕ, List, [], ◌∷◌, ◌++◌, refl, sym, ◌∙◌, ap, append_assoc, append-nil}
+use Rattle.judy_many.specs.Nets.Act.{Wrote}
 use Rattle.judy_many.specs.Sessions.{Turn}
 use Rattle.judy_many.specs.Stories.{Story, acts_by, acts_in, changes_in}
 use Rattle.judy_many.specs.Stories.Moment.{Changed, Did, Ran}
 use Rattle.judy_many.specs.declared.network.Sync.{Sync}
+use Rattle.judy_many.specs.declared.network.Sync.TheVariants as sync
 use Rattle.judy_server.specs.Crashes.{AreHalves, IsRestored}
 use Rattle.judy_server.specs.Tally.{Tallied}
 
@@ -38,3 +41,8 @@ module _ (rule : Sync) (before : Tallied) (story : Story) (after restored : Tall
 
   pub restored-changes : changes_in h.done ++ changes_in h.rest ≡ changes_in story
   restored-changes = halves-of changes_in refl changes-append (λ n turns s. refl) h.done h.rest story h.halves
+
+  pub answered-changes : rule ≡ sync.Round → (p q : Story) (n : ℕ) (bytes : List ℕ) → story ≡ p ++ Did (Wrote n bytes) ∷ q
+      → (more : List (List ℕ)) × (changes_in h.done ≡ changes_in p ++ more)
+  answered-changes round p q n bytes e =
+      let (more, is) = h.answered round p q n bytes e in (changes_in more, ap changes_in is ∙ changes-append p more)
