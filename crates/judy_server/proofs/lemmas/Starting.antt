@@ -8,6 +8,7 @@
 --     HasServedAny ..           a server of a table's file served connections, with a journal or without one
 --     served-alone, served-on   each server without a journal is one, and each that went on with its journal
 --     done-served, stopped-served   and so is each that ended in order
+--     all-served                each other job has served, or says why not
 --     starts-on-socket          its first steps: one file, the next segment of its journal if it has to be begun, its sockets
 use Rattle.std.proofs.Common.{◌≡◌, ◌≢◌, ◌⊎◌, inl, inr, ℕ, ◌≤◌, true, false, List, [], ◌∷◌, ◌++◌, map, Option, Some, None}
 use Rattle.std.proofs.Common.{refl, sym, ◌∙◌, ap, append_assoc, append-nil, arith, not, subst}
@@ -31,8 +32,8 @@ use Rattle.judy_model.specs.Solo.{is_memory}
 use Rattle.judy_model.specs.Tenant.{changes}
 use Rattle.judy_protocol.specs.Plain.{is_refused}
 use Rattle.judy_programs.specs.Asking.{Log, Logs}
-use Rattle.judy_programs.specs.Hosting.{Desks, HasBegun, HasServedAll, HavePaths, IsServing, watched}
-use Rattle.judy_programs.specs.Journaled.{HasMade, HasNotGoneOn, HasServedOn, writer_there}
+use Rattle.judy_programs.specs.Hosting.{Desks, HasBegun, HasNoSocket, HasNoSockets, HasServedAll, HavePaths, IsServing, Refuses, watched}
+use Rattle.judy_programs.specs.Journaled.{HasMade, HasNoJournal, HasNotGoneOn, HasServedOn, writer_there}
 use Rattle.judy_programs.specs.Opening.{HasOpened}
 use Rattle.judy_programs.specs.declared.socket.Hosted.{Hosted}
 use Rattle.judy_programs.specs.declared.socket.Hosted.TheVariants as hosted
@@ -311,6 +312,75 @@ module _ (has : List ℕ → Kept → Type 0) (secret config socket : List ℕ) 
       by (inr (kept, at, before, there, gone, inl (e, same))) = cc
       by (inr (kept, at, before, there, gone, inr (e, begins, fails))) = cc
   stopped-served (Some directory) (inr (inr h)) = served-on (has directory) secret config socket watch reserve limits log log' hosted.Stopped ending.Stopped h h.served
+
+-- how a job ends whose server ended so
+abbrev pub hosted_of : Ending → Hosted
+hosted_of ending.Done = hosted.Done
+hosted_of ending.Stopped = hosted.Stopped
+hosted_of ending.Socket = hosted.Socket
+hosted_of ending.Memory = hosted.Memory
+hosted_of ending.Journal = hosted.Journal
+
+module _ (has : List ℕ → Kept → Type 0) (secret config socket : List ℕ) (watch : Desks) (reserve : Option ℕ) (limits : Limits) (log log' : Log) where
+  -- no connection was served: there is no service, its journal can't be gone on with, or a socket can't be made
+  abbrev pub IsUnserved : Option (List ℕ) → Hosted → Type 0
+  IsUnserved None how = Refuses (IsNewService secret) reserve how config log log'
+      ⊎ ((how ≡ hosted.Socket) × HasNoSocket server_rules (IsNewService secret reserve) config socket watch log log')
+  IsUnserved (Some directory) how = Refuses (IsNewService secret) reserve how config log log'
+      ⊎ HasNoJournal server_rules server_replay (has directory) (IsNewService secret) reserve how config log log'
+      ⊎ ((how ≡ hosted.Socket) × ((ready : Log) × HasNoSockets socket watch ready log'))
+
+  -- a server ended so
+  abbrev pub HasEndedSo : Hosted → Type 0
+  HasEndedSo how = (end : Ending) × (hosted_of end ≡ how) × HasServedAny secret reserve config socket watch limits end log log'
+
+  alone-ended : (end : Ending) → HasServedAll server_rules (IsNewService secret reserve) config socket watch limits end log log'
+      → HasEndedSo (hosted_of end)
+  alone-ended end h = (end, refl, served-alone secret config socket watch reserve limits end log log' h)
+
+  on-ended : (directory : List ℕ) (end : Ending)
+      → (h : HasServedOn server_rules server_replay (has directory) (IsNewService secret) reserve (hosted_of end) config socket watch limits log log')
+      → IsServing server_rules socket watch limits (Some h.writer) end h.ready log' h.before h.after → HasEndedSo (hosted_of end)
+  on-ended directory end h s =
+      (end, refl, served-on (has directory) secret config socket watch reserve limits log log' (hosted_of end) end h s)
+
+  -- each job of a server has served connections, with a journal or without one, or says why not
+  pub all-served : (directory : Option (List ℕ)) (how : Hosted) → HostsBy has directory secret reserve how config socket watch limits log log'
+      → HasEndedSo how ⊎ IsUnserved directory how
+  all-served None hosted.Done h = inl (alone-ended ending.Done h)
+  all-served None hosted.Stopped h = inl (alone-ended ending.Stopped h)
+  all-served None hosted.Journal h = inl (alone-ended ending.Journal h)
+  all-served None hosted.Memory (inl none) = inr (inl none)
+  all-served None hosted.Memory (inr h) = inl (alone-ended ending.Memory h)
+  all-served None hosted.Socket (inl none) = inr (inr (refl, none))
+  all-served None hosted.Socket (inr h) = inl (alone-ended ending.Socket h)
+  all-served None hosted.Recovery h = absurd h
+  all-served None hosted.Config h = inr (inl h)
+  all-served None hosted.Long h = inr (inl h)
+  all-served None (hosted.Table f) h = inr (inl h)
+  all-served None hosted.Reserve h = inr (inl h)
+  all-served (Some directory) how (inl none) = inr (inl none)
+  all-served (Some directory) how (inr (inl none)) = inr (inr (inl none))
+  all-served (Some directory) how (inr (inr h)) = by how h
+    where
+      sockets : (h : HasServedOn server_rules server_replay (has directory) (IsNewService secret) reserve hosted.Socket config socket watch limits log log')
+          → HasNoSockets socket watch h.ready log' ⊎ IsServing server_rules socket watch limits (Some h.writer) ending.Socket h.ready log' h.before h.after
+          → HasEndedSo hosted.Socket ⊎ IsUnserved (Some directory) hosted.Socket
+      sockets h (inl none) = inr (inr (inr (refl, (h.ready, none))))
+      sockets h (inr s) = inl (on-ended directory ending.Socket h s)
+
+      by : (how : Hosted) → HasServedOn server_rules server_replay (has directory) (IsNewService secret) reserve how config socket watch limits log log'
+          → HasEndedSo how ⊎ IsUnserved (Some directory) how
+      by hosted.Done h = inl (on-ended directory ending.Done h h.served)
+      by hosted.Stopped h = inl (on-ended directory ending.Stopped h h.served)
+      by hosted.Memory h = inl (on-ended directory ending.Memory h h.served)
+      by hosted.Journal h = inl (on-ended directory ending.Journal h h.served)
+      by hosted.Socket h = sockets h h.served
+      by hosted.Config h = absurd h.served
+      by hosted.Long h = absurd h.served
+      by (hosted.Table f) h = absurd h.served
+      by hosted.Reserve h = absurd h.served
+      by hosted.Recovery h = absurd h.served
 
 -- ---- the first steps
 
