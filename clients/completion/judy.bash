@@ -24,7 +24,7 @@ _judy_command() {
 _judy_words() {
     case $1 in
         '') echo "$_judy_commands $_judy_calls $_judy_options --version --help" ;;
-        help) echo "$_judy_calls --help" ;;
+        help) echo "$_judy_commands $_judy_calls --help" ;;
         add) echo "JL: JSL: JHS: $_judy_options --help" ;;
         status | wait) echo "$_judy_options --help" ;;
         top) echo "--once --timeout --help" ;;
