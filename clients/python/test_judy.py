@@ -316,6 +316,9 @@ class Completion(unittest.TestCase):
             wanted = {option for action in subcommand(name)._actions for option in action.option_strings} - {"-h"}
             self.assertEqual({word for word in self.completed("judy", "-u", "alice", name, "-")}, wanted, name)
         self.assertEqual(self.completed("judy", "table", "t.toml", "s"), ["set"])
+        for name in ("status", "top", "stop", "reload", "kick", "load", "check", "backup", "compact", "table"):
+            self.assertEqual(set(self.completed("judy", name, "")), set(os.listdir(".")), name)
+        self.assertIn("add", self.completed("judy", "table", "t.toml", ""))
         self.assertEqual(self.completed("judy", "help", "ta"), ["table"])
         self.assertEqual(self.completed("judy", "help", "J1F"), ["J1F", "J1FA", "J1FE"])
         self.assertEqual(self.completed("judy", "dump", "-o", "/et"), ["/etc"])
