@@ -24,7 +24,7 @@ _judy_command() {
 _judy_words() {
     case $1 in
         '') echo "$_judy_commands $_judy_calls $_judy_options --version --help" ;;
-        help) echo "$_judy_calls --help" ;;
+        help) echo "$_judy_commands $_judy_calls --help" ;;
         add) echo "JL: JSL: JHS: $_judy_options --help" ;;
         status | wait) echo "$_judy_options --help" ;;
         top) echo "--once --timeout --help" ;;
@@ -41,7 +41,7 @@ _judy_words() {
 }
 
 _judy() {
-    local current=${COMP_WORDS[COMP_CWORD]} before=${COMP_WORDS[COMP_CWORD - 1]} command
+    local current=${COMP_WORDS[COMP_CWORD]} before=${COMP_WORDS[COMP_CWORD - 1]} command words
     COMPREPLY=()
     case $before in
         -s | --socket | --ca | --token-file | --to | --new-token-file | --folder | -o | --output)
@@ -53,7 +53,13 @@ _judy() {
             ;;
     esac
     command=$(_judy_command)
-    mapfile -t COMPREPLY < <(compgen -W "$(_judy_words "$command")" -- "$current")
+    words=$(_judy_words "$command")
+    # A path comes next, and no word, if this is no option.
+    case $command:$before:$current in
+        *:*:-*) ;;
+        table:table:* | status:* | top:* | stop:* | reload:* | kick:* | load:* | check:* | backup:* | compact:*) words= ;;
+    esac
+    mapfile -t COMPREPLY < <(compgen -W "$words" -- "$current")
     case $command in
         '' | status | top | stop | reload | kick | load | check | backup | compact | table)
             [ ${#COMPREPLY[@]} -gt 0 ] || mapfile -t COMPREPLY < <(compgen -f -- "$current")

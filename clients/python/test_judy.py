@@ -236,6 +236,19 @@ class Service(JudyTest):
         ran = subprocess.run(["sh", "-c", 'exec "$@" <&-', "sh", sys.executable, os.path.join(HERE, "judy")], stderr=subprocess.PIPE, check=False)
         self.assertEqual((ran.returncode, ran.stderr.splitlines()[-1]), (2, b"judy: error: standard input is closed: there is no script to run"))
 
+    def test_each_file_is_named(self):
+        gone, folder = os.path.join(self.folder(), "gone"), self.folder()
+        for words in (
+            ("table", gone), ("table", gone, "set", "alice", "--quota", "1"), ("check", "--whole", gone), ("-u", "alice", "load", gone), ("compact", "--when", "1", gone),
+            ("backup", "--folder", folder, gone), ("-u", "alice", "--token-file", gone, "status"), ("-t", "localhost:1", "--tls", "--ca", gone, "status"),
+            ("-u", "alice", "dump", "-o", os.path.join(gone, "dump"), "J1:ids"),
+        ):  # fmt: skip
+            status, said, wrong = run_judy(b"", *words)
+            self.assertEqual((status, said, wrong.count("\n")), (1, "", 1), (words, wrong))
+            self.assertEqual((gone in wrong, "No such file or directory" in wrong, "Errno" in wrong), (True, True, False), (words, wrong))
+        for words in (("table", folder), ("check", "--whole", folder), ("-u", "alice", "load", folder), ("-u", "alice", folder)):
+            self.assertEqual(run_judy(b"", *words), (1, "", "judy: %s: Is a directory\n" % folder), words)
+
     def test_suggestions(self):
         for word, meant in (("J1UN", "J1U"), ("J1Unset", "J1U"), ("Judy1Unse", "Judy1Unset"), ("JLGET", "JLG"), ("statsu", "status"), ("dmup", "dump")):
             status, _, wrong = run_judy(b"", word, "ids")
@@ -303,6 +316,11 @@ class Completion(unittest.TestCase):
             wanted = {option for action in subcommand(name)._actions for option in action.option_strings} - {"-h"}
             self.assertEqual({word for word in self.completed("judy", "-u", "alice", name, "-")}, wanted, name)
         self.assertEqual(self.completed("judy", "table", "t.toml", "s"), ["set"])
+        for name in ("status", "top", "stop", "reload", "kick", "load", "check", "backup", "compact", "table"):
+            self.assertEqual(set(self.completed("judy", name, "")), set(os.listdir(".")), name)
+        self.assertIn("add", self.completed("judy", "table", "t.toml", ""))
+        self.assertEqual(self.completed("judy", "help", "ta"), ["table"])
+        self.assertEqual(self.completed("judy", "help", "J1F"), ["J1F", "J1FA", "J1FE"])
         self.assertEqual(self.completed("judy", "dump", "-o", "/et"), ["/etc"])
         self.assertEqual(self.completed("judy", "J1S", "a"), [])
 

@@ -78,7 +78,7 @@ class Backups(JudyTest):
         before = self.there()
         for row, why in (
             ("alice wrong J1:ids", "the server does not know this tenant and token"), ("alice look J1:typo J1:ids", "nothing under J1:typo"),
-            ("alice look --all", "the tenant has no catalogue of its arrays: name them"), ("alice look JHS:keys=/nowhere", "No such file or directory: '/nowhere'"),
+            ("alice look --all", "the tenant has no catalogue of its arrays: name them"), ("alice look JHS:keys=/nowhere", "/nowhere: No such file or directory"),
         ):  # fmt: skip
             status, said, wrong = self.backup("%s\nbob hello J1:few\n" % row)
             self.assertEqual((status, said), (1, "bob: 3 entries of 3\n"))

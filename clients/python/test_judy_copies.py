@@ -105,7 +105,10 @@ class Copies(JudyTest):
 
     def test_nothing_there(self):
         status, said, wrong = run_judy(b"", "-u", "alice", "dump", "J1:typo")
-        self.assertEqual((status, said.splitlines()[1].split()[:3], wrong), (1, ["#", "end", "0"], "judy: nothing under J1:typo\n"))
+        self.assertEqual((status, len(said.splitlines()), said.split()[:3]), (1, 1, ["#", "judy-dump", "1"]))
+        self.assertEqual(wrong, "judy: nothing under J1:typo\njudy: the dump is not whole; --empty dumps arrays without entries too\n")
+        status, said, _ = run_judy(b"", "-u", "alice", "dump", "--empty", "J1:typo")
+        self.assertEqual((status, said.splitlines()[1].split()[:3]), (0, ["#", "end", "0"]))
         path = self.file("kept", b"the last good one")
         status, _, wrong = run_judy(b"", "-u", "alice", "dump", "-o", path, "J1:typo", "J1:ids")
         self.assertEqual((status, "%s stays as it was" % path in wrong), (1, True))

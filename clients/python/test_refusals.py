@@ -71,6 +71,8 @@ class Refusals(WithClient):
         nowhere = os.path.join(self.served.folder.name, "nowhere")
         with self.assertRaisesRegex(NoServer, "no server listens at %s: start judyd serve, or check the path" % nowhere):
             Client(nowhere)
+        with self.assertRaisesRegex(NoServer, "no server listens at localhost:1: start what forwards to judyd, or check host and port"):
+            Client(("localhost", 1))
         with self.assertRaisesRegex(NoServer, "no connection to %s.*: AF_UNIX path too long" % self.served.folder.name):
             Client(os.path.join(self.served.folder.name, "n" * 120))
         with self.assertRaisesRegex(NotAuthorized, "ERR AUTH: the tenant is unknown, the token is wrong, or nobody has logged in"):

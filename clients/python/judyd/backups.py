@@ -20,7 +20,7 @@ from .copies import ArrayName, all_arrays, read_name
 from .dumpfile import replaced, write_all
 from .errors import Closed, Error, NotAuthorized
 from .fields import name_field, used_of
-from .session import complain
+from .session import complain, reason
 from .transfer import dump_all
 from .wire import Wire
 
@@ -101,7 +101,7 @@ def dump_of(server: Server, row: Row, path: str) -> str:
         with server.client(row.tenant, row.token) as client:
             names = all_arrays(client)
     with server.wire(row.tenant, row.token) as wire, replaced(path, path + ".1") as file:
-        empty, count = dump_all(wire, names, lambda data: write_all(file, data))
+        empty, count = dump_all(wire, names, row.may_be_empty, lambda data: write_all(file, data))
         if empty and not row.may_be_empty:
             raise Error("nothing under %s" % ", ".join(map(str, empty)))
         if count == 0:
@@ -123,7 +123,7 @@ def backup(server: Server, path: str, folder: str) -> int:
             try:
                 told.append(dump_of(server, row, file))
             except (Closed, Error, OSError, ValueError) as e:
-                why = "the server does not know this tenant and token" if isinstance(e, NotAuthorized) else str(e)
+                why = "the server does not know this tenant and token" if isinstance(e, NotAuthorized) else reason(e)
                 complain("%s: %s; %s" % (row.tenant, why, file + " stays as it was" if os.path.exists(file) else "it has no dump"))
                 failed.append(row.tenant)
     if failed or faults:

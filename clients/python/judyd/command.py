@@ -16,7 +16,7 @@ from .errors import Closed, Error, NotAuthorized, Refused
 from .fields import MAX
 from .logins import address_of, client_of, connector, logged_in, new_token, second_server, session_of, token_of, visitor_client, visitor_of, wire_of
 from .options import first_words, subcommand
-from .session import Printer, complain, run_script
+from .session import Printer, complain, reason, run_script
 from .terminal import Terminal
 from .wire import Wire
 from .wording import COMMANDS, help_of, is_request, request_of
@@ -323,7 +323,7 @@ def main() -> int:
         complain("refused: %s" % e)
         return 1
     except (Error, ValueError, OSError) as e:
-        complain(str(e))
+        complain(reason(e))
         return 1
     except KeyboardInterrupt:
         return 130

@@ -193,7 +193,8 @@ def no_server(address: Address, why: OSError) -> NoServer:
     if isinstance(why, (socket.timeout, TimeoutError)):
         return NoServer("no connection to %s in time%s" % (place, _SERVED))
     if isinstance(why, (FileNotFoundError, ConnectionRefusedError)):
-        return NoServer("no server listens at %s: start judyd serve, or check the path" % place)
+        todo = "start what forwards to judyd, or check host and port" if isinstance(address, tuple) else "start judyd serve, or check the path"
+        return NoServer("no server listens at %s: %s" % (place, todo))
     return NoServer("no connection to %s: %s" % (place, why))
 
 

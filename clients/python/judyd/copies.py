@@ -1,6 +1,7 @@
 """The arrays that a command line names, their entries, and how `judy check` compares a dump with a
 server's arrays."""
 
+import errno
 import os
 import sys
 import time
@@ -187,4 +188,8 @@ def check(arrays: Arrays, blocks: Iterable[Tuple[int, bytes]]) -> int:
 
 def open_input(path: Optional[str]) -> int:
     """The file descriptor of a file, or of standard input."""
-    return sys.stdin.fileno() if path in (None, "-") else os.open(str(path), os.O_RDONLY)
+    if path in (None, "-"):
+        return sys.stdin.fileno()
+    if os.path.isdir(str(path)):
+        raise IsADirectoryError(errno.EISDIR, os.strerror(errno.EISDIR), path)
+    return os.open(str(path), os.O_RDONLY)

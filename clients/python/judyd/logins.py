@@ -62,7 +62,10 @@ def host_and_port(text: str) -> Optional[Tuple[str, int]]:
 
 def tls_of(options: argparse.Namespace) -> Optional[ssl.SSLContext]:
     """How to use TLS to a host and a port."""
-    return ssl.create_default_context(cafile=options.ca) if options.tls else None
+    try:
+        return ssl.create_default_context(cafile=options.ca) if options.tls else None
+    except OSError as e:  # it names no file, and an ssl.SSLError is one too
+        raise ValueError("no certificates in %s: %s" % (options.ca, e.strerror or e)) from None
 
 
 def connector(options: argparse.Namespace) -> Callable[[], Client]:

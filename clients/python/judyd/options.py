@@ -5,7 +5,7 @@ from typing import Dict, NamedTuple
 
 from . import __version__
 from .client import TIMEOUT
-from .compactions import growth
+from .compactions import Growth, growth
 
 USAGE = """judy: a command line for a judyd. At a terminal it asks for lines, with history and completion, and
 makes a connection for each line. With a call on the command line it makes that call. Otherwise it runs
@@ -102,6 +102,14 @@ def seconds(text: str) -> float:
     return number
 
 
+def grown(text: str) -> Growth:
+    """The growth of a journal."""
+    try:
+        return growth(text)
+    except ValueError as e:
+        raise argparse.ArgumentTypeError(str(e)) from None
+
+
 def subcommand(name: str) -> argparse.ArgumentParser:
     """The words of a subcommand."""
     about = ABOUT[name]
@@ -138,7 +146,7 @@ def subcommand(name: str) -> argparse.ArgumentParser:
         sub.add_argument("--folder", required=True, metavar="DIR", help="where the dumps are")
         sub.add_argument("list", metavar="LIST", help="a file with a row for each tenant: TENANT TOKEN ARRAY.. or --all")
     elif name == "compact":
-        sub.add_argument("--when", type=growth, metavar="GROWTH", help="do nothing below this growth: 100%% of the snapshot, or 1G")
+        sub.add_argument("--when", type=grown, metavar="GROWTH", help="do nothing below this growth: 100%% of the snapshot, or 1G")
         sub.add_argument("folder", metavar="DIR", help="the directory of the journal")
     elif name == "move":
         sub.add_argument("--to", required=True, metavar="WHERE", help="the second server: the path of its socket, or HOST:PORT")

@@ -109,6 +109,13 @@ def _row(*fields: str) -> str:
     return "%-36s %-16s %-22s %s" % fields
 
 
+def reason(e: BaseException) -> str:
+    """What an exception says. Of a fault with a file it is the path, and what the system says."""
+    if not isinstance(e, OSError) or not e.strerror:
+        return str(e)
+    return "%s: %s" % (os.fsdecode(e.filename), e.strerror) if isinstance(e.filename, (str, bytes)) else e.strerror
+
+
 def complain(text: str) -> None:
     """Writes to standard error, after what was printed."""
     sys.stdout.flush()

@@ -8,7 +8,7 @@ from .catalogue import ARRAYS, KEYS, read
 from .copies import SHOWN, ArrayName, Progress, keys_in
 from .dumpfile import NoDump, Reader, Write, Writer, is_regular, replaced, verify, whole_lines, write_all
 from .errors import Closed, Error
-from .session import complain
+from .session import complain, reason
 from .sweep import Block, RankedSweep, StringSweep, present
 from .wire import Wire
 from .wording import advice, coded, is_refused, request_of
@@ -32,8 +32,9 @@ def blocks_of(wire: Wire, array: ArrayName) -> Iterator[Block]:
     return present(wire, array.name, keys)
 
 
-def dump_all(wire: Wire, arrays: List[ArrayName], write: Write) -> Tuple[List[ArrayName], int]:
-    """Writes a dump, and returns the arrays that have no entries, and how many entries there are."""
+def dump_all(wire: Wire, arrays: List[ArrayName], may_be_empty: bool, write: Write) -> Tuple[List[ArrayName], int]:
+    """Writes a dump, and returns the arrays that have no entries, and how many entries there are. It lacks its
+    last line if there are such arrays and none may be empty."""
     dump, empty = Writer(write, arrays), []
     for array in arrays:
         progress = Progress(str(array))
@@ -43,7 +44,8 @@ def dump_all(wire: Wire, arrays: List[ArrayName], write: Write) -> Tuple[List[Ar
         progress.end()
         if progress.count == 0 and array.name not in (ARRAYS, KEYS):
             empty.append(array)
-    dump.end()
+    if may_be_empty or not empty:
+        dump.end()
     return empty, dump.count
 
 
@@ -56,26 +58,27 @@ def dump(wire: Wire, arrays: List[ArrayName], path: Optional[str], may_be_empty:
     file stays as it was, and standard output lacks the last line of a dump."""
     try:
         if path is None:
-            return _tell_empty(dump_all(wire, arrays, lambda data: write_all(sys.stdout.fileno(), data))[0], may_be_empty)
-        with replaced(path) as file:
-            status = _tell_empty(dump_all(wire, arrays, lambda data: write_all(file, data))[0], may_be_empty)
-            if status:
-                raise NothingThere("%s stays as it was; --empty dumps arrays without entries too" % path)
-        return status
+            _dump_to(sys.stdout.fileno(), wire, arrays, may_be_empty)
+        else:
+            with replaced(path) as file:
+                _dump_to(file, wire, arrays, may_be_empty)
+        return 0
     except BrokenPipeError:
         raise
     except (Closed, OSError) as e:
-        complain("%s: the dump is not whole%s" % (e, "; %s stays as it was" % path if path else ""))
-    except NothingThere as e:
-        complain(str(e))
+        complain("%s: the dump is not whole%s" % (reason(e), "; %s stays as it was" % path if path else ""))
+    except NothingThere:
+        complain("%s; --empty dumps arrays without entries too" % (path + " stays as it was" if path else "the dump is not whole"))
     return 1
 
 
-def _tell_empty(arrays: List[ArrayName], may_be_empty: bool) -> int:
-    """Reports arrays without entries, and returns the status."""
-    for array in arrays if not may_be_empty else []:
-        complain("nothing under %s" % array)
-    return 1 if arrays and not may_be_empty else 0
+def _dump_to(file: int, wire: Wire, arrays: List[ArrayName], may_be_empty: bool) -> None:
+    """Writes a dump to a file. Names the arrays without entries, and raises NothingThere, if none may be empty."""
+    empty, _ = dump_all(wire, arrays, may_be_empty, lambda data: write_all(file, data))
+    if empty and not may_be_empty:
+        for array in empty:
+            complain("nothing under %s" % array)
+        raise NothingThere
 
 
 class Load:
