@@ -243,8 +243,9 @@ def _tenants_in(text: str) -> Dict[str, _Tenant]:
     for line, read in enumerate(text.split("\n"), 1):
         heading, statement = _HEADING.match(read), _STATEMENT.match(read)
         if heading:
-            above = re.findall(_PART, heading[2])[0]
-            tenants.setdefault(_name(above), _Tenant(line, above, []))
+            first: str = re.findall(_PART, heading[2])[0]
+            above = first
+            tenants.setdefault(_name(first), _Tenant(line, first, []))
         elif statement:
             path = ([] if above is None else [above]) + re.findall(_PART, statement[1])
             tenant = tenants.setdefault(_name(path[0]), _Tenant(line, path[0], []))
