@@ -1,5 +1,5 @@
 #!/usr/bin/env python3
-"""judyd with a journal beside redis with its append-only file, on one disk: bench/journal.py [--seconds S] [--rounds N] [--disk DIR]
+"""judyd with a journal beside redis with its append-only file, on one disk: bench/journal.py [--seconds S] [--rounds N] [--disk DIR] [--starts]
 
 First, persistent clients (persistent.c; half of their calls store, half look): 1, 8 and 64 of them, with 1
 and with 100 calls in flight. The servers are judyd without a journal, with `--sync round` and with
@@ -7,7 +7,8 @@ and with 100 calls in flight. The servers are judyd without a journal, with `--s
 second, the server's processor time of a call, and the bytes on disk of a call that stores.
 
 Then the time from a start to the first answer: a journal of 1,000,000 changing lines, and its snapshot
-(`judyd compact`, redis's BGREWRITEAOF).
+(`judyd compact`, redis's BGREWRITEAOF); and the time that the making of the snapshot takes. With --starts
+only these.
 
 Each server's folder is made in DIR (default: the system's temporary folder), which should be on a disk.
 The program is the path in JUDYD, otherwise crates/judyd/out/judyd.
@@ -210,9 +211,16 @@ def first_answer(server):
     return running, time.monotonic() - begun
 
 
+def seconds_of(work):
+    """How long some work takes."""
+    begun = time.monotonic()
+    work()
+    return time.monotonic() - begun
+
+
 def starts(disk):
     """The table of starts."""
-    print("\n| server | from 1,000,000 changing lines, s | from the snapshot of 1,000,000 entries, s |\n|---|---|---|")
+    print("\n| server | from 1,000,000 changing lines, s | from the snapshot of 1,000,000 entries, s | making the snapshot, s |\n|---|---|---|---|")
     for kind, title, words in ((Judyd, "judyd --sync 1", ["--sync", "1"]), (Redis, "redis, everysec", ["--appendonly", "yes", "--appendfsync", "everysec"])):
         folder = tempfile.mkdtemp(dir=disk)
         server = kind(folder, title, words)
@@ -224,17 +232,18 @@ def starts(disk):
         if kind is Judyd:
             os.unlink(server.socket)
         running, lines = first_answer(server)
+        made = 0.0
         if kind is Redis:
-            server.compact(wait_for(server.socket, running))
+            made = seconds_of(lambda: server.compact(wait_for(server.socket, running)))
         running.terminate()
         running.wait()
         if kind is Judyd:
             os.unlink(server.socket)
-            server.compact()
+            made = seconds_of(server.compact)
         running, snapshot = first_answer(server)
         running.terminate()
         running.wait()
-        print("| %s | %.2f | %.2f |" % (title, lines, snapshot), flush=True)
+        print("| %s | %.2f | %.2f | %.2f |" % (title, lines, snapshot, made), flush=True)
         shutil.rmtree(folder)
 
 
@@ -244,8 +253,10 @@ def main():
     parser.add_argument("--seconds", type=int, default=4, help="how long each run of clients counts")
     parser.add_argument("--rounds", type=int, default=3, help="how many runs a row has; it shows the one with the median rate")
     parser.add_argument("--disk", default=None, help="where the files are made")
+    parser.add_argument("--starts", action="store_true", help="only the times of starts and snapshots")
     options = parser.parse_args()
-    rows(options.disk, options.seconds, options.rounds)
+    if not options.starts:
+        rows(options.disk, options.seconds, options.rounds)
     starts(options.disk)
 
 

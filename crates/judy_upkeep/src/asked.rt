@@ -73,45 +73,36 @@ impl<'a> Insertion<'a> {
         self.kind == b"J1".as_slice()
     }
 
-    /// A line with this letter for what it does.
-    fn line(&self, letter: u8) -> ArrayVec<u8, LINE_LIMIT> {
-        let mut line = ArrayVec::new();
-        put(&mut line, self.kind);
-        put(&mut line, &[letter]);
-        put(&mut line, b" ");
-        put(&mut line, self.name);
-        put(&mut line, b" ");
-        put(&mut line, self.key);
-        line
+    /// Makes a line with this letter for what it does.
+    fn write(&self, letter: u8, line: &mut ArrayVec<u8, LINE_LIMIT>) {
+        line.clear();
+        put(line, self.kind);
+        put(line, &[letter]);
+        put(line, b" ");
+        put(line, self.name);
+        put(line, b" ");
+        put(line, self.key);
     }
 
-    /// The line that looks for the entry.
-    pub fn looking(&self) -> ArrayVec<u8, LINE_LIMIT> {
-        if self.is_set() {
-            self.line(b'T')
-        } else {
-            self.line(b'G')
-        }
+    /// Makes the line that looks for the entry.
+    pub fn write_look(&self, line: &mut ArrayVec<u8, LINE_LIMIT>) {
+        self.write(if self.is_set() { b'T' } else { b'G' }, line);
     }
 
-    /// The line that removes the entry.
-    pub fn removing(&self) -> ArrayVec<u8, LINE_LIMIT> {
-        if self.is_set() {
-            self.line(b'U')
-        } else {
-            self.line(b'D')
-        }
+    /// Makes the line that removes the entry.
+    pub fn write_removal(&self, line: &mut ArrayVec<u8, LINE_LIMIT>) {
+        self.write(if self.is_set() { b'U' } else { b'D' }, line);
     }
 
-    /// The line that makes the entry with this value, which is nothing for a set.
-    pub fn making(&self, value: u64) -> ArrayVec<u8, LINE_LIMIT> {
+    /// Makes the line that makes the entry with this value, which is nothing for a set.
+    pub fn write_insertion(&self, value: u64, line: &mut ArrayVec<u8, LINE_LIMIT>) {
         if self.is_set() {
-            return self.line(b'S');
+            self.write(b'S', line);
+            return;
         }
-        let mut line = self.line(b'I');
+        self.write(b'I', line);
         let mut digits = Buffer::new();
-        put(&mut line, b" ");
-        put(&mut line, digits.format(value).as_bytes());
-        line
+        put(line, b" ");
+        put(line, digits.format(value).as_bytes());
     }
 }

@@ -1,12 +1,14 @@
 //! Makes one snapshot of the closed segments of a journal.
+use crate::asking::Asking;
 use crate::closing::close_last;
 use crate::names::Names;
+use crate::output::Output;
 use crate::replacing::{Replacing, remove_stale, replace};
 use crate::replaying::Replaying;
 use crate::rewriting::Rewriting;
 use judy_disk::{DiskFault, Folder, Found, Locks, NewSnapshot, Place};
 use judy_journal::Writer;
-use judy_programs::Opens;
+use judy_programs::{Opens, Replays};
 use judy_recovery::{End, JournalFault, recover_closed};
 use std::alloc::Global;
 use std::fs::Files;
@@ -46,18 +48,18 @@ impl From<DiskFault> for Uncompacted {
 }
 
 /// A service with all entries that the closed segments make.
-fn replay_closed<S: Opens + Drop, F: Files>(
+fn replay_closed<S: Opens + Replays + Drop, F: Files>(
     alloc: Global,
     secret: &[u8],
     folder: &Folder<'_, F>,
     found: &Found,
     names: &Names,
-) -> Result<Replaying<S>, Uncompacted> {
+) -> Result<S, Uncompacted> {
     let table = names.table(alloc).map_err(|_| Uncompacted::Memory)?;
     let service = S::open(alloc, secret, table.as_slice()).map_err(|_| Uncompacted::Memory)?;
     let mut state = Replaying::new(alloc, service);
     recover_closed(folder, alloc, found, &mut state)?;
-    Ok(state)
+    Ok(state.into_service())
 }
 
 /// Begins a snapshot of the segments up to this end.
@@ -81,10 +83,10 @@ fn rewrite<S: Opens + Drop, F: Locks>(
     folder: &Folder<'_, F>,
     found: &Found,
     end: &End,
-    state: Replaying<S>,
+    service: S,
 ) -> Result<NewSnapshot<F>, Uncompacted> {
     let (writer, file) = begin(alloc, folder, end)?;
-    let mut rewriting = Rewriting::new(state, writer, file);
+    let mut rewriting = Rewriting::new(Asking::new(alloc, service), Output::new(writer, file));
     if let Err(fault) = recover_closed(folder, alloc, found, &mut rewriting) {
         return Err(match rewriting.take_fault() {
             Some(fault) => Uncompacted::Disk(fault),
@@ -103,7 +105,7 @@ fn rewrite<S: Opens + Drop, F: Locks>(
 }
 
 /// Makes one snapshot of the snapshot before and of the closed segments, which this program has taken.
-fn compact_closed<S: Opens + Drop, F: Locks + Clone + Drop>(
+fn compact_closed<S: Opens + Replays + Drop, F: Locks + Clone + Drop>(
     alloc: Global,
     secret: &[u8],
     folder: &Folder<'_, F>,
@@ -118,8 +120,8 @@ fn compact_closed<S: Opens + Drop, F: Locks + Clone + Drop>(
         remove_stale(&mut Replacing::new(folder, None), &found, kept)?;
         return Ok(Compacted::Nothing);
     };
-    let state: Replaying<S> = replay_closed(alloc, secret, folder, &found, &names)?;
-    let file = rewrite(alloc, folder, &found, &end, state)?;
+    let service: S = replay_closed(alloc, secret, folder, &found, &names)?;
+    let file = rewrite(alloc, folder, &found, &end, service)?;
     replace(&mut Replacing::new(folder, Some(file)), &found, end.segment)?;
     Ok(Compacted::Snapshot(end.segment))
 }
@@ -130,7 +132,7 @@ fn compact_closed<S: Opens + Drop, F: Locks + Clone + Drop>(
 ///
 /// If the program ends at any moment, the directory has a journal of the same entries. If the snapshot
 /// cannot be written, what was written of it is removed, so that it takes no room.
-pub fn compact<S: Opens + Drop, F: Locks + Clone + Drop>(
+pub fn compact<S: Opens + Replays + Drop, F: Locks + Clone + Drop>(
     alloc: Global,
     secret: &[u8],
     folder: &Folder<'_, F>,

@@ -3,9 +3,11 @@
 #![tactic(auto)]
 
 mod asked;
+mod asking;
 mod closing;
 mod compacting;
 mod names;
+mod output;
 mod printing;
 mod replacing;
 mod replaying;

@@ -1,12 +1,11 @@
 //! Writes each entry of a service once, in the order in which a journal made the entries.
-ghost use Rattle.std.specs.Prelude.{◌≡◌, true};
-ghost use Rattle.judy_journal.specs.Writes.{IsShortRecord};
-
 use crate::asked::insertion_of;
-use crate::replaying::{Came, Replaying};
+use crate::asking::{Asking, Came};
+use crate::output::Output;
+use arrayvec::ArrayVec;
 use judy_disk::{DiskFault, NewSnapshot};
-use judy_journal::{Writer, read_record};
-use judy_model::{LINE_LIMIT, name_ok};
+use judy_journal::read_record;
+use judy_model::LINE_LIMIT;
 use judy_protocol::{Served, cut_line};
 use judy_recovery::{Halt, Player, Reason};
 use std::fs::Files;
@@ -14,72 +13,25 @@ use std::fs::Files;
 /// Writes the entries that the service has at the end of a journal, while its records are played once
 /// more. Each entry is written at the first record that asks for it, and removed.
 #[derive(Drop)]
-pub struct Rewriting<S, F: Files> {
-    state: Replaying<S>,
-    writer: Box<Writer>,
-    file: NewSnapshot<F>,
-    fault: Option<DiskFault>,
-}
-
-/// Whether a record of this tenant and this request fits everywhere.
-fn is_short(tenant: &[u8], request: &[u8]) -> bool
-    ensures { result ≡ true → IsShortRecord tenant.now request.now }
-{
-    if !name_ok(tenant) || request.len() > LINE_LIMIT {
-        return false;
-    }
-    match cut_line(request) {
-        Some(_) => false,
-        None => true,
-    }
+pub struct Rewriting<S: Served, F: Files> {
+    state: Asking<S>,
+    output: Output<F>,
+    line: ArrayVec<u8, LINE_LIMIT>,
 }
 
 impl<S: Served + Drop, F: Files> Rewriting<S, F> {
     /// A service with the state at the end of the journal, and a snapshot with its first line.
-    pub fn new(state: Replaying<S>, writer: Box<Writer>, file: NewSnapshot<F>) -> Self {
+    pub fn new(state: Asking<S>, output: Output<F>) -> Self {
         Rewriting {
             state,
-            writer,
-            file,
-            fault: None,
+            output,
+            line: ArrayVec::new(),
         }
     }
 
     /// Why the snapshot cannot be written, if it cannot.
     pub fn take_fault(&mut self) -> Option<DiskFault> {
-        self.fault.take()
-    }
-
-    /// Appends the text that the writer made.
-    fn append(&mut self) -> Result<(), Reason> {
-        self.file.append(self.writer.text()).map_err(|fault| {
-            self.fault = Some(fault);
-            Reason::Write
-        })
-    }
-
-    /// Ends the commit that is open, if it has a record.
-    fn flush(&mut self) -> Result<(), Reason> {
-        if self.writer.is_empty() {
-            return Ok(());
-        }
-        self.writer.end();
-        self.append()
-    }
-
-    /// Adds a record.
-    fn add(&mut self, tenant: &[u8], request: &[u8]) -> Result<(), Reason> {
-        if !is_short(tenant, request) {
-            return Err(Reason::Record);
-        }
-        if !self.writer.has_room() {
-            self.flush()?;
-        }
-        if !self.writer.has_room() {
-            return Err(Reason::Write);
-        }
-        self.writer.add(tenant, request);
-        Ok(())
+        self.output.take_fault()
     }
 
     /// Writes the entry that a record asks for, if it is there still, and removes it.
@@ -88,10 +40,14 @@ impl<S: Served + Drop, F: Files> Rewriting<S, F> {
         let Some(insertion) = insertion_of(request) else {
             return Ok(());
         };
-        match self.state.ask(tenant, insertion.looking().as_slice())? {
+        self.state.speak_as(tenant);
+        insertion.write_look(&mut self.line);
+        match self.state.ask(self.line.as_slice())? {
             Came::Value(value) => {
-                self.add(tenant, insertion.making(value).as_slice())?;
-                let _removed = self.state.ask(tenant, insertion.removing().as_slice())?;
+                insertion.write_insertion(value, &mut self.line);
+                self.output.add(tenant, self.line.as_slice())?;
+                insertion.write_removal(&mut self.line);
+                let _removed = self.state.ask(self.line.as_slice())?;
                 Ok(())
             }
             Came::Nothing => Ok(()),
@@ -99,20 +55,10 @@ impl<S: Served + Drop, F: Files> Rewriting<S, F> {
         }
     }
 
-    /// Ends the snapshot: the last commit, and the mark of one without records. Returns the snapshot
-    /// and the service.
-    pub fn finish(mut self) -> Result<(NewSnapshot<F>, Replaying<S>), Option<DiskFault>> {
-        if self.flush().is_err() {
-            return Err(self.fault.take());
-        }
-        if !self.writer.is_empty() {
-            return Err(None);
-        }
-        self.writer.end_snapshot();
-        if self.append().is_err() {
-            return Err(self.fault.take());
-        }
-        Ok((self.file, self.state))
+    /// Ends the snapshot. Returns it and the service.
+    pub fn finish(mut self) -> Result<(NewSnapshot<F>, Asking<S>), Option<DiskFault>> {
+        self.output.end()?;
+        Ok((self.output.into_file(), self.state))
     }
 }
 

@@ -89,11 +89,24 @@ fn tell_journal(rt: &HostRuntime, job: &Job, system: &mut System<'_, HostRuntime
     }
 }
 
+/// What helps where a socket cannot be made at a path.
+fn remedy(e: &io::Error) -> &'static str {
+    match e.kind() {
+        io::ErrorKind::AddrInUse => ": if no server listens there, remove the file",
+        _ => "",
+    }
+}
+
+/// Prints that a socket cannot be made at a path, and why.
+fn tell_socket(rt: &HostRuntime, path: &str, e: &io::Error) {
+    let remedy = remedy(e);
+    tell_line(rt, format_args!("judyd: {path}: {e}{remedy}"));
+}
+
 /// Prints that a socket of the operator cannot be made, and why.
 fn tell_desk(rt: &HostRuntime, word: &Option<Word>, e: &io::Error) {
     if let Some(word) = word {
-        let path = word.0.as_str();
-        tell_line(rt, format_args!("judyd: {path}: {e}"));
+        tell_socket(rt, word.0.as_str(), e);
     }
 }
 
@@ -114,10 +127,7 @@ fn tell_reason(rt: &HostRuntime, job: &Job, failed: Failed) {
             let path = config.0.as_str();
             tell_line(rt, format_args!("judyd: {path}: {e}"));
         }
-        Failed::Socket(e) => {
-            let path = socket.0.as_str();
-            tell_line(rt, format_args!("judyd: {path}: {e}"));
-        }
+        Failed::Socket(e) => tell_socket(rt, socket.0.as_str(), &e),
         Failed::Status(e) => tell_desk(rt, status, &e),
         Failed::Control(e) => tell_desk(rt, control, &e),
     }
@@ -271,10 +281,10 @@ fn journal_text(rt: &HostRuntime, journal: &Option<Word>, sync: Sync) -> Option<
     let text = match sync {
         Sync::Round => format!(in rt.alloc(); ", journal {path}"),
         Sync::Seconds(n) => format!(in rt.alloc();
-            ", journal {path}: a crash of the machine may lose {n} seconds"
+            ", journal {path}, synced every {n} s: a crash of the machine may lose what came after the last sync"
         ),
         Sync::Never => format!(in rt.alloc();
-            ", journal {path}: a crash of the machine may lose what the system has not written"
+            ", journal {path}, never synced: a crash of the machine may lose what the system has not written"
         ),
     };
     text.ok()
