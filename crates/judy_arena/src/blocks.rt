@@ -25,7 +25,7 @@ pub struct NoMemory;
 /// once. A `Block` stays live and keeps its number until it is released. The number of a released
 /// block may be used again.
 ///
-/// No word is lost: each word taken from the machine is in a live block or in a free one.
+/// No word is lost: the live and the free words are together those taken from the machine.
 ///
 /// Released blocks merge. So the words taken from the machine stay below a multiple of the greatest
 /// number of words that were live at once, whatever the order of calls, or are those that were taken
@@ -311,9 +311,9 @@ impl Arena {
         let _ = &self.pool;
     }
 
-    /// A law, with an empty body: no word is lost. Live and free words are all words that were taken
-    /// from the machine. The free ones are those of the blocks that the lists of free blocks lead to.
-    /// The greatest block that is ready is one of these.
+    /// A law, with an empty body: no word is lost. The live and the free words are together as many
+    /// as were taken from the machine. The free ones are those of the blocks that the lists of free
+    /// blocks lead to. The size that is ready is at most as many.
     pub fn no_word_is_lost(&self)
         ensures all { total_words self.now.blocks + self.now.free ≡ self.now.region }
         ensures ready { self.now.ready ≤ self.now.free }
