@@ -65,7 +65,7 @@ find marks b (suc n) =
     ] refl
 
 -- a mark of a block that is not live is the mark of a free block
-free-class : (m : ℕ) → m ≢ 0 → m ≤ 16 → marks_live m ≡ false → (j : ℕ) × (j < 8) × (m ≡ j + 9)
+pub free-class : (m : ℕ) → m ≢ 0 → m ≤ 16 → marks_live m ≡ false → (j : ℕ) × (j < 8) × (m ≡ j + 9)
 free-class m some most dead = by_lt m 9
     (λ l. absurd (no m some l dead))
     (λ l. (m - 9, omega (arith, most), omega (arith, l)))
@@ -136,7 +136,7 @@ module _ (marks words heads : List ℕ) (laid : IsLaidOut marks words heads) whe
   mark q = get_or marks q 0
 
   -- the place after a block is the begin of a block
-  next-begins : (b : ℕ) → mark b ≢ 0 → b + span (mark b) < length marks → mark (b + span (mark b)) ≢ 0
+  pub next-begins : (b : ℕ) → mark b ≢ 0 → b + span (mark b) < length marks → mark (b + span (mark b)) ≢ 0
   next-begins b some l z =
       let u : ℕ = b + span (mark b) in
       let s = span-pos (mark b) in
@@ -198,7 +198,7 @@ module _ (marks words heads : List ℕ) (laid : IsLaidOut marks words heads) whe
   risen-to : (k n : ℕ) → k ≤ n → total_words (first marks words k) ≤ total_words (first marks words n)
   risen-to k n l = let e : k + (n - k) ≡ n = omega (arith, l) in let f = ap (λ i. total_words (first marks words i)) e in let r = risen (n - k) k in omega (arith, f, r)
 
-  part-long : (q : ℕ) → mark q ≢ 0 → length (part marks words q) ≡ span (mark q) * 4
+  pub part-long : (q : ℕ) → mark q ≢ 0 → length (part marks words q) ≡ span (mark q) * 4
   part-long q some =
       let i = laid.inside q some in let s = laid.sized in
       let t = length-take (span (mark q) * 4) (drop (q * 4) words) in let d = length-drop (q * 4) words in omega (arith, i, s, t, d)

@@ -37,7 +37,7 @@ module _ (old cur : Blocks) (n from k : ℕ) (size : length (words_of old n) ≡
   now : words_of cur n ≡ take (size_of (k + 1)) words
   now = words-at old cur n (take (size_of (k + 1)) words) is
 
-  now_size : length (words_of cur n) ≡ size_of k + size_of k
+  pub now_size : length (words_of cur n) ≡ size_of k + size_of k
   now_size =
       let t = length-take (size_of (k + 1)) words in let m = size-le (k + 1) from down class in let h = size-half k (omega (arith, down, class)) in
       let e = ap length now in omega (arith, t, m, h, e, size)

@@ -9,18 +9,21 @@ use Rattle.judy_region.proofs.lemmas.Parts.{with_part_paste}
 use Rattle.judy_region.proofs.lemmas.Flat.{length-zeros as region-length}
 use Rattle.std.specs.List.{refill, length_refill}
 use Rattle.judy_arena.specs.Blocks.{Blocks, words_of, put, zeros}
+use Rattle.judy_arena.specs.Free.{free_words}
 use Rattle.judy_arena.specs.Layout.{span, blocks_of, IsLaidOut, IsAlone, IsSound, Pooled, linked}
 use Rattle.judy_arena.proofs.lemmas.BlockLaws.{put-there, block-words}
 use Rattle.judy_arena.proofs.Chains.{by_eq}
 use Rattle.judy_arena.proofs.LaidOut.{first-free, span-pos, laid-release}
 use Rattle.judy_arena.proofs.Seen.{Held, held, Class, class_of, Wrote, wrote-paste, part-seen}
+use Rattle.judy_arena.proofs.Whole.{same-free}
 
--- a pool of these blocks, of these heads of free lists and of these fields
-abbrev pub pooled : Blocks → List ℕ → ℕ → Pooled
-pooled b hs r = record { blocks = b; heads = hs; region = r }
+-- a pool of these blocks, of these heads of free lists, of these words and free words, and of these
+-- fields
+abbrev pub pooled : Blocks → List ℕ → ℕ → ℕ → Pooled
+pooled b hs r f = record { blocks = b; heads = hs; region = r; free = f }
 
 abbrev pub seen : List ℕ → List ℕ → List ℕ → Pooled
-seen marks words heads = pooled (blocks_of marks words) heads (length marks * 4)
+seen marks words heads = pooled (blocks_of marks words) heads (length marks * 4) (free_words words heads)
 
 -- the head of a list of free blocks is the number of a block plus 1, or 0
 pub head-fits : (marks words heads : List ℕ) → IsSound marks words heads → (k : ℕ) → k < 8
@@ -91,9 +94,12 @@ module _ (marks words heads : List ℕ) (sound : IsSound marks words heads) (b :
   pub record Written (w' : List ℕ) (n : ℕ) (v : List ℕ) : Type 0 where
     pub after : IsSound marks w' heads
     pub blocks : blocks_of marks w' ≡ put b n v
+    pub free : free_words w' heads ≡ free_words words heads
 
   pub written : (w' : List ℕ) (n : ℕ) (v : List ℕ) → Wrote marks words heads sound.0 w' n v → Written w' n v
-  written w' n v w = record { after = (w.after, sound.1, sound.2, sound.3); blocks = w.view ∙ ap (λ x. put x n v) view }
+  written w' n v w =
+      let after : IsSound marks w' heads = (w.after, sound.1, sound.2, sound.3) in
+      record { after = after; blocks = w.view ∙ ap (λ x. put x n v) view; free = same-free marks words w' heads sound after }
 
   pub pasted : (w' : List ℕ) (n i k : ℕ) (s : List ℕ) → w' ≡ paste words (n * 4 + i) s k → 0 < length (words_of b n)
       → i + k ≤ length (words_of b n) → k ≤ length s → Written w' n (paste (words_of b n) i s k)
@@ -159,5 +165,7 @@ module _ (marks words heads : List ℕ) (sound : IsSound marks words heads) (b :
 
 -- the same, as the arena sees the pool
 pub seen-with : (marks words heads w' : List ℕ) (n : ℕ) (v : List ℕ) (old : Pooled) → seen marks words heads ≡ old → blocks_of marks w' ≡ put
-    old.blocks n v → seen marks w' heads ≡ record old { blocks = put old.blocks n v }
-seen-with marks words heads w' n v old e h = ap (λ x. pooled x heads (length marks * 4)) h ∙ ap (λ p. pooled (put old.blocks n v) p.heads p.region) e
+    old.blocks n v → free_words w' heads ≡ free_words words heads → seen marks w' heads ≡ record old { blocks = put old.blocks n v }
+seen-with marks words heads w' n v old e h f =
+    ap (λ x. pooled x heads (length marks * 4) (free_words w' heads)) h ∙ ap (pooled (put old.blocks n v) heads (length marks * 4)) f
+    ∙ ap (λ p. pooled (put old.blocks n v) p.heads p.region p.free) e

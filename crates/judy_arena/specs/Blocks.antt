@@ -47,31 +47,34 @@ zeros n = replicate n 0
 
 -- what callers see of an arena: its live blocks, how many requests for a block it refused, the
 -- greatest size of a free block, how many words it took from the machine, how many words are live,
--- the greatest number of words that were live at once, and how many words it had taken from the
--- machine when it last took some beforehand
+-- how many are in free blocks, the greatest number of words that were live at once, and how many
+-- words it had taken from the machine when it last took some beforehand
 pub record ArenaState : Type 0 where
   pub blocks : Blocks
   pub refusals : ℕ
   pub ready : ℕ
   pub region : ℕ
   pub live : ℕ
+  pub free : ℕ
   pub peak : ℕ
   pub reserved : ℕ
 
--- a state is written down as its seven parts
+-- a state is written down as its eight parts
 abbrev pub state_code : Coded ArenaState
 state_code =
-    code_by (Blocks × (ℕ × (ℕ × (ℕ × (ℕ × (ℕ × ℕ))))))
-    (coded× (code coded_ℕ (coded_list coded_ℕ)) (coded× coded_ℕ (coded× coded_ℕ (coded× coded_ℕ (coded× coded_ℕ (coded× coded_ℕ coded_ℕ))))))
-    (λ s. (s.blocks, (s.refusals, (s.ready, (s.region, (s.live, (s.peak, s.reserved)))))))
+    code_by (Blocks × (ℕ × (ℕ × (ℕ × (ℕ × (ℕ × (ℕ × ℕ)))))))
+    (coded× (code coded_ℕ (coded_list coded_ℕ))
+    (coded× coded_ℕ (coded× coded_ℕ (coded× coded_ℕ (coded× coded_ℕ (coded× coded_ℕ (coded× coded_ℕ coded_ℕ)))))))
+    (λ s. (s.blocks, (s.refusals, (s.ready, (s.region, (s.live, (s.free, (s.peak, s.reserved))))))))
     (λ p. record {
       blocks = p.0;
       refusals = p.1.0;
       ready = p.1.1.0;
       region = p.1.1.1.0;
       live = p.1.1.1.1.0;
-      peak = p.1.1.1.1.1.0;
-      reserved = p.1.1.1.1.1.1;
+      free = p.1.1.1.1.1.0;
+      peak = p.1.1.1.1.1.1.0;
+      reserved = p.1.1.1.1.1.1.1;
     })
     (λ _. refl)
 

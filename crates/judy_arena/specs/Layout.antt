@@ -80,18 +80,19 @@ pub record IsAlone (marks : List ℕ) (n k : ℕ) : Type 0 where
 abbrev pub IsSound : List ℕ → List ℕ → List ℕ → Type 0
 IsSound marks words heads = IsLaidOut marks words heads × (length heads ≡ 8) × (length marks ≤ 4294967296) × (length marks % 128 ≡ 0)
 
--- what the arena sees of its pool: the live blocks, the heads of the lists of free blocks, and the
--- words taken from the machine
+-- what the arena sees of its pool: the live blocks, the heads of the lists of free blocks, the words
+-- taken from the machine, and the words of the free blocks
 pub record Pooled : Type 0 where
   pub blocks : Blocks
   pub heads : List ℕ
   pub region : ℕ
+  pub free : ℕ
 
--- a pool is written down as its three parts
+-- a pool is written down as its four parts
 abbrev pub pool_code : Coded Pooled
 pool_code =
-    code_by (Blocks × (List ℕ × ℕ)) (coded× (code coded_ℕ (coded_list coded_ℕ)) (coded× (coded_list coded_ℕ) coded_ℕ))
-    (λ p. (p.blocks, (p.heads, p.region))) (λ p. record { blocks = p.0; heads = p.1.0; region = p.1.1 }) (λ _. refl)
+    code_by (Blocks × (List ℕ × (ℕ × ℕ))) (coded× (code coded_ℕ (coded_list coded_ℕ)) (coded× (coded_list coded_ℕ) (coded× coded_ℕ coded_ℕ)))
+    (λ p. (p.blocks, (p.heads, (p.region, p.free)))) (λ p. record { blocks = p.0; heads = p.1.0; region = p.1.1.0; free = p.1.1.1 }) (λ _. refl)
 
 -- the marks have room for whole chunks, and for at most one chunk more
 abbrev pub HasMarkRoom : ℕ → ℕ → Type 0

@@ -1,5 +1,6 @@
 pub mod Blocks
 pub mod Ready
+pub mod Free
 pub mod Draws
 pub mod Takes
 pub mod Layout

@@ -21,8 +21,11 @@ pub struct NoMemory;
 ///
 /// Callers see the live blocks as a map from numbers to lists of words. They also see the count of
 /// refused requests, the greatest size that the next `alloc` is sure to find, the words taken from
-/// the machine, and the greatest number of words that were live at once. A `Block` stays live and
-/// keeps its number until it is released. The number of a released block may be used again.
+/// the machine, the words of the free blocks, and the greatest number of words that were live at
+/// once. A `Block` stays live and keeps its number until it is released. The number of a released
+/// block may be used again.
+///
+/// No word is lost: the live and the free words are together those taken from the machine.
 ///
 /// Released blocks merge. So the words taken from the machine stay below a multiple of the greatest
 /// number of words that were live at once, whatever the order of calls, or are those that were taken
@@ -51,6 +54,7 @@ impl Model for Arena {
       ready = greatest a.pool.heads;
       region = a.pool.region;
       live = a.live;
+      free = a.pool.free;
       peak = a.peak;
       reserved = a.reserved;
     } };
@@ -67,6 +71,7 @@ impl Arena {
         ensures ready { result.ready ≡ 0 }
         ensures region { result.region ≡ 0 }
         ensures live { result.live ≡ 0 }
+        ensures free { result.free ≡ 0 }
         ensures peak { result.peak ≡ 0 }
         ensures reserved { result.reserved ≡ 0 }
     {
@@ -122,6 +127,10 @@ impl Arena {
         ensures run { IfOk result (λ _. self.old.ready < room len → room len < 512
             → 512 ≤ 2 * self.new.ready) }
 
+        // The block comes out of the free words, and out of those that the machine gave.
+        ensures free { self.new.free + (if is_ok result then room len else 0) + self.old.region
+            ≡ self.old.free + self.new.region }
+
         // Consequences for the words of each block.
         ensures words { IfOk result (λ b. words_of self.new.blocks b ≡ zeros (room len)) }
         ensures size { IfOk result (λ b. len ≤ length (words_of self.new.blocks b)) }
@@ -171,6 +180,7 @@ impl Arena {
         ensures refusals { self.new.refusals
             ≡ (if is_ok result then self.old.refusals else count_up self.old.refusals) }
         ensures memory { Takes (if is_ok result then 1 else 0) self.old self.new }
+        ensures free { self.new.free + self.old.region ≡ self.old.free + self.new.region }
     {
         if self.pool.first(LAST).is_some() {
             return Ok(());
@@ -195,7 +205,8 @@ impl Arena {
         ensures most { self.new.region ≤ max self.old.region (words + 511) }
         ensures kept { self.old.region ≤ self.new.region }
         ensures reserved { self.new.reserved ≡ max self.old.reserved self.new.region }
-        ensures free { self.old.region < self.new.region → 512 ≤ self.new.ready }
+        ensures ready { self.old.region < self.new.region → 512 ≤ self.new.ready }
+        ensures free { self.new.free + self.old.region ≡ self.old.free + self.new.region }
         ensures blocks { self.new.blocks ≡ self.old.blocks }
         ensures peak { self.new.peak ≡ self.old.peak }
         ensures live { self.new.live ≡ self.old.live }
@@ -219,6 +230,7 @@ impl Arena {
         ensures freed { length (words_of self.old.blocks block) ≤ self.new.ready }
         ensures memory { TakesNothing self.old self.new }
         ensures region { self.new.region ≡ self.old.region }
+        ensures free { self.new.free ≡ self.old.free + length (words_of self.old.blocks block) }
         ensures kept { (q : ℕ) → q ≢ block
             → words_of self.new.blocks q ≡ words_of self.old.blocks q }
         ensures refusals { self.new.refusals ≡ self.old.refusals }
@@ -242,6 +254,8 @@ impl Arena {
             → length (words_of self.old.blocks block) ≤ 2 * self.new.ready }
         ensures region { self.new.region ≡ self.old.region }
         ensures memory { TakesNothing self.old self.new }
+        ensures free { self.new.free + room len
+            ≡ self.old.free + length (words_of self.old.blocks block) }
 
         // Consequences for the words of each block.
         ensures size { len ≤ length (words_of self.new.blocks block) }
@@ -297,9 +311,19 @@ impl Arena {
         let _ = &self.pool;
     }
 
+    /// A law, with an empty body: no word is lost. The live and the free words are together as many
+    /// as were taken from the machine. The free ones are those of the blocks that the lists of free
+    /// blocks lead to. The size that is ready is at most as many.
+    pub fn no_word_is_lost(&self)
+        ensures all { total_words self.now.blocks + self.now.free ≡ self.now.region }
+        ensures ready { self.now.ready ≤ self.now.free }
+    {
+        self.pool.is_whole();
+    }
+
     /// A law, with an empty body: if no block of a size is ready, each part of this size that was
-    /// taken from the machine has at least 4 live words. So with nothing ready all words are live: no
-    /// word is lost. And a call takes a run of 512 words only while one word in 128 is live.
+    /// taken from the machine has at least 4 live words. So a call takes a run of 512 words only while
+    /// one word in 128 is live.
     pub fn the_region_is_filled(&self)
         ensures { (k : ℕ) → k < 8 → self.now.ready < 4 * 2 ^ k
             → self.now.region ≤ 2 ^ k * total_words self.now.blocks }
@@ -435,6 +459,10 @@ impl Arena {
             → self.new.region ≡ self.old.region + 512) }
         ensures refused { OnErr result (self.new.region ≡ self.old.region) }
         ensures cause { OnErr result (self.old.region % 65536 ≡ 0) }
+        ensures free { IfOk result
+            (λ _. self.new.free + room len + self.old.region
+            ≡ self.old.free + length (words_of self.old.blocks block) + self.new.region) }
+        ensures none_free { OnErr result (self.new.free ≡ self.old.free) }
     {
         let to = self.alloc(alloc, len)?;
         self.copy(block, 0, to, 0, used);

@@ -49,6 +49,7 @@ pub(crate) struct Pool {
 
 impl Model for Pool {
     ghost use Rattle.std.specs.Prelude.{◌*◌, length, vec_capacity};
+    ghost use Rattle.judy_arena.specs.Free.{free_words};
     ghost use Rattle.judy_arena.specs.Layout.{Pooled, pool_code, blocks_of, IsSound, HasMarkRoom};
 
     ghost Value = { Pooled };
@@ -59,6 +60,7 @@ impl Model for Pool {
       blocks = blocks_of p.marks.items p.region;
       heads = p.heads;
       region = length p.marks.items * 4;
+      free = free_words p.region p.heads;
     } };
 
     ghost invariant = { λ p. IsSound p.marks.items p.region p.heads
@@ -71,6 +73,7 @@ impl Pool {
         ensures blocks { result.blocks ≡ no_blocks }
         ensures heads { result.heads ≡ replicate 8 0 }
         ensures region { result.region ≡ 0 }
+        ensures free { result.free ≡ 0 }
     {
         Pool {
             region: Region::new(alloc),
@@ -91,6 +94,14 @@ impl Pool {
     pub(crate) fn is_filled(&self)
         ensures { (k : ℕ) → k < 8 → greatest self.now.heads < size_of k
             → self.now.region ≤ span (k + 1) * total_words self.now.blocks }
+    {
+        let _ = &self.region;
+    }
+
+    /// A law, with an empty body: live and free words are all words.
+    pub(crate) fn is_whole(&self)
+        ensures all { total_words self.now.blocks + self.now.free ≡ self.now.region }
+        ensures ready { greatest self.now.heads ≤ self.now.free }
     {
         let _ = &self.region;
     }
@@ -170,6 +181,7 @@ impl Pool {
             (slice_set (words_of self.old.blocks n) i word) }
         ensures heads { self.new.heads ≡ self.old.heads }
         ensures region { self.new.region ≡ self.old.region }
+        ensures free { self.new.free ≡ self.old.free }
     {
         self.region.set(n as usize * 4 + i, word);
     }
@@ -183,6 +195,7 @@ impl Pool {
             (paste (words_of self.old.blocks n) at source.now (length source.now)) }
         ensures heads { self.new.heads ≡ self.old.heads }
         ensures region { self.new.region ≡ self.old.region }
+        ensures free { self.new.free ≡ self.old.free }
     {
         if !source.is_empty() {
             self.region.write(n as usize * 4 + at, source);
@@ -196,6 +209,7 @@ impl Pool {
         ensures blocks { self.new.blocks ≡ put self.old.blocks n (zeros (size_of class)) }
         ensures heads { self.new.heads ≡ self.old.heads }
         ensures region { self.new.region ≡ self.old.region }
+        ensures free { self.new.free ≡ self.old.free }
     {
         wipe(&mut self.region, n as usize * 4, size_of_class(class));
     }
@@ -212,6 +226,7 @@ impl Pool {
             (paste (words_of self.old.blocks to) at (drop i (words_of self.old.blocks from)) len) }
         ensures heads { self.new.heads ≡ self.old.heads }
         ensures region { self.new.region ≡ self.old.region }
+        ensures free { self.new.free ≡ self.old.free }
     {
         if len > 0 {
             self.region
@@ -226,6 +241,7 @@ impl Pool {
         ensures ready { greatest self.old.heads ≤ greatest self.new.heads }
         ensures freed { length (words_of self.old.blocks n) ≤ greatest self.new.heads }
         ensures region { self.new.region ≡ self.old.region }
+        ensures free { self.new.free ≡ self.old.free + length (words_of self.old.blocks n) }
     {
         let class = (self.marks[n as usize] - 1) as usize;
         give_back(
@@ -246,6 +262,8 @@ impl Pool {
         ensures ready { greatest self.old.heads ≤ greatest self.new.heads }
         ensures freed { length (words_of self.old.blocks n) ≤ 2 * greatest self.new.heads }
         ensures region { self.new.region ≡ self.old.region }
+        ensures free { self.new.free + length (words_of self.old.blocks n) / 2
+            ≡ self.old.free + length (words_of self.old.blocks n) }
     {
         let half = (self.marks[n as usize] - 2) as usize;
         let upper = n as usize + size_of_class(half) / 4;
@@ -270,6 +288,7 @@ impl Pool {
         ensures ready { greatest self.old.heads ≤ greatest self.new.heads }
         ensures freed { class < from → size_of from ≤ 2 * greatest self.new.heads }
         ensures region { self.new.region ≡ self.old.region }
+        ensures free { self.new.free + size_of class ≡ self.old.free + size_of from }
     {
         let mut now = from;
         while now > class {
@@ -304,6 +323,7 @@ impl Pool {
         ensures others { (j : ℕ) → j ≢ class
             → slice_index self.new.heads j ≡ slice_index self.old.heads j }
         ensures region { self.new.region ≡ self.old.region }
+        ensures free { self.new.free + size_of class ≡ self.old.free }
     {
         let n = (self.heads[class] - 1) as usize;
         self.heads[class] = self.region.get(n * 4);
@@ -321,6 +341,8 @@ impl Pool {
         ensures region { IsTrue result → self.new.region ≡ self.old.region + 512 }
         ensures refused { IsFalse result → self.new.region ≡ self.old.region }
         ensures cause { IsFalse result → self.old.region % 65536 ≡ 0 }
+        ensures free { IsTrue result → self.new.free ≡ self.old.free + 512 }
+        ensures none_free { IsFalse result → self.new.free ≡ self.old.free }
     {
         let n = self.marks.len();
         if n as u64 == NUMBERS {
@@ -346,7 +368,8 @@ impl Pool {
         ensures cause { IsFalse result → self.new.region % 65536 ≡ 0 }
         ensures most { self.new.region ≤ max self.old.region (words + 511) }
         ensures kept { self.old.region ≤ self.new.region }
-        ensures free { self.old.region < self.new.region → 0 < slice_index self.new.heads 7 }
+        ensures some { self.old.region < self.new.region → 0 < slice_index self.new.heads 7 }
+        ensures free { self.new.free + self.old.region ≡ self.old.free + self.new.region }
     {
         while self.region() < words {
             if !self.grow(alloc) {
@@ -378,6 +401,10 @@ impl Pool {
         ensures run { IfSome result
             (λ _. greatest self.old.heads < size_of class → size_of class < 512
             → 512 ≤ 2 * greatest self.new.heads) }
+        ensures free { IfSome result
+            (λ _. self.new.free + size_of class + self.old.region
+            ≡ self.old.free + self.new.region) }
+        ensures none_free { IfNone result (self.new.free ≡ self.old.free) }
     {
         if let Some(from) = self.first(class) {
             return Some(self.carve(from, class));
@@ -399,6 +426,7 @@ impl Pool {
         ensures others { (j : ℕ) → j ≢ from → j < 8 → 0 < slice_index self.old.heads j
             → size_of j ≤ greatest self.new.heads }
         ensures region { self.new.region ≡ self.old.region }
+        ensures free { self.new.free + size_of class ≡ self.old.free }
     {
         let n = self.take(from);
         self.cut(n, from, class);

@@ -161,6 +161,7 @@ fn row(rt: &impl Abort, alloc: Global) -> Result<u64, Fail> {
     holds(rt, arena.spare(512));
     arena.the_region_is_bounded();
     arena.the_region_is_filled();
+    arena.no_word_is_lost();
     Ok(refused)
 }
 

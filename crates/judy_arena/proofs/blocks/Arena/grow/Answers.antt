@@ -39,3 +39,9 @@ returns-clause-peak c =
     let f = ap (λ a. a.peak) c.copy.ensures.only in let a = c.in_ok-to.ensures.peak in let r = c.release.ensures.memory.peak in
     let t = ap total_words c.in_ok-to.ensures.blocks ∙ total-fresh c.args.self.now.blocks c.in_ok-to.to (zeros (room c.args.len)) (none_live _ c.in_ok-to.ensures.fresh) in
     let z = length-zeros (room c.args.len) in omega (arith, f, a, r, t, z)
+
+pub returns-clause-free : goal.returns-clause-free
+returns-clause-free c =
+    let a = c.in_ok-to.ensures.free in let f = ap (λ a. a.free) c.copy.ensures.only in let g = ap (λ a. a.region) c.copy.ensures.only in
+    let r = c.release.ensures.free in let m = c.release.ensures.region in let s = c.copy.ensures.sizes c.args.block in
+    let k = ap length (c.in_ok-to.ensures.kept c.args.block c.requires.live) in omega (arith, a, f, g, r, m, s, k)

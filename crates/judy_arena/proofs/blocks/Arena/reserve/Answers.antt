@@ -72,3 +72,17 @@ returns-clause-memory c =
       reserved = ap (λ a. a.reserved) c.self.view_is;
       refused = inr (omega (arith, f, o, p, r));
     }
+
+pub returns-then-is_some-clause-free : goal.returns-then-is_some-clause-free
+returns-then-is_some-clause-free c =
+    let f = ap (λ a. a.free) c.self.view_is in let r = ap (λ a. a.region) c.self.view_is in omega (arith, f, r)
+
+pub returns-then-grow-clause-free : goal.returns-then-grow-clause-free
+returns-then-grow-clause-free c =
+    let g = c.grow.ensures.free c.if-grow.true in let m = c.grow.ensures.region c.if-grow.true in
+    let f = ap (λ a. a.free) c.self.view_is in let r = ap (λ a. a.region) c.self.view_is in omega (arith, g, m, f, r)
+
+pub returns-clause-free : goal.returns-clause-free
+returns-clause-free c =
+    let g = c.grow.ensures.none_free c.if-grow.false in let m = c.grow.ensures.refused c.if-grow.false in
+    let f = ap (λ a. a.free) c.self.view_is in let r = ap (λ a. a.region) c.self.view_is in omega (arith, g, m, f, r)

@@ -9,15 +9,15 @@ use Rattle.judy_arena.proofs.blocks.Arena.words_mut.Goals as goal
 long : (old w : List ℕ) → length (refill (length old) old w) ≡ length old
 long old w = sym (length_refill (length old) old w refl)
 
-abbrev state : Blocks → ℕ → ℕ → ℕ → ℕ → ℕ → ℕ → ArenaState
-state b r y g l p h = record { blocks = b; refusals = r; ready = y; region = g; live = l; peak = p; reserved = h }
+abbrev state : Blocks → ℕ → ℕ → ℕ → ℕ → ℕ → ℕ → ℕ → ArenaState
+state b r y g l i p h = record { blocks = b; refusals = r; ready = y; region = g; live = l; free = i; peak = p; reserved = h }
 
 -- what callers see of it
-seen : (b : Blocks) (r y g l p h k n : ℕ) (old : ArenaState) → state b r y g l p h ≡ old → k ≡ n → (w : List ℕ)
-    → state (put b k (refill (length (words_of b k)) (words_of b k) w)) r y g l p h ≡ record old
+seen : (b : Blocks) (r y g l i p h k n : ℕ) (old : ArenaState) → state b r y g l i p h ≡ old → k ≡ n → (w : List ℕ)
+    → state (put b k (refill (length (words_of b k)) (words_of b k) w)) r y g l i p h ≡ record old
     { blocks = put old.blocks n (written_over (words_of old.blocks n) w) }
-seen b r y g l p h k n old e f w = ap (λ s. state (put s.blocks k (written_over (words_of s.blocks k) w)) s.refusals s.ready s.region
-    s.live s.peak s.reserved) e ∙ ap (λ m. record old { blocks = put old.blocks m (written_over (words_of old.blocks m) w) }) f
+seen b r y g l i p h k n old e f w = ap (λ s. state (put s.blocks k (written_over (words_of s.blocks k) w)) s.refusals s.ready s.region
+    s.live s.free s.peak s.reserved) e ∙ ap (λ m. record old { blocks = put old.blocks m (written_over (words_of old.blocks m) w) }) f
 
 -- the block is live by the fields and its number
 live : (b : Blocks) (old : ArenaState) (k n : ℕ) → b ≡ old.blocks → k ≡ n → 0 < length (words_of old.blocks n) → 0 < length (words_of b k)
@@ -40,7 +40,7 @@ invariant_of-self-lent c = λ w. (
 
 pub returns : goal.returns
 returns c = (
-  (refl, λ w. seen c.self.inside.pool.blocks _ _ _ _ _ _ c.number.result c.args.block c.args.self.now c.self.view_is c.number.ensures w),
+  (refl, λ w. seen c.self.inside.pool.blocks _ _ _ _ _ _ _ c.number.result c.args.block c.args.self.now c.self.view_is c.number.ensures w),
   record {
     lends = tt;
     value = c.words_mut.ensures.value ∙ ap (λ s. words_of s.blocks c.number.result) c.self.view_is

@@ -40,3 +40,11 @@ returns-then-grow-clause-run c l k =
     by_lt c.args.class 7
     (λ below. let r = c.carve-then-grow.ensures.rest below in omega (arith, z, r))
     (λ not_below. let m = size-le 7 c.args.class not_below c.requires in absurd (omega (arith, k, z, m)))
+
+pub returns-in-Some-clause-free : goal.returns-in-Some-clause-free
+returns-in-Some-clause-free c = let f = c.carve.ensures.free in let r = c.carve.ensures.region in omega (arith, f, r)
+
+pub returns-then-grow-clause-free : goal.returns-then-grow-clause-free
+returns-then-grow-clause-free c =
+    let g = c.grow.ensures.free c.if-grow.true in let m = c.grow.ensures.region c.if-grow.true in
+    let f = c.carve-then-grow.ensures.free in let r = c.carve-then-grow.ensures.region in omega (arith, g, m, f, r)

@@ -1,4 +1,4 @@
-use Rattle.std.proofs.Common.{ap, subst, arith}
+use Rattle.std.proofs.Common.{ap, ◌∙◌, subst, arith}
 use Rattle.judy_arena.specs.Blocks.{zeros}
 use Rattle.judy_arena.specs.Layout.{size_of}
 use Rattle.judy_arena.proofs.Pools.{Written, cleared, in-whole}
@@ -23,3 +23,6 @@ invariant_of-self c = ((done c).after, c.self.invariant.1)
 
 pub returns-clause-blocks : goal.returns-clause-blocks
 returns-clause-blocks c = (done c).blocks
+
+pub returns-clause-free : goal.returns-clause-free
+returns-clause-free c = (done c).free ∙ ap (λ p. p.free) c.self.view_is

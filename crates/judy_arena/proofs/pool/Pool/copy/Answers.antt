@@ -1,4 +1,4 @@
-use Rattle.std.proofs.Common.{ap, arith, drop}
+use Rattle.std.proofs.Common.{ap, ◌∙◌, arith, drop}
 use lib.Seq.{paste}
 use Rattle.judy_arena.specs.Blocks.{words_of}
 use Rattle.judy_arena.proofs.Pools.{Written, copied, in-one, nothing, few, place-fits, paste-none}
@@ -38,3 +38,6 @@ pub returns-else-len-gt0-clause-blocks : goal.returns-else-len-gt0-clause-blocks
 returns-else-len-gt0-clause-blocks c = let l = c.if-len-gt0.false in nothing _ _ _ c.self.invariant.0 _
     (ap (λ p. p.blocks) c.self.view_is) c.args.to _ c.requires.target_live
     (paste-none _ c.args.at _ c.args.len (omega (arith, l)))
+
+pub returns-then-len-gt0-clause-free : goal.returns-then-len-gt0-clause-free
+returns-then-len-gt0-clause-free c = (done c).free ∙ ap (λ p. p.free) c.self.view_is

@@ -2,9 +2,11 @@ use Rattle.std.proofs.Common.{◌≡◌, ap, ◌∙◌, arith, length, get_or, s
 use Rattle.std.proofs.lemmas.List.{length-append, length-set, get_or-set_same}
 use Rattle.judy_region.proofs.lemmas.Flat.{length-zeros}
 use Rattle.judy_region.specs.Flat as region
+use Rattle.judy_arena.specs.Blocks.{total_words}
 use Rattle.judy_arena.specs.Layout.{linked}
 use Rattle.judy_arena.proofs.Grows.{sound-grow, blocks-grow, ok_of}
 use Rattle.judy_arena.proofs.Pools.{head-fits}
+use Rattle.judy_arena.proofs.Whole.{whole}
 use Rattle.judy_arena.proofs.pool.Pool.grow.Goals as goal
 
 pub free-requires-clause-there : goal.free-requires-clause-there
@@ -75,3 +77,10 @@ returns-clause-region c _ =
     ap length (marks_are c) ∙ length-set (c.self.inside.marks.items ++ region.zeros 128) (length c.self.inside.marks.items) 16
     ∙ (let a = length-append c.self.inside.marks.items (region.zeros 128) in let z = length-zeros 128 in omega (arith, a, z)) in
     let v = ap (λ p. p.region) c.self.view_is in omega (arith, long, v)
+
+pub returns-clause-free : goal.returns-clause-free
+returns-clause-free c taken =
+    let old = whole _ _ _ c.self.invariant.0 in let new = whole _ _ _ (invariant_of-self-2 c).0 in
+    let b = ap total_words (returns-clause-blocks c) in let s = ap (λ p. total_words p.blocks) c.self.view_is in
+    let f = ap (λ p. p.free) c.self.view_is in let r = ap (λ p. p.region) c.self.view_is in let g = returns-clause-region c taken in
+    omega (arith, old, new, b, s, f, r, g)

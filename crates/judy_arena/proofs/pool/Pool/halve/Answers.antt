@@ -1,7 +1,10 @@
 use Rattle.std.proofs.Common.{rules, ◌≡◌, ap, sym, subst, ◌∙◌, arith, length, length-set, set, take, ◌<◌, ◌/◌, ◌-◌, ◌+◌, ◌*◌}
-use Rattle.judy_arena.specs.Blocks.{words_of, put}
+use Rattle.std.proofs.lemmas.List.{length-take}
+use Rattle.judy_arena.specs.Blocks.{words_of, put, total_words}
 use Rattle.judy_arena.specs.Ready.{greatest}
 use Rattle.judy_arena.specs.Layout.{span, blocks_of}
+use Rattle.judy_arena.proofs.SizeLaws.{total-put, total-without}
+use Rattle.judy_arena.proofs.Whole.{whole}
 use Rattle.judy_arena.proofs.Pools.{at, size, head-fits}
 use Rattle.judy_arena.proofs.Halves.{halves, laid-halve, halve-seen}
 use Rattle.judy_arena.proofs.Cuts.{span-half}
@@ -124,3 +127,12 @@ returns-clause-region c =
       length-set c.self.inside.marks.items c.args.n
           (c.index.result.now - 2 + 1),
     ) (ap (λ p. p.region) c.self.view_is)
+
+pub returns-clause-free : goal.returns-clause-free
+returns-clause-free c =
+    let old = whole _ _ _ c.self.invariant.0 in let new = whole _ _ _ (invariant_of-self c).0 in
+    let b = c.args.self.now.blocks in let half = take (length (words_of b c.args.n) / 2) (words_of b c.args.n) in
+    let t = ap total_words (returns-clause-blocks c) in let p = total-put b c.args.n half in let w = total-without b c.args.n in
+    let l = length-take (length (words_of b c.args.n) / 2) (words_of b c.args.n) in
+    let s = ap (λ p. total_words p.blocks) c.self.view_is in let f = ap (λ p. p.free) c.self.view_is in
+    let r = ap (λ p. p.region) c.self.view_is in let g = returns-clause-region c in omega (arith, old, new, t, p, w, l, s, f, r, g)

@@ -1,7 +1,9 @@
-use Rattle.std.proofs.Common.{rules, ap, ◌∙◌, arith, ◌*◌}
-use Rattle.judy_arena.specs.Blocks.{without}
+use Rattle.std.proofs.Common.{rules, ap, ◌∙◌, arith, ◌*◌, length}
+use Rattle.judy_arena.specs.Blocks.{without, words_of, total_words}
 use Rattle.judy_arena.specs.Ready.{greatest}
-use Rattle.judy_arena.specs.Layout.{span}
+use Rattle.judy_arena.specs.Layout.{span, blocks_of}
+use Rattle.judy_arena.proofs.SizeLaws.{total-without}
+use Rattle.judy_arena.proofs.Whole.{whole}
 use Rattle.judy_arena.proofs.Pools.{at, class, size}
 use Rattle.judy_arena.proofs.pool.Pool.release.Goals as goal
 
@@ -43,3 +45,11 @@ returns-clause-freed c =
 
 pub returns-clause-region : goal.returns-clause-region
 returns-clause-region c = ap (λ n. n * 4) c.give_back.ensures.len ∙ ap (λ p. p.region) c.self.view_is
+
+pub returns-clause-free : goal.returns-clause-free
+returns-clause-free c =
+    let old = whole _ _ _ c.self.invariant.0 in let new = whole _ _ _ c.give_back.ensures.sound in
+    let t = ap total_words c.give_back.ensures.blocks in
+    let r = total-without (blocks_of c.self.inside.marks.items c.self.inside.region) c.args.n in
+    let l = c.give_back.ensures.len in let f = ap (λ p. p.free) c.self.view_is in
+    let s = ap (λ p. length (words_of p.blocks c.args.n)) c.self.view_is in omega (arith, old, new, t, r, l, f, s)

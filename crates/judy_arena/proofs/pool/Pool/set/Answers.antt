@@ -1,4 +1,4 @@
-use Rattle.std.proofs.Common.{ap, sym, subst, arith, length, set, ◌<◌, ◌+◌, ◌*◌}
+use Rattle.std.proofs.Common.{ap, ◌∙◌, sym, subst, arith, length, set, ◌<◌, ◌+◌, ◌*◌}
 use Rattle.judy_arena.specs.Blocks.{words_of}
 use Rattle.judy_arena.specs.Layout.{blocks_of}
 use Rattle.judy_arena.proofs.Pools.{Written, written, place-fits, few}
@@ -27,3 +27,6 @@ invariant_of-self c = ((done c).after, c.self.invariant.1)
 
 pub returns-clause-blocks : goal.returns-clause-blocks
 returns-clause-blocks c = (done c).blocks
+
+pub returns-clause-free : goal.returns-clause-free
+returns-clause-free c = (done c).free ∙ ap (λ p. p.free) c.self.view_is

@@ -1,10 +1,12 @@
 use Rattle.std.proofs.Common.{◌≡◌, ap, subst, ◌∙◌, arith, length, length-set, get_or, set, take, drop}
 use Rattle.std.proofs.Common.{◌<◌, ◌-◌, ◌+◌, ◌*◌, ℕ, List, false}
-use Rattle.judy_arena.specs.Blocks.{put, is_live}
+use Rattle.judy_arena.specs.Blocks.{put, is_live, total_words}
 use Rattle.judy_arena.specs.Layout.{size_of, blocks_of, IsSound, Pooled}
 use Rattle.judy_arena.proofs.Pools.{seen}
 use Rattle.judy_arena.proofs.Seen.{Takes, takes-first}
-use Rattle.judy_arena.proofs.lemmas.BlockLaws.{only-put, words-at}
+use Rattle.judy_arena.proofs.lemmas.BlockLaws.{only-put, words-at, none_live}
+use Rattle.judy_arena.proofs.SizeLaws.{total-fresh}
+use Rattle.judy_arena.proofs.Whole.{whole}
 use Rattle.judy_arena.proofs.pool.Pool.take.Goals as goal
 
 -- the first block of the list of class k
@@ -62,3 +64,14 @@ returns-clause-blocks c = only-put _ _ _ _ (after c)
 pub returns-clause-size : goal.returns-clause-size
 returns-clause-size c = let f = first _ _ _ c.self.invariant.0 c.args.self.now c.self.view_is c.args.class c.requires.class c.requires.some in
     ap length (words-at _ _ _ _ (after c)) ∙ f.size
+
+pub returns-clause-free : goal.returns-clause-free
+returns-clause-free c =
+    let f = first _ _ _ c.self.invariant.0 c.args.self.now c.self.view_is c.args.class c.requires.class c.requires.some in
+    let p = get_or c.self.inside.heads c.args.class 0 - 1 in
+    let ws = take (size_of c.args.class) (drop (p * 4) c.self.inside.region) in
+    let old = whole _ _ _ c.self.invariant.0 in let new = whole _ _ _ (invariant_of-self c).0 in
+    let t = ap total_words (after c) in let n = total-fresh c.args.self.now.blocks p ws (none_live _ (returns-clause-fresh c)) in
+    let l = f.size in let m = length-set c.self.inside.marks.items p (c.args.class + 1) in
+    let s = ap (λ p. total_words p.blocks) c.self.view_is in let g = ap (λ p. p.free) c.self.view_is in
+    omega (arith, old, new, t, n, l, m, s, g)

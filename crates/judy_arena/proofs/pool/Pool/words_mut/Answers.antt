@@ -27,7 +27,8 @@ returns c =
       (
         refl,
         λ w. seen-with c.self.inside.marks.items c.self.inside.region c.self.inside.heads _ c.args.n (refill (length ws) ws w) c.args.self.now c.self.view_is
-            (lent _ _ _ c.self.invariant.0 _ (ap (λ p. p.blocks) c.self.view_is) c.args.n c.size_of_class-size.result w c.requires k).blocks,
+            (lent _ _ _ c.self.invariant.0 _ (ap (λ p. p.blocks) c.self.view_is) c.args.n c.size_of_class-size.result w c.requires k).blocks
+            (lent _ _ _ c.self.invariant.0 _ (ap (λ p. p.blocks) c.self.view_is) c.args.n c.size_of_class-size.result w c.requires k).free,
       ),
       record {
         lends = tt;

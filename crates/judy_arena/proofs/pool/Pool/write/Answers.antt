@@ -1,4 +1,4 @@
-use Rattle.std.proofs.Common.{◌≡◌, ap, arith, length, ◌<◌, ℕ, List, Bool, true, false, nat_eq}
+use Rattle.std.proofs.Common.{◌≡◌, ap, ◌∙◌, arith, length, ◌<◌, ℕ, List, Bool, true, false, nat_eq}
 use Rattle.std.proofs.lemmas.Bool.Decides.{nat_tests}
 use lib.Seq.{paste}
 use Rattle.judy_arena.specs.Blocks.{words_of}
@@ -39,3 +39,6 @@ pub returns-else-not-is_empty-clause-blocks : goal.returns-else-not-is_empty-cla
 returns-else-not-is_empty-clause-blocks c = nothing _ _ _ c.self.invariant.0 _ (ap (λ p. p.blocks) c.self.view_is) c.args.n _
     c.requires.live (paste-none _ c.args.at _ (length c.args.source.now)
     (none c.args.source.now c.is_empty.result c.is_empty.ensures c.if-not-is_empty.false))
+
+pub returns-then-not-is_empty-clause-free : goal.returns-then-not-is_empty-clause-free
+returns-then-not-is_empty-clause-free c = (done c).free ∙ ap (λ p. p.free) c.self.view_is
