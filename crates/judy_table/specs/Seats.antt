@@ -90,7 +90,7 @@ right_in name token ts = option_map (λ (s : Speaker). s.right) (login_of name t
 -- whether a tenant has a token for this right
 abbrev pub has_token : Right → Tenant → Bool
 has_token Change t = true
-has_token Look t = is_some t.look
+has_token Look t = is_some t.others.look || is_some t.others.former_look
 
 -- whether there is a tenant at a place, with a token for this right
 abbrev pub knows_row : Option Tenant → Right → Bool

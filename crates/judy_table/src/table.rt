@@ -167,8 +167,8 @@ impl Table {
     }
 
     /// The tenant of this name and its right: to read and write with its own token, or only to read
-    /// with its read-only token. None if no tenant has the name, or if the token is neither of its
-    /// two tokens. The token is hashed once in any case.
+    /// with its read-only token, and so with the old token of either. None if no tenant has the name,
+    /// or if the token is none of its tokens. The token is hashed once in any case.
     pub fn login(&self, name: &[u8], token: &[u8]) -> Option<Speaker>
         ensures { option_map seen result ≡ login_of name.now token.now self.now }
     {

@@ -31,7 +31,7 @@ use Rattle.judy_model.specs.Speakers.{Speaker}
 use Rattle.judy_model.specs.declared.quotas.Right.{Right}
 use Rattle.judy_model.specs.declared.quotas.Right.TheVariants.{Change, Look}
 use Rattle.judy_table.specs.declared.tenant.Tenant.{Tenant}
-use Rattle.judy_table.specs.Tenants.{is_vacant, vacant, place_of, right_of, is_digest, speaker_at, login_at, login_of, IsLimited}
+use Rattle.judy_table.specs.Tenants.{is_vacant, vacant, place_of, right_of, may_change, may_look, is_digest, speaker_at, login_at, login_of, IsLimited}
 use Rattle.judy_table.specs.Tenants.{read_table, HasRisingNames}
 use Rattle.judy_table.proofs.Trees.{named-tenants_in, read-tenants, tree-rows}
 use Rattle.judy_table.specs.Seats.{has_name, row_of, is_fresh, fresh_in, placed, seated, are_distinct, IsFree, AreRows, IsSpelled, right_in, knows, knows_row, has_token}
@@ -225,7 +225,7 @@ no-name token ts = right-of-row [] token ts ∙ by (has_name [] ts) refl
   where
     unnamed : (t : Tenant) → is_vacant t ≡ true → right_of (sha256 token) t ≡ None
     unnamed t v = ap
-        (λ b. if b then None else if bytes_eq t.digest (sha256 token) then Some Change else if is_digest t.look (sha256 token) then Some Look else None) v
+        (λ b. if b then None else if may_change (sha256 token) t then Some Change else if may_look (sha256 token) t then Some Look else None) v
 
     by : (b : Bool) → has_name [] ts ≡ b → right_of (sha256 token) (row_of [] ts) ≡ None
     by true h = unnamed (row_of [] ts) (unnamed-vacant (row_of [] ts) (row-named [] ts h))
@@ -255,11 +255,21 @@ knows-place ts who h = by (slice_get ts who.tenant) refl h
 pub login-knows : (name token : List ℕ) (ts : List Tenant) (who : Speaker) → login_of name token ts ≡ Some who → knows ts who ≡ true
 login-knows name token ts who h = at_place (place_of name ts) h
   where
-    some_look : (o : Option (List ℕ)) → is_digest o (sha256 token) ≡ true → is_some o ≡ true
-    some_look None e = cc
-    some_look (Some digest) e = refl
+    some_digest : (o : Option (List ℕ)) → is_digest o (sha256 token) ≡ true → is_some o ≡ true
+    some_digest None e = cc
+    some_digest (Some digest) e = refl
 
-    row : (place : ℕ) (t : Tenant) → slice_get ts place ≡ Some t → (v d l : Bool) → is_vacant t ≡ v → is_digest t.look (sha256 token) ≡ l
+    some_look : (o p : Option (List ℕ)) → (a b : Bool) → is_digest o (sha256 token) ≡ a → is_digest p (sha256 token) ≡ b
+        → (a || b) ≡ true → (is_some o || is_some p) ≡ true
+    some_look o p true b i j e = ap (λ x. x || is_some p) (some_digest o i)
+    some_look o p false true i j e = ap (λ x. is_some o || x) (some_digest p j) ∙ always (is_some o)
+      where
+        always : (x : Bool) → (x || true) ≡ true
+        always true = refl
+        always false = refl
+    some_look o p false false i j e = cc
+
+    row : (place : ℕ) (t : Tenant) → slice_get ts place ≡ Some t → (v d l : Bool) → is_vacant t ≡ v → may_look (sha256 token) t ≡ l
         → speaker_at place (if v then None else if d then Some Change else if l then Some Look else None) ≡ Some who → knows ts who ≡ true
     row place t is true d l v look e = cc
     row place t is false true l v look e =
@@ -268,13 +278,14 @@ login-knows name token ts who h = at_place (place_of name ts) h
     row place t is false false true v look e =
         let same : record { tenant = place; right = Look } ≡ who = cc in
         subst (λ s. knows ts s ≡ true) same
-        (ap (λ o. knows_row o Look) is ∙ ap (λ b. not b && is_some t.look) v ∙ ap (λ b. true && b) (some_look t.look look))
+        (ap (λ o. knows_row o Look) is ∙ ap (λ b. not b && has_token Look t) v
+        ∙ some_look t.others.look t.others.former_look (is_digest t.others.look (sha256 token)) (is_digest t.others.former_look (sha256 token)) refl refl look)
     row place t is false false false v look e = cc
 
     at_row : (place : ℕ) (o : Option Tenant) → slice_get ts place ≡ o → speaker_at place (option_and_then (right_of (sha256 token)) o) ≡ Some who
         → knows ts who ≡ true
     at_row place None is e = cc
-    at_row place (Some t) is e = row place t is (is_vacant t) (bytes_eq t.digest (sha256 token)) (is_digest t.look (sha256 token)) refl refl e
+    at_row place (Some t) is e = row place t is (is_vacant t) (may_change (sha256 token) t) (may_look (sha256 token) t) refl refl e
 
     at_place : (o : Option ℕ) → login_at ts o token ≡ Some who → knows ts who ≡ true
     at_place None e = cc
