@@ -1,5 +1,5 @@
 -- The values of this crate, as definitions see them.
-use Rattle.std.specs.Prelude.{◌≡◌, ℕ, option_map}
+use Rattle.std.specs.Prelude.{option_map}
 use Rattle.judy_model.specs.Speakers.{Speaker as Spoken}
 use Rattle.judy_table.specs.Tenants.{OtherTexts as OthersTold, Written as Told}
 use Rattle.judy_table.specs.declared.written.OtherTexts.{OtherTexts}

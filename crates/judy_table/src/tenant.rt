@@ -4,7 +4,7 @@ ghost use Rattle.std.specs.Str.{bytes_eq};
 ghost use Rattle.judy_table.specs.Shown.{others_told, told_of};
 ghost use Rattle.judy_table.specs.Tenants.{tenant_of, up_to, pieces_for, optional_digest, others_of};
 ghost use Rattle.judy_table.specs.Tenants.{right_of, may_change, may_look, is_digest, is_vacant, vacant, no_others};
-ghost use Rattle.judy_table.specs.Seats.{has_token};
+ghost use Rattle.judy_table.specs.Seats.{gives};
 ghost use Rattle.judy_table.specs.Unlimited.{unlimited_row};
 ghost use Rattle.sha2.specs.Sha256.{sha256};
 
@@ -67,11 +67,12 @@ impl TenantId {
     }
 }
 
-/// The tenant of a connection and its right.
+/// The tenant of a connection, its right, and the SHA-256 of the token with which it logged in.
 #[derive(Clone, Copy, PartialEq, Eq, Debug)]
 pub struct Speaker {
     pub tenant: TenantId,
     pub right: Right,
+    pub digest: [u8; 32],
 }
 
 /// The number, if it is from 0 to `most`.
@@ -232,16 +233,6 @@ impl Tenant {
         row
     }
 
-    /// Whether the tenant has a token for this right.
-    pub(crate) fn has_token(&self, right: Right) -> bool
-        ensures { result ≡ has_token right self.now }
-    {
-        match right {
-            Right::Change => true,
-            Right::Look => self.others.look.is_some() || self.others.former_look.is_some(),
-        }
-    }
-
     /// Whether the token with this digest is the tenant's, or its old one. Both are compared in any
     /// case.
     fn may_change(&self, shown: &[u8; 32]) -> bool
@@ -260,6 +251,16 @@ impl Tenant {
         let now = is_digest(&self.others.look, shown);
         let before = is_digest(&self.others.former_look, shown);
         now || before
+    }
+
+    /// Whether the token with this digest gives this right.
+    pub(crate) fn gives(&self, right: Right, shown: &[u8; 32]) -> bool
+        ensures { result ≡ gives right shown.now self.now }
+    {
+        match right {
+            Right::Change => self.may_change(shown),
+            Right::Look => self.may_look(shown),
+        }
     }
 
     /// The right of the token with this digest: to read and write with the tenant's own token or its

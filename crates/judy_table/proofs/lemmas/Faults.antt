@@ -1,11 +1,11 @@
 -- The fault that is told of a table is its first fault.
 --     first-faults    it is the first in the order of docs/FORMATS.md
-use Rattle.std.proofs.Common.{◌≡◌, ◌⊎◌, inl, inr, ℕ, ℤ, pos, negsuc, ◌+◌, ◌<◌, ◌≤◌, ◌&&◌, Bool, true, false, List, Option, Some, None, is_some, Ok, Err}
+use Rattle.std.proofs.Common.{◌≡◌, ◌⊎◌, inl, inr, ℕ, ℤ, pos, negsuc, ◌<◌, ◌≤◌, ◌&&◌, Bool, true, false, List, Option, Some, None, is_some, Ok, Err}
 use Rattle.std.proofs.Common.{ap, sym, ◌∙◌, refl, subst, nat_le, if◌then◌else◌, arith}
 use Rattle.std.specs.Prelude.{Result}
 use Rattle.std.proofs.lemmas.Bool.{leb-true, leb-false, and_parts}
 use Rattle.std.specs.Str.{is_utf8}
-use Rattle.toml.specs.Data.{Data, Members, no_members, member}
+use Rattle.toml.specs.Data.{Members, no_members, member}
 use Rattle.toml.specs.Parse.{parse_document}
 use Rattle.hex.specs.Hex.{decode_sized}
 use Rattle.hex.specs.declared.error.FromHexError.{FromHexError}
@@ -15,7 +15,7 @@ use Rattle.judy_table.specs.declared.fault.TableFault.TheVariants as fault
 use Rattle.judy_table.specs.declared.tenant.Others.{Others}
 use Rattle.judy_table.specs.declared.tenant.Tenant.{Tenant}
 use Rattle.judy_table.specs.Tenants.{size, Written, written, have_shape, up_to, pieces_for, with_pieces, with_entries, digest_read, optional_digest, all_read}
-use Rattle.judy_table.specs.Tenants.{others_of, with_others, with_digest, tenant_of, tenant_if_written, and_more, tenants_in, read_document, read_table}
+use Rattle.judy_table.specs.Tenants.{others_of, with_others, with_digest, tenant_of, tenant_if_written, and_more, tenants_in, read_document}
 use Rattle.judy_table.specs.Faults.{IsOutside, IsTooMany, IsNoDigest, IsNoOther, LacksDigest, HasFault, LacksShape, FaultsIn}
 use Rattle.judy_table.specs.Faults.{IsFaultOfTenant, IsFaultOf, TellsFirstFaults}
 use Rattle.judy_table.proofs.lemmas.Meaning.{AreOthers, others-are, tenant-is}

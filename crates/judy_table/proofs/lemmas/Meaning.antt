@@ -1,11 +1,11 @@
 -- A text is read as a list of tenants exactly if it is their table.
 use Rattle.std.proofs.Common.{◌≡◌, ℕ, ℤ, pos, negsuc, ◌+◌, ◌*◌, ◌≤◌, ◌==◌, ◌&&◌, Bool, true, false, List, [], ◌∷◌, Option, Some, None, is_some, Ok, Err}
 use Rattle.std.proofs.Common.{ap, sym, ◌∙◌, refl, subst, nat_le, if◌then◌else◌, le-leb, eq-eqb}
-use Rattle.std.specs.Prelude.{Result, codes, option_map, option_and_then, ◌↔◌}
+use Rattle.std.specs.Prelude.{Result, option_map, option_and_then}
 use Rattle.std.proofs.lemmas.Bool.{leb-true, eqb-true, and_parts, and_from}
-use Rattle.std.specs.Str.{is_utf8, IsUtf8}
+use Rattle.std.specs.Str.{is_utf8}
 use Rattle.std.proofs.lemmas.Str.{IsUtf8-from_is_utf8, is_utf8-from_IsUtf8}
-use Rattle.toml.specs.Data.{Data, Members, no_members, member, get_member, as_str, as_integer, as_table}
+use Rattle.toml.specs.Data.{Data, Members, no_members, member, as_str, as_integer, as_table}
 use Rattle.toml.specs.Parse.{parse_document}
 use Rattle.hex.specs.Hex.{decode_sized}
 use Rattle.hex.specs.declared.error.FromHexError.{FromHexError}
@@ -17,7 +17,7 @@ use Rattle.judy_table.specs.declared.tenant.Others.{Others}
 use Rattle.judy_table.specs.declared.tenant.Tenant.{Tenant}
 use Rattle.judy_table.specs.Tenants.{size, Written, OtherTexts, optional, one_if_some, count_others, all_others, all_of, written_in, written, have_shape}
 use Rattle.judy_table.specs.Tenants.{up_to, pieces_for, with_pieces, with_entries, digest_read, optional_digest, all_read, others_of, with_others}
-use Rattle.judy_table.specs.Tenants.{with_digest, tenant_of, tenant_if_written, and_more, tenants_in, read_tree, read_document, read_table}
+use Rattle.judy_table.specs.Tenants.{with_digest, tenant_of, tenant_if_written, and_more, tenants_in, read_document, read_table}
 use Rattle.judy_table.specs.Meaning.{HasPieces, HasDigest, if_there, HasValues, IsTenantOf, AreTenantsOf, IsTableOf, ReadsTables}
 
 -- ---- numbers, and the values of keys that may be absent
