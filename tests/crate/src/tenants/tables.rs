@@ -456,6 +456,29 @@ fn speakers_after_another_table(rt: HostRuntime) -> Result<(), Fail> {
     Ok(())
 }
 
+// alice has the token `hello` and the read-only token `look`.
+const FIRST_TOKENS: &str =
+    "[alice]\nsha256 = \"2cf24dba5fb0a30e26e83b2ac5b9e29e1b161e5c1fa7425e73043362938b9824\"\nread_sha256 = \"3c01eba119e00d79c82b6f65d70bc5f1044d568618bf41377e6d1432023fc2b8\"\nquota = 4\n";
+
+#[test]
+fn speakers_after_another_token(rt: HostRuntime) -> Result<(), Fail> {
+    let a = rt.alloc();
+    let first = parse(a, FIRST_TOKENS.as_bytes())?;
+    let alice = first.login(b"alice", b"hello").ok_or("alice")?;
+    let reader = first.login(b"alice", b"look").ok_or("alice reads")?;
+    let second = seated(a, &first, &parse(a, OLD_TOKENS.as_bytes())?)?;
+    holds(&rt, second.knows(alice) && second.knows(reader));
+    let later = second.login(b"alice", b"abc").ok_or("alice's new token")?;
+    let third = seated(a, &second, &table_of(a, &["alice"])?)?;
+    holds(&rt, third.knows(later));
+    holds_at(&rt, !third.knows(alice), "the old token is gone");
+    holds_at(&rt, !third.knows(reader), "the old read-only token is gone");
+    let fourth = seated(a, &third, &parse(a, TWO_TENANTS.as_bytes())?)?;
+    holds(&rt, fourth.knows(later));
+    holds_at(&rt, !fourth.knows(alice), "the token may only read now");
+    Ok(())
+}
+
 // A table of 64 tenants, whose names begin with this letter.
 fn full_table(alloc: Global, letter: char) -> Result<Table, Fail> {
     let mut text: ArrayString<8192> = ArrayString::new();
