@@ -17,7 +17,7 @@ from status_server import CALLS, CAUSES, KINDS  # noqa: E402
 
 TENANTS = [
     Tenant("alice", "abc", 1000000, read_token="look"),
-    Tenant("bob", "hello", 40),
+    Tenant("bob", "hello", 40, old_token="bye", old_read_token="glance"),
     Tenant("carol.x-1", "!~" * 64, 500, pieces=600),
     Tenant("Dave_" + "d" * 27, "abc", 0, read_token="peek"),
     Tenant("e", "e", 100, read_token="e"),
@@ -103,7 +103,7 @@ class Lines:
     def log_in(self):
         """A log-in: well-formed, and right or wrong in its name or its token."""
         names = [self.tenant.name] * 6 + [tenant.name for tenant in TENANTS] + ["mallory", "nobody" * 5]
-        tokens = [self.tenant.token] * 6 + [self.tenant.read_token or "wrong", "wrong", "?" * 128]
+        tokens = [self.tenant.token] * 6 + [self.tenant.read_token or "wrong", self.tenant.old_token or "wrong", "wrong", "?" * 128]
         return ("AUTH %s %s" % (self.draw.choice(names), self.draw.choice(tokens))).encode()
 
     def call(self):

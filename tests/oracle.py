@@ -36,20 +36,22 @@ class Full(Exception):
 class Tenant:
     """A tenant of the table: its name and tokens, and how many entries and pieces it may have."""
 
-    def __init__(self, name, token, quota, pieces=None, read_token=None):
+    def __init__(self, name, token, quota, pieces=None, read_token=None, old_token=None, old_read_token=None):
         self.name = name
         self.token = token
         self.quota = quota
         self.most = 126 * quota if pieces is None else pieces
         self.read_token = read_token
+        self.old_token = old_token
+        self.old_read_token = old_read_token
 
     def toml(self):
         """The tenant's table, as a line for each key."""
         lines = ['["%s"]' % self.name, 'sha256 = "%s"' % digest(self.token), "quota = %d" % self.quota]
         if self.most != 126 * self.quota:
             lines.append("pieces = %d" % self.most)
-        if self.read_token is not None:
-            lines.append('read_sha256 = "%s"' % digest(self.read_token))
+        others = (("read_sha256", self.read_token), ("old_sha256", self.old_token), ("old_read_sha256", self.old_read_token))
+        lines += ['%s = "%s"' % (key, digest(token)) for key, token in others if token is not None]
         return "\n".join(lines) + "\n"
 
 
@@ -139,9 +141,9 @@ class Store:
         if owner is None:
             return None
         given = token.decode()
-        if given == owner.tenant.token:
+        if given in (owner.tenant.token, owner.tenant.old_token):
             return owner, True
-        if given == owner.tenant.read_token:
+        if given in (owner.tenant.read_token, owner.tenant.old_read_token):
             return owner, False
         return None
 

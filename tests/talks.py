@@ -17,7 +17,7 @@ from oracle import COMMANDS, Syntax, Tenant, read_line
 
 TENANTS = [
     Tenant("alice", "abc", 1000001, read_token="look"),
-    Tenant("bob", "hello", 1000002),
+    Tenant("bob", "hello", 1000002, old_token="bye", old_read_token="glance"),
     Tenant("carol.x-1", "!~" * 64, 1000003),
     Tenant("Dave_" + "d" * 27, "abc", 1000004, read_token="peek"),
     Tenant("e", "e", 1000005, read_token="e"),

@@ -35,7 +35,7 @@ _judy_words() {
         backup) echo "--folder $_judy_options --help" ;;
         compact) echo "--when --help" ;;
         move) echo "J1: JL: JSL: JHS: --to --new-token-file --free --part --all $_judy_options --help" ;;
-        table) echo "add set remove --quota --pieces --token --look --help" ;;
+        table) echo "add set drop-old remove --quota --pieces --token --look --keep-old --help" ;;
         digest) echo "--look --help" ;;
     esac
 }

@@ -77,7 +77,8 @@ class Tables(JudyTest):
         quota, pieces = "quota must be a whole number from 0 to 16777216 (%s)", "pieces must be a whole number from 0 to 2113929216 (%s)"
         for line, said in (
             ('read_sha256 = "abc"', digest % ("read_sha256", "Digest")), ("read_sha256 = 5", digest % ("read_sha256", "Shape")), ("pieces = -1", pieces % "Pieces"),
-            ('pieces = "4"', pieces % "Shape"), ("more = 1", "the key more is unknown: the keys are sha256, quota, pieces and read_sha256 (Shape)"),
+            ('pieces = "4"', pieces % "Shape"), ("more = 1", "the key more is unknown: the keys are sha256, quota, pieces, read_sha256, old_sha256 and old_read_sha256 (Shape)"),
+            ('old_sha256 = "abc"', digest % ("old_sha256", "Digest")), ("old_sha256 = []", digest % ("old_sha256", "Shape")), ("old_read_sha256 = 5", digest % ("old_read_sha256", "Shape")),
             ("quota = 5", "quota stands twice: line 6 has it already (Toml)"), ("'quota' = 5", "'quota' stands twice: line 6 has it already (Toml)"), ("x", "this is not TOML (Toml)"),
         ):  # fmt: skip
             self.assertEqual(self.told("# all\n[z]\n%squota = 1\n[alice]\n%s\n\n" % (LINE, "quota = 4\n%s# %s\n%s" % (OTHER, "sha256 = 1", line))), ["line 9, tenant alice: " + said])
@@ -110,6 +111,12 @@ class Tables(JudyTest):
         self.assertEqual(self.told("[alice]\npieces = 4\nquota = 4\n" + LINE, 0), ["no fault"])
         both = "read_sha256 equals sha256 of alice in line 3: the read-only token may change too"
         self.assertEqual(self.told("[alice]\nquota = 4\n%sread_%s" % (LINE, LINE.upper().replace("SHA256 ", "sha256 ")), 0), ["line 4, tenant alice: warning: " + both, "no fault"])
+        still = "line 4, tenant alice: warning: %s equals %s of alice in line 3: the old token is still the token"
+        self.assertEqual(self.told("[alice]\nquota = 4\n%sold_%s" % (LINE, LINE), 0), [still % ("old_sha256", "sha256"), "no fault"])
+        looks = "[alice]\nquota = 4\nread_%sold_read_%s%s" % (LINE, LINE, OTHER)
+        self.assertEqual(self.told(looks, 0), [still % ("old_read_sha256", "read_sha256"), "no fault"])
+        both = "old_sha256 equals read_sha256 of alice in line 3: the read-only token may change too"
+        self.assertEqual(self.told("[alice]\nquota = 4\nread_%sold_%s%s" % (LINE, LINE, OTHER), 0), ["line 4, tenant alice: warning: " + both, "no fault"])
         two = "[alice]\nquota = 4\n%sread_%s[bob]\nquota = 4\n%s" % (LINE, OTHER, OTHER)
         self.assertEqual(self.told(two, 0), ["line 7, tenant bob: warning: sha256 equals read_sha256 of alice in line 4: one token opens both tenants", "no fault"])
         path = self.file("short.toml", b"")
@@ -159,6 +166,28 @@ class Tables(JudyTest):
         self.assertEqual(text_of(path), wanted.partition("[\"b")[0])
         self.assertIn("(Count)", run_judy(b"", "table", path, "remove", "alice")[2])
         self.assertEqual(run_judy(b"", "table", path, "add")[0], 2)
+
+    def test_old_tokens(self):
+        a, b, c, look, peek = ('"%s"' % hashlib.sha256(token).hexdigest() for token in (b"a", b"b", b"c", b"look", b"peek"))
+        path = self.file("old.toml", ("# all\n[bob]\nquota = 1\nsha256 = %s\n[alice]\nsha256 = %s # hers\nquota = 1\n\n" % (a, a)).encode())
+        first, other = "# all\n[bob]\nquota = 1\nsha256 = %s\n[alice]\nsha256 = " % a, " # hers\nquota = 1\n"
+        for said, words, wanted in (
+            (b"b\n", ("set", "alice", "--token", "--keep-old"), b + other + "old_sha256 = %s\n\n" % a),
+            (b"c\nlook\n", ("set", "alice", "--token", "--look", "--keep-old"), c + other + "old_sha256 = %s\nread_sha256 = %s\n\n" % (b, look)),
+            (b"peek\n", ("set", "alice", "--look", "--keep-old"), c + other + "old_sha256 = %s\nread_sha256 = %s\nold_read_sha256 = %s\n\n" % (b, peek, look)),
+            (b"", ("drop-old", "alice"), c + other + "read_sha256 = %s\n\n" % peek),
+            (b"b\n", ("set", "alice", "--token", "--keep-old"), b + other + "read_sha256 = %s\nold_sha256 = %s\n\n" % (peek, c)),
+            (b"look\n", ("set", "alice", "--look", "--quota", "2"), b + other.replace("1", "2") + "read_sha256 = %s\nold_sha256 = %s\n\n" % (look, c)),
+            (b"a\n", ("set", "alice", "--token"), a + other.replace("1", "2") + "read_sha256 = %s\n\n" % look),
+        ):
+            status, told, wrong = run_judy(said, "table", path, *words)
+            self.assertEqual((status, told.splitlines()[:1], text_of(path)), (0, [path + ": changed; judyd reads it when it starts, and at a reload"], first + wanted), wrong)
+        for words, said in (
+            (("drop-old", "alice"), "alice has no old token"), (("drop-old", "carol"), "no [carol] in the table"),
+            (("set", "alice", "--quota", "4", "--keep-old"), "--keep-old stands beside set with --token or --look"), (("add", "carol", "--quota", "1", "--keep-old"), "--keep-old stands beside"),
+        ):  # fmt: skip
+            status, _, wrong = run_judy(b"abc\n", "table", path, *words)
+            self.assertEqual((status, said in wrong, text_of(path)), (1, True, first + wanted), wrong)
 
     def test_comments_stay(self):
         text = "# all\n\n# the first\n[ alice ] # her\nquota = 1_000 # few\n%s# the second\n['bob']\n%s\"quota\" = 0x10\n" % (LINE, LINE)

@@ -6,7 +6,7 @@ import os
 import signal
 import sys
 from difflib import get_close_matches
-from typing import List, Optional
+from typing import Dict, List, Optional
 
 from . import backups, compactions, metrics, moves, screen, service, tablefaults, tables, transfer
 from .client import Client
@@ -199,29 +199,44 @@ def run_table(options: argparse.Namespace) -> int:
     return 3 if faults else 0
 
 
+def new_digests(options: argparse.Namespace) -> Dict[str, str]:
+    """The digests of the tokens that a change of a table asks for, by their keys."""
+    digests: Dict[str, str] = {}
+    if options.action == "add" or options.token:
+        digests["sha256"] = tables.digest_value(new_token("token of %s: " % options.tenant))
+    if options.look:
+        digests["read_sha256"] = tables.digest_value(new_token("read-only token of %s: " % options.tenant))
+    return digests
+
+
+def changed_table(options: argparse.Namespace, text: str) -> str:
+    """The text of a table after judy table FILE add, set, drop-old or remove"""
+    tenant = options.tenant
+    keys = {key: str(value) for key, value in (("quota", options.quota), ("pieces", options.pieces)) if value is not None}
+    if options.keep_old and not (options.action == "set" and (options.token or options.look)):
+        raise ValueError("--keep-old stands beside set with --token or --look")
+    if options.action == "remove":
+        return tables.without(text, tenant)
+    if options.action == "drop-old":
+        return tables.without_old(text, tenant)
+    if options.action == "set":
+        if not (keys or options.token or options.look):
+            raise ValueError("set what? --quota N, --pieces N, --token, --look")
+        return tables.with_digests(tables.with_keys(text, tenant, keys), tenant, new_digests(options), options.keep_old)
+    tables.refuse_known(options.file, text, tenant)
+    if "quota" not in keys:
+        raise ValueError("how many entries may %s have? --quota N" % tenant)
+    digests = new_digests(options)
+    return tables.with_tenant(text, tenant, {"sha256": digests["sha256"], **keys, **digests})
+
+
 def change_table(options: argparse.Namespace) -> int:
-    """judy table FILE add, set or remove"""
+    """judy table FILE add, set, drop-old or remove"""
     text = ""
     if options.action != "add" or os.path.exists(options.file):
         with open(options.file, encoding="utf-8", errors="surrogateescape", newline="") as file:
             text = file.read()
-    keys = {key: str(value) for key, value in (("quota", options.quota), ("pieces", options.pieces)) if value is not None}
-    if options.action == "add":
-        tables.refuse_known(options.file, text, options.tenant)
-    if options.action == "add" and "quota" not in keys:
-        raise ValueError("how many entries may %s have? --quota N" % options.tenant)
-    if options.action == "add" or options.token:
-        keys = {"sha256": tables.digest_value(new_token("token of %s: " % options.tenant)), **keys}
-    if options.look and options.action != "remove":
-        keys["read_sha256"] = tables.digest_value(new_token("read-only token of %s: " % options.tenant))
-    if options.action == "remove":
-        text = tables.without(text, options.tenant)
-    elif options.action == "add":
-        text = tables.with_tenant(text, options.tenant, keys)
-    elif keys:
-        text = tables.with_keys(text, options.tenant, keys)
-    else:
-        raise ValueError("set what? --quota N, --pieces N, --token, --look")
+    text = changed_table(options, text)
     tables.put(options.file, text)
     print("%s: changed; judyd reads it when it starts, and at a reload" % options.file)
     for odd in tablefaults.warnings_in(text.encode("utf-8", "surrogateescape")):

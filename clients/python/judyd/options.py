@@ -32,7 +32,7 @@ and goes on. If the connection is lost it says how many lines were answered, and
   judy compact [--when GROWTH] DIR           makes a journal smaller, if it has grown by 100% or 1G
   judy move --to WHERE [--free] J1:ids ..    copies arrays to another server, and compares the two
   judy table FILE                            the faults of a table of tenants, with their lines: status 3 if it has any
-  judy table FILE add | set | remove TENANT  changes a table, if judyd takes the new one
+  judy table FILE add | set | drop-old | remove TENANT  changes a table, if judyd takes the new one
   judy digest [--look]                       asks for a token, and prints its line for the table
 
 A line is a line of the protocol, as `J1S ids 5`, or uses the manual's name, as `Judy1Set ids 5`. A
@@ -157,12 +157,13 @@ def subcommand(name: str) -> argparse.ArgumentParser:
         sub.add_argument("arrays", nargs="*", metavar="ARRAY", help="as for dump")
     elif name == "table":
         sub.add_argument("file", metavar="FILE", help="- for standard input")
-        sub.add_argument("action", nargs="?", choices=("add", "set", "remove"), help="change the tenant's part of the table")
+        sub.add_argument("action", nargs="?", choices=("add", "set", "drop-old", "remove"), help="change the tenant's part of the table")
         sub.add_argument("tenant", nargs="?")
         sub.add_argument("--quota", type=int, metavar="N", help="how many entries the tenant may have")
         sub.add_argument("--pieces", type=int, metavar="N", help="how many pieces it may have")
         sub.add_argument("--token", action="store_true", help="ask for a new token")
         sub.add_argument("--look", action="store_true", help="ask for a read-only token")
+        sub.add_argument("--keep-old", action="store_true", help="the tokens in their place log in still, until drop-old")
     elif name == "digest":
         sub.add_argument("--look", action="store_true", help="for a read-only token")
     elif name == "help":

@@ -17,7 +17,7 @@ PARTS = 200
 _MEANS = {
     "Long": "the table has more than 65,536 bytes",
     "Toml": "this is not TOML",
-    "Shape": 'sha256 = "..." and quota = 1000 must be there, pieces = 1000 and read_sha256 = "..." may be, and no other key',
+    "Shape": 'sha256 = "..." and quota = 1000 must be there, pieces = 1000, read_sha256, old_sha256 and old_read_sha256 may be, and no other key',
     "Count": "a table has 1 to 64 tenants",
     "Name": "the name of a tenant must be 1 to 32 of A-Z a-z 0-9 _ - .",
     "Digest": "a digest must be the SHA-256 of a token, 64 hexadecimal digits in quotes: judy digest prints its line",
@@ -25,12 +25,8 @@ _MEANS = {
     "Pieces": "pieces must be a whole number from 0 to 2113929216",
 }
 _DIGEST_MEANS = "%s must be the SHA-256 of a token, 64 hexadecimal digits in quotes: judy digest prints its line"
-_KEYS = {
-    "sha256": _DIGEST_MEANS % "sha256",
-    "quota": _MEANS["Quota"],
-    "pieces": _MEANS["Pieces"],
-    "read_sha256": _DIGEST_MEANS % "read_sha256",
-}
+_DIGESTS = ("sha256", "read_sha256", "old_sha256", "old_read_sha256")
+_KEYS = {"quota": _MEANS["Quota"], "pieces": _MEANS["Pieces"], **{key: _DIGEST_MEANS % key for key in _DIGESTS}}
 _GOOD = {"sha256": 'sha256 = "%s"\n' % ("0" * 64), "quota": "quota = 1\n"}
 _ADD = {"sha256": "add the line that judy digest prints", "quota": "add quota = N, a whole number from 0 to 16777216"}
 
@@ -188,7 +184,8 @@ def _faults_of_tenant(name: str, tenant: _Tenant) -> Iterator[Fault]:
         others = [line for key, line in _GOOD.items() if key != statement.key]
         word = _judged("[t]\n%s%s = %s\n" % ("".join(others), statement.written, statement.value))
         if word not in ("", "Toml"):
-            unknown = "the key %s is unknown: the keys are sha256, quota, pieces and read_sha256" % shown(statement.key)
+            known = "the keys are sha256, quota, pieces, read_sha256, old_sha256 and old_read_sha256"
+            unknown = "the key %s is unknown: %s" % (shown(statement.key), known)
             yield Fault(word, statement.line, name, _KEYS.get(statement.key, unknown))
     for key in _GOOD:
         if key not in [statement.key for statement in tenant.statements]:
@@ -302,7 +299,7 @@ def _equal_digests(tenants: Dict[str, _Tenant]) -> Iterator[Fault]:
     """The tokens whose digest a token above has, of the same tenant if it is one."""
     tokens: List[_Token] = []
     for name, tenant in tenants.items():
-        for key in ("sha256", "read_sha256"):
+        for key in _DIGESTS:
             for it in tenant.statements:
                 digest = _DIGEST.match(it.value)
                 if it.key == key and digest:
@@ -310,9 +307,16 @@ def _equal_digests(tenants: Dict[str, _Tenant]) -> Iterator[Fault]:
     for at, token in enumerate(tokens):
         same = [other for other in tokens[:at] if other.digest == token.digest]
         for other in sorted(same, key=lambda it: it.tenant != token.tenant)[:1]:
-            means = "one token opens both tenants" if other.tenant != token.tenant else "the read-only token may change too"
-            why = "%s equals %s of %s in line %d: %s" % (token.key, other.key, shown(other.tenant), other.line, means)
+            why = "%s equals %s of %s in line %d: %s" % (token.key, other.key, shown(other.tenant), other.line, _meant(token, other))
             yield Fault("", token.line, token.tenant, why)
+
+
+def _meant(token: _Token, other: _Token) -> str:
+    """What two equal digests mean."""
+    if token.tenant != other.tenant:
+        return "one token opens both tenants"
+    looks = ["read" in it.key for it in (token, other)]
+    return "the old token is still the token" if looks[0] == looks[1] else "the read-only token may change too"
 
 
 def _number_at(statement: Optional[_Statement]) -> Optional[int]:

@@ -3,11 +3,16 @@ place of the old one only if judyd finds no fault in it."""
 
 import hashlib
 import re
-from typing import Dict, Tuple
+from typing import Dict, Optional, Tuple
 
 from .dumpfile import replaced, write_all
 from .fields import name_field, token_field
 from .tablefaults import HEADER, faults_in, judged, line_of
+
+OLD = {"sha256": "old_sha256", "read_sha256": "old_read_sha256"}
+"""The key of the old token, by that of the token."""
+
+_LINE = r"(?m)^([ \t]*[\"']?%s[\"']?[ \t]*=[ \t]*)"
 
 
 def _section(text: str, tenant: str) -> Tuple[int, int]:
@@ -29,10 +34,43 @@ def with_keys(text: str, tenant: str, keys: Dict[str, str]) -> str:
     start, end = _section(text, tenant)
     section = text[start:end]
     for key, value in keys.items():
-        section, count = re.subn(r"(?m)^([ \t]*[\"']?%s[\"']?[ \t]*=[ \t]*)[^#\s]+" % key, r"\g<1>%s" % value, section)
+        section, count = re.subn((_LINE % key) + r"[^#\s]+", r"\g<1>%s" % value, section)
         if count == 0:
             section = "%s%s%s = %s\n" % (section, "" if section.endswith("\n") else "\n", key, value)
     return text[:start] + section + text[end:]
+
+
+def _without_key(text: str, tenant: str, key: str) -> str:
+    """The table without the line of a tenant's key."""
+    start, end = _section(text, tenant)
+    return text[:start] + re.sub((_LINE % key) + r".*(?:\n|\Z)", "", text[start:end]) + text[end:]
+
+
+def _value(text: str, tenant: str, key: str) -> Optional[str]:
+    """The value of a tenant's key as the table has it, or None."""
+    start, end = _section(text, tenant)
+    found = re.search((_LINE % key) + r"([^#\s]+)", text[start:end])
+    return found[2] if found else None
+
+
+def with_digests(text: str, tenant: str, digests: Dict[str, str], keeps: bool) -> str:
+    """The table with the digests of other tokens of a tenant, by their keys. The tokens in their place are its
+    old tokens, if they are kept; else these and the old ones go."""
+    for key, digest in digests.items():
+        before = _value(text, tenant, key) if keeps else None
+        if not keeps:
+            text = _without_key(text, tenant, OLD[key])
+        text = with_keys(text, tenant, {key: digest} if before is None else {key: digest, OLD[key]: before})
+    return text
+
+
+def without_old(text: str, tenant: str) -> str:
+    """The table without the old tokens of a tenant."""
+    if all(_value(text, tenant, key) is None for key in OLD.values()):
+        raise ValueError("%s has no old token" % tenant)
+    for key in OLD.values():
+        text = _without_key(text, tenant, key)
+    return text
 
 
 def without(text: str, tenant: str) -> str:

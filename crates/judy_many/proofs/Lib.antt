@@ -1,4 +1,5 @@
 mod Accepting
+mod Admitted
 mod Beginning
 mod Beside
 pub mod Chaining

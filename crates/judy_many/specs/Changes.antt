@@ -1,11 +1,12 @@
 -- A table that is read again while connections stay open.
 --     IsChange before after       a change keeps or empties each tenant's arrays
 --     KeepsTenants before after   it keeps all of them
+--     is_gone admits speaker      the speaker of a connection does not go on
 --     HasReloaded ..              what the server did when it was asked to read the table again
 --     IsAlone before turns after  over these lines each tenant's replies are those that it would get alone
 --     IsAloneFor t ..             so are those of this tenant
 --     Chain P before runs after   P holds of each run of lines, and changes join them
-use Rattle.std.specs.Prelude.{◌≡◌, ◌⊎◌, ℕ, Bool, true, false, List, [], ◌∷◌, codes, zip}
+use Rattle.std.specs.Prelude.{◌≡◌, ◌⊎◌, ℕ, Bool, true, false, not, List, [], ◌∷◌, Option, Some, None, codes, zip}
 use Rattle.judy_model.specs.Service.{AreServed, own}
 use Rattle.judy_model.specs.Solo.{Exchanges, IsSolo, attempts_of, refusals}
 use Rattle.judy_model.specs.Tenant.{State, no_arrays}
@@ -32,6 +33,11 @@ pub record KeepsTenants (before after : Seen) : Type 0 where
 abbrev pub HasChanged : {S : Type 0} → Rules S → Bool → Acts → Acts → S → S → Type 0
 HasChanged rules true log log' before after = (text : List ℕ) × DidLog log (Tabled text ∷ []) log' × rules.changed before text after
 HasChanged rules false log log' before after = (after ≡ before) × (DidLog log (Untabled ∷ []) log' ⊎ ((text : List ℕ) × DidLog log (Tabled text ∷ []) log'))
+
+-- somebody has logged in on a connection, and does not go on
+abbrev pub is_gone : {P : Type 0} → (P → Bool) → Option P → Bool
+is_gone admits None = false
+is_gone admits (Some speaker) = not (admits speaker)
 
 -- connections were closed, since their speakers are gone
 abbrev pub AreGone : List Act → Type 0

@@ -1,13 +1,13 @@
 //! A table that is read again while connections stay open.
-ghost use Rattle.std.specs.Prelude.{◌≡◌, ℕ, List, [], Some, true, false, is_some, MatchBool, option_map};
+ghost use Rattle.std.specs.Prelude.{◌≡◌, ◌⊎◌, ℕ, List, [], Some, true, false, is_some, MatchBool, option_map};
 ghost use Rattle.judy_model.specs.Speakers.{Speaker};
 ghost use Rattle.judy_protocol.specs.Services.{HasLoggedIn};
-ghost use Rattle.judy_many.specs.Changes.{AreClosed, AreGone, HasChanged, HasReloaded, KeepsTenants, reply_head};
+ghost use Rattle.judy_many.specs.Changes.{AreClosed, AreGone, HasChanged, HasReloaded, KeepsTenants, is_gone, reply_head};
 ghost use Rattle.judy_many.specs.Crowds.{Crowd, Past};
 ghost use Rattle.judy_many.specs.Lives.{SlotDid, view_of};
 ghost use Rattle.judy_many.specs.Nets.{Act, Acts, DidLog};
 ghost use Rattle.judy_many.specs.Rules.{rules_of};
-ghost use Rattle.judy_many.specs.Slots.{AreKnown, IsKnownSlot};
+ghost use Rattle.judy_many.specs.Slots.{AreAdmitted, AreKnown, IsAdmittedSlot, IsGoneSlot, IsKnownSlot};
 ghost use Rattle.judy_many.specs.Stories.{BeginsWith, Story, acts_in, told_head, turns_in};
 ghost use Rattle.judy_many.specs.Stories.Phase.{Sweeps};
 ghost use Rattle.judy_many.specs.Watches.{IsClosedOr, nobody};
@@ -75,8 +75,9 @@ fn change_table<S: Shows, N: Network>(
     }
 }
 
-/// Whether the speaker of a client may not go on.
+/// Whether the speaker of a client may not go on: its token does not give its right any more.
 fn is_gone<S: Shows>(service: &S, speaker: Option<S::Speaker>) -> bool
+    ensures token { result ≡ is_gone (S.admits service.now) speaker }
     ensures stays { result ≡ false → HasLoggedIn (S.seen service.now).speakers (option_map S.who speaker) }
     ensures gone { result ≡ true → (who : Speaker) × (option_map S.who speaker ≡ Some who) }
 {
@@ -101,6 +102,8 @@ fn close_at<S: Shows, N: Network>(
         (option_map (λ b. view_of S.who N.number b.value) slot.new) more }
     ensures known { IsKnownSlot (λ b. option_map S.who b.value.session.speaker)
         (S.seen service.now).speakers slot.new }
+    ensures admitted { IsAdmittedSlot (λ b. b.value.session.speaker) (S.admits service.now) slot.new }
+    ensures only { result ≡ true → IsGoneSlot (λ b. b.value.session.speaker) (S.admits service.now) slot.old }
 {
     let Some(mut client) = slot.take() else {
         return false;
@@ -123,6 +126,7 @@ fn close_gone<S: Shows, N: Network>(network: &mut N, service: &S, clients: &mut 
     ensures gone { (gone : List Act) × DidLog (N.log network.old) gone (N.log network.new) × AreGone gone }
     ensures known { AreKnown (λ b. option_map S.who b.value.session.speaker)
         (S.seen service.now).speakers clients.new.slots.items }
+    ensures admitted { AreAdmitted (λ b. b.value.session.speaker) (S.admits service.now) clients.new.slots.items }
 {
     for at in 0..clients.slots.len() {
         let closed = close_at::<S, N>(network, service, &mut clients.slots[at]);
@@ -148,6 +152,8 @@ fn close_after<S: Shows, N: Network>(
         × AreClosed changed gone }
     ensures known { AreKnown (λ b. option_map S.who b.value.session.speaker)
         (S.seen service.now).speakers clients.new.slots.items }
+    ensures admitted { changed ≡ true
+        → AreAdmitted (λ b. b.value.session.speaker) (S.admits service.now) clients.new.slots.items }
 {
     if !changed {
         return;
@@ -205,6 +211,8 @@ pub fn reload<S: Shows, N: Network>(
         (N.log network.old) (N.log network.new) service.old service.new }
     ensures known { AreKnown (λ b. option_map S.who b.value.session.speaker)
         (S.seen service.new).speakers clients.new.slots.items }
+    ensures admitted { (service.new ≡ service.old)
+        ⊎ AreAdmitted (λ b. b.value.session.speaker) (S.admits service.new) clients.new.slots.items }
 {
     let mut told = Vec::new(alloc);
     let changed = change_table(alloc, network, service, keep, text, &mut told);

@@ -1,5 +1,5 @@
 //! A service that counts its lines, tells its status, and changes its table.
-ghost use Rattle.std.specs.Prelude.{◌≡◌, ◌++◌, ℕ, List, [], Option, map, option_map, true, false, MatchBool, OnOk};
+ghost use Rattle.std.specs.Prelude.{◌≡◌, ◌++◌, ℕ, Bool, List, [], Option, map, option_map, true, false, MatchBool, OnOk};
 ghost use Rattle.judy_model.specs.Speakers.{Speaker};
 ghost use Rattle.judy_model.specs.Stream.{Heard};
 ghost use Rattle.judy_protocol.specs.Services.{IsKnown};
@@ -24,6 +24,9 @@ pub trait Shows: Served {
 
     /// The table of this text was put in force.
     ghost changed: { Self → List ℕ → Self → Type 0 };
+
+    /// The token with which a speaker logged in gives its right by the table in force.
+    ghost admits: { Self → Self.Speaker → Bool };
 
     /// Appends the text, with these speakers of the open connections. It fails only for memory.
     fn show(&self, speakers: &[Option<Self::Speaker>], text: &mut Vec<u8>) -> Result<(), AllocError>
@@ -54,9 +57,11 @@ pub trait Shows: Served {
         ensures { result ≡ true → (after : Self) → changed self.now text.now after
             → KeepsTenants (Self.seen self.now) (Self.seen after) };
 
-    /// Whether a speaker may speak: after a change of the table its tenant may be gone.
+    /// Whether a speaker goes on: after a change of the table its tenant or its token may be gone. One
+    /// that goes on may speak.
     fn knows(&self, speaker: Self::Speaker) -> bool
-        ensures { result ≡ (Self.seen self.now).speakers (Self.who speaker) };
+        ensures token { result ≡ admits self.now speaker }
+        ensures known { result ≡ true → IsKnown (Self.seen self.now).speakers (Self.who speaker) };
 
     /// The number of a speaker's tenant.
     fn tenant(&self, speaker: Self::Speaker) -> usize

@@ -100,6 +100,7 @@ pub fn replay<H: KeyHash>(
     let speaker = Speaker {
         tenant,
         right: Right::Change,
+        digest: [0; 32],
     };
     outcome(&service.call(alloc, speaker, &call, found))
 }

@@ -1,6 +1,7 @@
 //! The tenants of a table, as a connection and a program see them.
 ghost use Rattle.std.specs.Prelude.{◌≡◌, None, true};
 ghost use Rattle.std.proofs.Common.{ap, refl};
+ghost use Rattle.judy_table.specs.Seats.{goes_on};
 ghost use Rattle.judy_table.specs.Shown.{seen};
 ghost use Rattle.judy_protocol.specs.Sending.{MaySend};
 ghost use Rattle.judy_protocol.specs.Serving.{wire};
@@ -148,6 +149,8 @@ impl<H: Chosen> Shows for Server<H> {
     ghost noted = { IsNoted };
 
     ghost changed = { IsReload };
+
+    ghost admits = { λ t speaker. goes_on t.held.tenants (seen speaker) speaker.digest };
 
     fn show(&self, speakers: &[Option<Speaker>], text: &mut Vec<u8>) -> Result<(), AllocError> {
         add_status(text, &self.service, &self.tally, speakers)

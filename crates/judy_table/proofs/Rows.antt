@@ -1,5 +1,5 @@
 -- Worked rows, by computation.
-use Rattle.std.proofs.Common.{◌≡◌, [], ◌∷◌, None, Ok, Err, codes, refl}
+use Rattle.std.proofs.Common.{◌≡◌, [], ◌∷◌, None, Some, Ok, Err, codes, refl, replicate}
 use Rattle.std.specs.Str.{is_utf8, chars}
 use Rattle.std.specs.Char.{encode_utf8}
 use Rattle.toml.proofs.OnLiterals.{toml_on_literals}
@@ -39,7 +39,7 @@ alice : read_table (codes "[alice]\nsha256 = \"BA7816bf8f01cfea414140de5dae2223b
   name = codes "alice";
   digest = 186 ∷ 120 ∷ 22 ∷ 191 ∷ 143 ∷ 1 ∷ 207 ∷ 234 ∷ 65 ∷ 65 ∷ 64 ∷ 222 ∷ 93 ∷ 174 ∷ 34 ∷ 35 ∷ 176 ∷ 3 ∷ 97 ∷ 163 ∷ 150 ∷ 23
       ∷ 122 ∷ 156 ∷ 180 ∷ 16 ∷ 255 ∷ 97 ∷ 242 ∷ 0 ∷ 21 ∷ 173 ∷ [];
-  look = None;
+  others = record { look = None; former = None; former_look = None };
   quota = record { entries = 4; pieces = 504 };
 } ∷ [])
 unfolding toml_on_literals is_utf8 chars encode_utf8 decode_pairs
@@ -74,3 +74,25 @@ short_for_looking = refl
 other_key : read_table (codes "[alice]\nsha256 = \"ba78\"\nquota = 4\ncolour = 4") ≡ Err fault.Shape
 unfolding toml_on_literals is_utf8 chars encode_utf8 decode_pairs
 other_key = refl
+
+old_digests : read_table
+    (codes "[alice]\nsha256 = \"ba7816bf8f01cfea414140de5dae2223b00361a396177a9cb410ff61f20015ad\"\nquota = 0\nold_sha256 = \"0000000000000000000000000000000000000000000000000000000000000000\"\nold_read_sha256 = \"0101010101010101010101010101010101010101010101010101010101010101\"")
+    ≡ Ok (record {
+      name = codes "alice";
+      digest = 186 ∷ 120 ∷ 22 ∷ 191 ∷ 143 ∷ 1 ∷ 207 ∷ 234 ∷ 65 ∷ 65 ∷ 64 ∷ 222 ∷ 93 ∷ 174 ∷ 34 ∷ 35 ∷ 176 ∷ 3 ∷ 97 ∷ 163 ∷ 150 ∷ 23
+          ∷ 122 ∷ 156 ∷ 180 ∷ 16 ∷ 255 ∷ 97 ∷ 242 ∷ 0 ∷ 21 ∷ 173 ∷ [];
+      others = record { look = None; former = Some (replicate 32 0); former_look = Some (replicate 32 1) };
+      quota = record { entries = 0; pieces = 0 };
+    } ∷ [])
+unfolding toml_on_literals is_utf8 chars encode_utf8 decode_pairs
+old_digests = refl
+
+short_old_digest : read_table
+    (codes "[alice]\nsha256 = \"ba7816bf8f01cfea414140de5dae2223b00361a396177a9cb410ff61f20015ad\"\nquota = 16777217\nold_sha256 = \"ba78\"")
+    ≡ Err fault.Digest
+unfolding toml_on_literals is_utf8 chars encode_utf8 decode_pairs
+short_old_digest = refl
+
+number_for_old_looking : read_table (codes "[alice]\nsha256 = \"ba78\"\nquota = 4\nold_read_sha256 = 3") ≡ Err fault.Shape
+unfolding toml_on_literals is_utf8 chars encode_utf8 decode_pairs
+number_for_old_looking = refl

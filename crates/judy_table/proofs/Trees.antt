@@ -5,6 +5,7 @@ use Rattle.toml.specs.View.{members_view, view}
 use Rattle.toml.proofs.Views.{Entry}
 use Rattle.std.specs.Prelude.{Result, Ok, Err}
 use Rattle.std.proofs.Common.{sym, append_assoc, append-nil, ◌++◌}
+use Rattle.judy_table.specs.declared.tenant.Others.{Others}
 use Rattle.judy_table.specs.declared.tenant.Tenant.{Tenant}
 use Rattle.judy_table.specs.declared.fault.TableFault.{TableFault}
 use Rattle.judy_table.specs.Tenants.{size, have_shape, written, and_more, tenants_in, tenant_if_written, tenant_of, Written}
@@ -22,7 +23,7 @@ use Rattle.std.specs.Cmp.Lexicographic.{slice_cmp}
 use Rattle.hex.specs.Hex.{decode_sized}
 use Rattle.hex.specs.declared.FromHexError.{FromHexError}
 use Rattle.judy_model.specs.Grammar.{is_name}
-use Rattle.judy_table.specs.Tenants.{with_pieces, with_entries, with_look, with_digest, pieces_for, look_digest, up_to, HasRisingNames, IsLimited, AreLimited}
+use Rattle.judy_table.specs.Tenants.{with_pieces, with_entries, with_others, with_digest, pieces_for, others_of, up_to, HasRisingNames, IsLimited, AreLimited}
 use Rattle.std.specs.Str.{is_utf8, IsUtf8, bytes_eq}
 use Rattle.std.proofs.Common.{◌||◌, not, Bool, is_eq, ne_eqb}
 use Rattle.std.proofs.lemmas.Bool.{and_parts, and_from, or_from, or_right, not_from_false, false_from_ne_true, false≢true, both_ways}
@@ -91,25 +92,25 @@ abbrev pub names_in : Members → List (List ℕ)
 names_in no_members = []
 names_in (member k d ms) = k ∷ names_in ms
 
-name-with_pieces : (name digest : List ℕ) (look : Option (List ℕ)) (entries : ℕ) (pieces : Option ℕ) (t : Tenant) → with_pieces
-    name digest look entries pieces ≡ Ok t → t.name ≡ name
-name-with_pieces name digest look entries (Some pieces) t e =
-    let p : record { name = name; digest = digest; look = look; quota = record { entries = entries; pieces = pieces } } ≡ t = cc in
+name-with_pieces : (name digest : List ℕ) (others : Others) (entries : ℕ) (pieces : Option ℕ) (t : Tenant) → with_pieces
+    name digest others entries pieces ≡ Ok t → t.name ≡ name
+name-with_pieces name digest others entries (Some pieces) t e =
+    let p : record { name = name; digest = digest; others = others; quota = record { entries = entries; pieces = pieces } } ≡ t = cc in
     ap (λ (u : Tenant). u.name) (sym p)
-name-with_pieces name digest look entries None t e = cc
+name-with_pieces name digest others entries None t e = cc
 
-name-with_entries : (name digest : List ℕ) (look : Option (List ℕ)) (entries : Option ℕ) (pieces : Option ℤ) (t : Tenant)
-    → with_entries name digest look entries pieces ≡ Ok t → t.name ≡ name
-name-with_entries name digest look (Some entries) pieces t e = name-with_pieces name digest look entries (pieces_for entries pieces) t e
-name-with_entries name digest look None pieces t e = cc
+name-with_entries : (name digest : List ℕ) (others : Others) (entries : Option ℕ) (pieces : Option ℤ) (t : Tenant)
+    → with_entries name digest others entries pieces ≡ Ok t → t.name ≡ name
+name-with_entries name digest others (Some entries) pieces t e = name-with_pieces name digest others entries (pieces_for entries pieces) t e
+name-with_entries name digest others None pieces t e = cc
 
-name-with_look : (name digest : List ℕ) (r : Result (Option (List ℕ)) FromHexError) (w : Written) (t : Tenant) → with_look name
+name-with_others : (name digest : List ℕ) (r : Result Others FromHexError) (w : Written) (t : Tenant) → with_others name
     digest r w ≡ Ok t → t.name ≡ name
-name-with_look name digest (Ok look) w t e = name-with_entries name digest look (up_to 16777216 w.entries) w.pieces t e
-name-with_look name digest (Err f) w t e = cc
+name-with_others name digest (Ok others) w t e = name-with_entries name digest others (up_to 16777216 w.entries) w.pieces t e
+name-with_others name digest (Err f) w t e = cc
 
 name-with_digest : (name : List ℕ) (r : Result (List ℕ) FromHexError) (w : Written) (t : Tenant) → with_digest name r w ≡ Ok t → t.name ≡ name
-name-with_digest name (Ok d) w t e = name-with_look name d (look_digest w.look) w t e
+name-with_digest name (Ok d) w t e = name-with_others name d (others_of w.others) w t e
 name-with_digest name (Err f) w t e = cc
 
 name-tenant_of : (name : List ℕ) (w : Written) (t : Tenant) → tenant_of name w ≡ Ok t → t.name ≡ name
@@ -166,26 +167,26 @@ limited-pieces_for : (entries : ℕ) (written : Option ℤ) (n : ℕ) → entrie
 limited-pieces_for entries None n h e = let p : 126 * entries ≡ n = cc in omega (arith, h, p)
 limited-pieces_for entries (Some z) n h e = limited-up_to 2113929216 z n e
 
-limited-with_pieces : (name digest : List ℕ) (look : Option (List ℕ)) (entries : ℕ) (pieces : Option ℕ) (t : Tenant) → entries ≤ 16777216
-    → ((n : ℕ) → pieces ≡ Some n → n ≤ 2113929216) → with_pieces name digest look entries pieces ≡ Ok t → IsLimited t
-limited-with_pieces name digest look entries (Some pieces) t h g e =
-    let p : record { name = name; digest = digest; look = look; quota = record { entries = entries; pieces = pieces } } ≡ t = cc in
+limited-with_pieces : (name digest : List ℕ) (others : Others) (entries : ℕ) (pieces : Option ℕ) (t : Tenant) → entries ≤ 16777216
+    → ((n : ℕ) → pieces ≡ Some n → n ≤ 2113929216) → with_pieces name digest others entries pieces ≡ Ok t → IsLimited t
+limited-with_pieces name digest others entries (Some pieces) t h g e =
+    let p : record { name = name; digest = digest; others = others; quota = record { entries = entries; pieces = pieces } } ≡ t = cc in
     subst IsLimited p (record { entries = h; pieces = g pieces refl })
-limited-with_pieces name digest look entries None t h g e = cc
+limited-with_pieces name digest others entries None t h g e = cc
 
-limited-with_entries : (name digest : List ℕ) (look : Option (List ℕ)) (entries : Option ℕ) (pieces : Option ℤ) (t : Tenant)
-    → ((n : ℕ) → entries ≡ Some n → n ≤ 16777216) → with_entries name digest look entries pieces ≡ Ok t → IsLimited t
-limited-with_entries name digest look (Some entries) pieces t h e =
-    limited-with_pieces name digest look entries (pieces_for entries pieces) t (h entries refl) (λ n. limited-pieces_for entries pieces n (h entries refl)) e
-limited-with_entries name digest look None pieces t h e = cc
+limited-with_entries : (name digest : List ℕ) (others : Others) (entries : Option ℕ) (pieces : Option ℤ) (t : Tenant)
+    → ((n : ℕ) → entries ≡ Some n → n ≤ 16777216) → with_entries name digest others entries pieces ≡ Ok t → IsLimited t
+limited-with_entries name digest others (Some entries) pieces t h e =
+    limited-with_pieces name digest others entries (pieces_for entries pieces) t (h entries refl) (λ n. limited-pieces_for entries pieces n (h entries refl)) e
+limited-with_entries name digest others None pieces t h e = cc
 
-limited-with_look : (name digest : List ℕ) (r : Result (Option (List ℕ)) FromHexError) (w : Written) (t : Tenant) → with_look name
+limited-with_others : (name digest : List ℕ) (r : Result Others FromHexError) (w : Written) (t : Tenant) → with_others name
     digest r w ≡ Ok t → IsLimited t
-limited-with_look name digest (Ok look) w t e = limited-with_entries name digest look (up_to 16777216 w.entries) w.pieces t (limited-up_to 16777216 w.entries) e
-limited-with_look name digest (Err f) w t e = cc
+limited-with_others name digest (Ok others) w t e = limited-with_entries name digest others (up_to 16777216 w.entries) w.pieces t (limited-up_to 16777216 w.entries) e
+limited-with_others name digest (Err f) w t e = cc
 
 limited-with_digest : (name : List ℕ) (r : Result (List ℕ) FromHexError) (w : Written) (t : Tenant) → with_digest name r w ≡ Ok t → IsLimited t
-limited-with_digest name (Ok d) w t e = limited-with_look name d (look_digest w.look) w t e
+limited-with_digest name (Ok d) w t e = limited-with_others name d (others_of w.others) w t e
 limited-with_digest name (Err f) w t e = cc
 
 limited-tenant_of : (name : List ℕ) (w : Written) (t : Tenant) → tenant_of name w ≡ Ok t → IsLimited t

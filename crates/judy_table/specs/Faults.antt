@@ -8,7 +8,7 @@
 --     TellsFirstFaults     what is told is such a fault
 use Rattle.std.specs.Prelude.{◌≡◌, ◌⊎◌, ◌<◌, ◌≤◌, ℕ, ℤ, pos, negsuc, true, false, List, Option, Some, None, Err}
 use Rattle.std.specs.Str.{is_utf8}
-use Rattle.toml.specs.Data.{Data, Members, no_members, member}
+use Rattle.toml.specs.Data.{Members, no_members, member}
 use Rattle.toml.specs.Parse.{parse_document}
 use Rattle.hex.specs.Hex.{decode_sized}
 use Rattle.hex.specs.declared.error.FromHexError.{FromHexError}
@@ -33,14 +33,14 @@ IsTooMany (Some z) = IsOutside 2113929216 z
 abbrev pub IsNoDigest : List ℕ → Type 0
 IsNoDigest text = (e : FromHexError) × (decode_sized text 32 ≡ Err e)
 
--- the read-only token has a digest, and it is none
-abbrev pub IsNoLook : Option (List ℕ) → Type 0
-IsNoLook None = ⊥
-IsNoLook (Some text) = IsNoDigest text
+-- another token has a digest, and it is none
+abbrev pub IsNoOther : Option (List ℕ) → Type 0
+IsNoOther None = ⊥
+IsNoOther (Some text) = IsNoDigest text
 
--- one of the two digests is none
+-- one of the digests is none
 abbrev pub LacksDigest : Written → Type 0
-LacksDigest w = IsNoDigest w.digest ⊎ IsNoLook w.look
+LacksDigest w = IsNoDigest w.digest ⊎ IsNoOther w.others.look ⊎ IsNoOther w.others.former ⊎ IsNoOther w.others.former_look
 
 -- the first fault of a tenant, in the order of its name, its digests, its quota and its pieces
 abbrev pub HasFault : TableFault → List ℕ → Written → Type 0

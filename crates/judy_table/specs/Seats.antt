@@ -10,6 +10,7 @@
 --     IsFree row           a place has no row, or a vacant one
 --     right_in name token ts   the right of a log-in
 --     knows ts who         the speaker's place has a tenant with a token for the speaker's right
+--     goes_on ts who shown the token with this SHA-256, by which the speaker logged in, gives its right
 use Rattle.std.specs.Prelude.{◌≡◌, ℕ, ◌≤◌, ◌&&◌, ◌||◌, Bool, true, false, not, List, [], ◌∷◌, length, Option, Some, None, is_some}
 use Rattle.std.specs.Prelude.{if◌then◌else◌, filter, count_by, get_or, drop, map, slice_get, option_map, unwrap_or}
 use Rattle.std.specs.List.{All, list_any}
@@ -20,7 +21,7 @@ use Rattle.judy_model.specs.declared.quotas.Right.{Right}
 use Rattle.judy_model.specs.declared.quotas.Right.TheVariants.{Change, Look}
 use Rattle.judy_table.specs.declared.table.TheConstants.{TENANTS_LIMIT, ROWS_LIMIT}
 use Rattle.judy_table.specs.declared.tenant.Tenant.{Tenant}
-use Rattle.judy_table.specs.Tenants.{is_vacant, vacant, login_of, AreLimited}
+use Rattle.judy_table.specs.Tenants.{is_vacant, vacant, may_change, may_look, login_of, AreLimited}
 
 -- some row has this name
 abbrev pub has_name : List ℕ → List Tenant → Bool
@@ -90,7 +91,7 @@ right_in name token ts = option_map (λ (s : Speaker). s.right) (login_of name t
 -- whether a tenant has a token for this right
 abbrev pub has_token : Right → Tenant → Bool
 has_token Change t = true
-has_token Look t = is_some t.look
+has_token Look t = is_some t.others.look || is_some t.others.former_look
 
 -- whether there is a tenant at a place, with a token for this right
 abbrev pub knows_row : Option Tenant → Right → Bool
@@ -100,3 +101,17 @@ knows_row (Some t) right = not (is_vacant t) && has_token right t
 -- the speaker's place has a tenant with a token for the speaker's right
 abbrev pub knows : List Tenant → Speaker → Bool
 knows ts who = knows_row (slice_get ts who.tenant) who.right
+
+-- whether a token with this SHA-256 gives a tenant's speaker this right
+abbrev pub gives : Right → List ℕ → Tenant → Bool
+gives Change shown t = may_change shown t
+gives Look shown t = may_look shown t
+
+-- whether there is a tenant at a place, and the token gives this right there
+abbrev pub gives_row : Option Tenant → Right → List ℕ → Bool
+gives_row None right shown = false
+gives_row (Some t) right shown = not (is_vacant t) && gives right shown t
+
+-- the token with this SHA-256, by which the speaker logged in, gives the speaker's right
+abbrev pub goes_on : List Tenant → Speaker → List ℕ → Bool
+goes_on ts who shown = gives_row (slice_get ts who.tenant) who.right shown

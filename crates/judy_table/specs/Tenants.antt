@@ -1,7 +1,7 @@
 -- The tenants of a table's text, by its `toml` tree, and the first fault of a text.
 use Rattle.std.specs.Prelude.{ℕ, suc, ℤ, pos, negsuc, ◌+◌, ◌*◌, ◌≤◌, ◌==◌, ◌&&◌, Bool, true, false, List, [], ◌∷◌}
 use Rattle.std.specs.Prelude.{length, Option, Some, None, is_some, Result, Ok, Err, nat_le, if◌then◌else◌, codes, option_and_then}
-use Rattle.std.specs.Prelude.{option_map, position, map, slice_get, replicate}
+use Rattle.std.specs.Prelude.{◌||◌, option_map, position, map, slice_get, replicate}
 use Rattle.std.specs.Ordering.{nat_cmp}
 use Rattle.std.specs.Cmp.Lexicographic.{slice_cmp}
 use Rattle.std.specs.List.{All}
@@ -20,6 +20,7 @@ use Rattle.judy_model.specs.declared.quotas.Right.TheVariants.{Change, Look}
 use Rattle.judy_table.specs.declared.fault.TableFault.{TableFault}
 use Rattle.judy_table.specs.declared.fault.TableFault.TheVariants as fault
 use Rattle.judy_table.specs.declared.table.TheConstants.{TENANTS_LIMIT}
+use Rattle.judy_table.specs.declared.tenant.Others.{Others}
 use Rattle.judy_table.specs.declared.tenant.Tenant.{Tenant}
 
 -- the number of keys of a table
@@ -27,13 +28,20 @@ abbrev pub size : Members → ℕ
 size no_members = 0
 size (member k d ms) = suc (size ms)
 
+-- the texts of the digests of a tenant's other tokens, as far as they are given: of its read-only
+-- token, and of its old tokens, which still log in
+pub record OtherTexts : Type 0 where
+  pub look : Option (List ℕ)
+  pub former : Option (List ℕ)
+  pub former_look : Option (List ℕ)
+
 -- the values for a tenant: the text of its digest, its quota of entries, and, if given, its quota
--- of pieces and the text of the digest of its read-only token
+-- of pieces and the texts of the digests of its other tokens
 pub record Written : Type 0 where
   pub digest : List ℕ
   pub entries : ℤ
   pub pieces : Option ℤ
-  pub look : Option (List ℕ)
+  pub others : OtherTexts
 
 -- the value of an optional key; None if the key is present with another type
 abbrev pub optional : {A : Type 0} → (Data → Option A) → Option Data → Option (Option A)
@@ -45,23 +53,40 @@ abbrev pub one_if_some : {A : Type 0} → Option A → ℕ
 one_if_some None = 0
 one_if_some (Some x) = 1
 
+-- how many of the other digests are given
+abbrev pub count_others : OtherTexts → ℕ
+count_others o = one_if_some o.look + one_if_some o.former + one_if_some o.former_look
+
+-- the texts of the other digests; None if one of them has another type
+abbrev pub all_others : Option (Option (List ℕ)) → Option (Option (List ℕ)) → Option (Option (List ℕ)) → Option OtherTexts
+all_others None former former_look = None
+all_others (Some look) None former_look = None
+all_others (Some look) (Some former) None = None
+all_others (Some look) (Some former) (Some former_look) = Some (record { look = look; former = former; former_look = former_look })
+
 -- the values of a table with this many keys; None if it has other keys
-abbrev pub all_of : ℕ → Option (List ℕ) → Option ℤ → Option (Option ℤ) → Option (Option (List ℕ)) → Option Written
-all_of keys None entries pieces look = None
-all_of keys (Some digest) None pieces look = None
-all_of keys (Some digest) (Some entries) None look = None
+abbrev pub all_of : ℕ → Option (List ℕ) → Option ℤ → Option (Option ℤ) → Option OtherTexts → Option Written
+all_of keys None entries pieces others = None
+all_of keys (Some digest) None pieces others = None
+all_of keys (Some digest) (Some entries) None others = None
 all_of keys (Some digest) (Some entries) (Some pieces) None = None
-all_of keys (Some digest) (Some entries) (Some pieces) (Some look) =
-    if keys == 2 + one_if_some pieces + one_if_some look then
-    Some (record { digest = digest; entries = entries; pieces = pieces; look = look })
+all_of keys (Some digest) (Some entries) (Some pieces) (Some others) =
+    if keys == 2 + one_if_some pieces + count_others others then
+    Some (record { digest = digest; entries = entries; pieces = pieces; others = others })
     else None
 
+-- the texts of the other digests in a tenant's table
+abbrev pub others_in : Members → Option OtherTexts
+others_in ms =
+    all_others (optional as_str (get_member (codes "read_sha256") ms)) (optional as_str (get_member (codes "old_sha256") ms))
+    (optional as_str (get_member (codes "old_read_sha256") ms))
+
 -- a tenant's table has the keys `sha256`, a string, and `quota`, an integer. It may have `pieces`,
--- an integer, and `read_sha256`, a string. It has no other key.
+-- an integer, and `read_sha256`, `old_sha256` and `old_read_sha256`, strings. It has no other key.
 abbrev pub written_in : Members → Option Written
 written_in ms =
     all_of (size ms) (option_and_then as_str (get_member (codes "sha256") ms)) (option_and_then as_integer (get_member (codes "quota") ms))
-    (optional as_integer (get_member (codes "pieces") ms)) (optional as_str (get_member (codes "read_sha256") ms))
+    (optional as_integer (get_member (codes "pieces") ms)) (others_in ms)
 
 abbrev pub written : Data → Option Written
 written d = option_and_then written_in (as_table d)
@@ -82,14 +107,14 @@ abbrev pub pieces_for : ℕ → Option ℤ → Option ℕ
 pieces_for entries None = Some (126 * entries)
 pieces_for entries (Some written) = up_to PIECES_LIMIT written
 
-abbrev pub with_pieces : List ℕ → List ℕ → Option (List ℕ) → ℕ → Option ℕ → Result Tenant TableFault
-with_pieces name digest look entries (Some pieces) =
-    Ok (record { name = name; digest = digest; look = look; quota = record { entries = entries; pieces = pieces } })
-with_pieces name digest look entries None = Err fault.Pieces
+abbrev pub with_pieces : List ℕ → List ℕ → Others → ℕ → Option ℕ → Result Tenant TableFault
+with_pieces name digest others entries (Some pieces) =
+    Ok (record { name = name; digest = digest; others = others; quota = record { entries = entries; pieces = pieces } })
+with_pieces name digest others entries None = Err fault.Pieces
 
-abbrev pub with_entries : List ℕ → List ℕ → Option (List ℕ) → Option ℕ → Option ℤ → Result Tenant TableFault
-with_entries name digest look (Some entries) pieces = with_pieces name digest look entries (pieces_for entries pieces)
-with_entries name digest look None pieces = Err fault.Quota
+abbrev pub with_entries : List ℕ → List ℕ → Others → Option ℕ → Option ℤ → Result Tenant TableFault
+with_entries name digest others (Some entries) pieces = with_pieces name digest others entries (pieces_for entries pieces)
+with_entries name digest others None pieces = Err fault.Quota
 
 -- a digest that was read, if it was read
 abbrev pub digest_read : Result (List ℕ) FromHexError → Result (Option (List ℕ)) FromHexError
@@ -97,16 +122,28 @@ digest_read (Ok digest) = Ok (Some digest)
 digest_read (Err e) = Err e
 
 -- the 32 bytes of an optional digest
-abbrev pub look_digest : Option (List ℕ) → Result (Option (List ℕ)) FromHexError
-look_digest None = Ok None
-look_digest (Some text) = digest_read (decode_sized text 32)
+abbrev pub optional_digest : Option (List ℕ) → Result (Option (List ℕ)) FromHexError
+optional_digest None = Ok None
+optional_digest (Some text) = digest_read (decode_sized text 32)
 
-abbrev pub with_look : List ℕ → List ℕ → Result (Option (List ℕ)) FromHexError → Written → Result Tenant TableFault
-with_look name digest (Ok look) w = with_entries name digest look (up_to ENTRIES_LIMIT w.entries) w.pieces
-with_look name digest (Err e) w = Err fault.Digest
+-- the other digests, if all of them were read
+abbrev pub all_read : Result (Option (List ℕ)) FromHexError → Result (Option (List ℕ)) FromHexError → Result (Option (List ℕ)) FromHexError
+    → Result Others FromHexError
+all_read (Err e) former former_look = Err e
+all_read (Ok look) (Err e) former_look = Err e
+all_read (Ok look) (Ok former) (Err e) = Err e
+all_read (Ok look) (Ok former) (Ok former_look) = Ok (record { look = look; former = former; former_look = former_look })
+
+-- the other digests of these texts
+abbrev pub others_of : OtherTexts → Result Others FromHexError
+others_of o = all_read (optional_digest o.look) (optional_digest o.former) (optional_digest o.former_look)
+
+abbrev pub with_others : List ℕ → List ℕ → Result Others FromHexError → Written → Result Tenant TableFault
+with_others name digest (Ok others) w = with_entries name digest others (up_to ENTRIES_LIMIT w.entries) w.pieces
+with_others name digest (Err e) w = Err fault.Digest
 
 abbrev pub with_digest : List ℕ → Result (List ℕ) FromHexError → Written → Result Tenant TableFault
-with_digest name (Ok digest) w = with_look name digest (look_digest w.look) w
+with_digest name (Ok digest) w = with_others name digest (others_of w.others) w
 with_digest name (Err e) w = Err fault.Digest
 
 -- the tenant of this name with these values, or its first fault in the order Name, Digest, Quota,
@@ -156,15 +193,25 @@ is_digest (Some digest) shown = bytes_eq digest shown
 abbrev pub is_vacant : Tenant → Bool
 is_vacant t = length t.name == 0
 
+-- no other token
+abbrev pub no_others : Others
+no_others = record { look = None; former = None; former_look = None }
+
 -- the row of a place without a tenant
 abbrev pub vacant : Tenant
-vacant = record { name = []; digest = replicate 32 0; look = None; quota = record { entries = 0; pieces = 0 } }
+vacant = record { name = []; digest = replicate 32 0; others = no_others; quota = record { entries = 0; pieces = 0 } }
 
--- the right of a token with this SHA-256: to read and write for the tenant's own token, only to
--- read for its read-only token. A vacant row gives none.
+-- whether a token with this SHA-256 gives the right to read and write: it is the tenant's, or its old one
+abbrev pub may_change : List ℕ → Tenant → Bool
+may_change shown t = bytes_eq t.digest shown || is_digest t.others.former shown
+
+-- whether it gives the right to read: it is the read-only token, or the old one
+abbrev pub may_look : List ℕ → Tenant → Bool
+may_look shown t = is_digest t.others.look shown || is_digest t.others.former_look shown
+
+-- the right of a token with this SHA-256: to read and write, or only to read. A vacant row gives none.
 abbrev pub right_of : List ℕ → Tenant → Option Right
-right_of shown t =
-    if is_vacant t then None else if bytes_eq t.digest shown then Some Change else if is_digest t.look shown then Some Look else None
+right_of shown t = if is_vacant t then None else if may_change shown t then Some Change else if may_look shown t then Some Look else None
 
 -- the speaker at this place, with this right
 abbrev pub speaker_at : ℕ → Option Right → Option Speaker

@@ -1,16 +1,17 @@
 //! Where the first fault of a table is, and what is right: a line for the operator.
-ghost use Rattle.std.specs.Prelude.{◌≡◌, ◌⊎◌, Err, IfSome, IsSome, IsTrue, None};
+ghost use Rattle.std.specs.Prelude.{◌≡◌, Err, IfSome, IsTrue, None, option_map};
 ghost use Rattle.toml.specs.Errors.{IsWithin};
 ghost use Rattle.toml.specs.View.{table_view, view};
-ghost use Rattle.judy_table.specs.Blames.{IsBlamed, IsCauseOf, IsCulprit, IsLineOf};
+ghost use Rattle.judy_table.specs.Blames.{IsBlamed, IsCauseOf, IsCulprit, IsLineOf, digest_key, first_wrong, is_wrong};
 ghost use Rattle.judy_table.specs.Faults.{IsDocument};
+ghost use Rattle.judy_table.specs.Shown.{told_of};
 ghost use Rattle.judy_table.specs.Tenants.{read_table, tenant_if_written, written};
 
 use crate::fault::TableFault;
 use crate::places::{line_of, line_with};
 use crate::table::Table;
-use crate::tenant::Tenant;
-use crate::written::read_written;
+use crate::tenant::{Tenant, optional_digest};
+use crate::written::{Written, read_written};
 use arrayvec::ArrayVec;
 use judy_model::{NAME_LIMIT, Name};
 use std::alloc::Global;
@@ -31,7 +32,21 @@ pub enum Key {
     Pieces,
     /// `read_sha256`.
     Look,
+    /// `old_sha256`.
+    Former,
+    /// `old_read_sha256`.
+    FormerLook,
 }
+
+/// The keys of a tenant, in the order in which they are looked at.
+const KEYS: [Key; 6] = [
+    Key::Digest,
+    Key::Quota,
+    Key::Pieces,
+    Key::Look,
+    Key::Former,
+    Key::FormerLook,
+];
 
 /// What is wrong.
 #[derive(Drop)]
@@ -75,6 +90,8 @@ impl Key {
             Key::Quota => "quota",
             Key::Pieces => "pieces",
             Key::Look => "read_sha256",
+            Key::Former => "old_sha256",
+            Key::FormerLook => "old_read_sha256",
         }
     }
 
@@ -86,15 +103,15 @@ impl Key {
     /// Whether the value has the type of the key.
     fn fits(self, value: &Value) -> bool {
         match self {
-            Key::Digest | Key::Look => value.as_str().is_some(),
             Key::Quota | Key::Pieces => value.as_integer().is_some(),
+            Key::Digest | Key::Look | Key::Former | Key::FormerLook => value.as_str().is_some(),
         }
     }
 
     /// What the value must be.
     fn rule(self) -> &'static str {
         match self {
-            Key::Digest | Key::Look => {
+            Key::Digest | Key::Look | Key::Former | Key::FormerLook => {
                 "must be the SHA-256 of a token, 64 hexadecimal digits in quotes: judy digest prints its line"
             }
             Key::Quota => "must be a whole number from 0 to 16777216",
@@ -140,11 +157,21 @@ fn culprit<'a>(tree: &'a toml::Table, fault: TableFault) -> Option<(&'a str, &'a
     None
 }
 
+/// Whether a tenant may have this key.
+fn is_key(key: &str) -> bool {
+    for known in KEYS {
+        if key == known.name() {
+            return true;
+        }
+    }
+    false
+}
+
 /// A key that no tenant has, or a table within a tenant.
 fn unknown_in(table: &toml::Table) -> Option<Cause> {
     for (key, value) in table.iter() {
         let key = key.as_str();
-        if key != "sha256" && key != "quota" && key != "pieces" && key != "read_sha256" {
+        if !is_key(key) {
             let name = Name::read(key.as_bytes());
             if value.as_table().is_some() {
                 return Some(Cause::Inner(name));
@@ -181,28 +208,50 @@ fn shape_cause(value: &Value) -> Cause {
     if let Some(cause) = unknown_in(table) {
         return cause;
     }
-    for key in [Key::Digest, Key::Quota, Key::Pieces] {
+    for key in [Key::Digest, Key::Quota, Key::Pieces, Key::Look, Key::Former] {
         if let Some(cause) = wrong_at(table, key) {
             return cause;
         }
     }
-    Cause::Wrong(Key::Look)
+    Cause::Wrong(Key::FormerLook)
+}
+
+/// Whether a digest is given, and is none.
+fn is_wrong(text: Option<&str>) -> bool
+    ensures { result ≡ is_wrong (option_map (λ s. s.now) text.entry) }
+{
+    optional_digest(text).is_err()
+}
+
+/// The key of the first of a tenant's digests that is none, or else the last key.
+fn first_wrong(written: Written<'_>) -> Key
+    ensures { result ≡ first_wrong (told_of written.entry) }
+{
+    if is_wrong(Some(written.digest)) {
+        return Key::Digest;
+    }
+    if is_wrong(written.others.look) {
+        return Key::Look;
+    }
+    if is_wrong(written.others.former) {
+        return Key::Former;
+    }
+    Key::FormerLook
 }
 
 /// Which of a tenant's digests is none.
 fn digest_key(value: &Value) -> Key
-    ensures { (result ≡ Key.Digest) ⊎ (result ≡ Key.Look) }
+    ensures { result ≡ digest_key (written (view value.now)) }
 {
-    let mut digest = [0u8; 32];
     match read_written(value) {
-        Some(written) if hex::decode_to_slice(written.digest, &mut digest).is_ok() => Key::Look,
-        _ => Key::Digest,
+        Some(written) => first_wrong(written),
+        None => Key::Digest,
     }
 }
 
 /// What is wrong with a tenant that has this fault.
 fn cause_of(fault: TableFault, value: &Value) -> Cause
-    ensures { IsCauseOf fault result }
+    ensures { IsCauseOf fault (written (view value.now)) result }
 {
     match fault {
         TableFault::Name => Cause::Name,
@@ -240,8 +289,7 @@ fn line_for(text: &[u8], name: &[u8], cause: &Cause) -> Option<usize>
 fn blame_tree(text: &[u8], tree: &toml::Table, fault: TableFault) -> Blame
     requires { IsDocument text.now (table_view tree.now) }
     ensures fault { result.fault ≡ fault }
-    ensures tenant { IfSome result.tenant (IsBlamed fault text.now) }
-    ensures cause { IsSome result.tenant → IsCauseOf fault result.cause }
+    ensures tenant { IfSome result.tenant (IsBlamed fault result.cause text.now) }
     ensures line { IfSome result.line (IsLineOf text.now) }
 {
     let Some((name, value)) = culprit(tree, fault) else {
@@ -280,12 +328,11 @@ fn blame_text(text: &[u8], fault: TableFault, error: toml::de::Error) -> Option<
 impl Blame {
     /// Where the first fault of a table's text is. None if it has no fault, or if memory ran out.
     ///
-    /// The fault is that of the text. The tenant that is told has this fault, and the line is one of the
-    /// text.
+    /// The fault is that of the text. The tenant that is told has this fault, the key of a digest that is
+    /// told is that of the first digest that is none, and the line is one of the text.
     pub fn find(alloc: Global, text: &[u8]) -> Option<Blame>
         ensures fault { IfSome result (λ b. read_table text.now ≡ Err b.fault) }
-        ensures tenant { IfSome result (λ b. IfSome b.tenant (IsBlamed b.fault text.now)) }
-        ensures cause { IfSome result (λ b. IsSome b.tenant → IsCauseOf b.fault b.cause) }
+        ensures tenant { IfSome result (λ b. IfSome b.tenant (IsBlamed b.fault b.cause text.now)) }
         ensures line { IfSome result (λ b. IfSome b.line (IsLineOf text.now)) }
     {
         let fault = match Table::parse(alloc, text) {
@@ -332,7 +379,8 @@ impl fmt::Display for Cause {
                     write_name(f, name)?;
                     f.write_str(" ")?;
                 }
-                f.write_str("is unknown: the keys are sha256, quota, pieces and read_sha256")
+                f.write_str("is unknown: the keys are sha256, quota, pieces, read_sha256, ")?;
+                f.write_str("old_sha256 and old_read_sha256")
             }
             Cause::Inner(_) => f.write_str(
                 "a table within it is no key: a name with a dot is written in quotes, as [\"a.b\"]",

@@ -20,7 +20,7 @@ pub enum TableFault {
     /// A tenant's name is not 1 to 32 letters, digits, `_`, `-` and `.`.
     #[error("Name")]
     Name,
-    /// `sha256` or `read_sha256` is not 64 hexadecimal digits.
+    /// A digest, as `sha256` or `old_sha256`, is not 64 hexadecimal digits.
     #[error("Digest")]
     Digest,
     /// `quota` is not from 0 to 16,777,216.

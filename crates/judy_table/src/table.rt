@@ -1,10 +1,11 @@
 //! The table of tenants.
-ghost use Rattle.std.specs.Prelude.{◌≡◌, ◌⊎◌, ◌≤◌, ◌<◌, ◌&&◌, nat_le, IfOk, IfErr, Some, option_map, length, map, slice_get};
+ghost use Rattle.std.specs.Prelude.{◌≡◌, ◌⊎◌, ◌≤◌, ◌<◌, ◌&&◌, nat_le, IfOk, IfErr, IfSome, Some, true, option_map, length, map, slice_get};
 ghost use Rattle.toml.specs.View.{table_view};
 ghost use Rattle.judy_table.specs.Tenants.{size, have_shape, tenants_in, read_table, read_tree, place_of, login_of, HasRisingNames, is_vacant};
-ghost use Rattle.judy_table.specs.Seats.{seated, AreRows, knows};
+ghost use Rattle.judy_table.specs.Seats.{seated, AreRows, knows, goes_on};
 ghost use Rattle.judy_table.specs.Shown.{seen};
 ghost use Rattle.judy_table.specs.Unlimited.{unlimited};
+ghost use Rattle.sha2.specs.Sha256.{sha256};
 
 use crate::fault::TableFault;
 use crate::seating::{fresh_in, placed, unlimited};
@@ -167,16 +168,21 @@ impl Table {
     }
 
     /// The tenant of this name and its right: to read and write with its own token, or only to read
-    /// with its read-only token. None if no tenant has the name, or if the token is neither of its
-    /// two tokens. The token is hashed once in any case.
+    /// with its read-only token, and so with the old token of either. None if no tenant has the name,
+    /// or if the token is none of its tokens. The token is hashed once in any case.
     pub fn login(&self, name: &[u8], token: &[u8]) -> Option<Speaker>
-        ensures { option_map seen result ≡ login_of name.now token.now self.now }
+        ensures who { option_map seen result ≡ login_of name.now token.now self.now }
+        ensures digest { IfSome result (λ s. s.digest ≡ sha256 token.now) }
     {
         let shown = digest_of(token);
         let place = place_of(&self.tenants, name)?;
         let right = self.tenants[place].right(&shown)?;
         let tenant = TenantId::at(place as u8);
-        Some(Speaker { tenant, right })
+        Some(Speaker {
+            tenant,
+            right,
+            digest: shown,
+        })
     }
 
     /// The quota of a tenant of this table.
@@ -196,12 +202,14 @@ impl Table {
         self.tenants[tenant.place() as usize].is_vacant()
     }
 
-    /// Whether the speaker's place has a tenant with a token for the speaker's right.
+    /// Whether the speaker goes on: the speaker's place has a tenant, and the token with which the
+    /// speaker logged in gives the speaker's right there.
     pub fn knows(&self, speaker: Speaker) -> bool
-        ensures { result ≡ knows self.now (seen speaker) }
+        ensures token { result ≡ goes_on self.now (seen speaker) speaker.digest }
+        ensures known { result ≡ true → knows self.now (seen speaker) ≡ true }
     {
         let row = self.tenants.get(speaker.tenant.place() as usize);
-        row.is_some_and(|row| !row.is_vacant() && row.has_token(speaker.right))
+        row.is_some_and(|row| !row.is_vacant() && row.gives(speaker.right, &speaker.digest))
     }
 
     /// The rows in force, `self`, after another table is read. A tenant that stays keeps its place.

@@ -1,26 +1,37 @@
 //! One tenant of the table, and its log-in.
 ghost use Rattle.std.specs.Prelude.{◌≡◌, ◌<◌, ◌≤◌, ◌^◌, option_map};
 ghost use Rattle.std.specs.Str.{bytes_eq};
-ghost use Rattle.judy_table.specs.Shown.{told_of};
-ghost use Rattle.judy_table.specs.Tenants.{tenant_of, up_to, pieces_for, right_of, is_digest, look_digest, is_vacant, vacant};
-ghost use Rattle.judy_table.specs.Seats.{has_token};
+ghost use Rattle.judy_table.specs.Shown.{others_told, told_of};
+ghost use Rattle.judy_table.specs.Tenants.{tenant_of, up_to, pieces_for, optional_digest, others_of};
+ghost use Rattle.judy_table.specs.Tenants.{right_of, may_change, may_look, is_digest, is_vacant, vacant, no_others};
+ghost use Rattle.judy_table.specs.Seats.{gives};
 ghost use Rattle.judy_table.specs.Unlimited.{unlimited_row};
 ghost use Rattle.sha2.specs.Sha256.{sha256};
 
 use crate::fault::TableFault;
-use crate::written::Written;
+use crate::written::{OtherTexts, Written};
 use hex::FromHexError;
 use judy_model::{ENTRIES_LIMIT, ENTRY_PIECES_LIMIT, Name, PIECES_LIMIT, Quota, Right};
 use sha2::{Digest, Sha256};
 use std::marker::Model;
 
-/// A tenant: its name, the SHA-256 of its token, the SHA-256 of its read-only token, if it has one,
-/// and its quota.
+/// The SHA-256 of each of a tenant's other tokens, as far as it has them.
+#[derive(Clone, Copy)]
+pub struct Others {
+    /// Of its read-only token.
+    pub look: Option<[u8; 32]>,
+    /// Of its old token, which still logs in.
+    pub former: Option<[u8; 32]>,
+    /// Of its old read-only token, which still logs in.
+    pub former_look: Option<[u8; 32]>,
+}
+
+/// A tenant: its name, the SHA-256 of its token, those of its other tokens, and its quota.
 #[derive(Drop)]
 pub struct Tenant {
     pub name: Name,
     pub digest: [u8; 32],
-    pub look: Option<[u8; 32]>,
+    pub others: Others,
     pub quota: Quota,
 }
 
@@ -56,11 +67,12 @@ impl TenantId {
     }
 }
 
-/// The tenant of a connection and its right.
+/// The tenant of a connection, its right, and the SHA-256 of the token with which it logged in.
 #[derive(Clone, Copy, PartialEq, Eq, Debug)]
 pub struct Speaker {
     pub tenant: TenantId,
     pub right: Right,
+    pub digest: [u8; 32],
 }
 
 /// The number, if it is from 0 to `most`.
@@ -86,9 +98,9 @@ fn pieces_for(entries: u64, written: Option<i64>) -> Option<u64>
     }
 }
 
-/// The 32 bytes of 64 hexadecimal digits.
-fn look_digest(text: Option<&str>) -> Result<Option<[u8; 32]>, FromHexError>
-    ensures { result ≡ look_digest (option_map (λ s. s.now) text.entry) }
+/// The 32 bytes of 64 hexadecimal digits, if they are given.
+pub(crate) fn optional_digest(text: Option<&str>) -> Result<Option<[u8; 32]>, FromHexError>
+    ensures { result ≡ optional_digest (option_map (λ s. s.now) text.entry) }
 {
     let Some(text) = text else {
         return Ok(None);
@@ -96,6 +108,20 @@ fn look_digest(text: Option<&str>) -> Result<Option<[u8; 32]>, FromHexError>
     let mut bytes = [0u8; 32];
     hex::decode_to_slice(text, &mut bytes)?;
     Ok(Some(bytes))
+}
+
+/// The digests of these texts.
+fn others_of(texts: OtherTexts<'_>) -> Result<Others, FromHexError>
+    ensures { result ≡ others_of (others_told texts.entry) }
+{
+    let look = optional_digest(texts.look)?;
+    let former = optional_digest(texts.former)?;
+    let former_look = optional_digest(texts.former_look)?;
+    Ok(Others {
+        look,
+        former,
+        former_look,
+    })
 }
 
 /// The SHA-256 of a token.
@@ -117,6 +143,29 @@ fn is_same(digest: &[u8; 32], shown: &[u8; 32]) -> bool
     same
 }
 
+/// Whether an optional digest is this one.
+fn is_digest(digest: &Option<[u8; 32]>, shown: &[u8; 32]) -> bool
+    ensures { result ≡ is_digest digest.now shown.now }
+{
+    match digest {
+        Some(digest) => is_same(digest, shown),
+        None => false,
+    }
+}
+
+impl Others {
+    /// No other token.
+    fn none() -> Others
+        ensures { result ≡ no_others }
+    {
+        Others {
+            look: None,
+            former: None,
+            former_look: None,
+        }
+    }
+}
+
 impl Tenant {
     /// The tenant of this name with these values, or its first fault.
     pub(crate) fn new(name: &str, written: Written<'_>) -> Result<Tenant, TableFault>
@@ -125,13 +174,13 @@ impl Tenant {
         let name = Name::read(name.as_bytes()).ok_or(TableFault::Name)?;
         let mut digest = [0u8; 32];
         hex::decode_to_slice(written.digest, &mut digest).map_err(|_| TableFault::Digest)?;
-        let look = look_digest(written.look).map_err(|_| TableFault::Digest)?;
+        let others = others_of(written.others).map_err(|_| TableFault::Digest)?;
         let entries = up_to(ENTRIES_LIMIT, written.entries).ok_or(TableFault::Quota)?;
         let pieces = pieces_for(entries, written.pieces).ok_or(TableFault::Pieces)?;
         Ok(Tenant {
             name,
             digest,
-            look,
+            others,
             quota: Quota { entries, pieces },
         })
     }
@@ -143,7 +192,7 @@ impl Tenant {
         Tenant {
             name: Name::of(&[]),
             digest: [0; 32],
-            look: None,
+            others: Others::none(),
             quota: Quota {
                 entries: 0,
                 pieces: 0,
@@ -165,7 +214,7 @@ impl Tenant {
         Tenant {
             name: self.name.copied(),
             digest: self.digest,
-            look: self.look,
+            others: self.others,
             quota: self.quota,
         }
     }
@@ -184,34 +233,44 @@ impl Tenant {
         row
     }
 
-    /// Whether this is the digest of the read-only token.
-    fn is_look(&self, shown: &[u8; 32]) -> bool
-        ensures { result ≡ is_digest self.now.look shown.now }
+    /// Whether the token with this digest is the tenant's, or its old one. Both are compared in any
+    /// case.
+    fn may_change(&self, shown: &[u8; 32]) -> bool
+        ensures { result ≡ may_change shown.now self.now }
     {
-        match &self.look {
-            Some(digest) => is_same(digest, shown),
-            None => false,
-        }
+        let now = is_same(&self.digest, shown);
+        let before = is_digest(&self.others.former, shown);
+        now || before
     }
 
-    /// Whether the tenant has a token for this right.
-    pub(crate) fn has_token(&self, right: Right) -> bool
-        ensures { result ≡ has_token right self.now }
+    /// Whether the token with this digest is the read-only one, or the old one. Both are compared in
+    /// any case.
+    fn may_look(&self, shown: &[u8; 32]) -> bool
+        ensures { result ≡ may_look shown.now self.now }
+    {
+        let now = is_digest(&self.others.look, shown);
+        let before = is_digest(&self.others.former_look, shown);
+        now || before
+    }
+
+    /// Whether the token with this digest gives this right.
+    pub(crate) fn gives(&self, right: Right, shown: &[u8; 32]) -> bool
+        ensures { result ≡ gives right shown.now self.now }
     {
         match right {
-            Right::Change => true,
-            Right::Look => self.look.is_some(),
+            Right::Change => self.may_change(shown),
+            Right::Look => self.may_look(shown),
         }
     }
 
-    /// The right of the token with this digest: to read and write with the tenant's own token, or only
-    /// to read with its read-only token. A vacant row gives none. Both digests are compared in any
-    /// case.
+    /// The right of the token with this digest: to read and write with the tenant's own token or its
+    /// old one, or only to read with its read-only token or its old one. A vacant row gives none. All
+    /// digests are compared in any case.
     pub(crate) fn right(&self, shown: &[u8; 32]) -> Option<Right>
         ensures { result ≡ right_of shown.now self.now }
     {
-        let changes = is_same(&self.digest, shown);
-        let looks = self.is_look(shown);
+        let changes = self.may_change(shown);
+        let looks = self.may_look(shown);
         if self.is_vacant() {
             return None;
         }

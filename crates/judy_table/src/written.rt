@@ -2,19 +2,28 @@
 ghost use Rattle.std.specs.Prelude.{◌≡◌, Some, is_some, option_map, option_and_then};
 ghost use Rattle.toml.specs.Data.{as_str, as_integer, get_member};
 ghost use Rattle.toml.specs.View.{view, table_view};
-ghost use Rattle.judy_table.specs.Tenants.{written, written_in, all_of, size, optional, one_if_some};
-ghost use Rattle.judy_table.specs.Shown.{told_of};
+ghost use Rattle.judy_table.specs.Tenants.{written, written_in, all_of, all_others, others_in, count_others, size, optional, one_if_some};
+ghost use Rattle.judy_table.specs.Shown.{told_of, others_told};
 
 use toml::Value;
 
+/// The texts of the digests of a tenant's other tokens, as far as they are given: of its read-only
+/// token, and of its old tokens, which still log in.
+#[derive(Clone, Copy)]
+pub struct OtherTexts<'a> {
+    pub look: Option<&'a str>,
+    pub former: Option<&'a str>,
+    pub former_look: Option<&'a str>,
+}
+
 /// The values for a tenant: the text of its digest, its quota of entries, and, if given, its quota
-/// of pieces and the text of the digest of its read-only token.
+/// of pieces and the texts of the digests of its other tokens.
 #[derive(Clone, Copy)]
 pub struct Written<'a> {
     pub digest: &'a str,
     pub entries: i64,
     pub pieces: Option<i64>,
-    pub look: Option<&'a str>,
+    pub others: OtherTexts<'a>,
 }
 
 // The string of a key.
@@ -96,26 +105,65 @@ fn counted_text(text: Option<&str>) -> usize
     usize::from(text.is_some())
 }
 
+// How many of these texts are given.
+fn count_others(others: OtherTexts<'_>) -> usize
+    ensures { result ≡ count_others (others_told others.entry) }
+{
+    counted_text(others.look) + counted_text(others.former) + counted_text(others.former_look)
+}
+
+// The texts of the other digests. None if one of them has another type.
+fn all_others<'a>(
+    look: Option<Option<&'a str>>,
+    former: Option<Option<&'a str>>,
+    former_look: Option<Option<&'a str>>,
+) -> Option<OtherTexts<'a>>
+    ensures { option_map others_told result
+        ≡ all_others (option_map (λ o. option_map (λ s. s.now) o) look.entry)
+        (option_map (λ o. option_map (λ s. s.now) o) former.entry)
+        (option_map (λ o. option_map (λ s. s.now) o) former_look.entry) }
+{
+    match (look, former, former_look) {
+        (Some(look), Some(former), Some(former_look)) => Some(OtherTexts {
+            look,
+            former,
+            former_look,
+        }),
+        _ => None,
+    }
+}
+
+// The texts of the other digests in a tenant's table.
+fn others_in(table: &toml::Table) -> Option<OtherTexts<'_>>
+    ensures { option_map others_told result ≡ others_in (table_view table.now) }
+{
+    all_others(
+        optional_string_at(table, "read_sha256"),
+        optional_string_at(table, "old_sha256"),
+        optional_string_at(table, "old_read_sha256"),
+    )
+}
+
 // The values of a table with this many keys. None if it has other keys.
 fn all_of<'a>(
     keys: usize,
     digest: Option<&'a str>,
     entries: Option<i64>,
     pieces: Option<Option<i64>>,
-    look: Option<Option<&'a str>>,
+    others: Option<OtherTexts<'a>>,
 ) -> Option<Written<'a>>
     ensures { option_map told_of result
         ≡ all_of keys (option_map (λ s. s.now) digest.entry) entries pieces
-        (option_map (λ o. option_map (λ s. s.now) o) look.entry) }
+        (option_map others_told others.entry) }
 {
-    match (digest, entries, pieces, look) {
-        (Some(digest), Some(entries), Some(pieces), Some(look)) => {
-            if keys == 2 + counted_number(pieces) + counted_text(look) {
+    match (digest, entries, pieces, others) {
+        (Some(digest), Some(entries), Some(pieces), Some(others)) => {
+            if keys == 2 + counted_number(pieces) + count_others(others) {
                 Some(Written {
                     digest,
                     entries,
                     pieces,
-                    look,
+                    others,
                 })
             } else {
                 None
@@ -134,7 +182,7 @@ fn read_written_in(table: &toml::Table) -> Option<Written<'_>>
         string_at(table, "sha256"),
         integer_at(table, "quota"),
         optional_integer_at(table, "pieces"),
-        optional_string_at(table, "read_sha256"),
+        others_in(table),
     )
 }
 

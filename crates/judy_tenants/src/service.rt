@@ -1,13 +1,14 @@
 //! Many tenants, their arrays and their quotas.
-ghost use Rattle.std.specs.Prelude.{◌≡◌, ◌<◌, ◌≤◌, ℕ, IfErr, IfOk, IsTrue, Some, nat_lt, length, map, slice_get, option_map, OnOk, OnErr, max, ◌+◌};
+ghost use Rattle.std.specs.Prelude.{◌≡◌, ◌<◌, ◌≤◌, ℕ, IfErr, IfOk, IfSome, IsTrue, Some, true, nat_lt, length, map, slice_get, option_map, OnOk, OnErr, max, ◌+◌};
 ghost use Rattle.judy_model.specs.Tenant.{used, pieces, no_arrays};
 ghost use Rattle.judy_model.specs.Service.{IsServed};
 ghost use Rattle.judy_model.specs.Solo.{is_memory};
 ghost use Rattle.judy_directory.specs.Secrets.{start_of};
 ghost use Rattle.judy_kinds.specs.Calls.{has_string};
 ghost use Rattle.judy_table.specs.Shown.{seen};
-ghost use Rattle.judy_table.specs.Seats.{AreRows, knows, seated};
+ghost use Rattle.judy_table.specs.Seats.{AreRows, goes_on, knows, seated};
 ghost use Rattle.judy_table.specs.Tenants.{is_vacant, login_of, place_of};
+ghost use Rattle.sha2.specs.Sha256.{sha256};
 ghost use Rattle.judy_tenants.specs.Changes.{HasChanged, HasReason, lifted, regranted};
 ghost use Rattle.judy_tenants.specs.Held.{states_of, quotas_of, words_for, HasCause, HasNoReserve, HasServiceSpace, HasNames, IsReserved, IsSoundService, Keeps};
 
@@ -104,7 +105,8 @@ impl<H: KeyHash> Service<H> {
 
     /// The tenant and the right for this name and token. None if no tenant has both.
     pub fn login(&self, name: &[u8], token: &[u8]) -> Option<Speaker>
-        ensures { option_map seen result ≡ login_of name.now token.now self.now.tenants }
+        ensures who { option_map seen result ≡ login_of name.now token.now self.now.tenants }
+        ensures digest { IfSome result (λ s. s.digest ≡ sha256 token.now) }
     {
         self.table.login(name, token)
     }
@@ -196,9 +198,11 @@ impl<H: KeyHash> Service<H> {
         self.table.is_vacant(tenant)
     }
 
-    /// Whether the speaker's place has a tenant with a token for the speaker's right.
+    /// Whether the speaker goes on: the speaker's place has a tenant, and the token with which the
+    /// speaker logged in gives the speaker's right there.
     pub fn knows(&self, speaker: Speaker) -> bool
-        ensures { result ≡ knows self.now.tenants (seen speaker) }
+        ensures token { result ≡ goes_on self.now.tenants (seen speaker) speaker.digest }
+        ensures known { result ≡ true → knows self.now.tenants (seen speaker) ≡ true }
     {
         self.table.knows(speaker)
     }

@@ -1,23 +1,24 @@
 -- The fault that is told of a table is its first fault.
 --     first-faults    it is the first in the order of docs/FORMATS.md
-use Rattle.std.proofs.Common.{◌≡◌, ◌⊎◌, inl, inr, ℕ, ℤ, pos, negsuc, ◌+◌, ◌<◌, ◌≤◌, ◌&&◌, Bool, true, false, List, Option, Some, None, is_some, Ok, Err}
+use Rattle.std.proofs.Common.{◌≡◌, ◌⊎◌, inl, inr, ℕ, ℤ, pos, negsuc, ◌<◌, ◌≤◌, ◌&&◌, Bool, true, false, List, Option, Some, None, is_some, Ok, Err}
 use Rattle.std.proofs.Common.{ap, sym, ◌∙◌, refl, subst, nat_le, if◌then◌else◌, arith}
 use Rattle.std.specs.Prelude.{Result}
 use Rattle.std.proofs.lemmas.Bool.{leb-true, leb-false, and_parts}
 use Rattle.std.specs.Str.{is_utf8}
-use Rattle.toml.specs.Data.{Data, Members, no_members, member}
+use Rattle.toml.specs.Data.{Members, no_members, member}
 use Rattle.toml.specs.Parse.{parse_document}
 use Rattle.hex.specs.Hex.{decode_sized}
 use Rattle.hex.specs.declared.error.FromHexError.{FromHexError}
 use Rattle.judy_model.specs.Grammar.{is_name}
 use Rattle.judy_table.specs.declared.fault.TableFault.{TableFault}
 use Rattle.judy_table.specs.declared.fault.TableFault.TheVariants as fault
+use Rattle.judy_table.specs.declared.tenant.Others.{Others}
 use Rattle.judy_table.specs.declared.tenant.Tenant.{Tenant}
-use Rattle.judy_table.specs.Tenants.{size, Written, written, have_shape, up_to, pieces_for, with_pieces, with_entries, digest_read, look_digest, with_look}
-use Rattle.judy_table.specs.Tenants.{with_digest, tenant_of, tenant_if_written, and_more, tenants_in, read_document, read_table}
-use Rattle.judy_table.specs.Faults.{IsOutside, IsTooMany, IsNoDigest, IsNoLook, LacksDigest, HasFault, LacksShape, FaultsIn}
+use Rattle.judy_table.specs.Tenants.{size, Written, written, have_shape, up_to, pieces_for, with_pieces, with_entries, digest_read, optional_digest, all_read}
+use Rattle.judy_table.specs.Tenants.{others_of, with_others, with_digest, tenant_of, tenant_if_written, and_more, tenants_in, read_document}
+use Rattle.judy_table.specs.Faults.{IsOutside, IsTooMany, IsNoDigest, IsNoOther, LacksDigest, HasFault, LacksShape, FaultsIn}
 use Rattle.judy_table.specs.Faults.{IsFaultOfTenant, IsFaultOf, TellsFirstFaults}
-use Rattle.judy_table.proofs.lemmas.Meaning.{tenant-is}
+use Rattle.judy_table.proofs.lemmas.Meaning.{AreOthers, others-are, tenant-is}
 
 -- ---- numbers and digests
 
@@ -44,17 +45,28 @@ too-many n (Some z) e = outside 2113929216 z e
 not-both : (text digest : List ℕ) (x : FromHexError) → decode_sized text 32 ≡ Ok digest → decode_sized text 32 ≡ Err x → ⊥
 not-both text digest x i j = cc
 
-has-look : (o r : Option (List ℕ)) → look_digest o ≡ Ok r → IsNoLook o → ⊥
-has-look None r e h = h
-has-look (Some text) r e (x, bad) = let g : digest_read (Err x) ≡ Ok r = sym (ap digest_read bad) ∙ e in cc
+has-digest : (o r : Option (List ℕ)) → optional_digest o ≡ Ok r → IsNoOther o → ⊥
+has-digest None r e h = h
+has-digest (Some text) r e (x, bad) = let g : digest_read (Err x) ≡ Ok r = sym (ap digest_read bad) ∙ e in cc
 
-no-look : (o : Option (List ℕ)) (x : FromHexError) → look_digest o ≡ Err x → IsNoLook o
-no-look None x e = cc
-no-look (Some text) x e = by (decode_sized text 32) refl e
+no-digest : (o : Option (List ℕ)) (x : FromHexError) → optional_digest o ≡ Err x → IsNoOther o
+no-digest None x e = cc
+no-digest (Some text) x e = by (decode_sized text 32) refl e
   where
     by : (r : Result (List ℕ) FromHexError) → decode_sized text 32 ≡ r → digest_read r ≡ Err x → IsNoDigest text
     by (Ok d) i f = cc
     by (Err y) i f = (y, i)
+
+-- the others are none only if one of them is
+no-other : (w : Written) (x : FromHexError) → others_of w.others ≡ Err x → LacksDigest w
+no-other w x = by (optional_digest w.others.look) (optional_digest w.others.former) (optional_digest w.others.former_look) refl refl refl
+  where
+    by : (a b c : Result (Option (List ℕ)) FromHexError) → optional_digest w.others.look ≡ a → optional_digest w.others.former ≡ b
+        → optional_digest w.others.former_look ≡ c → all_read a b c ≡ Err x → LacksDigest w
+    by (Ok a) (Ok b) (Ok c) i j k e = cc
+    by (Ok a) (Ok b) (Err y) i j k e = inr (inr (inr (no-digest w.others.former_look y k)))
+    by (Ok a) (Err y) c i j k e = inr (inr (inl (no-digest w.others.former y j)))
+    by (Err y) b c i j k e = inr (inl (no-digest w.others.look y i))
 
 -- ---- one tenant
 
@@ -62,27 +74,32 @@ module _ (name : List ℕ) (w : Written) (f : TableFault) where
   told : (g : TableFault) → g ≡ f → HasFault g name w → HasFault f name w
   told g same h = subst (λ x. HasFault x name w) same h
 
-  by_pieces : (digest : List ℕ) (look : Option (List ℕ)) (n : ℕ) (o : Option ℕ) → is_name name ≡ true → (LacksDigest w → ⊥)
-      → (IsOutside 16777216 w.entries → ⊥) → pieces_for n w.pieces ≡ o → with_pieces name digest look n o ≡ Err f → HasFault f name w
-  by_pieces digest look n (Some p) a b c i e = cc
-  by_pieces digest look n None a b c i e = let same : fault.Pieces ≡ f = cc in told fault.Pieces same (a, b, c, too-many n w.pieces i)
+  by_pieces : (digest : List ℕ) (others : Others) (n : ℕ) (o : Option ℕ) → is_name name ≡ true → (LacksDigest w → ⊥)
+      → (IsOutside 16777216 w.entries → ⊥) → pieces_for n w.pieces ≡ o → with_pieces name digest others n o ≡ Err f → HasFault f name w
+  by_pieces digest others n (Some p) a b c i e = cc
+  by_pieces digest others n None a b c i e = let same : fault.Pieces ≡ f = cc in told fault.Pieces same (a, b, c, too-many n w.pieces i)
 
-  by_entries : (digest : List ℕ) (look : Option (List ℕ)) (o : Option ℕ) → is_name name ≡ true → (LacksDigest w → ⊥)
-      → up_to 16777216 w.entries ≡ o → with_entries name digest look o w.pieces ≡ Err f → HasFault f name w
-  by_entries digest look (Some n) a b i e = by_pieces digest look n (pieces_for n w.pieces) a b (inside 16777216 w.entries n i) refl e
-  by_entries digest look None a b i e = let same : fault.Quota ≡ f = cc in told fault.Quota same (a, b, outside 16777216 w.entries i)
+  by_entries : (digest : List ℕ) (others : Others) (o : Option ℕ) → is_name name ≡ true → (LacksDigest w → ⊥)
+      → up_to 16777216 w.entries ≡ o → with_entries name digest others o w.pieces ≡ Err f → HasFault f name w
+  by_entries digest others (Some n) a b i e = by_pieces digest others n (pieces_for n w.pieces) a b (inside 16777216 w.entries n i) refl e
+  by_entries digest others None a b i e = let same : fault.Quota ≡ f = cc in told fault.Quota same (a, b, outside 16777216 w.entries i)
 
-  by_look : (digest : List ℕ) (r : Result (Option (List ℕ)) FromHexError) → is_name name ≡ true → (IsNoDigest w.digest → ⊥)
-      → look_digest w.look ≡ r → with_look name digest r w ≡ Err f → HasFault f name w
-  by_look digest (Ok look) a b i e = by_entries digest look (up_to 16777216 w.entries) a well refl e
+  by_others : (digest : List ℕ) (r : Result Others FromHexError) → is_name name ≡ true → (IsNoDigest w.digest → ⊥)
+      → others_of w.others ≡ r → with_others name digest r w ≡ Err f → HasFault f name w
+  by_others digest (Ok others) a b i e = by_entries digest others (up_to 16777216 w.entries) a well refl e
     where
+      read : AreOthers w.others others
+      read = others-are w.others others i
+
       well : LacksDigest w → ⊥
       well (inl h) = b h
-      well (inr h) = has-look w.look look i h
-  by_look digest (Err x) a b i e = let same : fault.Digest ≡ f = cc in told fault.Digest same (a, inr (no-look w.look x i))
+      well (inr (inl h)) = has-digest w.others.look others.look read.look h
+      well (inr (inr (inl h))) = has-digest w.others.former others.former read.former h
+      well (inr (inr (inr h))) = has-digest w.others.former_look others.former_look read.former_look h
+  by_others digest (Err x) a b i e = let same : fault.Digest ≡ f = cc in told fault.Digest same (a, no-other w x i)
 
   by_digest : (r : Result (List ℕ) FromHexError) → is_name name ≡ true → decode_sized w.digest 32 ≡ r → with_digest name r w ≡ Err f → HasFault f name w
-  by_digest (Ok digest) a i e = by_look digest (look_digest w.look) a (λ h. not-both w.digest digest h.0 i h.1) refl e
+  by_digest (Ok digest) a i e = by_others digest (others_of w.others) a (λ h. not-both w.digest digest h.0 i h.1) refl e
   by_digest (Err x) a i e = let same : fault.Digest ≡ f = cc in told fault.Digest same (a, inl (x, i))
 
   by_name : (b : Bool) → is_name name ≡ b → (if b then with_digest name (decode_sized w.digest 32) w else Err fault.Name) ≡ Err f → HasFault f name w

@@ -1,11 +1,11 @@
 -- A text is read as a list of tenants exactly if it is their table.
 use Rattle.std.proofs.Common.{◌≡◌, ℕ, ℤ, pos, negsuc, ◌+◌, ◌*◌, ◌≤◌, ◌==◌, ◌&&◌, Bool, true, false, List, [], ◌∷◌, Option, Some, None, is_some, Ok, Err}
 use Rattle.std.proofs.Common.{ap, sym, ◌∙◌, refl, subst, nat_le, if◌then◌else◌, le-leb, eq-eqb}
-use Rattle.std.specs.Prelude.{Result, codes, option_map, option_and_then, ◌↔◌}
+use Rattle.std.specs.Prelude.{Result, option_map, option_and_then}
 use Rattle.std.proofs.lemmas.Bool.{leb-true, eqb-true, and_parts, and_from}
-use Rattle.std.specs.Str.{is_utf8, IsUtf8}
+use Rattle.std.specs.Str.{is_utf8}
 use Rattle.std.proofs.lemmas.Str.{IsUtf8-from_is_utf8, is_utf8-from_IsUtf8}
-use Rattle.toml.specs.Data.{Data, Members, no_members, member, get_member, as_str, as_integer, as_table}
+use Rattle.toml.specs.Data.{Data, Members, no_members, member, as_str, as_integer, as_table}
 use Rattle.toml.specs.Parse.{parse_document}
 use Rattle.hex.specs.Hex.{decode_sized}
 use Rattle.hex.specs.declared.error.FromHexError.{FromHexError}
@@ -13,11 +13,12 @@ use Rattle.judy_model.specs.Grammar.{is_name}
 use Rattle.judy_model.specs.declared.quotas.Quota.{Quota}
 use Rattle.judy_table.specs.declared.fault.TableFault.{TableFault}
 use Rattle.judy_table.specs.declared.fault.TableFault.TheVariants as fault
+use Rattle.judy_table.specs.declared.tenant.Others.{Others}
 use Rattle.judy_table.specs.declared.tenant.Tenant.{Tenant}
-use Rattle.judy_table.specs.Tenants.{size, Written, optional, one_if_some, all_of, written_in, written, have_shape, up_to, pieces_for, with_pieces}
-use Rattle.judy_table.specs.Tenants.{with_entries, digest_read, look_digest, with_look, with_digest, tenant_of, tenant_if_written, and_more, tenants_in}
-use Rattle.judy_table.specs.Tenants.{read_tree, read_document, read_table}
-use Rattle.judy_table.specs.Meaning.{HasPieces, HasLook, if_there, HasValues, IsTenantOf, AreTenantsOf, IsTableOf, ReadsTables}
+use Rattle.judy_table.specs.Tenants.{size, Written, OtherTexts, optional, one_if_some, count_others, all_others, all_of, written_in, written, have_shape}
+use Rattle.judy_table.specs.Tenants.{up_to, pieces_for, with_pieces, with_entries, digest_read, optional_digest, all_read, others_of, with_others}
+use Rattle.judy_table.specs.Tenants.{with_digest, tenant_of, tenant_if_written, and_more, tenants_in, read_document, read_table}
+use Rattle.judy_table.specs.Meaning.{HasPieces, HasDigest, if_there, HasValues, IsTenantOf, AreTenantsOf, IsTableOf, ReadsTables}
 
 -- ---- numbers, and the values of keys that may be absent
 
@@ -46,23 +47,61 @@ pieces-are (Some d) p entries pieces e f = by (as_integer d) refl e
         let is = up_to-is 2113929216 z pieces (ap (pieces_for entries) same ∙ f) in
         ((i ∙ ap Some is.0, is.1), ap one_if_some (sym same))
 
-look-is : (o : Option Data) (l : Option (List ℕ)) (look : Option (List ℕ)) → optional as_str o ≡ Some l → look_digest l ≡ Ok look
-    → HasLook o look × (one_if_some l ≡ if_there o)
-look-is None None look e f = let g : None ≡ look = cc in (sym g, refl)
-look-is None (Some text) look e f = cc
-look-is (Some d) l look e f = by (as_str d) refl e
+digest-is : (o : Option Data) (l : Option (List ℕ)) (look : Option (List ℕ)) → optional as_str o ≡ Some l → optional_digest l ≡ Ok look
+    → HasDigest o look × (one_if_some l ≡ if_there o)
+digest-is None None look e f = let g : None ≡ look = cc in (sym g, refl)
+digest-is None (Some text) look e f = cc
+digest-is (Some d) l look e f = by (as_str d) refl e
   where
     read : (text : List ℕ) (r : Result (List ℕ) FromHexError) → decode_sized text 32 ≡ r → digest_read r ≡ Ok look
         → (digest : List ℕ) × (decode_sized text 32 ≡ Ok digest) × (look ≡ Some digest)
     read text (Ok digest) i j = let g : Some digest ≡ look = cc in (digest, i, sym g)
     read text (Err x) i j = cc
 
-    by : (o : Option (List ℕ)) → as_str d ≡ o → option_map Some o ≡ Some l → HasLook (Some d) look × (one_if_some l ≡ 1)
+    by : (o : Option (List ℕ)) → as_str d ≡ o → option_map Some o ≡ Some l → HasDigest (Some d) look × (one_if_some l ≡ 1)
     by None i j = cc
     by (Some text) i j =
         let same : Some text ≡ l = cc in
-        let it = read text (decode_sized text 32) refl (ap look_digest same ∙ f) in
+        let it = read text (decode_sized text 32) refl (ap optional_digest same ∙ f) in
         ((text, it.0, i, it.1, it.2), ap one_if_some (sym same))
+
+-- the three others, each by itself
+pub record AreOthers (w : OtherTexts) (o : Others) : Type 0 where
+  pub look : optional_digest w.look ≡ Ok o.look
+  pub former : optional_digest w.former ≡ Ok o.former
+  pub former_look : optional_digest w.former_look ≡ Ok o.former_look
+
+pub others-are : (w : OtherTexts) (o : Others) → others_of w ≡ Ok o → AreOthers w o
+others-are w o = by (optional_digest w.look) (optional_digest w.former) (optional_digest w.former_look) refl refl refl
+  where
+    by : (a b c : Result (Option (List ℕ)) FromHexError) → optional_digest w.look ≡ a → optional_digest w.former ≡ b → optional_digest w.former_look ≡ c
+        → all_read a b c ≡ Ok o → AreOthers w o
+    by (Ok a) (Ok b) (Ok c) i j k e =
+        let same : record { look = a; former = b; former_look = c } ≡ o = cc in
+        subst (AreOthers w) same (record { look = i; former = j; former_look = k })
+    by (Ok a) (Ok b) (Err x) i j k e = cc
+    by (Ok a) (Err x) c i j k e = cc
+    by (Err x) b c i j k e = cc
+
+others-from : (w : OtherTexts) (o : Others) → AreOthers w o → others_of w ≡ Ok o
+others-from w o h =
+    ap (λ a. all_read a (optional_digest w.former) (optional_digest w.former_look)) h.look
+    ∙ ap (λ b. all_read (Ok o.look) b (optional_digest w.former_look)) h.former
+    ∙ ap (all_read (Ok o.look) (Ok o.former)) h.former_look
+
+-- their texts, each by itself
+pub record AreTexts (a b c : Option (Option (List ℕ))) (w : OtherTexts) : Type 0 where
+  pub look : a ≡ Some w.look
+  pub former : b ≡ Some w.former
+  pub former_look : c ≡ Some w.former_look
+
+texts-are : (a b c : Option (Option (List ℕ))) (w : OtherTexts) → all_others a b c ≡ Some w → AreTexts a b c w
+texts-are (Some a) (Some b) (Some c) w e =
+    let same : record { look = a; former = b; former_look = c } ≡ w = cc in
+    subst (AreTexts (Some a) (Some b) (Some c)) same (record { look = refl; former = refl; former_look = refl })
+texts-are (Some a) (Some b) None w e = cc
+texts-are (Some a) None c w e = cc
+texts-are None b c w e = cc
 
 -- ---- one tenant
 
@@ -71,33 +110,33 @@ pub record AreParts (name : List ℕ) (w : Written) (t : Tenant) : Type 0 where
   pub spelled : is_name name ≡ true
   pub name_is : t.name ≡ name
   pub digest : decode_sized w.digest 32 ≡ Ok t.digest
-  pub look : look_digest w.look ≡ Ok t.look
+  pub others : others_of w.others ≡ Ok t.others
   pub entries : up_to 16777216 w.entries ≡ Some t.quota.entries
   pub pieces : pieces_for t.quota.entries w.pieces ≡ Some t.quota.pieces
 
 parts-of : (name : List ℕ) (w : Written) (t : Tenant) → tenant_of name w ≡ Ok t → AreParts name w t
 parts-of name w t = by_name (is_name name) refl
   where
-    by_pieces : (digest : List ℕ) (look : Option (List ℕ)) (n : ℕ) (o : Option ℕ) → is_name name ≡ true → decode_sized w.digest 32 ≡ Ok digest
-        → look_digest w.look ≡ Ok look → up_to 16777216 w.entries ≡ Some n → pieces_for n w.pieces ≡ o
-        → with_pieces name digest look n o ≡ Ok t → AreParts name w t
-    by_pieces digest look n (Some p) a b c d f e =
-        let same : record { name = name; digest = digest; look = look; quota = record { entries = n; pieces = p } } ≡ t = cc in
-        subst (AreParts name w) same (record { spelled = a; name_is = refl; digest = b; look = c; entries = d; pieces = f })
-    by_pieces digest look n None a b c d f e = cc
+    by_pieces : (digest : List ℕ) (others : Others) (n : ℕ) (o : Option ℕ) → is_name name ≡ true → decode_sized w.digest 32 ≡ Ok digest
+        → others_of w.others ≡ Ok others → up_to 16777216 w.entries ≡ Some n → pieces_for n w.pieces ≡ o
+        → with_pieces name digest others n o ≡ Ok t → AreParts name w t
+    by_pieces digest others n (Some p) a b c d f e =
+        let same : record { name = name; digest = digest; others = others; quota = record { entries = n; pieces = p } } ≡ t = cc in
+        subst (AreParts name w) same (record { spelled = a; name_is = refl; digest = b; others = c; entries = d; pieces = f })
+    by_pieces digest others n None a b c d f e = cc
 
-    by_entries : (digest : List ℕ) (look : Option (List ℕ)) (o : Option ℕ) → is_name name ≡ true → decode_sized w.digest 32 ≡ Ok digest
-        → look_digest w.look ≡ Ok look → up_to 16777216 w.entries ≡ o → with_entries name digest look o w.pieces ≡ Ok t → AreParts name w t
-    by_entries digest look (Some n) a b c d e = by_pieces digest look n (pieces_for n w.pieces) a b c d refl e
-    by_entries digest look None a b c d e = cc
+    by_entries : (digest : List ℕ) (others : Others) (o : Option ℕ) → is_name name ≡ true → decode_sized w.digest 32 ≡ Ok digest
+        → others_of w.others ≡ Ok others → up_to 16777216 w.entries ≡ o → with_entries name digest others o w.pieces ≡ Ok t → AreParts name w t
+    by_entries digest others (Some n) a b c d e = by_pieces digest others n (pieces_for n w.pieces) a b c d refl e
+    by_entries digest others None a b c d e = cc
 
-    by_look : (digest : List ℕ) (r : Result (Option (List ℕ)) FromHexError) → is_name name ≡ true → decode_sized w.digest 32 ≡ Ok digest
-        → look_digest w.look ≡ r → with_look name digest r w ≡ Ok t → AreParts name w t
-    by_look digest (Ok look) a b c e = by_entries digest look (up_to 16777216 w.entries) a b c refl e
-    by_look digest (Err x) a b c e = cc
+    by_others : (digest : List ℕ) (r : Result Others FromHexError) → is_name name ≡ true → decode_sized w.digest 32 ≡ Ok digest
+        → others_of w.others ≡ r → with_others name digest r w ≡ Ok t → AreParts name w t
+    by_others digest (Ok others) a b c e = by_entries digest others (up_to 16777216 w.entries) a b c refl e
+    by_others digest (Err x) a b c e = cc
 
     by_digest : (r : Result (List ℕ) FromHexError) → is_name name ≡ true → decode_sized w.digest 32 ≡ r → with_digest name r w ≡ Ok t → AreParts name w t
-    by_digest (Ok digest) a b e = by_look digest (look_digest w.look) a b refl e
+    by_digest (Ok digest) a b e = by_others digest (others_of w.others) a b refl e
     by_digest (Err x) a b e = cc
 
     by_name : (b : Bool) → is_name name ≡ b → (if b then with_digest name (decode_sized w.digest 32) w else Err fault.Name) ≡ Ok t → AreParts name w t
@@ -108,41 +147,63 @@ parts-of name w t = by_name (is_name name) refl
 tenant-from : (name : List ℕ) (w : Written) (t : Tenant) → AreParts name w t → tenant_of name w ≡ Ok t
 tenant-from name w t p =
     ap (λ b. if b then with_digest name (decode_sized w.digest 32) w else Err fault.Name) p.spelled
-    ∙ ap (λ r. with_digest name r w) p.digest ∙ ap (λ r. with_look name t.digest r w) p.look
-    ∙ ap (λ o. with_entries name t.digest t.look o w.pieces) p.entries ∙ ap (with_pieces name t.digest t.look t.quota.entries) p.pieces
-    ∙ ap (λ m. Ok (record { name = m; digest = t.digest; look = t.look; quota = t.quota })) (sym p.name_is)
+    ∙ ap (λ r. with_digest name r w) p.digest ∙ ap (λ r. with_others name t.digest r w) p.others
+    ∙ ap (λ o. with_entries name t.digest t.others o w.pieces) p.entries ∙ ap (with_pieces name t.digest t.others t.quota.entries) p.pieces
+    ∙ ap (λ m. Ok (record { name = m; digest = t.digest; others = t.others; quota = t.quota })) (sym p.name_is)
 
--- the values of the four keys
-abbrev values_of : List ℕ → ℤ → Option ℤ → Option (List ℕ) → Written
-values_of s q p l = record { digest = s; entries = q; pieces = p; look = l }
+-- the values of the keys
+abbrev values_of : List ℕ → ℤ → Option ℤ → OtherTexts → Written
+values_of s q p l = record { digest = s; entries = q; pieces = p; others = l }
 
 -- the values that a table of n keys has
-values-are : (name : List ℕ) (n : ℕ) (sha256 : Option (List ℕ)) (quota : Option ℤ) (p : Option (Option ℤ)) (l : Option (Option (List ℕ))) (t : Tenant)
+values-are : (name : List ℕ) (n : ℕ) (sha256 : Option (List ℕ)) (quota : Option ℤ) (p : Option (Option ℤ)) (l : Option OtherTexts) (t : Tenant)
     → tenant_if_written name (all_of n sha256 quota p l) ≡ Ok t
-    → (w : Written) × (sha256 ≡ Some w.digest) × (quota ≡ Some w.entries) × (p ≡ Some w.pieces) × (l ≡ Some w.look)
-    × (n ≡ 2 + one_if_some w.pieces + one_if_some w.look) × AreParts name w t
+    → (w : Written) × (sha256 ≡ Some w.digest) × (quota ≡ Some w.entries) × (p ≡ Some w.pieces) × (l ≡ Some w.others)
+    × (n ≡ 2 + one_if_some w.pieces + count_others w.others) × AreParts name w t
 values-are name n None quota p l t e = cc
 values-are name n (Some s) None p l t e = cc
 values-are name n (Some s) (Some q) None l t e = cc
 values-are name n (Some s) (Some q) (Some pv) None t e = cc
-values-are name n (Some s) (Some q) (Some pv) (Some lv) t e = by (n == 2 + one_if_some pv + one_if_some lv) refl e
+values-are name n (Some s) (Some q) (Some pv) (Some lv) t e = by (n == 2 + one_if_some pv + count_others lv) refl e
   where
-    by : (b : Bool) → (n == 2 + one_if_some pv + one_if_some lv) ≡ b → tenant_if_written name (if b then Some (values_of s q pv lv) else None) ≡ Ok t
-        → (v : Written) × (Some s ≡ Some v.digest) × (Some q ≡ Some v.entries) × (Some pv ≡ Some v.pieces) × (Some lv ≡ Some v.look)
-        × (n ≡ 2 + one_if_some v.pieces + one_if_some v.look) × AreParts name v t
+    by : (b : Bool) → (n == 2 + one_if_some pv + count_others lv) ≡ b → tenant_if_written name (if b then Some (values_of s q pv lv) else None) ≡ Ok t
+        → (v : Written) × (Some s ≡ Some v.digest) × (Some q ≡ Some v.entries) × (Some pv ≡ Some v.pieces) × (Some lv ≡ Some v.others)
+        × (n ≡ 2 + one_if_some v.pieces + count_others v.others) × AreParts name v t
     by true h f = (values_of s q pv lv, refl, refl, refl, refl, eqb-true n _ h, parts-of name (values_of s q pv lv) t f)
     by false h f = cc
 
+-- the texts of the other digests, by the values of their keys
+abbrev texts_of : Option Data → Option Data → Option Data → Option OtherTexts
+texts_of a b c = all_others (optional as_str a) (optional as_str b) (optional as_str c)
+
+-- how many of them are given
+abbrev if_any : Option Data → Option Data → Option Data → ℕ
+if_any a b c = if_there a + if_there b + if_there c
+
+-- there are as many values as keys
+counted : (pv : Option ℤ) (p : Option Data) (w : OtherTexts) (a b c : Option Data) → one_if_some pv ≡ if_there p → one_if_some w.look ≡ if_there a
+    → one_if_some w.former ≡ if_there b → one_if_some w.former_look ≡ if_there c
+    → 2 + one_if_some pv + count_others w ≡ 2 + if_there p + if_any a b c
+counted pv p w a b c i j k l =
+    ap (λ x. 2 + x + count_others w) i
+    ∙ ap (λ x. 2 + if_there p + (x + one_if_some w.former + one_if_some w.former_look)) j
+    ∙ ap (λ x. 2 + if_there p + (if_there a + x + one_if_some w.former_look)) k
+    ∙ ap (λ x. 2 + if_there p + (if_there a + if_there b + x)) l
+
 -- a tenant that was read has these values
-has-values : (name : List ℕ) (n : ℕ) (sha256 : Option (List ℕ)) (quota : Option ℤ) (p l : Option Data) (t : Tenant)
-    → tenant_if_written name (all_of n sha256 quota (optional as_integer p) (optional as_str l)) ≡ Ok t → HasValues name n sha256 quota p l t
-has-values name n sha256 quota p l t e =
-    let v = values-are name n sha256 quota (optional as_integer p) (optional as_str l) t e in
+has-values : (name : List ℕ) (n : ℕ) (sha256 : Option (List ℕ)) (quota : Option ℤ) (p a b c : Option Data) (t : Tenant)
+    → tenant_if_written name (all_of n sha256 quota (optional as_integer p) (texts_of a b c)) ≡ Ok t → HasValues name n sha256 quota p a b c t
+has-values name n sha256 quota p a b c t e =
+    let v = values-are name n sha256 quota (optional as_integer p) (texts_of a b c) t e in
     let w : Written = v.0 in
     let parts : AreParts name w t = v.6 in
     let number = up_to-is 16777216 w.entries t.quota.entries parts.entries in
     let pieces = pieces-are p w.pieces t.quota.entries t.quota.pieces v.3 parts.pieces in
-    let look = look-is l w.look t.look v.4 parts.look in
+    let texts = texts-are (optional as_str a) (optional as_str b) (optional as_str c) w.others v.4 in
+    let others = others-are w.others t.others parts.others in
+    let look = digest-is a w.others.look t.others.look texts.look others.look in
+    let former = digest-is b w.others.former t.others.former texts.former others.former in
+    let former_look = digest-is c w.others.former_look t.others.former_look texts.former_look others.former_look in
     record {
       spelled = parts.spelled;
       name_is = parts.name_is;
@@ -153,7 +214,9 @@ has-values name n sha256 quota p l t e =
       most = number.1;
       pieces_are = pieces.0;
       look_is = look.0;
-      only = v.5 ∙ ap (λ k. 2 + k + one_if_some w.look) pieces.1 ∙ ap (λ k. 2 + if_there p + k) look.1;
+      former_is = former.0;
+      former_look_is = former_look.0;
+      only = v.5 ∙ counted w.pieces p w.others a b c pieces.1 look.1 former.1 former_look.1;
     }
 
 -- and the other way round
@@ -162,29 +225,37 @@ pieces-from : (o : Option Data) (q : Quota) → HasPieces o q
 pieces-from None q h = (None, refl, ap Some (sym h), refl)
 pieces-from (Some d) q h = (Some (pos q.pieces), ap (option_map Some) h.0, up_to-from 2113929216 q.pieces h.1, refl)
 
-look-from : (o : Option Data) (look : Option (List ℕ)) → HasLook o look
-    → (l : Option (List ℕ)) × (optional as_str o ≡ Some l) × (look_digest l ≡ Ok look) × (one_if_some l ≡ if_there o)
-look-from None look h = (None, refl, ap Ok (sym h), refl)
-look-from (Some d) look h = (Some h.0, ap (option_map Some) h.2, ap digest_read h.3 ∙ ap Ok (sym h.4), refl)
+digest-from : (o : Option Data) (look : Option (List ℕ)) → HasDigest o look
+    → (l : Option (List ℕ)) × (optional as_str o ≡ Some l) × (optional_digest l ≡ Ok look) × (one_if_some l ≡ if_there o)
+digest-from None look h = (None, refl, ap Ok (sym h), refl)
+digest-from (Some d) look h = (Some h.0, ap (option_map Some) h.2, ap digest_read h.3 ∙ ap Ok (sym h.4), refl)
 
-read-from : (name : List ℕ) (n : ℕ) (sha256 : Option (List ℕ)) (quota : Option ℤ) (p l : Option Data) (t : Tenant) → HasValues name n sha256 quota p l t
-    → tenant_if_written name (all_of n sha256 quota (optional as_integer p) (optional as_str l)) ≡ Ok t
-read-from name n sha256 quota p l t h =
+read-from : (name : List ℕ) (n : ℕ) (sha256 : Option (List ℕ)) (quota : Option ℤ) (p a b c : Option Data) (t : Tenant)
+    → HasValues name n sha256 quota p a b c t
+    → tenant_if_written name (all_of n sha256 quota (optional as_integer p) (texts_of a b c)) ≡ Ok t
+read-from name n sha256 quota p a b c t h =
     let pieces = pieces-from p t.quota h.pieces_are in
-    let look = look-from l t.look h.look_is in
-    let w : Written = record { digest = h.text; entries = pos t.quota.entries; pieces = pieces.0; look = look.0 } in
-    let many : (n == 2 + one_if_some pieces.0 + one_if_some look.0) ≡ true = eq-eqb n (2 + one_if_some pieces.0 + one_if_some look.0)
-    (h.only ∙ ap (λ k. 2 + k + if_there l) (sym pieces.3) ∙ ap (λ k. 2 + one_if_some pieces.0 + k) (sym look.3)) in
-    ap (λ o. tenant_if_written name (all_of n o quota (optional as_integer p) (optional as_str l))) h.string
-    ∙ ap (λ o. tenant_if_written name (all_of n (Some h.text) o (optional as_integer p) (optional as_str l))) h.integer
-    ∙ ap (λ o. tenant_if_written name (all_of n (Some h.text) (Some (pos t.quota.entries)) o (optional as_str l))) pieces.1
-    ∙ ap (λ o. tenant_if_written name (all_of n (Some h.text) (Some (pos t.quota.entries)) (Some pieces.0) o)) look.1
+    let look = digest-from a t.others.look h.look_is in
+    let former = digest-from b t.others.former h.former_is in
+    let former_look = digest-from c t.others.former_look h.former_look_is in
+    let others : OtherTexts = record { look = look.0; former = former.0; former_look = former_look.0 } in
+    let w : Written = record { digest = h.text; entries = pos t.quota.entries; pieces = pieces.0; others = others } in
+    let texts : texts_of a b c ≡ Some others =
+    ap (λ x. all_others x (optional as_str b) (optional as_str c)) look.1
+    ∙ ap (λ x. all_others (Some look.0) x (optional as_str c)) former.1
+    ∙ ap (all_others (Some look.0) (Some former.0)) former_look.1 in
+    let many : (n == 2 + one_if_some pieces.0 + count_others others) ≡ true = eq-eqb n (2 + one_if_some pieces.0 + count_others others)
+    (h.only ∙ sym (counted pieces.0 p others a b c pieces.3 look.3 former.3 former_look.3)) in
+    ap (λ o. tenant_if_written name (all_of n o quota (optional as_integer p) (texts_of a b c))) h.string
+    ∙ ap (λ o. tenant_if_written name (all_of n (Some h.text) o (optional as_integer p) (texts_of a b c))) h.integer
+    ∙ ap (λ o. tenant_if_written name (all_of n (Some h.text) (Some (pos t.quota.entries)) o (texts_of a b c))) pieces.1
+    ∙ ap (λ o. tenant_if_written name (all_of n (Some h.text) (Some (pos t.quota.entries)) (Some pieces.0) o)) texts
     ∙ ap (λ b. tenant_if_written name (if b then Some w else None)) many
     ∙ tenant-from name w t (record {
       spelled = h.spelled;
       name_is = h.name_is;
       digest = h.digest;
-      look = look.2;
+      others = others-from others t.others (record { look = look.2; former = former.2; former_look = former_look.2 });
       entries = up_to-from 16777216 t.quota.entries h.most;
       pieces = pieces.2;
     })
@@ -196,10 +267,10 @@ tenant-is name d t = by (as_table d) refl
   where
     by : (o : Option Members) → as_table d ≡ o → tenant_if_written name (option_and_then written_in o) ≡ Ok t → IsTenantOf name d t
     by None i e = cc
-    by (Some keys) i e = record { keys = keys; table = i; values = has-values name (size keys) _ _ _ _ t e }
+    by (Some keys) i e = record { keys = keys; table = i; values = has-values name (size keys) _ _ _ _ _ _ t e }
 
 tenant-is-read : (name : List ℕ) (d : Data) (t : Tenant) → IsTenantOf name d t → tenant_if_written name (written d) ≡ Ok t
-tenant-is-read name d t h = ap (λ o. tenant_if_written name (option_and_then written_in o)) h.table ∙ read-from name (size h.keys) _ _ _ _ t h.values
+tenant-is-read name d t h = ap (λ o. tenant_if_written name (option_and_then written_in o)) h.table ∙ read-from name (size h.keys) _ _ _ _ _ _ t h.values
 
 tenants-are : (ms : Members) (ts : List Tenant) → tenants_in ms ≡ Ok ts → AreTenantsOf ms ts
 tenants-are no_members [] e = tt

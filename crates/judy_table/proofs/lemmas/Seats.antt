@@ -15,11 +15,15 @@
 --     no-name         no log-in finds a vacant row
 --     knows-place     a speaker that is known has a place, with a tenant
 --     login-knows     the speaker of a log-in is known
+--     login-goes-on   and goes on while the table stays
+--     goes-on-known   a speaker that goes on is known
+--     goes-on-by      who goes on after another table is by its row of the tenant
+--     gone-goes-not   a speaker of a tenant that it lacks does not
 --     known-name      its name is one of the grammar
 --     read-rows       what holds of the rows of a table that was read
 use Rattle.std.proofs.Common.{◌≡◌, ◌≢◌, ◌⊎◌, inl, inr, ℕ, zero, suc, ◌≤◌, ◌<◌, ◌&&◌, ◌||◌, Bool, true, false, not, cond, List, [], ◌∷◌, length}
 use Rattle.std.proofs.Common.{◌==◌, if◌then◌else◌, Option, Some, None, Ok, ap, sym, ◌∙◌, refl, subst, get_or, drop, slice_get, option_map, option_and_then, arith}
-use Rattle.std.proofs.lemmas.Bool.{and_parts, both_ways, not-true}
+use Rattle.std.proofs.lemmas.Bool.{and_parts, and_from, both_ways, not-true}
 use Rattle.std.proofs.lemmas.List.Elements.{All-from_recursion, recursion_from_All}
 use Rattle.std.proofs.lemmas.Option.{slice_get_within}
 use Rattle.std.specs.List.{AllByRecursion}
@@ -31,10 +35,11 @@ use Rattle.judy_model.specs.Speakers.{Speaker}
 use Rattle.judy_model.specs.declared.quotas.Right.{Right}
 use Rattle.judy_model.specs.declared.quotas.Right.TheVariants.{Change, Look}
 use Rattle.judy_table.specs.declared.tenant.Tenant.{Tenant}
-use Rattle.judy_table.specs.Tenants.{is_vacant, vacant, place_of, right_of, is_digest, speaker_at, login_at, login_of, IsLimited}
+use Rattle.judy_table.specs.Tenants.{is_vacant, vacant, place_of, right_of, may_change, may_look, is_digest, speaker_at, login_at, login_of, IsLimited}
 use Rattle.judy_table.specs.Tenants.{read_table, HasRisingNames}
 use Rattle.judy_table.proofs.Trees.{named-tenants_in, read-tenants, tree-rows}
 use Rattle.judy_table.specs.Seats.{has_name, row_of, is_fresh, fresh_in, placed, seated, are_distinct, IsFree, AreRows, IsSpelled, right_in, knows, knows_row, has_token}
+use Rattle.judy_table.specs.Seats.{gives_row, goes_on}
 use Rattle.judy_table.proofs.Placing.{one-name, unnamed-vacant, row-named, row-absent, place-absent, place-here, fresh-are-fresh}
 use Rattle.judy_table.proofs.Placing.{fresh-each, has-fresh-old, has-fresh-new, row-fresh, distinct-fresh, placed-each, has-placed, row-placed-new}
 use Rattle.judy_table.proofs.Placing.{row-placed-old, place-kept, distinct-placed, length-placed, few-placed, named-seated, few-fresh}
@@ -225,7 +230,7 @@ no-name token ts = right-of-row [] token ts ∙ by (has_name [] ts) refl
   where
     unnamed : (t : Tenant) → is_vacant t ≡ true → right_of (sha256 token) t ≡ None
     unnamed t v = ap
-        (λ b. if b then None else if bytes_eq t.digest (sha256 token) then Some Change else if is_digest t.look (sha256 token) then Some Look else None) v
+        (λ b. if b then None else if may_change (sha256 token) t then Some Change else if may_look (sha256 token) t then Some Look else None) v
 
     by : (b : Bool) → has_name [] ts ≡ b → right_of (sha256 token) (row_of [] ts) ≡ None
     by true h = unnamed (row_of [] ts) (unnamed-vacant (row_of [] ts) (row-named [] ts h))
@@ -251,34 +256,63 @@ knows-place ts who h = by (slice_get ts who.tenant) refl h
     by None e g = cc
     by (Some t) e g = (t, e, not-true (is_vacant t) (and_parts (not (is_vacant t)) (has_token who.right t) g).0, slice_get_within ts who.tenant t e)
 
--- the speaker of a log-in is known
-pub login-knows : (name token : List ℕ) (ts : List Tenant) (who : Speaker) → login_of name token ts ≡ Some who → knows ts who ≡ true
-login-knows name token ts who h = at_place (place_of name ts) h
-  where
-    some_look : (o : Option (List ℕ)) → is_digest o (sha256 token) ≡ true → is_some o ≡ true
-    some_look None e = cc
-    some_look (Some digest) e = refl
+-- a token with a digest of the row gives a right for which the row has a token
+has-one : (o p : Option (List ℕ)) (shown : List ℕ) → (is_digest o shown || is_digest p shown) ≡ true → (is_some o || is_some p) ≡ true
+has-one (Some x) p shown e = refl
+has-one None (Some y) shown e = refl
+has-one None None shown e = cc
 
-    row : (place : ℕ) (t : Tenant) → slice_get ts place ≡ Some t → (v d l : Bool) → is_vacant t ≡ v → is_digest t.look (sha256 token) ≡ l
-        → speaker_at place (if v then None else if d then Some Change else if l then Some Look else None) ≡ Some who → knows ts who ≡ true
-    row place t is true d l v look e = cc
-    row place t is false true l v look e =
+gives-known : (o : Option Tenant) (right : Right) (shown : List ℕ) → gives_row o right shown ≡ true → knows_row o right ≡ true
+gives-known None right shown e = cc
+gives-known (Some t) Change shown e = and_from (not (is_vacant t)) true (and_parts (not (is_vacant t)) (may_change shown t) e).0 refl
+gives-known (Some t) Look shown e =
+    let parts = and_parts (not (is_vacant t)) (may_look shown t) e in
+    and_from (not (is_vacant t)) (has_token Look t) parts.0 (has-one t.others.look t.others.former_look shown parts.1)
+
+-- a speaker that goes on is known
+pub goes-on-known : (ts : List Tenant) (who : Speaker) (shown : List ℕ) → goes_on ts who shown ≡ true → knows ts who ≡ true
+goes-on-known ts who shown e = gives-known (slice_get ts who.tenant) who.right shown e
+
+-- the speaker of a log-in goes on while the table stays
+pub login-goes-on : (name token : List ℕ) (ts : List Tenant) (who : Speaker) → login_of name token ts ≡ Some who → goes_on ts who (sha256 token) ≡ true
+login-goes-on name token ts who h = at_place (place_of name ts) h
+  where
+    row : (place : ℕ) (t : Tenant) → slice_get ts place ≡ Some t → (v d l : Bool) → is_vacant t ≡ v → may_change (sha256 token) t ≡ d
+        → may_look (sha256 token) t ≡ l → speaker_at place (if v then None else if d then Some Change else if l then Some Look else None) ≡ Some who
+        → goes_on ts who (sha256 token) ≡ true
+    row place t is true d l v change look e = cc
+    row place t is false true l v change look e =
         let same : record { tenant = place; right = Change } ≡ who = cc in
-        subst (λ s. knows ts s ≡ true) same (ap (λ o. knows_row o Change) is ∙ ap (λ b. not b && has_token Change t) v)
-    row place t is false false true v look e =
+        subst (λ s. goes_on ts s (sha256 token) ≡ true) same
+        (ap (λ o. gives_row o Change (sha256 token)) is ∙ ap (λ b. not b && may_change (sha256 token) t) v ∙ change)
+    row place t is false false true v change look e =
         let same : record { tenant = place; right = Look } ≡ who = cc in
-        subst (λ s. knows ts s ≡ true) same
-        (ap (λ o. knows_row o Look) is ∙ ap (λ b. not b && is_some t.look) v ∙ ap (λ b. true && b) (some_look t.look look))
-    row place t is false false false v look e = cc
+        subst (λ s. goes_on ts s (sha256 token) ≡ true) same
+        (ap (λ o. gives_row o Look (sha256 token)) is ∙ ap (λ b. not b && may_look (sha256 token) t) v ∙ look)
+    row place t is false false false v change look e = cc
 
     at_row : (place : ℕ) (o : Option Tenant) → slice_get ts place ≡ o → speaker_at place (option_and_then (right_of (sha256 token)) o) ≡ Some who
-        → knows ts who ≡ true
+        → goes_on ts who (sha256 token) ≡ true
     at_row place None is e = cc
-    at_row place (Some t) is e = row place t is (is_vacant t) (bytes_eq t.digest (sha256 token)) (is_digest t.look (sha256 token)) refl refl e
+    at_row place (Some t) is e = row place t is (is_vacant t) (may_change (sha256 token) t) (may_look (sha256 token) t) refl refl refl e
 
-    at_place : (o : Option ℕ) → login_at ts o token ≡ Some who → knows ts who ≡ true
+    at_place : (o : Option ℕ) → login_at ts o token ≡ Some who → goes_on ts who (sha256 token) ≡ true
     at_place None e = cc
     at_place (Some place) e = at_row place (slice_get ts place) refl e
+
+-- the speaker of a log-in is known
+pub login-knows : (name token : List ℕ) (ts : List Tenant) (who : Speaker) → login_of name token ts ≡ Some who → knows ts who ≡ true
+login-knows name token ts who h = goes-on-known ts who (sha256 token) (login-goes-on name token ts who h)
+
+-- who goes on after another table is by its row of the tenant
+pub goes-on-by : (rows table : List Tenant) (who : Speaker) (shown : List ℕ) (r : Tenant) → slice_get rows who.tenant ≡ Some r → is_vacant r ≡ false
+    → goes_on (seated rows table) who shown ≡ gives_row (Some (row_of r.name table)) who.right shown
+goes-on-by rows table who shown r h v = ap (λ o. gives_row o who.right shown) (stays-at rows table who.tenant r h v)
+
+-- a speaker of a tenant that the table lacks does not go on
+pub gone-goes-not : (rows table : List Tenant) (who : Speaker) (shown : List ℕ) (r : Tenant) → slice_get rows who.tenant ≡ Some r → is_vacant r ≡ false
+    → has_name r.name table ≡ false → goes_on (seated rows table) who shown ≡ false
+gone-goes-not rows table who shown r h v g = goes-on-by rows table who shown r h v ∙ ap (λ t. gives_row (Some t) who.right shown) (row-absent r.name table g)
 
 -- the name of a tenant that is known is one of the grammar
 pub known-name : (ts : List Tenant) (who : Speaker) (name : List ℕ) → AreRows ts → knows ts who ≡ true

@@ -5,8 +5,8 @@
 --     unlimited-kept      each name is one of the rows
 --     unlimited-rows      what holds of every table's rows holds of them
 --     seated-unlimited    when the rows themselves are put in force again, they are as they were
-use Rattle.std.proofs.Common.{◌≡◌, ◌≢◌, ◌≤◌, ◌+◌, ◌&&◌, ◌||◌, ◌==◌, ℕ, suc, Bool, true, false, not, cond, List, [], ◌∷◌, length, Option, Some}
-use Rattle.std.proofs.Common.{ap, ap₂, sym, ◌∙◌, refl, subst, get_or, drop, option_map, arith}
+use Rattle.std.proofs.Common.{◌≡◌, ◌≢◌, ◌≤◌, ◌+◌, ◌&&◌, ◌||◌, ◌==◌, ℕ, suc, Bool, true, false, not, cond, List, [], ◌∷◌, length, Some}
+use Rattle.std.proofs.Common.{ap, ap₂, sym, ◌∙◌, refl, subst, option_map, arith}
 use Rattle.std.proofs.lemmas.Bool.{and_parts, or_right, both_ways, not-true}
 use Rattle.std.proofs.lemmas.List.{length-map}
 use Rattle.std.proofs.lemmas.List.Elements.{All-from_recursion, recursion_from_All}

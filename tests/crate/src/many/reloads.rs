@@ -39,6 +39,41 @@ fn a_tenant_that_is_gone_is_closed(rt: HostRuntime) -> Result<(), Fail> {
     Ok(())
 }
 
+// alice has the token `hello`, and the old token `abc`.
+const ALICE_WITH_BOTH: &[u8] = b"[alice]
+sha256 = \"2cf24dba5fb0a30e26e83b2ac5b9e29e1b161e5c1fa7425e73043362938b9824\"
+old_sha256 = \"ba7816bf8f01cfea414140de5dae2223b00361a396177a9cb410ff61f20015ad\"
+quota = 2
+";
+
+// alice has the token `hello` alone.
+const ALICE_WITH_ONE: &[u8] = b"[alice]
+sha256 = \"2cf24dba5fb0a30e26e83b2ac5b9e29e1b161e5c1fa7425e73043362938b9824\"
+quota = 2
+";
+
+// The connection that logged in with the old token goes on while the table has it, and is closed after.
+#[test]
+fn a_token_that_is_gone_closes_its_connection(rt: HostRuntime) -> Result<(), Fail> {
+    let alloc = rt.alloc();
+    let parts = [giving(b"AUTH alice abc\nJ1S a 1\n")];
+    let questions = [Question::Reload];
+    for (table, begins) in [
+        (ALICE_WITH_BOTH, b".a0r0w0^t-".as_slice()),
+        (ALICE_WITH_ONE, b".a0r0w0^tc0G-".as_slice()),
+    ] {
+        let tables = [table];
+        let mut stage = stage(alloc, &parts)?;
+        stage.questions = &questions;
+        stage.tables = &tables;
+        let ending = play(alloc, &mut stage, watched())?;
+        assert_eq!(rt; ending, Ending::Done);
+        assert_eq!(rt; stage.asked().starts_with(begins), true);
+        assert_eq!(rt; stage.reported.as_slice(), b"OK\n".as_slice());
+    }
+    Ok(())
+}
+
 // A table with a fault, and a file that cannot be read, change nothing.
 #[test]
 fn a_table_with_a_fault_changes_nothing(rt: HostRuntime) -> Result<(), Fail> {

@@ -157,6 +157,7 @@ fn ask(
     let speaker = Speaker {
         tenant,
         right: Right::Change,
+        digest: [0; 32],
     };
     let reply = service.call(alloc, speaker, &call, &mut found);
     write_reply(&reply, text);

@@ -136,7 +136,7 @@ fn texts_and_names(rt: HostRuntime) -> Result<(), Fail> {
     compare(&rt, rt.alloc(), &TEXTS_AND_NAMES)
 }
 
-static OPTIONAL_KEYS: [Row; 12] = [
+static OPTIONAL_KEYS: [Row; 18] = [
     (
         "[alice]\nsha256 = D\nquota = 4\nnote = 1",
         Err(TableFault::Shape),
@@ -174,6 +174,30 @@ static OPTIONAL_KEYS: [Row; 12] = [
     ),
     (
         "[alice]\nsha256 = D\nread_sha256 = D",
+        Err(TableFault::Shape),
+    ),
+    (
+        "[alice]\nsha256 = D\nquota = 4\nold_read_sha256 = D\nold_sha256 = D\nread_sha256 = D\npieces = 4",
+        Ok(1),
+    ),
+    (
+        "[alice]\nsha256 = D\nquota = 4\nold_sha256 = [D]",
+        Err(TableFault::Shape),
+    ),
+    (
+        "[alice]\nsha256 = D\nquota = 4\nold_read_sha256 = 4",
+        Err(TableFault::Shape),
+    ),
+    (
+        "[alice]\nsha256 = D\nquota = -1\nold_sha256 = \"ba78\"",
+        Err(TableFault::Digest),
+    ),
+    (
+        "[alice]\nsha256 = D\nquota = -1\nold_read_sha256 = \"\"",
+        Err(TableFault::Digest),
+    ),
+    (
+        "[alice]\nold_sha256 = D\nquota = 4",
         Err(TableFault::Shape),
     ),
 ];
@@ -432,6 +456,29 @@ fn speakers_after_another_table(rt: HostRuntime) -> Result<(), Fail> {
     Ok(())
 }
 
+// alice has the token `hello` and the read-only token `look`.
+const FIRST_TOKENS: &str =
+    "[alice]\nsha256 = \"2cf24dba5fb0a30e26e83b2ac5b9e29e1b161e5c1fa7425e73043362938b9824\"\nread_sha256 = \"3c01eba119e00d79c82b6f65d70bc5f1044d568618bf41377e6d1432023fc2b8\"\nquota = 4\n";
+
+#[test]
+fn speakers_after_another_token(rt: HostRuntime) -> Result<(), Fail> {
+    let a = rt.alloc();
+    let first = parse(a, FIRST_TOKENS.as_bytes())?;
+    let alice = first.login(b"alice", b"hello").ok_or("alice")?;
+    let reader = first.login(b"alice", b"look").ok_or("alice reads")?;
+    let second = seated(a, &first, &parse(a, OLD_TOKENS.as_bytes())?)?;
+    holds(&rt, second.knows(alice) && second.knows(reader));
+    let later = second.login(b"alice", b"abc").ok_or("alice's new token")?;
+    let third = seated(a, &second, &table_of(a, &["alice"])?)?;
+    holds(&rt, third.knows(later));
+    holds_at(&rt, !third.knows(alice), "the old token is gone");
+    holds_at(&rt, !third.knows(reader), "the old read-only token is gone");
+    let fourth = seated(a, &third, &parse(a, TWO_TENANTS.as_bytes())?)?;
+    holds(&rt, fourth.knows(later));
+    holds_at(&rt, !fourth.knows(alice), "the token may only read now");
+    Ok(())
+}
+
 // A table of 64 tenants, whose names begin with this letter.
 fn full_table(alloc: Global, letter: char) -> Result<Table, Fail> {
     let mut text: ArrayString<8192> = ArrayString::new();
@@ -490,6 +537,27 @@ fn two_equal_digests_may_change(rt: HostRuntime) -> Result<(), Fail> {
         login(&table, b"alice", b"abc"),
         Some((0, Right::Change)),
     );
+    Ok(())
+}
+
+const OLD_TOKENS: &str =
+    "[alice]\nsha256 = \"ba7816bf8f01cfea414140de5dae2223b00361a396177a9cb410ff61f20015ad\"\nquota = 4\nold_read_sha256 = \"3c01eba119e00d79c82b6f65d70bc5f1044d568618bf41377e6d1432023fc2b8\"\nold_sha256 = \"2cf24dba5fb0a30e26e83b2ac5b9e29e1b161e5c1fa7425e73043362938b9824\"\n";
+
+static OLD_LOGINS: [Login; 4] = [
+    (b"alice", b"abc", Some((0, Right::Change))),
+    (b"alice", b"hello", Some((0, Right::Change))),
+    (b"alice", b"look", Some((0, Right::Look))),
+    (b"alice", b"", None),
+];
+
+#[test]
+fn old_tokens_log_in(rt: HostRuntime) -> Result<(), Fail> {
+    let a = rt.alloc();
+    let table = parse(a, OLD_TOKENS.as_bytes())?;
+    compare_logins(&rt, &table, &OLD_LOGINS);
+    let later = seated(a, &table_of(a, &["bob", "alice"])?, &table)?;
+    same(&rt, login(&later, b"alice", b"hello"), Some((0, Right::Change)));
+    same(&rt, login(&later, b"alice", b"look"), Some((0, Right::Look)));
     Ok(())
 }
 

@@ -5,6 +5,7 @@ use Rattle.judy_many.specs.Watches.{nobody}
 use Rattle.judy_many.specs.Rules.{rules_of}
 use Rattle.judy_many.specs.Stories.{acts_in}
 use Rattle.judy_many.specs.Stories.Phase.{Sweeps}
+use Rattle.judy_many.proofs.Admitted.{AreAdmittedTo, admitted_all, admitted_next}
 use Rattle.judy_many.proofs.Chaining.{gone_then}
 use Rattle.judy_many.proofs.Crowding.{crowd_closed, shown}
 use Rattle.judy_many.proofs.Known.{AreKnownTo, known_all, known_next}
@@ -17,6 +18,7 @@ loop-at-init g c = record {
   crowd = λ limits first now start past e h. h;
   gone = ([], no_log _, tt);
   known = tt;
+  admitted = tt;
 }
 
 pub loop-at-preserved : goal.loop-at-preserved
@@ -33,7 +35,12 @@ loop-at-preserved g c =
       gone = (before ++ acts_in more, then_log _ _ _ before (acts_in more) logged log, gone_then before (acts_in more) are gone);
       known = subst (λ s. AreKnownTo (λ b. option_map g.S.Served.who b.value.session.speaker) (g.S.Served.seen c.args.service.now).speakers (c.loop-at.at + 1) s.items) (sym c.note_closed.ensures.slots)
           (known_next (λ b. option_map g.S.Served.who b.value.session.speaker) (g.S.Served.seen c.args.service.now).speakers c.loop-at.at (c.loop-at.at + 1) c.loop-at.clients.slots.items c.close_at-closed.new.slot (omega arith) (omega arith) c.close_at-closed.ensures.known c.loop-at.invariant.known);
+      admitted = subst (λ s. AreAdmittedTo (λ b. b.value.session.speaker) (g.S.Shows.admits c.args.service.now) (c.loop-at.at + 1) s.items) (sym c.note_closed.ensures.slots)
+          (admitted_next (λ b. b.value.session.speaker) (g.S.Shows.admits c.args.service.now) c.loop-at.at (c.loop-at.at + 1) c.loop-at.clients.slots.items c.close_at-closed.new.slot (omega arith) (omega arith) c.close_at-closed.ensures.admitted c.loop-at.invariant.admitted);
     }
 
 pub returns-clause-known : goal.returns-clause-known
 returns-clause-known g c = known_all (λ b. option_map g.S.Served.who b.value.session.speaker) (g.S.Served.seen c.args.service.now).speakers c.loop-at.at _ (omega arith) c.loop-at.invariant.known
+
+pub returns-clause-admitted : goal.returns-clause-admitted
+returns-clause-admitted g c = admitted_all (λ b. b.value.session.speaker) (g.S.Shows.admits c.args.service.now) c.loop-at.at _ (omega arith) c.loop-at.invariant.admitted

@@ -8,6 +8,7 @@ use Rattle.judy_many.specs.Watches.{nobody}
 use Rattle.judy_many.specs.Rules.{rules_of}
 use Rattle.judy_many.specs.Stories.Phase.{Sweeps}
 use Rattle.judy_many.specs.declared.serve.Limits.{Limits}
+use Rattle.judy_many.proofs.Admitted.{AreAdmittedTo}
 use Rattle.judy_many.proofs.Known.{AreKnownTo}
 use Rattle.judy_many.proofs.reloads.close_gone.Given as goal
 
@@ -19,4 +20,5 @@ invariant-loop-at g l = record {
       → Crowd (λ b. view_of g.S.Served.who g.N.Network.number b.value) (rules_of g.S.Served.made g.S.Served.seen g.S.Shows.noted g.S.Shows.status g.S.Shows.changed) limits first start Sweeps (nobody l.clients.queue) past (g.N.Network.log l.network) l.clients.slots.items l.clients.accepted now;
   gone : (gone : List Act) × DidLog (g.N.Network.log l.fn.network) gone (g.N.Network.log l.network) × AreGone gone;
   known : AreKnownTo (λ b. option_map g.S.Served.who b.value.session.speaker) (g.S.Served.seen l.fn.service).speakers l.at l.clients.slots.items;
+  admitted : AreAdmittedTo (λ b. b.value.session.speaker) (g.S.Shows.admits l.fn.service) l.at l.clients.slots.items;
 }

@@ -6,6 +6,7 @@ use Rattle.judy_many.specs.Watches.{nobody}
 use Rattle.judy_many.specs.Rules.{rules_of}
 use Rattle.judy_many.specs.Slots.{AreKnown}
 use Rattle.judy_many.specs.Stories.Phase.{Sweeps}
+use Rattle.judy_many.proofs.Admitted.{changed_or}
 use Rattle.judy_many.proofs.Chaining.{unchanged_service}
 use Rattle.judy_many.proofs.Crowding.{has_changed, has_replied}
 use Rattle.judy_many.proofs.Living.{then_log}
@@ -46,3 +47,8 @@ returns-clause-reloaded g c =
       last = then_log (g.N.Network.log c.close_after.new.network) _ _ (Replied c.reply_line.result.items ∷ []) (Warned c.told_line.result.items ∷ [])
           (rw c.as_slice-2.ensures.value at c.reply.ensures) (rw c.as_slice-4.ensures.value at c.warn.ensures);
     }
+
+pub returns-clause-admitted : goal.returns-clause-admitted
+returns-clause-admitted g c =
+    changed_or (rules_of g.S.Served.made g.S.Served.seen g.S.Shows.noted g.S.Shows.status g.S.Shows.changed) c.change_table-changed.result _ _ c.args.service.now c.change_table-changed.new.service
+    _ c.change_table-changed.ensures.changed c.close_after.ensures.admitted

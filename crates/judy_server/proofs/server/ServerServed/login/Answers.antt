@@ -9,4 +9,4 @@ use Rattle.judy_server.proofs.server.ServerServed.login.Goals as goal
 pub returns-clause-known : goal.returns-clause-known
 returns-clause-known g c =
     let_in c.args.name.now c.args.token.now c.args.self.now.held.tenants c.login.result
-    (subst (λ (t : Tallied). option_map seen c.login.result ≡ login_of c.args.name.now c.args.token.now t.held.tenants) c.self.view_is c.login.ensures)
+    (subst (λ (t : Tallied). option_map seen c.login.result ≡ login_of c.args.name.now c.args.token.now t.held.tenants) c.self.view_is c.login.ensures.who)

@@ -1,5 +1,4 @@
-use Rattle.std.proofs.Common.{ap, sym, ◌∙◌, subst, List}
-use Rattle.judy_table.specs.declared.tenant.Tenant.{Tenant}
+use Rattle.std.proofs.Common.{ap, sym, ◌∙◌, subst}
 use Rattle.judy_table.specs.Seats.{AreRows}
 use Rattle.judy_table.specs.Unlimited.{unlimited}
 use Rattle.judy_table.proofs.lemmas.Unlimited.{unlimited-rows}
