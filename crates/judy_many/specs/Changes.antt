@@ -5,17 +5,20 @@
 --     IsAlone before turns after  over these lines each tenant's replies are those that it would get alone
 --     IsAloneFor t ..             so are those of this tenant
 --     Chain P before runs after   P holds of each run of lines, and changes join them
-use Rattle.std.specs.Prelude.{◌≡◌, ◌⊎◌, ℕ, Bool, true, false, List, [], ◌∷◌, codes, zip}
+use Rattle.std.specs.Prelude.{◌≡◌, ◌⊎◌, ℕ, Bool, true, false, List, [], ◌∷◌, Option, Some, None, codes, zip}
 use Rattle.judy_model.specs.Service.{AreServed, own}
 use Rattle.judy_model.specs.Solo.{Exchanges, IsSolo, attempts_of, refusals}
+use Rattle.judy_model.specs.Speakers.{Speaker}
 use Rattle.judy_model.specs.Tenant.{State, no_arrays}
 use Rattle.judy_model.specs.Worlds.{AreTheOnly}
 use Rattle.judy_protocol.specs.Services.{Seen}
+use Rattle.judy_many.specs.Lives.{View}
 use Rattle.judy_many.specs.Nets.{Act, Acts, DidLog}
 use Rattle.judy_many.specs.Nets.Act.{Closed, Replied, Tabled, Untabled, Warned}
 use Rattle.judy_many.specs.Rules.{Rules}
 use Rattle.judy_many.specs.Sessions.{Turn, events_in, replies_in}
-use Rattle.judy_many.specs.Stories.{BeginsWith, told_head}
+use Rattle.judy_many.specs.Stories.{BeginsWith, Story, told_head}
+use Rattle.judy_many.specs.Stories.Moment.{Did}
 use Rattle.judy_many.specs.declared.network.How.TheVariants as how
 
 -- quotas, names and tokens may be others after it
@@ -37,6 +40,11 @@ HasChanged rules false log log' before after = (after ≡ before) × (DidLog log
 abbrev pub AreGone : List Act → Type 0
 AreGone [] = Unit {0}
 AreGone (a ∷ acts) = ((n : ℕ) × (a ≡ Closed n how.Gone)) × AreGone acts
+
+-- what happened to a slot: its client was closed, since its speaker is not among these; or nothing
+abbrev pub SlotGone : (Speaker → Bool) → Option View → Story → Type 0
+SlotGone speakers None more = more ≡ []
+SlotGone speakers (Some v) more = (more ≡ []) ⊎ ((more ≡ Did (Closed v.number how.Gone) ∷ []) × (who : Speaker) × (v.who ≡ Some who) × (speakers who ≡ false))
 
 -- what is answered: `OK` only where the table was put in force
 abbrev pub reply_head : Bool → List ℕ
