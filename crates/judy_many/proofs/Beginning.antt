@@ -16,6 +16,7 @@ use Rattle.judy_many.specs.declared.serve.Limits.{Limits}
 use Rattle.judy_many.proofs.Journals.{keeps_quiet}
 use Rattle.judy_many.proofs.Living.{no_log}
 use Rattle.judy_many.proofs.Seats.{free_at, taken_none}
+use Rattle.judy_many.proofs.Telling.{ready_none}
 use Rattle.judy_many.proofs.Watching.{awake_none, each_none}
 
 never : false ≡ true → ⊥
@@ -24,6 +25,7 @@ never e = cc
 unserved : IsServed []
 unserved = record {
   order = λ p q cut. at_start p q (sym cut);
+  ready = ready_none;
   whole = λ yes. absurd (never yes);
   why = λ p q n how cut. absurd (no_close p q n how (sym cut));
   once = (omega arith, omega arith);
@@ -68,6 +70,9 @@ crowd_first line view rules limits first start began slots free sized small allo
       awake = awake_none;
       each = each_none;
       limited = tt;
+      asked = tt;
+      stage = refl;
+      single = λ e. tt;
     };
     below = λ i b there. absurd (free_at slots i b free there);
     live = λ i b there. absurd (free_at slots i b free there);

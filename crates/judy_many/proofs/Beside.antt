@@ -6,13 +6,13 @@
 use Rattle.std.proofs.Common.{◌≡◌, ◌+◌, ℕ, Bool, true, false, List, [], ◌∷◌, ◌++◌, Option, arith, sym, ◌∙◌, ap, subst, refl}
 use Rattle.std.specs.Prelude.{is_some}
 use Rattle.judy_journal.specs.Journals.{Commit}
-use Rattle.judy_model.specs.Speakers.{Speaker}
 use Rattle.judy_many.specs.Books.{noted_by}
-use Rattle.judy_many.specs.Crowds.{Past}
+use Rattle.judy_many.specs.Crowds.{Past, at_stage}
 use Rattle.judy_many.specs.Endings.{lost_by, lost_in, waits_in}
 use Rattle.judy_many.specs.Journaling.{AreKeeping, AreSettled, Carries, IsKeeping}
 use Rattle.judy_many.specs.Nets.{Act}
 use Rattle.judy_many.specs.Nets.Act.{Came, Refused, Read, Dry, Ended, Broke, Wrote, Failed, Closed, Waited, Lost, Asked, Questioned, Reported, Warned, Tabled, Untabled, Named, Replied, Began, Kept, Unkept, Synced, Unsynced}
+use Rattle.judy_many.specs.Questions.{AreAsked, Stage, stage_since}
 use Rattle.judy_many.specs.Rules.{Rules}
 use Rattle.judy_many.specs.Statuses.{Lasts, Passes, Tells}
 use Rattle.judy_many.specs.Stories.{AreRead, AreWithin, IsPhased, IsWithin, Phase, Share, Story, acts_in, came_by, came_in, closed_by, closed_in, is_of, is_wait, just_read, own, share_of, times, told, writes_after, writes_since}
@@ -28,6 +28,8 @@ pub record Passed (phase : Phase) (past : Past) (more : Story) (past' : Past) : 
   pub began : past'.began ≡ past.began
   pub keeps : Carries past.journal more past'.journal
   pub settled : phase ≡ Phase.Writes → AreSettled past'.journal
+  pub asked : AreAsked past.stage more
+  pub stage : past'.stage ≡ stage_since past.stage more
 
 -- the server waited once more
 abbrev pub later : Past → Past
@@ -38,9 +40,16 @@ abbrev pub after_lines : Commit → Past → Past
 after_lines records past = record past { journal = noted_by records past.journal }
 
 -- no wait, and nothing for the journal
+pub stage_past : (phase : Phase) (past : Past) (stage : Stage) (more : Story) → waits_in (acts_in more) ≡ 0 → Carries past.journal more past.journal → (phase ≡ Phase.Writes → AreSettled past.journal)
+    → AreAsked past.stage more → stage_since past.stage more ≡ stage → Passed phase past more (at_stage stage past)
+stage_past phase past stage more none keeps settled asked is =
+    record { waited = omega (arith, none); began = refl; keeps = keeps; settled = settled; asked = asked; stage = sym is }
+
+-- and no question
 pub stays_past : (phase : Phase) (past : Past) (more : Story) → waits_in (acts_in more) ≡ 0 → Carries past.journal more past.journal → (phase ≡ Phase.Writes → AreSettled past.journal)
-    → Passed phase past more past
-stays_past phase past more none keeps settled = record { waited = omega (arith, none); began = refl; keeps = keeps; settled = settled }
+    → AreAsked past.stage more × (stage_since past.stage more ≡ past.stage) → Passed phase past more past
+stays_past phase past more none keeps settled asks =
+    record { waited = omega (arith, none); began = refl; keeps = keeps; settled = settled; asked = asks.0; stage = sym asks.1 }
 
 pub reads_not_writes : Phase.Reads ≡ Phase.Writes → ⊥
 reads_not_writes e = cc
@@ -96,12 +105,11 @@ pub record IsKeepingOne (limits : Limits) (a : Act) : Type 0 where
   pub silent : (share : Share) → share_of a share ≡ 0
   pub unlost : lost_by a ≡ 0
   pub waited : is_wait a ≡ false
-  pub status : (status : List (Option Speaker) → List ℕ) (past : Story) → Tells status past a
 
 keeping_one : (limits : Limits) (a : Act) → is_some limits.journal ≡ true → IsKeeping a → IsKeepingOne limits a
-keeping_one limits (Began k) e h = record { foreign = λ n. refl; came = refl; closed = refl; within = e; writes = λ wrote. refl; silent = λ share. refl; unlost = refl; waited = refl; status = λ status past. tt }
-keeping_one limits (Kept text) e h = record { foreign = λ n. refl; came = refl; closed = refl; within = e; writes = λ wrote. refl; silent = λ share. refl; unlost = refl; waited = refl; status = λ status past. tt }
-keeping_one limits Synced e h = record { foreign = λ n. refl; came = refl; closed = refl; within = e; writes = λ wrote. refl; silent = λ share. refl; unlost = refl; waited = refl; status = λ status past. tt }
+keeping_one limits (Began k) e h = record { foreign = λ n. refl; came = refl; closed = refl; within = e; writes = λ wrote. refl; silent = λ share. refl; unlost = refl; waited = refl }
+keeping_one limits (Kept text) e h = record { foreign = λ n. refl; came = refl; closed = refl; within = e; writes = λ wrote. refl; silent = λ share. refl; unlost = refl; waited = refl }
+keeping_one limits Synced e h = record { foreign = λ n. refl; came = refl; closed = refl; within = e; writes = λ wrote. refl; silent = λ share. refl; unlost = refl; waited = refl }
 keeping_one limits act e h = absurd h
 
 pub keeping : (limits : Limits) (acts : List Act) → is_some limits.journal ≡ true → AreKeeping acts → IsBeside limits (told acts)
@@ -133,9 +141,15 @@ keeping limits (a ∷ acts) e h =
       reads = λ last. rest.reads (just_read a);
     }
 
-pub keeping_passes : {S : Type 0} (rules : Rules S) (limits : Limits) (acts : List Act) (now : S) → is_some limits.journal ≡ true → AreKeeping acts → (past : Story) → Passes rules past now (told acts) now
-keeping_passes rules limits [] now e h past = refl
-keeping_passes rules limits (a ∷ acts) now e h past = ((keeping_one limits a e h.0).status (rules.status now) past, keeping_passes rules limits acts now e h.1 (past ++ Did a ∷ []))
+keeping_tells : {S : Type 0} (rules : Rules S) (now : S) (past : Story) (a : Act) → IsKeeping a → Tells rules now past a
+keeping_tells rules now past (Began k) h = tt
+keeping_tells rules now past (Kept text) h = tt
+keeping_tells rules now past Synced h = tt
+keeping_tells rules now past act h = absurd h
+
+pub keeping_passes : {S : Type 0} (rules : Rules S) (acts : List Act) (now : S) → AreKeeping acts → (past : Story) → Passes rules past now (told acts) now
+keeping_passes rules [] now h past = refl
+keeping_passes rules (a ∷ acts) now h past = (keeping_tells rules now past a h.0, keeping_passes rules acts now h.1 (past ++ Did a ∷ []))
 
 pub told_lasts : {S : Type 0} (rules : Rules S) (keep : Bool) (acts : List Act) (now : S) → Lasts rules keep now (told acts) now
 told_lasts rules keep [] now = refl

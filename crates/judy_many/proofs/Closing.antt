@@ -5,7 +5,7 @@ use Rattle.judy_model.specs.Service.{ServingGoesOn, ServingIsStepwise}
 use Rattle.judy_model.specs.Solo.{SoloGoesOn, SoloIsDetermined}
 use Rattle.judy_journal.specs.Writes.{Writing}
 use Rattle.judy_many.specs.Books.{Journal, opened}
-use Rattle.judy_many.specs.Crowds.{AreFree, Crowd, HasFailed, HasServedMany, IsTold, past_of}
+use Rattle.judy_many.specs.Crowds.{AreFree, Crowd, HasFailed, HasServedMany, IsTold, at_stage, past_of}
 use Rattle.judy_many.specs.Endings.{IsCaused, IsSpent, lost_in, waits_in}
 use Rattle.judy_many.specs.Queues.{Line}
 use Rattle.judy_many.specs.Watches.{Queued, nobody, unqueued}
@@ -14,6 +14,7 @@ use Rattle.judy_many.specs.Journaling.{AreKept, Carries, IsFailure, MayKeep}
 use Rattle.judy_many.specs.Nets.{Act, Acts, DidLog}
 use Rattle.judy_many.specs.Nets.Act.{Came, Refused, Read, Dry, Ended, Broke, Wrote, Failed, Closed, Waited, Lost, Asked, Questioned, Reported, Warned, Tabled, Untabled, Named, Replied, Began, Kept, Unkept, Synced, Unsynced}
 use Rattle.judy_many.specs.Present.{speakers_at}
+use Rattle.judy_many.specs.Questions.{AreAsked, Stage, last_stage, stage_since}
 use Rattle.judy_many.specs.Rules.{Rules}
 use Rattle.judy_many.specs.Statuses.{HasAnswered, Lasts, Passes}
 use Rattle.judy_many.specs.Stories.{AreRead, AreWithin, Phase, IsPhased, Share, Story, acts_in, came_in, closed_in, own, times, writes_since}
@@ -25,8 +26,9 @@ use Rattle.judy_many.specs.declared.serve.Ending.TheVariants as ending
 use Rattle.judy_many.specs.declared.network.Sync.{Sync}
 use Rattle.judy_many.specs.declared.serve.Limits.{Limits}
 use Rattle.judy_many.proofs.Beginning.{crowd_first}
-use Rattle.judy_many.proofs.Beside.{stays_past}
+use Rattle.judy_many.proofs.Beside.{stage_past}
 use Rattle.judy_many.proofs.Journals.{is_quiet, keeps_quiet}
+use Rattle.judy_many.proofs.Singles.{quiet_single}
 use Rattle.judy_many.proofs.Limiting.{foreign_quiet, limited_quiet}
 use Rattle.judy_many.proofs.Owning.{own-append}
 use Rattle.judy_many.proofs.Chaining.{Stays, kept_alone, runs_alone}
@@ -56,7 +58,7 @@ crowd_ends : {B S : Type 0} (view : B → View) (rules : Rules S) (apart : Keeps
     → (first : S) (start mid log : Acts) (writer : Option Writing) (phase : Phase) (had : Queued) (waits : ℕ) (journal : Option Journal) (lost : ℕ) (slots : List (Option B)) (count : ℕ) (now : S) (limits : Limits) (how : Ending) (more : Story)
     → (how ≡ ending.Done → (limits.connections ≤ count) × AreFree slots)
     → (h : Crowd view rules limits first start phase had (past_of waits (opened limits.journal writer) journal) mid slots count now)
-    → ((n : ℕ) → own n more ≡ []) → IsTold rules limits first start phase lost (past_of waits (opened limits.journal writer) journal) log slots count now (h.story ++ more) → IsCaused how (h.story ++ more)
+    → ((n : ℕ) → own n more ≡ []) → IsTold rules limits first start phase lost (at_stage (last_stage how) (past_of waits (opened limits.journal writer) journal)) log slots count now (h.story ++ more) → IsCaused how (h.story ++ more)
     → HasServedMany rules limits writer how start log first now
 crowd_ends view rules apart unseen stays goes_on one equal steps first start mid log writer phase had waits journal lost slots count now limits how more done h none told cause =
     let story = h.story ++ more in
@@ -70,6 +72,7 @@ crowd_ends view rules apart unseen stays goes_on one equal steps first start mid
       awake = told.awake;
       each = told.each;
       limited = told.limited;
+      single = told.single;
       few = told.few;
       total = let e = told.total in let f = told.capped in omega (arith, e, f);
       within = told.within;
@@ -81,6 +84,8 @@ crowd_ends view rules apart unseen stays goes_on one equal steps first start mid
             | inl q ↦ subst (λ t. closed_in (acts_in t) ≡ 1) (sym (same n)) q
             | inr q ↦ absurd (free_at slots q.i q.b all.1 q.there)
           ];
+      asked = told.asked;
+      answered = told.stage;
       told = told.run;
       reads = told.reads;
       lasts = told.lasts;
@@ -96,33 +101,33 @@ crowd_ends view rules apart unseen stays goes_on one equal steps first start mid
 module _ {B S : Type 0} (view : B → View) (rules : Rules S) (apart : KeepsApart rules) (unseen : IsUnseen rules) (stays : Stays rules)
     (goes_on : ServingGoesOn) (one : ServingIsStepwise) (equal : SoloIsDetermined) (steps : SoloGoesOn)
     (first : S) (start : Acts) (limits : Limits) (writer : Option Writing) where
-  told_on : (phase : Phase) (had : Queued) (waits : ℕ) (journal : Option Journal) (lost : ℕ) (mid log : Acts) (slots : List (Option B)) (count : ℕ) (now : S)
+  told_on : (phase : Phase) (had : Queued) (waits : ℕ) (journal : Option Journal) (stage : Stage) (lost : ℕ) (mid log : Acts) (slots : List (Option B)) (count : ℕ) (now : S)
       (h : Crowd view rules limits first start phase had (past_of waits (opened limits.journal writer) journal) mid slots count now) (more : Story)
       → ((n : ℕ) → own n more ≡ []) → DidLog mid (acts_in more) log → Passes rules h.story now more now → Lasts rules (is_some limits.journal) now more now → came_in (acts_in more) ≡ 0 → closed_in (acts_in more) ≡ 0 → AreWithin limits (acts_in more)
       → ((wrote : Bool) → IsPhased wrote more × (writes_since wrote more ≡ wrote)) → ((share : Share) → times share more ≡ 0)
-      → lost ≡ lost_in (acts_in more) → waits_in (acts_in more) ≡ 0 → is_quiet more ≡ true → ((last : Option (List ℕ)) → AreRead limits last more)
-      → IsTold rules limits first start phase lost (past_of waits (opened limits.journal writer) journal) log slots count now (h.story ++ more)
-  told_on phase had waits journal lost mid log slots count now h more none k r l came closed within phases silent lose wait quiet reads =
-      told_more rules limits first start phase phase 0 lost (past_of waits (opened limits.journal writer) journal) (past_of waits (opened limits.journal writer) journal) mid log slots slots count count now now h.story more h.is_told k r l
+      → AreAsked Stage.Unasked more → stage_since Stage.Unasked more ≡ stage → lost ≡ lost_in (acts_in more) → waits_in (acts_in more) ≡ 0 → is_quiet more ≡ true → ((last : Option (List ℕ)) → AreRead limits last more)
+      → IsTold rules limits first start phase lost (at_stage stage (past_of waits (opened limits.journal writer) journal)) log slots count now (h.story ++ more)
+  told_on phase had waits journal stage lost mid log slots count now h more none k r l came closed within phases silent asked is lose wait quiet reads =
+      told_more rules limits first start phase phase 0 lost (past_of waits (opened limits.journal writer) journal) (at_stage stage (past_of waits (opened limits.journal writer) journal)) mid log slots slots count count now now h.story more h.is_told k r l
       (omega (arith, came)) h.is_told.capped (omega (arith, came, closed))
       (let a = taken_most slots in let b = h.is_told.sized in omega (arith, a, b, came)) (omega arith) within
       (phases (writes_since false h.story)).0 (λ e. (phases (writes_since false h.story)).1 ∙ h.is_told.quiet e)
-      (still h.story more h.is_told.fair silent) (omega (arith, lose)) (stays_past phase (past_of waits (opened limits.journal writer) journal) more wait (keeps_quiet journal more quiet) h.is_told.settled) reads (no_looks h.story more wait)
-      (limited_quiet limits.tenant_clients h.story more (foreign_quiet more none))
+      (still h.story more h.is_told.fair silent) (omega (arith, lose)) (stage_past phase (past_of waits (opened limits.journal writer) journal) stage more wait (keeps_quiet journal more quiet) h.is_told.settled asked is) reads (no_looks h.story more wait)
+      (limited_quiet limits.tenant_clients h.story more (foreign_quiet more none)) (λ e. quiet_single more (foreign_quiet more none))
 
   pub ends_here : (log : Acts) (phase : Phase) (had : Queued) (waits : ℕ) (journal : Option Journal) (slots : List (Option B)) (count : ℕ) (now : S) (how : Ending)
-      → (how ≡ ending.Done → (limits.connections ≤ count) × AreFree slots)
+      → last_stage how ≡ Stage.Unasked → (how ≡ ending.Done → (limits.connections ≤ count) × AreFree slots)
       → (h : Crowd view rules limits first start phase had (past_of waits (opened limits.journal writer) journal) log slots count now)
       → IsCaused how (h.story ++ []) → HasServedMany rules limits writer how start log first now
-  ends_here log phase had waits journal slots count now how done h cause =
+  ends_here log phase had waits journal slots count now how unasked done h cause =
       crowd_ends view rules apart unseen stays goes_on one equal steps first start log log writer phase had waits journal 0 slots count now limits how [] done h (λ n. refl)
-      (told_on phase had waits journal 0 log log slots count now h [] (λ n. refl) (no_log log) refl refl refl refl tt (λ wrote. (tt, refl)) (λ share. refl) refl refl refl (λ last. tt)) cause
+      (told_on phase had waits journal (last_stage how) 0 log log slots count now h [] (λ n. refl) (no_log log) refl refl refl refl tt (λ wrote. (tt, refl)) (λ share. refl) tt (sym unasked) refl refl refl (λ last. tt)) cause
 
   -- before anything was asked of the system
   pub ends_first : (line : Line) (slots : List (Option B)) → AreFree slots → length slots ≤ limits.clients → length slots ≤ 1024 → HasServedMany rules limits writer ending.Memory start start first first
   ends_first line slots free sized small =
       let first_of = crowd_first line view rules limits first start (opened limits.journal writer) slots free sized small (opened_allowed limits writer) in
-      ends_here start Phase.Sweeps (nobody line) 0 (opened limits.journal writer) slots 0 first ending.Memory (λ e. absurd (memory_not e)) first_of.0 (ap (λ t. t ++ []) first_of.1)
+      ends_here start Phase.Sweeps (nobody line) 0 (opened limits.journal writer) slots 0 first ending.Memory refl (λ e. absurd (memory_not e)) first_of.0 (ap (λ t. t ++ []) first_of.1)
     where
       memory_not : ending.Memory ≡ ending.Done → ⊥
       memory_not e = cc
@@ -132,14 +137,14 @@ module _ {B S : Type 0} (view : B → View) (rules : Rules S) (apart : KeepsApar
       → limits.connections ≤ count → AreFree slots → Crowd view rules limits first start phase had (past_of waits (opened limits.journal writer) journal) log slots count now
       → HasServedMany rules limits writer ending.Done start log first now
   ends_done log phase had waits journal slots count now enough free h =
-      ends_here log phase had waits journal slots count now ending.Done (λ e. (enough, free)) h (subst (λ t. lost_in (acts_in t) ≡ 0) (sym (append-nil h.story)) h.is_told.unlost)
+      ends_here log phase had waits journal slots count now ending.Done refl (λ e. (enough, free)) h (subst (λ t. lost_in (acts_in t) ≡ 0) (sym (append-nil h.story)) h.is_told.unlost)
 
   -- after all rounds
   pub ends_spent : (log : Acts) (phase : Phase) (had : Queued) (waits : ℕ) (journal : Option Journal) (slots : List (Option B)) (count : ℕ) (now : S)
       → waits ≡ 18446744073709551615 → Crowd view rules limits first start phase had (past_of waits (opened limits.journal writer) journal) log slots count now
       → HasServedMany rules limits writer ending.Socket start log first now
   ends_spent log phase had waits journal slots count now all h =
-      ends_here log phase had waits journal slots count now ending.Socket (λ e. absurd (socket_not e)) h
+      ends_here log phase had waits journal slots count now ending.Socket refl (λ e. absurd (socket_not e)) h
       (inr (subst IsSpent (sym (append-nil h.story)) (record { rounds = h.is_told.waited ∙ all; unlost = h.is_told.unlost })))
     where
       socket_not : ending.Socket ≡ ending.Done → ⊥
@@ -151,7 +156,7 @@ module _ {B S : Type 0} (view : B → View) (rules : Rules S) (apart : KeepsApar
       → HasServedMany rules limits writer ending.Socket start log first now
   ends_lost mid log phase had waits journal slots count now k h =
       crowd_ends view rules apart unseen stays goes_on one equal steps first start mid log writer phase had waits journal 1 slots count now limits ending.Socket (Did Lost ∷ []) (λ e. absurd (socket_not e)) h (λ n. refl)
-      (told_on phase had waits journal 1 mid log slots count now h (Did Lost ∷ []) (λ n. refl) k (tt, refl) refl refl refl (tt, tt) (λ wrote. ((tt, tt), refl)) (λ share. refl) refl refl refl (λ last. tt))
+      (told_on phase had waits journal Stage.Unasked 1 mid log slots count now h (Did Lost ∷ []) (λ n. refl) k (tt, refl) refl refl refl (tt, tt) (λ wrote. ((tt, tt), refl)) (λ share. refl) (refl, tt) refl refl refl refl (λ last. tt))
       (inl (record { before = h.story; last = refl; once = h.is_told.unlost }))
     where
       socket_not : ending.Socket ≡ ending.Done → ⊥
@@ -164,7 +169,7 @@ module _ {B S : Type 0} (view : B → View) (rules : Rules S) (apart : KeepsApar
   ends_stopped mid log phase had waits journal slots count now false e bad h = absurd bad
   ends_stopped mid log phase had waits journal slots count now true e k h =
       crowd_ends view rules apart unseen stays goes_on one equal steps first start mid log writer phase had waits journal 1 slots count now limits ending.Stopped (Did (Questioned question.Stop) ∷ []) (λ e. absurd (stopped_not e)) h (λ n. refl)
-      (told_on phase had waits journal 1 mid log slots count now h (Did (Questioned question.Stop) ∷ []) (λ n. refl) k (tt, refl) refl refl refl (e, tt) (λ wrote. ((tt, tt), refl)) (λ share. refl) refl refl refl (λ last. tt))
+      (told_on phase had waits journal (Stage.Asks question.Stop) 1 mid log slots count now h (Did (Questioned question.Stop) ∷ []) (λ n. refl) k (tt, refl) refl refl refl (e, tt) (λ wrote. ((tt, tt), refl)) (λ share. refl) (refl, tt) refl refl refl refl (λ last. tt))
       (record { before = h.story; last = refl; once = h.is_told.unlost })
     where
       stopped_not : ending.Stopped ≡ ending.Done → ⊥
@@ -190,14 +195,14 @@ module _ {B S : Type 0} (view : B → View) (rules : Rules S) (apart : KeepsApar
 
       ended : (a : Act) → IsFailure a → lost_in (a ∷ []) ≡ 1 → AreWithin limits (a ∷ []) → DidLog f.mid (a ∷ []) log → ((n : ℕ) → own n (Did a ∷ []) ≡ [])
           → came_in (a ∷ []) ≡ 0 → closed_in (a ∷ []) ≡ 0 → ((wrote : Bool) → IsPhased wrote (Did a ∷ []) × (writes_since wrote (Did a ∷ []) ≡ wrote))
-          → ((share : Share) → times share (Did a ∷ []) ≡ 0) → waits_in (a ∷ []) ≡ 0 → is_quiet (Did a ∷ []) ≡ true → Passes rules f.crowd.story now (Did a ∷ []) now
+          → ((share : Share) → times share (Did a ∷ []) ≡ 0) → AreAsked Stage.Unasked (Did a ∷ []) → stage_since Stage.Unasked (Did a ∷ []) ≡ Stage.Unasked → waits_in (a ∷ []) ≡ 0 → is_quiet (Did a ∷ []) ≡ true → Passes rules f.crowd.story now (Did a ∷ []) now
           → HasServedMany rules limits writer ending.Journal start log first now
-      ended a fails lost within k none came closed phases silent wait quiet passes =
+      ended a fails lost within k none came closed phases silent asked is wait quiet passes =
           crowd_ends view rules apart unseen stays goes_on one equal steps first start f.mid log writer Phase.Reads unqueued f.waits f.journal 1 slots count now limits ending.Journal (Did a ∷ []) (λ e. absurd (journal_not e)) f.crowd none
-          (told_on Phase.Reads unqueued f.waits f.journal 1 f.mid log slots count now f.crowd (Did a ∷ []) none k passes refl came closed within phases silent (sym lost) wait quiet (λ last. tt))
+          (told_on Phase.Reads unqueued f.waits f.journal Stage.Unasked 1 f.mid log slots count now f.crowd (Did a ∷ []) none k passes refl came closed within phases silent asked is (sym lost) wait quiet (λ last. tt))
           (record { before = f.crowd.story; act = a; fails = fails; last = refl; once = f.crowd.is_told.unlost })
 
       failed : (a : Act) → IsFailure a → DidLog f.mid (a ∷ []) log → HasServedMany rules limits writer ending.Journal start log first now
-      failed Unkept e k = ended Unkept e refl (with, tt) k (λ n. refl) refl refl (λ wrote. ((tt, tt), refl)) (λ share. refl) refl refl (tt, refl)
-      failed Unsynced e k = ended Unsynced e refl (with, tt) k (λ n. refl) refl refl (λ wrote. ((tt, tt), refl)) (λ share. refl) refl refl (tt, refl)
+      failed Unkept e k = ended Unkept e refl (with, tt) k (λ n. refl) refl refl (λ wrote. ((tt, tt), refl)) (λ share. refl) (tt, tt) refl refl refl (tt, refl)
+      failed Unsynced e k = ended Unsynced e refl (with, tt) k (λ n. refl) refl refl (λ wrote. ((tt, tt), refl)) (λ share. refl) (tt, tt) refl refl refl (tt, refl)
       failed act e k = absurd e

@@ -3,27 +3,27 @@ use Rattle.std.proofs.Common.{◌≡◌, ◌≢◌, ◌⊎◌, inl, inr, ◌<◌
 use Rattle.std.specs.Prelude.{if◌then◌else◌, is_some, option_map}
 use Rattle.std.proofs.lemmas.Bool.Decides.{eqb_tells}
 use Rattle.judy_many.specs.Books.{Journal}
-use Rattle.judy_many.specs.Changes.{HasChanged, KeepsTenants}
-use Rattle.judy_many.specs.Crowds.{At, Crowd, HasFailed, IsThere, IsTold, Past, past_of, taken, taken_by}
+use Rattle.judy_many.specs.Changes.{HasChanged, KeepsTenants, SlotGone}
+use Rattle.judy_many.specs.Crowds.{At, Crowd, HasFailed, IsThere, IsTold, Past, at_stage, past_of, taken, taken_by}
 use Rattle.judy_many.specs.Endings.{lost_in, waits_in}
-use Rattle.judy_many.specs.Journaling.{AreSettled, AreWritten, Carries, MayKeep, Writes}
+use Rattle.judy_many.specs.Journaling.{AreSettled, AreWritten, Carries, Writes}
 use Rattle.judy_many.specs.Queues.{AreAwake, IsBefore, IsPlaced, Line, StayAwake, awake_in, is_awake, mark_in, slot_in, stands, stands_in}
 use Rattle.judy_many.specs.Lives.{IsServed, Lives, SlotDid, View}
 use Rattle.judy_many.specs.Nets.{Act, Acts, DidLog}
-use Rattle.judy_many.specs.Nets.Act.{Came, Closed, Named, Questioned, Replied, Reported, Tabled, Untabled, Waited, Warned}
+use Rattle.judy_many.specs.Nets.Act.{Came, Named, Questioned, Replied, Reported, Tabled, Untabled, Waited, Warned}
 use Rattle.std.specs.List.{list_any}
 use Rattle.judy_many.specs.Arrivals.{Arrives, IsArrival}
 use Rattle.judy_many.specs.Others.{AreLimited, IsLimited}
-use Rattle.judy_many.specs.Present.{speakers_at}
+use Rattle.judy_many.specs.Present.{speaker_since, speakers_at}
+use Rattle.judy_many.specs.Questions.{AreAsked, MayReply, Stage, asks_kick, asks_reload, gones_in, read_stage, stage_since}
 use Rattle.judy_many.specs.Rules.{Rules}
 use Rattle.judy_many.specs.Sessions.{AreTurns, records_in}
 use Rattle.judy_many.specs.Statuses.{HasAnswered, IsStatus, Lasts, Passes}
 use Rattle.judy_many.specs.Warnings.{HasWarned, warning_acts}
-use Rattle.judy_many.specs.Stories.{AreRead, AreWithin, BeginsWith, Phase, InPhase, IsPhased, IsWarning, Mine, Share, Story, acts_in, came_in, closed_in, most, own, times, told, told_head, turns_in, turns_since, writes_since}
+use Rattle.judy_many.specs.Stories.{AreRead, AreSingle, AreWithin, BeginsWith, Phase, InPhase, IsPhased, IsWarning, Mine, Share, Story, acts_in, came_in, closed_in, most, own, times, told, told_head, turns_in, turns_since, writes_since}
 use Rattle.judy_many.specs.Stories.Moment.{Changed, Did}
 use Rattle.judy_many.specs.Watches.{Alert, IsAlert, IsClosedOr, IsOpen, Looks, Queued, is_seat, Rests, everybody, nobody, those_before, unqueued, upto_wait, watch}
 use Rattle.judy_many.specs.declared.serve.Limits.{Limits}
-use Rattle.judy_many.specs.declared.network.How.{How}
 use Rattle.judy_many.specs.declared.asking.Next.TheVariants as next
 use Rattle.judy_many.specs.declared.network.Question.TheVariants as question
 use Rattle.judy_many.proofs.Owning.{own-append, own-mine, own-other}
@@ -31,13 +31,15 @@ use Rattle.judy_many.proofs.Looking.{closed_in_slot}
 use Rattle.judy_many.proofs.Queueing.{before_later, before_none, before_only}
 use Rattle.judy_many.proofs.Seats.{At-here, At-index, At-keep, At-only, At-set, At-some, At-within, long_set, taken_at, taken_free, taken_most}
 use Rattle.judy_many.proofs.Turning.{GoOn, fair-append, lost-append, mine_plain, since-append, since_fresh, since_most, since_other, since_quiet, still, takes_turn, waits-append}
+use Rattle.judy_many.proofs.Singles.{AreSingle-append, quiet_single}
 use Rattle.judy_many.proofs.Limiting.{IsLimited-append, foreign_quiet, limited_quiet, limited_turn}
-use Rattle.judy_many.proofs.Presence.{present}
+use Rattle.judy_many.proofs.Presence.{present, speaks_since}
 use Rattle.judy_many.proofs.Passing.{AreRead-append, Lasts-append, Passes-append, lasts_plain, passes_plain, reads_plain}
-use Rattle.judy_many.proofs.Beside.{IsAside, IsBeside, Passed, after_lines, beside, keeping, keeping_passes, later, reads_not_writes, stays_past, told_lasts}
+use Rattle.judy_many.proofs.Beside.{IsAside, IsBeside, Passed, after_lines, beside, keeping, keeping_passes, later, reads_not_writes, stage_past, stays_past, told_lasts}
+use Rattle.judy_many.proofs.Questioning.{AreAsked-append, is_unasked, keeping_unasked, mine_unasked, stage-append, unasked_since}
 use Rattle.judy_many.proofs.Journals.{Carries-append, keeps_allowed, keeps_quiet, keeps_turn, settled_turn}
 use Rattle.judy_many.proofs.Recording.{noted_none}
-use Rattle.judy_many.proofs.Living.{cut_log, no_log, then_log}
+use Rattle.judy_many.proofs.Living.{cut_log, then_log}
 use Rattle.judy_many.proofs.Watching.{alert_anew, alert_beside, alert_comes, alert_keep, alert_looks, alert_read, alert_swept, alert_told, alert_turned, alert_waits, awake-append, each-append, no_looks}
 use Rattle.judy_many.proofs.Telling.{AreWithin-append, IsPhased-append, acts_in-append, acts_in-told, came-append, closed-append, lives_served, split, writes_since-append}
 
@@ -54,9 +56,9 @@ module _ {B S : Type 0} (rules : Rules S) (limits : Limits) (first : S) (start :
       → AreWithin limits (acts_in more)
       → IsPhased (writes_since false story) more
       → (phase' ≡ Phase.Reads → writes_since (writes_since false story) more ≡ false)
-      → GoOn story more → lost' ≡ lost + lost_in (acts_in more) → Passed phase' past more past' → ((last : Option (List ℕ)) → AreRead limits last more) → Looks story more → IsLimited limits.tenant_clients story more
+      → GoOn story more → lost' ≡ lost + lost_in (acts_in more) → Passed phase' past more past' → ((last : Option (List ℕ)) → AreRead limits last more) → Looks story more → IsLimited limits.tenant_clients story more → (limits.clients ≡ 1 → AreSingle more)
       → IsTold rules limits first start phase' lost' past' log' slots' count' after (story ++ more)
-  told_more phase phase' lost lost' past past' log log' slots slots' count count' now after story more h k r l counts capped sums room sized within phases quiet turns lose passed reads looks limited = record {
+  told_more phase phase' lost lost' past past' log log' slots slots' count count' now after story more h k r l counts capped sums room sized within phases quiet turns lose passed reads looks limited single = record {
     logged = subst (λ a. DidLog start a log') (sym (acts_in-append story more)) (then_log start log log' (acts_in story) (acts_in more) h.logged k);
     run = Passes-append rules [] first now after story more h.run r;
     lasts = Lasts-append rules (is_some limits.journal) first now after story more h.lasts l;
@@ -82,6 +84,9 @@ module _ {B S : Type 0} (rules : Rules S) (limits : Limits) (first : S) (start :
     awake = awake-append story more h.awake looks;
     each = each-append story more h.each looks;
     limited = IsLimited-append limits.tenant_clients [] story more h.limited limited;
+    asked = AreAsked-append Stage.Unasked story more h.asked (subst (λ s. AreAsked s more) (sym h.stage) passed.asked);
+    stage = stage-append Stage.Unasked story more ∙ ap (λ s. stage_since s more) h.stage ∙ sym passed.stage;
+    single = λ e. AreSingle-append story more (h.single e) (single e);
   }
     where
       at_end : (p q r : Story) → p ≡ story ++ r → more ≡ r ++ q → came_in (acts_in p) ≤ closed_in (acts_in p) + limits.clients
@@ -323,22 +328,32 @@ module _ {B S : Type 0} (view : B → View) (rules : Rules S) (limits : Limits) 
       (told_more rules limits first start phase phase 0 0 past past' log log' slots slots count count now after h.story more h.is_told k (r h) l (omega (arith, came)) h.is_told.capped
       (omega (arith, came, closed)) (let a = taken_most slots in let b = h.is_told.sized in omega (arith, a, b, came)) (omega arith) a.within
       (a.phases (writes_since false h.story)).0 (λ e. (a.phases (writes_since false h.story)).1 ∙ h.is_told.quiet e)
-      (still h.story more h.is_told.fair a.silent) (omega (arith, lost)) passed a.reads (no_looks h.story more a.waited) (limited_quiet limits.tenant_clients h.story more (foreign_quiet more a.foreign)))
+      (still h.story more h.is_told.fair a.silent) (omega (arith, lost)) passed a.reads (no_looks h.story more a.waited) (limited_quiet limits.tenant_clients h.story more (foreign_quiet more a.foreign)) (λ e. quiet_single more (foreign_quiet more a.foreign)))
       (λ j c at. at) (λ j c at. at) (open_still phase had had past log slots count now h more (λ j k. k) a.silent)
       (λ j c at. alert_keep phase had j (view c) h.story more (a.foreign (view c).number) a.waited (h.alert j c at))
 
-  aside : (phase : Phase) (had : Queued) (past : Past) (log log' : Acts) (slots : List (Option B)) (count : ℕ) (now after : S) (more : Story) → IsAside limits more
+  -- a question was asked or answered
+  asks : (phase : Phase) (had : Queued) (past : Past) (stage : Stage) (log log' : Acts) (slots : List (Option B)) (count : ℕ) (now after : S) (more : Story) → IsAside limits more
+      → AreAsked past.stage more → stage_since past.stage more ≡ stage
+      → DidLog log (acts_in more) log' → ((h : Now phase had past log slots count now) → Passes rules h.story now more after) → Lasts rules (is_some limits.journal) now more after → Now phase had past log slots count now
+      → Now phase had (at_stage stage past) log' slots count after
+  asks phase had past stage log log' slots count now after more a asked is k r l h =
+      aside_to phase had past (at_stage stage past) log log' slots count now after more (beside limits more a)
+      (stage_past phase past stage more a.waited (keeps_quiet past.journal more a.quiet) h.is_told.settled asked is) k r l h
+
+  -- nothing was asked or answered
+  aside : (phase : Phase) (had : Queued) (past : Past) (log log' : Acts) (slots : List (Option B)) (count : ℕ) (now after : S) (more : Story) → IsAside limits more → is_unasked more ≡ true
       → DidLog log (acts_in more) log' → ((h : Now phase had past log slots count now) → Passes rules h.story now more after) → Lasts rules (is_some limits.journal) now more after → Now phase had past log slots count now → Now phase had past log' slots count after
-  aside phase had past log log' slots count now after more a k r l h =
+  aside phase had past log log' slots count now after more a unasked k r l h =
       aside_to phase had past past log log' slots count now after more (beside limits more a)
-      (stays_past phase past more a.waited (keeps_quiet past.journal more a.quiet) h.is_told.settled) k r l h
+      (stays_past phase past more a.waited (keeps_quiet past.journal more a.quiet) h.is_told.settled (unasked_since past.stage more unasked)) k r l h
 
   -- nothing was asked of the system
   pub idle : (phase : Phase) (had : Queued) (past : Past) (log log' : Acts) (slots : List (Option B)) (count : ℕ) (now : S) → DidLog log [] log' → Now phase had past log slots count now
       → Now phase had past log' slots count now
   idle phase had past log log' slots count now k h =
       aside phase had past log log' slots count now now []
-      (record { foreign = λ n. refl; came = refl; closed = refl; within = tt; phases = λ wrote. (tt, refl); silent = λ share. refl; unlost = refl; waited = refl; reads = λ last. tt; quiet = refl }) k (λ h. refl) refl h
+      (record { foreign = λ n. refl; came = refl; closed = refl; within = tt; phases = λ wrote. (tt, refl); silent = λ share. refl; unlost = refl; waited = refl; reads = λ last. tt; quiet = refl }) refl k (λ h. refl) refl h
 
   -- at a wait nothing is owed to an open connection, if it may sleep, and each had its turn
   looks_waits : (line : Line) (past : Past) (log : Acts) (slots : List (Option B)) (count : ℕ) (now : S) (sleeps : Bool) (slots_told : List ℕ)
@@ -378,16 +393,16 @@ module _ {B S : Type 0} (view : B → View) (rules : Rules S) (limits : Limits) 
 
   -- the server waited
   has_waited : (line line' : Line) (past : Past) (log log' : Acts) (slots : List (Option B)) (count : ℕ) (now : S) (sleeps : Bool) (slots_told : List ℕ)
-      → (sleeps ≡ true → (i : ℕ) → awake_in line i ≡ true → ⊥) → StayAwake line line' → AreAwake slots_told line' → DidLog log (Waited sleeps slots_told ∷ []) log'
+      → past.stage ≡ Stage.Unasked → (sleeps ≡ true → (i : ℕ) → awake_in line i ≡ true → ⊥) → StayAwake line line' → AreAwake slots_told line' → DidLog log (Waited sleeps slots_told ∷ []) log'
       → Now Phase.Sweeps (nobody line) past log slots count now → Now Phase.Reads (nobody line') (later past) log' slots count now
-  has_waited line line' past log log' slots count now sleeps slots_told asleep stay wakes k h =
+  has_waited line line' past log log' slots count now sleeps slots_told unasked asleep stay wakes k h =
       let last : Story = Did (Waited sleeps slots_told) ∷ [] in
       foreign Phase.Sweeps Phase.Reads (nobody line) (nobody line') past (later past) log log' slots slots count now now h last (λ n. refl)
       (told_more rules limits first start Phase.Sweeps Phase.Reads 0 0 past (later past) log log' slots slots count count now now h.story last h.is_told k (tt, refl) refl (omega arith) h.is_told.capped (omega arith)
       (let a = taken_most slots in let b = h.is_told.sized in omega (arith, a, b)) (omega arith) (tt, tt) (tt, tt) (λ e. refl)
       (still h.story last h.is_told.fair (λ share. refl)) refl
-      (record { waited = refl; began = refl; keeps = keeps_quiet past.journal last refl; settled = λ e. absurd (reads_not_writes e) }) (λ last. tt)
-      (looks_waits line past log slots count now sleeps slots_told asleep h) tt)
+      (record { waited = refl; began = refl; keeps = keeps_quiet past.journal last refl; settled = λ e. absurd (reads_not_writes e); asked = (unasked, tt); stage = refl }) (λ last. tt)
+      (looks_waits line past log slots count now sleeps slots_told asleep h) tt (λ e. tt))
       (λ j c at. at) (λ j c at. at) (λ j c at not share.
       let e : turns_since (view c).number share 0 (h.story ++ last) ≡ 0 = since-append (view c).number share 0 h.story last in
       let f = reads_most share in
@@ -395,13 +410,15 @@ module _ {B S : Type 0} (view : B → View) (rules : Rules S) (limits : Limits) 
       (λ j c at. alert_waits line line' j (view c) h.story sleeps slots_told stay wakes (h.live j c at) (h.alert j c at))
 
   -- a status was asked for, and told
-  has_told : (phase : Phase) (had : Queued) (past : Past) (log log' : Acts) (slots : List (Option B)) (count : ℕ) (now : S) (text : List ℕ) → limits.status ≡ true
-      → IsStatus (rules.status now (speakers_at view slots)) text → DidLog log (Questioned question.Status ∷ Reported text ∷ []) log' → Now phase had past log slots count now
-      → Now phase had past log' slots count now
-  has_told phase had past log log' slots count now text watches tells k h =
-      let (mid, asks, reports) = cut_log log log' (Questioned question.Status ∷ []) (Reported text ∷ []) k in
+  has_told : (phase : Phase) (had : Queued) (waits : ℕ) (began journal : Option Journal) (log log' : Acts) (slots : List (Option B)) (count : ℕ) (now : S) (text : List ℕ) → limits.status ≡ true
+      → IsStatus (rules.status now (speakers_at view slots)) text → DidLog log (Questioned question.Status ∷ Reported text ∷ []) log' → Now phase had (past_of waits began journal) log slots count now
+      → Now phase had (past_of waits began journal) log' slots count now
+  has_told phase had waits began journal log log' slots count now text watches tells k h =
+      let past = past_of waits began journal in
+      let asking = at_stage (Stage.Asks question.Status) past in
+      let (mid, questioned, reports) = cut_log log log' (Questioned question.Status ∷ []) (Reported text ∷ []) k in
       let asked =
-      aside phase had past log mid slots count now now (Did (Questioned question.Status) ∷ [])
+      asks phase had past (Stage.Asks question.Status) log mid slots count now now (Did (Questioned question.Status) ∷ [])
       (record {
         foreign = λ n. refl;
         came = refl;
@@ -413,8 +430,8 @@ module _ {B S : Type 0} (view : B → View) (rules : Rules S) (limits : Limits) 
         waited = refl;
         reads = λ last. tt;
         quiet = refl;
-      }) asks (λ h. (tt, refl)) refl h in
-      aside phase had past mid log' slots count now now (Did (Reported text) ∷ [])
+      }) (refl, tt) refl questioned (λ h. (tt, refl)) refl h in
+      asks phase had asking Stage.Unasked mid log' slots count now now (Did (Reported text) ∷ [])
       (record {
         foreign = λ n. refl;
         came = refl;
@@ -426,14 +443,14 @@ module _ {B S : Type 0} (view : B → View) (rules : Rules S) (limits : Limits) 
         waited = refl;
         reads = λ last. tt;
         quiet = refl;
-      }) reports (λ h. ((speakers_at view slots, present view rules limits first start phase had past mid slots count now h, tells), refl)) refl asked
+      }) (refl, tt) refl reports (λ h. ((speakers_at view slots, present view rules limits first start phase had asking mid slots count now h, tells), refl)) refl asked
 
   -- a line was told to the operator, if it was due
   has_warned : (phase : Phase) (had : Queued) (past : Past) (log log' : Acts) (slots : List (Option B)) (count : ℕ) (now : S) (due : Bool) (line : List ℕ) → IsWarning limits line
       → DidLog log (warning_acts due line) log' → Now phase had past log slots count now → Now phase had past log' slots count now
   has_warned phase had past log log' slots count now true line is k h =
       aside phase had past log log' slots count now now (Did (Warned line) ∷ [])
-      (record { foreign = λ n. refl; came = refl; closed = refl; within = (is, tt); phases = λ wrote. ((tt, tt), refl); silent = λ share. refl; unlost = refl; waited = refl; reads = λ last. tt; quiet = refl }) k (λ h. (tt, refl)) refl h
+      (record { foreign = λ n. refl; came = refl; closed = refl; within = (is, tt); phases = λ wrote. ((tt, tt), refl); silent = λ share. refl; unlost = refl; waited = refl; reads = λ last. tt; quiet = refl }) refl k (λ h. (tt, refl)) refl h
   has_warned phase had past log log' slots count now false line is k h = idle phase had past log log' slots count now k h
 
   pub warned : (phase : Phase) (had : Queued) (past : Past) (log log' : Acts) (slots : List (Option B)) (count : ℕ) (now : S) → HasWarned log log'
@@ -443,28 +460,30 @@ module _ {B S : Type 0} (view : B → View) (rules : Rules S) (limits : Limits) 
       (has_warned phase had past log w.mid slots count now w.due_logins w.logins (inl w.of_logins) w.first h)
 
   -- the server goes on after it asked
-  pub answered : (phase : Phase) (had : Queued) (past : Past) (log log' : Acts) (slots : List (Option B)) (count : ℕ) (now : S) (watches : Bool) → limits.status ≡ watches
-      → HasAnswered watches next.Round (rules.status now (speakers_at view slots)) log log' → Now phase had past log slots count now → Now phase had past log' slots count now
-  answered phase had past log log' slots count now true e (inl k) h = idle phase had past log log' slots count now k h
-  answered phase had past log log' slots count now true e (inr (text, tells, k)) h = has_told phase had past log log' slots count now text e tells k h
-  answered phase had past log log' slots count now false e k h = idle phase had past log log' slots count now k h
+  pub answered : (phase : Phase) (had : Queued) (waits : ℕ) (began journal : Option Journal) (log log' : Acts) (slots : List (Option B)) (count : ℕ) (now : S) (watches : Bool) → limits.status ≡ watches
+      → HasAnswered watches next.Round (rules.status now (speakers_at view slots)) log log' → Now phase had (past_of waits began journal) log slots count now
+      → Now phase had (past_of waits began journal) log' slots count now
+  answered phase had waits began journal log log' slots count now true e (inl k) h = idle phase had (past_of waits began journal) log log' slots count now k h
+  answered phase had waits began journal log log' slots count now true e (inr (text, tells, k)) h = has_told phase had waits began journal log log' slots count now text e tells k h
+  answered phase had waits began journal log log' slots count now false e k h = idle phase had (past_of waits began journal) log log' slots count now k h
 
   -- it is asked to read the table again
-  pub asked_again : (phase : Phase) (had : Queued) (past : Past) (log log' : Acts) (slots : List (Option B)) (count : ℕ) (now : S) (watches : Bool) → limits.status ≡ watches
-      → HasAnswered watches next.Reload (rules.status now (speakers_at view slots)) log log' → Now phase had past log slots count now → (limits.status ≡ true) × Now phase had past log' slots count now
-  asked_again phase had past log log' slots count now false e bad h = absurd bad
-  asked_again phase had past log log' slots count now true e k h = (
+  pub asked_again : (phase : Phase) (had : Queued) (waits : ℕ) (began journal : Option Journal) (log log' : Acts) (slots : List (Option B)) (count : ℕ) (now : S) (watches : Bool) → limits.status ≡ watches
+      → HasAnswered watches next.Reload (rules.status now (speakers_at view slots)) log log' → Now phase had (past_of waits began journal) log slots count now
+      → (limits.status ≡ true) × Now phase had (at_stage asks_reload (past_of waits began journal)) log' slots count now
+  asked_again phase had waits began journal log log' slots count now false e bad h = absurd bad
+  asked_again phase had waits began journal log log' slots count now true e k h = (
     e,
-    aside phase had past log log' slots count now now (Did (Questioned question.Reload) ∷ [])
-        (record { foreign = λ n. refl; came = refl; closed = refl; within = (e, tt); phases = λ wrote. ((tt, tt), refl); silent = λ share. refl; unlost = refl; waited = refl; reads = λ last. tt; quiet = refl }) k (λ h. (tt, refl)) refl h,
+    asks phase had (past_of waits began journal) asks_reload log log' slots count now now (Did (Questioned question.Reload) ∷ [])
+        (record { foreign = λ n. refl; came = refl; closed = refl; within = (e, tt); phases = λ wrote. ((tt, tt), refl); silent = λ share. refl; unlost = refl; waited = refl; reads = λ last. tt; quiet = refl }) (refl, tt) refl k (λ h. (tt, refl)) refl h,
   )
 
   -- the table was read, and put in force if it could be
-  pub has_changed : (phase : Phase) (had : Queued) (past : Past) (log log' : Acts) (slots : List (Option B)) (count : ℕ) (now after : S) (changed : Bool) → limits.status ≡ true
+  pub has_changed : (phase : Phase) (had : Queued) (past : Past) (log log' : Acts) (slots : List (Option B)) (count : ℕ) (now after : S) (changed : Bool) → limits.status ≡ true → past.stage ≡ asks_reload
       → (changed ≡ true → (is_some limits.journal) ≡ true → KeepsTenants (rules.seen now) (rules.seen after))
-      → HasChanged rules changed log log' now after → Now phase had past log slots count now → Now phase had past log' slots count after
-  has_changed phase had past log log' slots count now after true e keeps (text, k, step) h =
-      aside phase had past log log' slots count now after (Did (Tabled text) ∷ Changed text ∷ [])
+      → HasChanged rules changed log log' now after → Now phase had past log slots count now → Now phase had (at_stage (read_stage changed) past) log' slots count after
+  has_changed phase had past log log' slots count now after true e asked keeps (text, k, step) h =
+      asks phase had past Stage.Renewed log log' slots count now after (Did (Tabled text) ∷ Changed text ∷ [])
       (record {
         foreign = λ n. refl;
         came = refl;
@@ -476,42 +495,44 @@ module _ {B S : Type 0} (view : B → View) (rules : Rules S) (limits : Limits) 
         waited = refl;
         reads = λ last. (refl, e, tt);
         quiet = refl;
-      }) k (λ h. (tt, (after, step, refl))) (after, step, keeps refl, refl) h
-  has_changed phase had past log log' slots count now after false e keeps (same, inl k) h =
-      subst (λ s. Now phase had past log' slots count s) (sym same)
-      (aside phase had past log log' slots count now now (Did Untabled ∷ [])
-      (record { foreign = λ n. refl; came = refl; closed = refl; within = (e, tt); phases = λ wrote. ((tt, tt), refl); silent = λ share. refl; unlost = refl; waited = refl; reads = λ last. tt; quiet = refl }) k (λ h. (tt, refl)) refl h)
-  has_changed phase had past log log' slots count now after false e keeps (same, inr (text, k)) h =
-      subst (λ s. Now phase had past log' slots count s) (sym same)
-      (aside phase had past log log' slots count now now (Did (Tabled text) ∷ [])
-      (record { foreign = λ n. refl; came = refl; closed = refl; within = (e, tt); phases = λ wrote. ((tt, tt), refl); silent = λ share. refl; unlost = refl; waited = refl; reads = λ last. tt; quiet = refl }) k (λ h. (tt, refl)) refl h)
+      }) (asked, (refl, tt)) refl k (λ h. (tt, (after, step, refl))) (after, step, keeps refl, refl) h
+  has_changed phase had past log log' slots count now after false e asked keeps (same, inl k) h =
+      subst (λ s. Now phase had (at_stage Stage.Fetched past) log' slots count s) (sym same)
+      (asks phase had past Stage.Fetched log log' slots count now now (Did Untabled ∷ [])
+      (record { foreign = λ n. refl; came = refl; closed = refl; within = (e, tt); phases = λ wrote. ((tt, tt), refl); silent = λ share. refl; unlost = refl; waited = refl; reads = λ last. tt; quiet = refl }) (asked, tt) refl k (λ h. (tt, refl)) refl h)
+  has_changed phase had past log log' slots count now after false e asked keeps (same, inr (text, k)) h =
+      subst (λ s. Now phase had (at_stage Stage.Fetched past) log' slots count s) (sym same)
+      (asks phase had past Stage.Fetched log log' slots count now now (Did (Tabled text) ∷ [])
+      (record { foreign = λ n. refl; came = refl; closed = refl; within = (e, tt); phases = λ wrote. ((tt, tt), refl); silent = λ share. refl; unlost = refl; waited = refl; reads = λ last. tt; quiet = refl }) (asked, tt) refl k (λ h. (tt, refl)) refl h)
 
   -- it is asked to close the connections of a tenant
-  pub asked_kick : (phase : Phase) (had : Queued) (past : Past) (log log' : Acts) (slots : List (Option B)) (count : ℕ) (now : S) (watches : Bool) → limits.status ≡ watches
-      → HasAnswered watches next.Kick (rules.status now (speakers_at view slots)) log log' → Now phase had past log slots count now → (limits.status ≡ true) × Now phase had past log' slots count now
-  asked_kick phase had past log log' slots count now false e bad h = absurd bad
-  asked_kick phase had past log log' slots count now true e k h = (
+  pub asked_kick : (phase : Phase) (had : Queued) (waits : ℕ) (began journal : Option Journal) (log log' : Acts) (slots : List (Option B)) (count : ℕ) (now : S) (watches : Bool) → limits.status ≡ watches
+      → HasAnswered watches next.Kick (rules.status now (speakers_at view slots)) log log' → Now phase had (past_of waits began journal) log slots count now
+      → (limits.status ≡ true) × Now phase had (at_stage asks_kick (past_of waits began journal)) log' slots count now
+  asked_kick phase had waits began journal log log' slots count now false e bad h = absurd bad
+  asked_kick phase had waits began journal log log' slots count now true e k h = (
     e,
-    aside phase had past log log' slots count now now (Did (Questioned question.Kick) ∷ []) (record { foreign = λ n. refl; came = refl; closed = refl; within = (e, tt); phases = λ wrote. ((tt, tt), refl); silent = λ share. refl; unlost = refl; waited = refl; reads = λ last. tt; quiet = refl }) k (λ h. (tt, refl)) refl h,
+    asks phase had (past_of waits began journal) asks_kick log log' slots count now now (Did (Questioned question.Kick) ∷ [])
+        (record { foreign = λ n. refl; came = refl; closed = refl; within = (e, tt); phases = λ wrote. ((tt, tt), refl); silent = λ share. refl; unlost = refl; waited = refl; reads = λ last. tt; quiet = refl }) (refl, tt) refl k (λ h. (tt, refl)) refl h,
   )
 
   -- a tenant was named
-  pub has_named : (phase : Phase) (had : Queued) (past : Past) (log log' : Acts) (slots : List (Option B)) (count : ℕ) (now : S) (name : List ℕ) → limits.status ≡ true
-      → DidLog log (Named name ∷ []) log' → Now phase had past log slots count now → Now phase had past log' slots count now
-  has_named phase had past log log' slots count now name e k h =
-      aside phase had past log log' slots count now now (Did (Named name) ∷ []) (record { foreign = λ n. refl; came = refl; closed = refl; within = (e, tt); phases = λ wrote. ((tt, tt), refl); silent = λ share. refl; unlost = refl; waited = refl; reads = λ last. tt; quiet = refl }) k (λ h. (tt, refl)) refl h
+  pub has_named : (phase : Phase) (had : Queued) (past : Past) (log log' : Acts) (slots : List (Option B)) (count : ℕ) (now : S) (name : List ℕ) → limits.status ≡ true → past.stage ≡ asks_kick
+      → DidLog log (Named name ∷ []) log' → Now phase had past log slots count now → Now phase had (at_stage Stage.Chosen past) log' slots count now
+  has_named phase had past log log' slots count now name e asked k h =
+      asks phase had past Stage.Chosen log log' slots count now now (Did (Named name) ∷ []) (record { foreign = λ n. refl; came = refl; closed = refl; within = (e, tt); phases = λ wrote. ((tt, tt), refl); silent = λ share. refl; unlost = refl; waited = refl; reads = λ last. tt; quiet = refl }) (asked, tt) refl k (λ h. (tt, refl)) refl h
 
   -- the asker was answered
-  pub has_answered : (phase : Phase) (had : Queued) (past : Past) (log log' : Acts) (slots : List (Option B)) (count : ℕ) (now : S) (reply : List ℕ) → limits.status ≡ true
-      → DidLog log (Replied reply ∷ []) log' → Now phase had past log slots count now → Now phase had past log' slots count now
-  has_answered phase had past log log' slots count now reply e k h =
-      aside phase had past log log' slots count now now (Did (Replied reply) ∷ []) (record { foreign = λ n. refl; came = refl; closed = refl; within = (e, tt); phases = λ wrote. ((tt, tt), refl); silent = λ share. refl; unlost = refl; waited = refl; reads = λ last. tt; quiet = refl }) k (λ h. (tt, refl)) refl h
+  pub has_answered : (phase : Phase) (had : Queued) (past : Past) (log log' : Acts) (slots : List (Option B)) (count : ℕ) (now : S) (reply : List ℕ) → limits.status ≡ true → MayReply past.stage
+      → DidLog log (Replied reply ∷ []) log' → Now phase had past log slots count now → Now phase had (at_stage Stage.Unasked past) log' slots count now
+  has_answered phase had past log log' slots count now reply e may k h =
+      asks phase had past Stage.Unasked log log' slots count now now (Did (Replied reply) ∷ []) (record { foreign = λ n. refl; came = refl; closed = refl; within = (e, tt); phases = λ wrote. ((tt, tt), refl); silent = λ share. refl; unlost = refl; waited = refl; reads = λ last. tt; quiet = refl }) (may, tt) refl k (λ h. (tt, refl)) refl h
 
   -- the asker was answered, and the operator told
-  pub has_replied : (phase : Phase) (had : Queued) (past : Past) (log log' : Acts) (slots : List (Option B)) (count : ℕ) (now : S) (changed : Bool) (reply line : List ℕ) → limits.status ≡ true
-      → BeginsWith (told_head changed) line → DidLog log (Replied reply ∷ Warned line ∷ []) log' → Now phase had past log slots count now → Now phase had past log' slots count now
-  has_replied phase had past log log' slots count now changed reply line e is k h =
-      aside phase had past log log' slots count now now (Did (Replied reply) ∷ Did (Warned line) ∷ [])
+  pub has_replied : (phase : Phase) (had : Queued) (past : Past) (log log' : Acts) (slots : List (Option B)) (count : ℕ) (now : S) (changed : Bool) (reply line : List ℕ) → limits.status ≡ true → MayReply past.stage
+      → BeginsWith (told_head changed) line → DidLog log (Replied reply ∷ Warned line ∷ []) log' → Now phase had past log slots count now → Now phase had (at_stage Stage.Unasked past) log' slots count now
+  has_replied phase had past log log' slots count now changed reply line e may is k h =
+      asks phase had past Stage.Unasked log log' slots count now now (Did (Replied reply) ∷ Did (Warned line) ∷ [])
       (record {
         foreign = λ n. refl;
         came = refl;
@@ -523,7 +544,7 @@ module _ {B S : Type 0} (view : B → View) (rules : Rules S) (limits : Limits) 
         waited = refl;
         reads = λ last. tt;
         quiet = refl;
-      }) k (λ h. (tt, (tt, refl))) refl h
+      }) (may, (tt, tt)) refl k (λ h. (tt, (tt, refl))) refl h
 
   -- the next phase of a round begins, or more slots are said to have had a turn
   next_phase : (phase phase' : Phase) (had had' : Queued) (past : Past) (log : Acts) (slots : List (Option B)) (count : ℕ) (now : S) (h : Now phase had past log slots count now)
@@ -555,6 +576,9 @@ module _ {B S : Type 0} (view : B → View) (rules : Rules S) (limits : Limits) 
       awake = h.is_told.awake;
       each = h.is_told.each;
       limited = h.is_told.limited;
+      asked = h.is_told.asked;
+      stage = h.is_told.stage;
+      single = h.is_told.single;
     };
     below = h.below;
     live = h.live;
@@ -604,9 +628,10 @@ module _ {B S : Type 0} (view : B → View) (rules : Rules S) (limits : Limits) 
   written_acts had waits began i j log log' slots count now acts k w h =
       let b = keeping limits acts h.is_told.allowed w.keeping in
       let none = b.waited in
+      let u = unasked_since Stage.Unasked (told acts) (keeping_unasked acts w.keeping) in
       aside_to Phase.Reads had (past_of waits began (Some i)) (past_of waits began (Some j)) log log' slots count now now (told acts) b
-      (record { waited = omega (arith, none); began = refl; keeps = (w.kept, ap Some w.after_is); settled = λ e. absurd (reads_not_writes e) })
-      (subst (λ a. DidLog log a log') (sym (acts_in-told acts)) k) (λ h. keeping_passes rules limits acts now h.is_told.allowed w.keeping h.story) (told_lasts rules (is_some limits.journal) acts now) h
+      (record { waited = omega (arith, none); began = refl; keeps = (w.kept, ap Some w.after_is); settled = λ e. absurd (reads_not_writes e); asked = u.0; stage = sym u.1 })
+      (subst (λ a. DidLog log a log') (sym (acts_in-told acts)) k) (λ h. keeping_passes rules acts now w.keeping h.story) (told_lasts rules (is_some limits.journal) acts now) h
 
   -- the journal was written, if there is one
   pub has_written : (had : Queued) (waits : ℕ) (began i j : Option Journal) (log log' : Acts) (slots : List (Option B)) (count : ℕ) (now : S) → AreWritten true i j log log'
@@ -676,17 +701,40 @@ module _ {B S : Type 0} (view : B → View) (rules : Rules S) (limits : Limits) 
   round_ends line line' past log slots count now stay h =
       swept Phase.Sweeps (nobody line) line' past log slots count now (λ j c s at k. alert_swept line line' (λ j. ⊥) (λ j. ⊥) j (view c) s (stay j) k) h
 
+  -- What happened closes no connection whose speaker is gone; or only such a one, where that is told.
+  abbrev IsCalm : Past → Story → S → Story → S → Type 0
+  IsCalm past story now more after = (gones_in (acts_in more) ≡ 0) ⊎ ((AreAsked past.stage more × (stage_since past.stage more ≡ past.stage)) × Passes rules story now more after)
+
+  calm_passes : (past : Past) (story : Story) (now after : S) (n : ℕ) (more : Story) → Mine n more → AreTurns rules now (turns_in more) after → IsCalm past story now more after → Passes rules story now more after
+  calm_passes past story now after n more mine r (inl none) = let plain = mine_plain n more mine in passes_plain rules story now after more plain.2 none plain.3 r
+  calm_passes past story now after n more mine r (inr k) = k.1
+
+  calm_asks : (past : Past) (story : Story) (now after : S) (n : ℕ) (more : Story) → Mine n more → IsCalm past story now more after → AreAsked past.stage more × (stage_since past.stage more ≡ past.stage)
+  calm_asks past story now after n more mine (inl none) = unasked_since past.stage more (mine_unasked n more mine none)
+  calm_asks past story now after n more mine (inr k) = k.0
+
+  -- a client was closed, since its speaker is not in the table that was just put in force
+  pub gone_calm : (phase : Phase) (had : Queued) (past : Past) (log : Acts) (slots : List (Option B)) (count : ℕ) (now : S) (h : Now phase had past log slots count now) (i : ℕ) (d : Option B) (more : Story)
+      → past.stage ≡ Stage.Renewed → i < length slots → d ≡ slice_index_or slots i d → SlotGone (option_map view d) more → IsCalm past h.story now more now
+  gone_calm phase had past log slots count now h i None more asked within is none = inl (ap (λ m. gones_in (acts_in m)) none)
+  gone_calm phase had past log slots count now h i (Some b) more asked within is (inl none) = inl (ap (λ m. gones_in (acts_in m)) none)
+  gone_calm phase had past log slots count now h i (Some b) more asked within is (inr (one, who, speaks)) =
+      let mine = own (view b).number h.story in
+      let l = h.live i b (At-index slots i (Some b) b within is refl) in
+      let last : speaker_since None (turns_in mine) ≡ Some who = sym (speaks_since None (turns_in mine) (view b).who l.live.speaks) ∙ speaks in
+      subst (λ m. IsCalm past h.story now m now) (sym one) (inr (((asked, tt), refl), ((who, last), refl)))
+
   -- what happened to the client of a slot that had no turn in this phase
   pub crowd_turn : (phase : Phase) (had had' : Queued) (past : Past) (log log' : Acts) (slots : List (Option B)) (count : ℕ) (now after : S) (i : ℕ) (d s' : Option B) (more : Story)
       → ((j : ℕ) → had.had j → had'.had j) → (had.had i → ⊥) → had'.had i
-      → Now phase had past log slots count now → i < length slots → d ≡ slice_index_or slots i d → DidLog log (acts_in more) log' → AreTurns rules now (turns_in more) after
-      → AreLimited limits.tenant_clients (speakers_at view (slice_set slots i None)) (turns_in more)
+      → (h : Now phase had past log slots count now) → IsCalm past h.story now more after → i < length slots → d ≡ slice_index_or slots i d → DidLog log (acts_in more) log' → AreTurns rules now (turns_in more) after
+      → AreLimited limits.tenant_clients (speakers_at view (slice_set slots i None)) (turns_in more) → (limits.clients ≡ 1 → AreSingle more)
       → SlotDid limits phase (option_map view d) (option_map view s') more
       → ((j : ℕ) → j ≢ i → (v : View) (s : Story) → Alert phase had j v s → Alert phase had' j v s)
       → ((b c : B) (s : Story) → d ≡ Some b → s' ≡ Some c → (view c).number ≡ (view b).number → Mine (view b).number more → came_in (acts_in more) ≡ 0 → waits_in (acts_in more) ≡ 0
       → Alert phase had i (view b) s → Alert phase had' i (view c) (s ++ more))
       → Now phase had' (after_lines (records_in (turns_in more)) past) log' (slice_set slots i s') count after
-  crowd_turn phase had had' past log log' slots count now after i None None more wider new done h within is k r l did beside turn =
+  crowd_turn phase had had' past log log' slots count now after i None None more wider new done h calm within is k r l single did beside turn =
       let same : after ≡ now = subst (λ m. AreTurns rules now (turns_in m) after) did.1 r in
       let quiet : DidLog log [] log' = subst (λ m. DidLog log (acts_in m) log') did.1 k in
       let free : (b : B) → At slots i b → ⊥ = λ b there. nobody_is b (At-some slots i None b is there) in
@@ -699,7 +747,7 @@ module _ {B S : Type 0} (view : B → View) (rules : Rules S) (limits : Limits) 
       (let a = count_is.0 in omega (arith, a))
       (let a = taken_most slots in let b = h.is_told.sized in omega (arith, a, b))
       (let a = long_set slots i None in omega (arith, a)) tt tt h.is_told.quiet
-      (still h.story [] h.is_told.fair (λ share. refl)) refl (stays_past phase past [] refl (keeps_quiet past.journal [] refl) h.is_told.settled) (λ last. tt) (no_looks h.story [] refl) tt)
+      (still h.story [] h.is_told.fair (λ share. refl)) refl (stays_past phase past [] refl (keeps_quiet past.journal [] refl) h.is_told.settled (tt, refl)) (λ last. tt) (no_looks h.story [] refl) tt (λ e. tt))
       (λ j c there. others j c (At-set slots i None j c there))
       (λ j c there. At-keep slots i None j c (λ e. free c (subst (λ j. At slots j c) e there)) there)
       (open_still phase had had' past log slots count now h [] wider (λ share. refl))
@@ -711,11 +759,11 @@ module _ {B S : Type 0} (view : B → View) (rules : Rules S) (limits : Limits) 
       others : (j : ℕ) (c : B) → ((j ≡ i) × (None ≡ Some c)) ⊎ ((j ≢ i) × At slots j c) → At slots j c
       others j c (inl p) = absurd (nobody_is c p.1)
       others j c (inr p) = p.1
-  crowd_turn phase had had' past log log' slots count now after i None (Some b) more wider new done h within is k r l did beside turn = absurd (none (view b) did.0)
+  crowd_turn phase had had' past log log' slots count now after i None (Some b) more wider new done h calm within is k r l single did beside turn = absurd (none (view b) did.0)
     where
       none : (v : View) → Some v ≡ None → ⊥
       none v e = cc
-  crowd_turn phase had had' past log log' slots count now after i (Some b) None more wider new done h within is k r l (mine, came, closing, part, once, (close, goes)) beside turn =
+  crowd_turn phase had had' past log log' slots count now after i (Some b) None more wider new done h calm within is k r l single (mine, came, closing, part, once, (close, goes)) beside turn =
       let at = At-index slots i (Some b) b within is refl in
       let limited = limited_turn view rules limits first start phase had past log slots count now h i b at limits.tenant_clients more mine came l in
       let n = (view b).number in
@@ -727,16 +775,17 @@ module _ {B S : Type 0} (view : B → View) (rules : Rules S) (limits : Limits) 
       let lost = plain.1 in
       let waited = plain.0 in
       let later_past = after_lines (records_in (turns_in more)) past in
+      let asked = calm_asks past h.story now after n more mine calm in
       let passed : Passed phase past more later_past
-      = record { waited = omega (arith, waited); began = refl; keeps = keeps_turn phase n past.journal more mine once h.is_told.settled; settled = settled_turn phase past.journal more once h.is_told.settled } in
+      = record { waited = omega (arith, waited); began = refl; keeps = keeps_turn phase n past.journal more mine once h.is_told.settled; settled = settled_turn phase past.journal more once h.is_told.settled; asked = asked.0; stage = sym asked.1 } in
       gone phase had had' wider past later_past log log' slots count now after h n more mine waited i b beside at refl
-      (told_more rules limits first start phase phase 0 0 past later_past log log' slots (slice_set slots i None) count count now after h.story more h.is_told k (passes_plain rules h.story now after more plain.2 plain.3 r) (lasts_plain rules (is_some limits.journal) now after more plain.3 r)
+      (told_more rules limits first start phase phase 0 0 past later_past log log' slots (slice_set slots i None) count count now after h.story more h.is_told k (calm_passes past h.story now after n more mine r calm) (lasts_plain rules (is_some limits.journal) now after more plain.3 r)
       (omega (arith, came)) h.is_told.capped (omega (arith, came, close, count_is))
       (let a = taken_most slots in let b = h.is_told.sized in omega (arith, a, b, came))
       (let a = long_set slots i None in omega (arith, a)) closing fits.0 fits.1
-      (takes_turn h.story more n (most phase) h.is_told.fair mine once (h.ready i b at new)) (omega (arith, lost)) passed (reads_plain limits more plain.3) (no_looks h.story more waited) limited)
+      (takes_turn h.story more n (most phase) h.is_told.fair mine once (h.ready i b at new)) (omega (arith, lost)) passed (reads_plain limits more plain.3) (no_looks h.story more waited) limited single)
       (omega (arith, all, unclosed, close)) (goes (own n h.story) (h.live i b at))
-  crowd_turn phase had had' past log log' slots count now after i (Some b) (Some s) more wider new done h within is k r l (mine, came, closing, part, once, (same, close, goes)) beside turn =
+  crowd_turn phase had had' past log log' slots count now after i (Some b) (Some s) more wider new done h calm within is k r l single (mine, came, closing, part, once, (same, close, goes)) beside turn =
       let at = At-index slots i (Some b) b within is refl in
       let limited = limited_turn view rules limits first start phase had past log slots count now h i b at limits.tenant_clients more mine came l in
       let n = (view b).number in
@@ -746,44 +795,45 @@ module _ {B S : Type 0} (view : B → View) (rules : Rules S) (limits : Limits) 
       let lost = plain.1 in
       let waited = plain.0 in
       let later_past = after_lines (records_in (turns_in more)) past in
+      let asked = calm_asks past h.story now after n more mine calm in
       let passed : Passed phase past more later_past
-      = record { waited = omega (arith, waited); began = refl; keeps = keeps_turn phase n past.journal more mine once h.is_told.settled; settled = settled_turn phase past.journal more once h.is_told.settled } in
+      = record { waited = omega (arith, waited); began = refl; keeps = keeps_turn phase n past.journal more mine once h.is_told.settled; settled = settled_turn phase past.journal more once h.is_told.settled; asked = asked.0; stage = sym asked.1 } in
       seated phase had had' wider past later_past log log' slots count now after h n more mine waited i count s beside (turn b s h.story refl refl same mine came waited (h.alert i b at)) within (omega arith) (λ e. absurd (omega (arith, e)))
       (λ m q d e. d (sym q.is ∙ ap (λ c. (view c).number) (At-only slots i q.b b (subst (λ j. At slots j q.b) e q.there) at)))
       same (omega arith) (h.below i b at)
       (λ j c d there e. d (h.apart j i c b there at e))
-      (told_more rules limits first start phase phase 0 0 past later_past log log' slots (slice_set slots i (Some s)) count count now after h.story more h.is_told k (passes_plain rules h.story now after more plain.2 plain.3 r) (lasts_plain rules (is_some limits.journal) now after more plain.3 r)
+      (told_more rules limits first start phase phase 0 0 past later_past log log' slots (slice_set slots i (Some s)) count count now after h.story more h.is_told k (calm_passes past h.story now after n more mine r calm) (lasts_plain rules (is_some limits.journal) now after more plain.3 r)
       (omega (arith, came)) h.is_told.capped (omega (arith, came, close, count_is))
       (let a = taken_most slots in let b = h.is_told.sized in omega (arith, a, b, came))
       (let a = long_set slots i (Some s) in omega (arith, a)) closing fits.0 fits.1
-      (takes_turn h.story more n (most phase) h.is_told.fair mine once (h.ready i b at new)) (omega (arith, lost)) passed (reads_plain limits more plain.3) (no_looks h.story more waited) limited)
+      (takes_turn h.story more n (most phase) h.is_told.fair mine once (h.ready i b at new)) (omega (arith, lost)) passed (reads_plain limits more plain.3) (no_looks h.story more waited) limited single)
       (λ not. absurd (not done))
       (goes (own n h.story) (h.live i b at))
 
   -- the same, where no line was run
   pub crowd_still : (phase : Phase) (had had' : Queued) (past : Past) (log log' : Acts) (slots : List (Option B)) (count : ℕ) (now : S) (i : ℕ) (d s' : Option B) (more : Story)
       → ((j : ℕ) → had.had j → had'.had j) → (had.had i → ⊥) → had'.had i
-      → Now phase had past log slots count now → i < length slots → d ≡ slice_index_or slots i d → DidLog log (acts_in more) log' → turns_in more ≡ []
+      → (h : Now phase had past log slots count now) → IsCalm past h.story now more now → i < length slots → d ≡ slice_index_or slots i d → DidLog log (acts_in more) log' → turns_in more ≡ []
       → SlotDid limits phase (option_map view d) (option_map view s') more
       → ((j : ℕ) → j ≢ i → (v : View) (s : Story) → Alert phase had j v s → Alert phase had' j v s)
       → ((b c : B) (s : Story) → d ≡ Some b → s' ≡ Some c → (view c).number ≡ (view b).number → Mine (view b).number more → came_in (acts_in more) ≡ 0 → waits_in (acts_in more) ≡ 0
       → Alert phase had i (view b) s → Alert phase had' i (view c) (s ++ more))
       → Now phase had' past log' (slice_set slots i s') count now
-  crowd_still phase had had' past log log' slots count now i d s' more wider new done h within is k none did beside turn =
+  crowd_still phase had had' past log log' slots count now i d s' more wider new done h calm within is k none did beside turn =
       subst (λ p. Now phase had' p log' (slice_set slots i s') count now) (ap (λ t. after_lines (records_in t) past) none ∙ sym (ap (λ j. record past { journal = j }) (noted_none past.journal)))
-      (crowd_turn phase had had' past log log' slots count now now i d s' more wider new done h within is k (subst (λ t. AreTurns rules now t now) (sym none) refl)
-      (subst (AreLimited limits.tenant_clients (speakers_at view (slice_set slots i None))) (sym none) tt) did beside turn)
+      (crowd_turn phase had had' past log log' slots count now now i d s' more wider new done h calm within is k (subst (λ t. AreTurns rules now t now) (sym none) refl)
+      (subst (AreLimited limits.tenant_clients (speakers_at view (slice_set slots i None))) (sym none) tt) (λ e. quiet_single more none) did beside turn)
 
   -- a client was closed after the turns, or is as it was
   pub crowd_closed : (line line' : Line) (past : Past) (log log' : Acts) (slots : List (Option B)) (count : ℕ) (now : S) (i : ℕ) (d s' : Option B) (more : Story) (closed : Bool)
-      → Now Phase.Sweeps (nobody line) past log slots count now → i < length slots → d ≡ slice_index_or slots i d → DidLog log (acts_in more) log' → turns_in more ≡ []
+      → (h : Now Phase.Sweeps (nobody line) past log slots count now) → IsCalm past h.story now more now → i < length slots → d ≡ slice_index_or slots i d → DidLog log (acts_in more) log' → turns_in more ≡ []
       → SlotDid limits Phase.Sweeps (option_map view d) (option_map view s') more → IsClosedOr closed (option_map view d) (option_map view s') more
       → ((j : ℕ) → j ≢ i → awake_in line' j ≡ awake_in line j) → (closed ≡ false → line' ≡ line)
       → Now Phase.Sweeps (nobody line') past log' (slice_set slots i s') count now
-  crowd_closed line line' past log log' slots count now i d s' more closed h within is k none did or_same others same =
+  crowd_closed line line' past log log' slots count now i d s' more closed h calm within is k none did or_same others same =
       swept Phase.Sweeps (record { line = Some line'; had = λ j. j ≡ i }) line' past log' (slice_set slots i s') count now
       (λ j c s at k. alert_swept line' line' (λ j. j ≡ i) (λ j. ⊥) j (view c) s (λ e. e) k)
-      (crowd_still Phase.Sweeps (nobody line) (record { line = Some line'; had = λ j. j ≡ i }) past log log' slots count now i d s' more (λ j k. absurd k) (λ k. k) refl h within is k none did
+      (crowd_still Phase.Sweeps (nobody line) (record { line = Some line'; had = λ j. j ≡ i }) past log log' slots count now i d s' more (λ j k. absurd k) (λ k. k) refl h calm within is k none did
       (λ j apart v s k. alert_swept line line' (λ j. ⊥) (λ j. j ≡ i) j v s (λ e. others j apart ∙ e) k)
       (λ b c s e f number mine came quiet k.
       let whole = closed_in_slot view closed d s' c more f or_same in
@@ -810,12 +860,12 @@ module _ {B S : Type 0} (view : B → View) (rules : Rules S) (limits : Limits) 
       let lost = a.unlost in
       let waited = a.waited in
       told_more rules limits first start Phase.Reads Phase.Reads 0 0 past past log log' slots (slice_set slots i s) count (count + came) now now h.story more h.is_told k
-      (passes_plain rules h.story now now more a.untold a.unchanged (subst (λ t. AreTurns rules now t now) (sym a.none) refl))
+      (passes_plain rules h.story now now more a.untold a.stay a.unchanged (subst (λ t. AreTurns rules now t now) (sym a.none) refl))
       (lasts_plain rules (is_some limits.journal) now now more a.unchanged (subst (λ t. AreTurns rules now t now) (sym a.none) refl))
       (omega (arith, came_is)) capped (let e = count_is.0 in omega (arith, came_is, closed_is, sums, e))
       (let e = count_is.1 in omega (arith, came_is, one, e, sized))
       (let e = long_set slots i s in omega (arith, e)) (a.within limits) fits.0 fits.1
-      (still h.story more h.is_told.fair a.silent) (omega (arith, lost)) (stays_past Phase.Reads past more waited (a.unkept past.journal) (λ e. absurd (reads_not_writes e))) (reads_plain limits more a.unchanged) (no_looks h.story more waited) (limited_quiet limits.tenant_clients h.story more a.none)
+      (still h.story more h.is_told.fair a.silent) (omega (arith, lost)) (stays_past Phase.Reads past more waited (a.unkept past.journal) (λ e. absurd (reads_not_writes e)) (a.unasked past.stage)) (reads_plain limits more a.unchanged) (no_looks h.story more waited) (limited_quiet limits.tenant_clients h.story more a.none) (λ e. quiet_single more a.none)
 
   pub crowd_seat : (line line' : Line) (past : Past) (log log' : Acts) (slots : List (Option B)) (count : ℕ) (now : S) (i : ℕ) (came : Bool) (s : Option B) (more : Story)
       → StayAwake line line' → (came ≡ true → i < 1024 → awake_in line' i ≡ true)
@@ -919,7 +969,7 @@ module _ {B S : Type 0} (view : B → View) (rules : Rules S) (limits : Limits) 
       subst (λ s. Now phase had past log s count' now) (sym e) (subst (λ n. Now phase had past log slots n now) (sym f) h)
 
   pub waited : (line line' : Line) (past : Past) (log log' : Acts) (slots slots' : List (Option B)) (count count' : ℕ) (now : S) (sleeps : Bool) (slots_told : List ℕ)
-      → (sleeps ≡ true → (i : ℕ) → awake_in line i ≡ true → ⊥) → StayAwake line line' → AreAwake slots_told line' → DidLog log (Waited sleeps slots_told ∷ []) log' → slots' ≡ slots → count' ≡ count
+      → past.stage ≡ Stage.Unasked → (sleeps ≡ true → (i : ℕ) → awake_in line i ≡ true → ⊥) → StayAwake line line' → AreAwake slots_told line' → DidLog log (Waited sleeps slots_told ∷ []) log' → slots' ≡ slots → count' ≡ count
       → Now Phase.Sweeps (nobody line) past log slots count now → Now Phase.Reads (nobody line') (later past) log' slots' count' now
-  waited line line' past log log' slots slots' count count' now sleeps slots_told asleep stay wakes k e f h =
-      subst (λ s. Now Phase.Reads (nobody line') (later past) log' s count' now) (sym e) (subst (λ n. Now Phase.Reads (nobody line') (later past) log' slots n now) (sym f) (has_waited line line' past log log' slots count now sleeps slots_told asleep stay wakes k h))
+  waited line line' past log log' slots slots' count count' now sleeps slots_told unasked asleep stay wakes k e f h =
+      subst (λ s. Now Phase.Reads (nobody line') (later past) log' s count' now) (sym e) (subst (λ n. Now Phase.Reads (nobody line') (later past) log' slots n now) (sym f) (has_waited line line' past log log' slots count now sleeps slots_told unasked asleep stay wakes k h))

@@ -18,10 +18,12 @@ mod OneSlot
 mod Owning
 pub mod Passing
 mod Presence
+mod Questioning
 mod Queueing
 mod Seats
 pub mod Recording
 pub mod Seeing
+mod Singles
 pub mod Stepping
 mod Telling
 mod Turning

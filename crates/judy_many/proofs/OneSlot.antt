@@ -19,7 +19,7 @@ use Rattle.judy_many.proofs.Owning.{same_eq}
 use Rattle.judy_many.proofs.Turning.{times-append}
 use Rattle.judy_many.proofs.Journals.{keeps_quiet}
 use Rattle.judy_many.proofs.Living.{live_part}
-use Rattle.judy_many.proofs.Telling.{AreWithin-append, InPhase-append, Mine-append, came-append, closed-append, leaves_gone, leaves_kicked, leaves_part, leaves_silent, left_served, piece_none, stays_none}
+use Rattle.judy_many.proofs.Telling.{AreWithin-append, InPhase-append, Mine-append, came-append, closed-append, leaves_gone, leaves_kicked, leaves_part, leaves_silent, left_served, piece_none, reached, ready_more, ready_none, stays_none}
 
 never : false ≡ true → ⊥
 never e = cc
@@ -67,7 +67,7 @@ module _ {B : Type 0} (view : B → View) (limits : Limits) (phase : Phase) wher
   pub did_idle : (h : How) (s t : Option B) (b : B) → is_orderly h ≡ false → ((acts : List Act) (turns : List Turn) → IsReason h acts turns) → IsAllowed limits h → Some b ≡ s → t ≡ None
       → SlotDid limits phase (option_map view s) (option_map view t) (Did (Closed (view b).number h) ∷ [])
   did_idle h s t b not why allowed e f =
-      did_left h s t b [] e f (piece_none (view b).number phase) allowed (leaves_part h (view b) (view b) [] not (λ acts turns. why (acts ++ []) turns) (stays_none (view b)))
+      did_left h s t b [] e f (piece_none (view b).number phase) allowed (leaves_part h (view b) (view b) [] not (λ acts turns. why (acts ++ []) turns) (reached (view b) (view b) [] (stays_none (view b))))
 
   -- the client was closed, since nobody speaks for it
   pub did_silent : (s t : Option B) (b : B) → (view b).who ≡ None → IsAllowed limits how.Login → Some b ≡ s → t ≡ None
@@ -86,17 +86,17 @@ module _ {B : Type 0} (view : B → View) (limits : Limits) (phase : Phase) wher
 
 -- a client came
 pub arrived : (n i : ℕ) → IsArrival 1 0 (Did (Came n i) ∷ [])
-arrived n i = record { came_is = refl; closed_is = refl; within = λ limits. (tt, tt); none = refl; silent = λ share. refl; waited = refl; unlost = refl; untold = refl; part = ((tt, tt), refl); unchanged = refl; unkept = λ j. keeps_quiet j _ refl }
+arrived n i = record { came_is = refl; closed_is = refl; within = λ limits. (tt, tt); none = refl; silent = λ share. refl; waited = refl; unlost = refl; untold = refl; stay = refl; unasked = λ stage. ((tt, tt), refl); part = ((tt, tt), refl); unchanged = refl; unkept = λ j. keeps_quiet j _ refl }
 
 -- none came
 pub came_not : {B : Type 0} (view : B → View) (s : Option B) (n i : ℕ) → s ≡ None → Arrives n i false (option_map view s) []
 came_not view s n i e = subst (λ o. Arrives n i false (option_map view o) []) (sym e)
-    (record { came_is = refl; closed_is = refl; within = λ limits. tt; none = refl; silent = λ share. refl; waited = refl; unlost = refl; untold = refl; part = (tt, refl); unchanged = refl; unkept = λ j. keeps_quiet j _ refl }, λ m. refl)
+    (record { came_is = refl; closed_is = refl; within = λ limits. tt; none = refl; silent = λ share. refl; waited = refl; unlost = refl; untold = refl; stay = refl; unasked = λ stage. (tt, refl); part = (tt, refl); unchanged = refl; unkept = λ j. keeps_quiet j _ refl }, λ m. refl)
 
 -- one could not be accepted
 pub refused : {B : Type 0} (view : B → View) (s : Option B) (n i : ℕ) → s ≡ None → Arrives n i false (option_map view s) (Did Refused ∷ [])
 refused view s n i e = subst (λ o. Arrives n i false (option_map view o) (Did Refused ∷ [])) (sym e)
-    (record { came_is = refl; closed_is = refl; within = λ limits. (tt, tt); none = refl; silent = λ share. refl; waited = refl; unlost = refl; untold = refl; part = ((tt, tt), refl); unchanged = refl; unkept = λ j. keeps_quiet j _ refl }, λ m. refl)
+    (record { came_is = refl; closed_is = refl; within = λ limits. (tt, tt); none = refl; silent = λ share. refl; waited = refl; unlost = refl; untold = refl; stay = refl; unasked = λ stage. ((tt, tt), refl); part = ((tt, tt), refl); unchanged = refl; unkept = λ j. keeps_quiet j _ refl }, λ m. refl)
 
 -- a client came, and is in the slot
 pub came_in_slot : (v : View) (n i : ℕ) → v.number ≡ n → Holds [] v.held → v.who ≡ None → v.waiting ≡ [] → v.pending ≡ [] → v.quits ≡ false
@@ -107,7 +107,15 @@ came_in_slot v n i is held who waiting pending quits = (
   refl,
   record { waiting = waiting; pending = pending },
   (same_eq n, tt),
-  record { live = live; order = λ p q cut. at_each p q cut; came = refl; unclosed = refl },
+  record {
+    live = live;
+    order = λ p q cut. at_each p q cut;
+    ready = ready_more [] (Did (Came n i)) ready_none (λ e. absurd (never e));
+    came = refl;
+    unclosed = refl;
+    unended = refl;
+    unfailed = refl;
+  },
 )
   where
     live : IsLive (Came n i ∷ []) [] v
@@ -138,10 +146,11 @@ came_in_slot v n i is held who waiting pending quits = (
 pub dropped : {B : Type 0} (view : B → View) (s : Option B) (n i : ℕ) → s ≡ None
     → Arrives n i true (option_map view s) (Did (Came n i) ∷ Did (Closed n how.Memory) ∷ [])
 dropped view s n i e = subst (λ o. Arrives n i true (option_map view o) (Did (Came n i) ∷ Did (Closed n how.Memory) ∷ [])) (sym e) (
-  record { came_is = refl; closed_is = refl; within = λ limits. (tt, (tt, tt)); none = refl; silent = λ share. refl; waited = refl; unlost = refl; untold = refl; part = ((tt, (tt, tt)), refl); unchanged = refl; unkept = λ j. keeps_quiet j _ refl },
+  record { came_is = refl; closed_is = refl; within = λ limits. (tt, (tt, tt)); none = refl; silent = λ share. refl; waited = refl; unlost = refl; untold = refl; stay = refl; unasked = λ stage. ((tt, (tt, tt)), refl); part = ((tt, (tt, tt)), refl); unchanged = refl; unkept = λ j. keeps_quiet j _ refl },
   (same_eq n, (same_eq n, tt)),
   record {
     order = λ p q cut. at_each p q cut;
+    ready = ready_more (Did (Came n i) ∷ []) (Did (Closed n how.Memory)) (ready_more [] (Did (Came n i)) ready_none (λ e. absurd (never e))) (λ e. absurd (never e));
     whole = λ yes. absurd (never yes);
     why = λ p q m other cut. reason p q m other cut;
     once = (omega arith, omega arith);
@@ -166,8 +175,13 @@ dropped view s n i e = subst (λ o. Arrives n i true (option_map view o) (Did (C
       where
         apart : Did (Came n i) ∷ Did (Closed n how.Memory) ∷ [] ≡ Did (Closed m other) ∷ q → ⊥
         apart e = cc
-    reason (x ∷ []) q m other cut = subst (λ h. IsReason h (acts_in (x ∷ [])) (turns_in (x ∷ []))) (one cut) tt
+    reason (x ∷ []) q m other cut =
+        subst (λ y. IsReason other (acts_in (y ∷ [])) (turns_in (y ∷ []))) (first cut)
+        (subst (λ h. IsReason h (Came n i ∷ []) []) (one cut) (refl, refl))
       where
+        first : Did (Came n i) ∷ Did (Closed n how.Memory) ∷ [] ≡ x ∷ Did (Closed m other) ∷ q → Did (Came n i) ≡ x
+        first e = cc
+
         one : Did (Came n i) ∷ Did (Closed n how.Memory) ∷ [] ≡ x ∷ Did (Closed m other) ∷ q → how.Memory ≡ other
         one e = cc
     reason (x ∷ y ∷ p) q m other cut = absurd (short (ap length cut ∙ ap (λ k. suc (suc k)) (length-append p (Did (Closed m other) ∷ q))))

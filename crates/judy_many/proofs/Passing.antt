@@ -2,20 +2,29 @@
 use Rattle.std.proofs.Common.{append-nil, append_assoc, ◌≡◌, ℕ, Bool, true, false, List, [], ◌∷◌, ◌++◌, Option, None, arith, refl, subst, sym, ◌∙◌}
 use Rattle.judy_model.specs.Speakers.{Speaker}
 use Rattle.judy_many.specs.Endings.{reports_by, reports_in}
+use Rattle.judy_many.specs.Questions.{gone_how, gones_by, gones_in}
 use Rattle.judy_many.specs.Nets.{Act}
 use Rattle.judy_many.specs.Nets.Act.{Came, Refused, Read, Dry, Ended, Broke, Wrote, Failed, Closed, Waited, Lost, Asked, Questioned, Reported, Warned, Tabled, Untabled, Named, Replied, Began, Kept, Unkept, Synced, Unsynced}
 use Rattle.judy_many.specs.Rules.{Rules}
 use Rattle.judy_many.specs.Sessions.{AreTurns, Turn}
-use Rattle.judy_many.specs.Statuses.{Lasts, Passes, Tells}
+use Rattle.judy_many.specs.Statuses.{IsClosedFor, Lasts, Passes, Tells}
 use Rattle.judy_many.specs.Stories.{AreRead, Moment, Story, acts_in, changes_in, just_read, turns_in}
 use Rattle.judy_many.specs.Stories.Moment.{Changed, Did, Ran}
+use Rattle.judy_many.specs.declared.network.How.{How}
+use Rattle.judy_many.specs.declared.network.How.TheVariants as how
 use Rattle.judy_many.specs.declared.serve.Limits.{Limits}
 use Rattle.judy_many.proofs.Stepping.{AreTurns-append}
 
--- an answer that is no report
-untold : (status : List (Option Speaker) → List ℕ) (past : Story) (a : Act) → reports_by a ≡ 0 → Tells status past a
-untold status past (Reported told) e = absurd (omega (arith, e))
-untold status past act e = tt
+-- a close for another cause
+ungone : (h : How) (past : Story) (n : ℕ) → gone_how h ≡ 0 → IsClosedFor h past n
+ungone how.Gone past n e = absurd (omega (arith, e))
+ungone other past n e = tt
+
+-- an answer that is no report, and no close of a connection whose speaker is gone
+untold : {S : Type 0} (rules : Rules S) (now : S) (past : Story) (a : Act) → reports_by a ≡ 0 → gones_by a ≡ 0 → Tells rules now past a
+untold rules now past (Reported told) e g = absurd (omega (arith, e))
+untold rules now past (Closed n h) e g = ungone h past n g
+untold rules now past act e g = tt
 
 some : (text : List ℕ) (texts : List (List ℕ)) → text ∷ texts ≡ [] → ⊥
 some text texts e = cc
@@ -29,14 +38,15 @@ module _ {S : Type 0} (rules : Rules S) where
       (last, (mid, one, first), more)
 
   -- where nothing is told, lines are all that happens to the service
-  pub passes_plain : (past : Story) (before after : S) (story : Story) → reports_in (acts_in story) ≡ 0 → changes_in story ≡ [] → AreTurns rules before (turns_in story) after → Passes rules past before story after
-  passes_plain past before after [] none same h = h
-  passes_plain past before after (Did a ∷ story) none same h =
-      (untold (rules.status before) past a (omega (arith, none)), passes_plain (past ++ Did a ∷ []) before after story (omega (arith, none)) same h)
-  passes_plain past before after (Ran n turns ∷ story) none same h =
+  pub passes_plain : (past : Story) (before after : S) (story : Story) → reports_in (acts_in story) ≡ 0 → gones_in (acts_in story) ≡ 0 → changes_in story ≡ []
+      → AreTurns rules before (turns_in story) after → Passes rules past before story after
+  passes_plain past before after [] none stay same h = h
+  passes_plain past before after (Did a ∷ story) none stay same h =
+      (untold rules before past a (omega (arith, none)) (omega (arith, stay)), passes_plain (past ++ Did a ∷ []) before after story (omega (arith, none)) (omega (arith, stay)) same h)
+  passes_plain past before after (Ran n turns ∷ story) none stay same h =
       let (mid, first, more) = split_turns before after turns (turns_in story) h in
-      (mid, first, passes_plain (past ++ Ran n turns ∷ []) mid after story none same more)
-  passes_plain past before after (Changed text ∷ story) none same h = absurd (some text (changes_in story) same)
+      (mid, first, passes_plain (past ++ Ran n turns ∷ []) mid after story none stay same more)
+  passes_plain past before after (Changed text ∷ story) none stay same h = absurd (some text (changes_in story) same)
 
   -- the past of what comes after a moment
   onward : (past : Story) (m : Moment) (a b : Story) (mid after : S) → Passes rules (past ++ m ∷ a) mid b after → Passes rules ((past ++ m ∷ []) ++ a) mid b after

@@ -14,7 +14,7 @@ use Rattle.judy_many.specs.Stories.{Phase, Story, acts_in, came_in, closed_in, o
 use Rattle.judy_many.specs.Watches.{Queued}
 use Rattle.judy_many.specs.declared.serve.Limits.{Limits}
 
-speaks_since : (who : Option Speaker) (turns : List Turn) (last : Option Speaker) → Speaks who turns last → last ≡ speaker_since who turns
+pub speaks_since : (who : Option Speaker) (turns : List Turn) (last : Option Speaker) → Speaks who turns last → last ≡ speaker_since who turns
 speaks_since who [] last h = h
 speaks_since who (t ∷ turns) last h = speaks_since t.after turns last h.2
 

@@ -10,11 +10,11 @@ use Rattle.judy_many.specs.declared.network.How.{How}
 use Rattle.judy_many.specs.declared.network.How.TheVariants as how
 use Rattle.judy_many.specs.declared.serve.Limits.{Limits}
 use Rattle.judy_many.specs.Fates.{Ends, IsLeft, Leaves, Stays}
-use Rattle.judy_many.specs.Lives.{HasReason, IsLive, IsOrdered, IsReason, IsPart, IsServed, IsWhole, Lives, View, end_well, ends_well, is_orderly, read_in, wrote_in}
+use Rattle.judy_many.specs.Lives.{HasReason, HearsWhenReady, IsLive, IsOrdered, IsReady, IsReason, IsPart, IsServed, IsWhole, Lives, View, end_well, ends_well, is_orderly, read_in, wrote_in}
 use Rattle.judy_many.specs.Nets.{Act}
 use Rattle.judy_many.specs.Nets.Act.{Came, Refused, Read, Dry, Ended, Broke, Wrote, Failed, Closed, Waited, Lost, Asked, Questioned, Reported, Warned, Tabled, Untabled, Named, Replied, Began, Kept, Unkept, Synced, Unsynced}
 use Rattle.judy_many.specs.Sessions.{Speaks, Turn}
-use Rattle.judy_many.specs.Stories.{AreReads, AreWithin, AreWrites, Phase, InPhase, IsOnce, IsPhased, IsPiece, IsRead, IsWrite, Mine, Moment, Share, Story, acts_by, acts_in, came_by, came_in, closed_by, closed_in, reading, running, share_of, times, told, turns_by, turns_in, writes_after, writes_since}
+use Rattle.judy_many.specs.Stories.{AreReads, AreWell, AreWithin, AreWrites, Phase, InPhase, IsOnce, IsPhased, IsPiece, IsRead, IsWrite, Mine, Moment, Share, Story, acts_by, acts_in, came_by, came_in, closed_by, closed_in, hears, is_end, is_fault, is_read, reading, running, share_of, times, told, turns_by, turns_in, writes_after, writes_since}
 use Rattle.judy_many.specs.Stories.Moment.{Did, Ran}
 use Rattle.judy_many.proofs.Living.{end_well-append, live_part, live_read, live_send, live_whole, read_in-append, wrote_in-append}
 
@@ -192,12 +192,90 @@ ordered_more s m h last p q e = elim (split s (m ∷ []) p q e) [ inl k ↦ h p 
         never : 1 ≡ suc (suc (length (r ++ q))) → ⊥
         never e = omega (arith, e)
 
+-- before any moment there is nothing to show
+pub ready_none : HearsWhenReady []
+ready_none p q m cut e = absurd (some p cut)
+  where
+    some : (p : Story) → [] ≡ p ++ m ∷ q → ⊥
+    some [] e = cc
+    some (x ∷ p) e = cc
+
+-- one more moment: where the connection is heard at it, it is ready before it
+pub ready_more : (s : Story) (m : Moment) → HearsWhenReady s → (hears m ≡ true → IsReady (acts_in s) (turns_in s)) → HearsWhenReady (s ++ m ∷ [])
+ready_more s m h last p q x cut e = elim (split s (m ∷ []) p (x ∷ q) cut) [ inl k ↦ inside k.0 k.1 k.2 | inr k ↦ at_end k.0 k.1 k.2 ]
+  where
+    first : {y : Moment} {r : Story} → x ∷ q ≡ y ∷ r → x ≡ y
+    first e = cc
+
+    here : p ≡ s → x ≡ m → IsReady (acts_in p) (turns_in p)
+    here f g = subst (λ t. IsReady (acts_in t) (turns_in t)) (sym f) (last (subst (λ y. hears y ≡ true) g e))
+
+    inside : (r : Story) → s ≡ p ++ r → x ∷ q ≡ r ++ m ∷ [] → IsReady (acts_in p) (turns_in p)
+    inside [] f g = here (sym (f ∙ append-nil p)) (first g)
+    inside (y ∷ r) f g = h p r x (f ∙ ap (λ z. p ++ z ∷ r) (sym (first g))) e
+
+    at_end : (r : Story) → p ≡ s ++ r → m ∷ [] ≡ r ++ x ∷ q → IsReady (acts_in p) (turns_in p)
+    at_end [] f g = here (f ∙ append-nil s) (first (sym g))
+    at_end (y ∷ r) f g = absurd (short (ap length g ∙ ap suc (length-append r (x ∷ q))))
+      where
+        short : 1 ≡ suc (length r + suc (length q)) → ⊥
+        short e = omega (arith, e)
+
+-- a client that did not ask to quit is ready, where its answers are written
+ready_of : (s : Story) (v : View) → Lives s v → v.pending ≡ [] → v.quits ≡ false → IsReady (acts_in s) (turns_in s)
+ready_of s v h none stays = record {
+  came = h.came;
+  unclosed = h.unclosed;
+  written = sym (append-nil (wrote_in (acts_in s))) ∙ ap (λ w. wrote_in (acts_in s) ++ w) (sym none) ∙ h.live.text;
+  unasked = sym h.live.asked ∙ stays;
+  unended = h.unended;
+  unfailed = h.unfailed;
+}
+
+-- a client after an answer of the system, which may be its end, or a fault
+pub record HasLived (story : Story) (v : View) : Type 0 where
+  pub live : IsLive (acts_in story) (turns_in story) v
+  pub order : IsOrdered story
+  pub ready : HearsWhenReady story
+  pub came : came_in (acts_in story) ≡ 1
+  pub unclosed : closed_in (acts_in story) ≡ 0
+
+abbrev pub Reaches : View → View → Story → Type 0
+Reaches v w more = (story : Story) → Lives story v → HasLived (story ++ more) w
+
+pub reached : (v w : View) (a : Story) → Stays v w a → Reaches v w a
+reached v w a h s live =
+    let later = h s live in
+    record { live = later.live; order = later.order; ready = later.ready; came = later.came; unclosed = later.unclosed }
+
+-- a client is read only where its answers are written and it did not ask to quit
+abbrev MayHear : View → List Act → Type 0
+MayHear v [] = Unit {0}
+MayHear v (a ∷ acts) = (is_read a ≡ true → (v.pending ≡ []) × (v.quits ≡ false)) × MayHear v acts
+
+reads_hear : (v : View) (acts : List Act) → v.pending ≡ [] → v.quits ≡ false → MayHear v acts
+reads_hear v [] none stays = tt
+reads_hear v (a ∷ acts) none stays = (λ e. (none, stays), reads_hear v acts none stays)
+
+writes_hear : (v : View) (n : ℕ) (acts : List Act) → AreWrites n acts → MayHear v acts
+writes_hear v n [] h = tt
+writes_hear v n (a ∷ acts) h = (λ e. absurd (unread a h.0 e), writes_hear v n acts h.1)
+  where
+    never : false ≡ true → ⊥
+    never e = cc
+
+    unread : (a : Act) → IsWrite n a → is_read a ≡ true → ⊥
+    unread (Wrote m bytes) h e = never e
+    unread (Failed m) h e = never e
+    unread act h e = h
+
 -- one answer of the system
-stays_one : (v w : View) (a : Act) → came_by a ≡ 0 → closed_by a ≡ 0
-    → ((did : List Act) (ran : List Turn) → IsLive did ran v → IsLive (did ++ a ∷ []) ran w) → Stays v w (Did a ∷ [])
-stays_one v w a came unclosed goes s h = record {
+reaches_one : (v w : View) (a : Act) → came_by a ≡ 0 → closed_by a ≡ 0 → (is_read a ≡ true → (v.pending ≡ []) × (v.quits ≡ false))
+    → ((did : List Act) (ran : List Turn) → IsLive did ran v → IsLive (did ++ a ∷ []) ran w) → Reaches v w (Did a ∷ [])
+reaches_one v w a came unclosed may goes s h = record {
   live = later;
   order = ordered_more s (Did a) h.order (live_part _ _ w later);
+  ready = ready_more s (Did a) h.ready (λ e. let k = may e in ready_of s v h k.0 k.1);
   came = let e = came-append s (Did a ∷ []) in let f = h.came in omega (arith, e, f, came);
   unclosed = let e = closed-append s (Did a ∷ []) in let f = h.unclosed in omega (arith, e, f, unclosed);
 }
@@ -209,25 +287,51 @@ stays_one v w a came unclosed goes s h = record {
         (goes (acts_in s) (turns_in s) h.live))
 
 -- at most one
-pub stays_did : (v w : View) (acts : List Act) → length acts ≤ 1 → came_in acts ≡ 0 → closed_in acts ≡ 0
-    → ((did : List Act) (ran : List Turn) → IsLive did ran v → IsLive (did ++ acts) ran w) → Stays v w (told acts)
-stays_did v w [] few came unclosed goes s h =
+reaches_did : (v w : View) (acts : List Act) → length acts ≤ 1 → came_in acts ≡ 0 → closed_in acts ≡ 0 → MayHear v acts
+    → ((did : List Act) (ran : List Turn) → IsLive did ran v → IsLive (did ++ acts) ran w) → Reaches v w (told acts)
+reaches_did v w [] few came unclosed may goes s h =
     let later : IsLive (acts_in s) (turns_in s) w
     = subst (λ x. IsLive x (turns_in s) w) (append-nil (acts_in s)) (goes (acts_in s) (turns_in s) h.live) in
-    subst (λ t. Lives t w) (sym (append-nil s)) (record { live = later; order = h.order; came = h.came; unclosed = h.unclosed })
-stays_did v w (a ∷ []) few came unclosed goes s h = stays_one v w a (omega (arith, came)) (omega (arith, unclosed)) goes s h
-stays_did v w (a ∷ b ∷ acts) few came unclosed goes s h = absurd (omega (arith, few))
+    subst (λ t. HasLived t w) (sym (append-nil s)) (record { live = later; order = h.order; ready = h.ready; came = h.came; unclosed = h.unclosed })
+reaches_did v w (a ∷ []) few came unclosed may goes s h = reaches_one v w a (omega (arith, came)) (omega (arith, unclosed)) may.0 goes s h
+reaches_did v w (a ∷ b ∷ acts) few came unclosed may goes s h = absurd (omega (arith, few))
+
+-- what no answer says is not said
+unsaid : (p : Act → Bool) (s : Story) (acts : List Act) → list_any p (acts_in s) ≡ false → list_any p acts ≡ false → list_any p (acts_in (s ++ told acts)) ≡ false
+unsaid p s acts h k =
+    ap (list_any p) (acts_in-append s (told acts) ∙ ap (λ a. acts_in s ++ a) (acts_in-told acts))
+    ∙ list_any-append p (acts_in s) acts ∙ ap (λ b. b || list_any p acts) h ∙ k
+
+-- it stays, where no answer is its end or a fault
+pub stays_well : (v w : View) (acts : List Act) → AreWell acts → Reaches v w (told acts) → Stays v w (told acts)
+stays_well v w acts well h s live =
+    let later = h s live in
+    record {
+      live = later.live;
+      order = later.order;
+      ready = later.ready;
+      came = later.came;
+      unclosed = later.unclosed;
+      unended = unsaid is_end s acts live.unended well.0;
+      unfailed = unsaid is_fault s acts live.unfailed well.1;
+    }
 
 -- lines
-pub stays_ran : (v w : View) (n : ℕ) (turns : List Turn)
+pub stays_ran : (v w : View) (n : ℕ) (turns : List Turn) → v.pending ≡ [] → v.quits ≡ false
     → ((did : List Act) (ran : List Turn) → IsLive did ran v → IsLive did (ran ++ turns) w) → Stays v w (Ran n turns ∷ [])
-stays_ran v w n turns goes s h = record {
+stays_ran v w n turns none stays goes s h = record {
   live = later;
   order = ordered_more s (Ran n turns) h.order (live_part _ _ w later);
+  ready = ready_more s (Ran n turns) h.ready (λ e. ready_of s v h none stays);
+  unended = ap (list_any is_end) same ∙ h.unended;
+  unfailed = ap (list_any is_fault) same ∙ h.unfailed;
   came = let e = came-append s (Ran n turns ∷ []) in let f = h.came in omega (arith, e, f);
   unclosed = let e = closed-append s (Ran n turns ∷ []) in let f = h.unclosed in omega (arith, e, f);
 }
   where
+    same : acts_in (s ++ Ran n turns ∷ []) ≡ acts_in s
+    same = acts_in-append s (Ran n turns ∷ []) ∙ append-nil (acts_in s)
+
     later : IsLive (acts_in (s ++ Ran n turns ∷ [])) (turns_in (s ++ Ran n turns ∷ [])) w
     later =
         subst (λ x. IsLive x (turns_in (s ++ Ran n turns ∷ [])) w) (sym (acts_in-append s (Ran n turns ∷ []) ∙ append-nil (acts_in s)))
@@ -241,21 +345,22 @@ pub stays_then : (u v w : View) (a b : Story) → Stays u v a → Stays v w b �
 stays_then u v w a b h k s live = subst (λ t. Lives t w) (append_assoc s a b) (k (s ++ a) (h s live))
 
 pub leaves_part : (how : How) (v w : View) (a : Story) → is_orderly how ≡ false → ((acts : List Act) (turns : List Turn) → IsReason how (acts ++ acts_in a) turns)
-    → Stays v w a → Leaves how v a
+    → Reaches v w a → Leaves how v a
 leaves_part how v w a not why h s live =
     let later = h s live in
-    record { order = later.order; whole = λ yes. absurd (no (sym not ∙ yes)); stays = later.live.stays; why = subst (λ x. IsReason how x (turns_in (s ++ a))) (sym (acts_in-append s a)) (why (acts_in s) (turns_in (s ++ a))); came = later.came; unclosed = later.unclosed }
+    record { order = later.order; ready = later.ready; whole = λ yes. absurd (no (sym not ∙ yes)); stays = later.live.stays; why = subst (λ x. IsReason how x (turns_in (s ++ a))) (sym (acts_in-append s a)) (why (acts_in s) (turns_in (s ++ a))); came = later.came; unclosed = later.unclosed }
   where
     no : false ≡ true → ⊥
     no e = cc
 
 pub leaves_whole : (how : How) (v w : View) (a : Story) → w.pending ≡ [] → ((w.quits ≡ true) ⊎ (w.waiting ≡ []))
     → ((acts : List Act) (turns : List Turn) → IsLive (acts ++ acts_in a) turns w → IsReason how (acts ++ acts_in a) turns)
-    → Stays v w a → Leaves how v a
+    → Reaches v w a → Leaves how v a
 leaves_whole how v w a none ends why h s live =
     let later = h s live in
     record {
       order = later.order;
+      ready = later.ready;
       whole = λ yes. live_whole (acts_in (s ++ a)) (turns_in (s ++ a)) w later.live none ends;
       stays = later.live.stays;
       why = subst (λ x. IsLive x (turns_in (s ++ a)) w → IsReason how x (turns_in (s ++ a))) (sym (acts_in-append s a)) (why (acts_in s) (turns_in (s ++ a))) later.live;
@@ -269,6 +374,7 @@ leaves_silent v is s live =
     let same = stays_none v s live in
     record {
       order = same.order;
+      ready = same.ready;
       whole = λ yes. absurd (no yes);
       stays = same.live.stays;
       why = subst (Speaks None (turns_in (s ++ []))) is same.live.speaks;
@@ -285,6 +391,7 @@ leaves_gone v who is s live =
     let same = stays_none v s live in
     record {
       order = same.order;
+      ready = same.ready;
       whole = λ yes. absurd (no yes);
       stays = same.live.stays;
       why = (who, subst (Speaks None (turns_in (s ++ []))) is same.live.speaks);
@@ -301,6 +408,7 @@ leaves_kicked v who is s live =
     let same = stays_none v s live in
     record {
       order = same.order;
+      ready = same.ready;
       whole = λ yes. absurd (no yes);
       stays = same.live.stays;
       why = (who, subst (Speaks None (turns_in (s ++ []))) is same.live.speaks);
@@ -317,6 +425,7 @@ leaves_kicked v who is s live =
 pub lives_served : (s : Story) (v : View) → Lives s v → IsServed s
 lives_served s v h = record {
   order = h.order;
+  ready = h.ready;
   whole = λ yes. absurd (no (sym h.live.stays ∙ yes));
   why = λ p q n how cut. absurd (none_closed s p q n how h.unclosed cut);
   once = let f = h.came in let g = h.unclosed in (omega (arith, f), omega (arith, f, g));
@@ -395,11 +504,15 @@ pub left_served : (how : How) (n : ℕ) (s : Story) → IsLeft how s → IsServe
 left_served how n s h = record {
   order = ordered_more s (Did (Closed n how)) h.order
       (at_closed how n s (IsPart) (closed_part how n (acts_in s) (turns_in s) (subst (λ t. IsPart (acts_in t) (turns_in t)) (append-nil s) (h.order (s ++ []) [] (sym (append-nil (s ++ []) ∙ append-nil s))))));
+  ready = ready_more s (Did (Closed n how)) h.ready (λ e. absurd (never e));
   whole = at_closed how n s (λ a t. end_well a ≡ true → IsWhole a t) (closed_whole how n (acts_in s) (turns_in s) h.whole h.stays);
   why = λ p q m other cut. closed_why how n s h p q m other cut;
   once = let e = came-append s (Did (Closed n how) ∷ []) in let f = closed-append s (Did (Closed n how) ∷ []) in let k = h.came in let o = h.unclosed in
       (omega (arith, e, k), omega (arith, e, f, k, o));
 }
+  where
+    never : false ≡ true → ⊥
+    never e = cc
 
 -- ---- fates
 
@@ -435,19 +548,19 @@ renumber acts turns v n more l = record {
   stays = l.stays;
 }
 
-pub stays_read : (v : View) (m n : ℕ) (acts : List Act) (bytes : List ℕ) (more : Bool) → v.waiting ≡ [] → AreReads m acts → length acts ≤ 1
-    → read_in acts ≡ bytes → wrote_in acts ≡ [] → Stays v (record v { waiting = bytes; number = n; more = more }) (told acts)
-stays_read v m n acts bytes more none reads few read wrote =
+pub reaches_read : (v : View) (m n : ℕ) (acts : List Act) (bytes : List ℕ) (more : Bool) → v.pending ≡ [] → v.quits ≡ false → v.waiting ≡ [] → AreReads m acts → length acts ≤ 1
+    → read_in acts ≡ bytes → wrote_in acts ≡ [] → Reaches v (record v { waiting = bytes; number = n; more = more }) (told acts)
+reaches_read v m n acts bytes more written stays none reads few read wrote =
     let plain = reads_plain m acts reads few in
-    stays_did v (record v { waiting = bytes; number = n; more = more }) acts few plain.0 plain.1
+    reaches_did v (record v { waiting = bytes; number = n; more = more }) acts few plain.0 plain.1 (reads_hear v acts written stays)
     (λ did ran live. renumber (did ++ acts) ran (record v { waiting = bytes }) n more (live_read did ran v live acts bytes none read wrote (plain_ends acts plain.1)))
 
-pub stays_send : (v : View) (m n : ℕ) (acts : List Act) (pending waiting : List ℕ) (more : Bool) → waiting ≡ v.waiting → AreWrites m acts → length acts ≤ 1
-    → wrote_in acts ++ pending ≡ v.pending → read_in acts ≡ [] → Stays v (record v { pending = pending; waiting = waiting; number = n; more = more }) (told acts)
-stays_send v m n acts pending waiting more same writes few wrote read =
+pub reaches_send : (v : View) (m n : ℕ) (acts : List Act) (pending waiting : List ℕ) (more : Bool) → waiting ≡ v.waiting → AreWrites m acts → length acts ≤ 1
+    → wrote_in acts ++ pending ≡ v.pending → read_in acts ≡ [] → Reaches v (record v { pending = pending; waiting = waiting; number = n; more = more }) (told acts)
+reaches_send v m n acts pending waiting more same writes few wrote read =
     let plain = writes_plain m acts writes few in
-    subst (λ w. Stays v (record v { pending = pending; waiting = w; number = n; more = more }) (told acts)) (sym same)
-    (stays_did v (record v { pending = pending; number = n; more = more }) acts few plain.0 plain.1
+    subst (λ w. Reaches v (record v { pending = pending; waiting = w; number = n; more = more }) (told acts)) (sym same)
+    (reaches_did v (record v { pending = pending; number = n; more = more }) acts few plain.0 plain.1 (writes_hear v m acts writes)
     (λ did ran live. renumber (did ++ acts) ran (record v { pending = pending }) n more (live_send did ran v live acts pending wrote read (plain_ends acts plain.1))))
 
 -- a read, and then lines

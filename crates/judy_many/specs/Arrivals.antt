@@ -6,6 +6,7 @@ use Rattle.judy_many.specs.Endings.{lost_in, reports_in, waits_in}
 use Rattle.judy_many.specs.Journaling.{Carries}
 use Rattle.judy_many.specs.Nets.Act.{Came}
 use Rattle.judy_many.specs.Lives.{IsServed, Lives, View}
+use Rattle.judy_many.specs.Questions.{AreAsked, Stage, gones_in, stage_since}
 use Rattle.judy_many.specs.Stories.{AreWithin, Phase, InPhase, Mine, Share, Story, acts_in, came_in, changes_in, closed_in, own, times, turns_in}
 use Rattle.judy_many.specs.Stories.Moment.{Did}
 
@@ -19,6 +20,8 @@ pub record IsArrival (came closed : ℕ) (more : Story) : Type 0 where
   pub waited : waits_in (acts_in more) ≡ 0
   pub unlost : lost_in (acts_in more) ≡ 0
   pub untold : reports_in (acts_in more) ≡ 0
+  pub stay : gones_in (acts_in more) ≡ 0
+  pub unasked : (stage : Stage) → AreAsked stage more × (stage_since stage more ≡ stage)
   pub part : InPhase Phase.Reads more
   pub unchanged : changes_in more ≡ []
   pub unkept : (j : Option Journal) → Carries j more j

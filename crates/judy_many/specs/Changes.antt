@@ -9,14 +9,17 @@
 use Rattle.std.specs.Prelude.{◌≡◌, ◌⊎◌, ℕ, Bool, true, false, not, List, [], ◌∷◌, Option, Some, None, codes, zip}
 use Rattle.judy_model.specs.Service.{AreServed, own}
 use Rattle.judy_model.specs.Solo.{Exchanges, IsSolo, attempts_of, refusals}
+use Rattle.judy_model.specs.Speakers.{Speaker}
 use Rattle.judy_model.specs.Tenant.{State, no_arrays}
 use Rattle.judy_model.specs.Worlds.{AreTheOnly}
 use Rattle.judy_protocol.specs.Services.{Seen}
+use Rattle.judy_many.specs.Lives.{View}
 use Rattle.judy_many.specs.Nets.{Act, Acts, DidLog}
 use Rattle.judy_many.specs.Nets.Act.{Closed, Replied, Tabled, Untabled, Warned}
 use Rattle.judy_many.specs.Rules.{Rules}
 use Rattle.judy_many.specs.Sessions.{Turn, events_in, replies_in}
-use Rattle.judy_many.specs.Stories.{BeginsWith, told_head}
+use Rattle.judy_many.specs.Stories.{BeginsWith, Story, told_head}
+use Rattle.judy_many.specs.Stories.Moment.{Did}
 use Rattle.judy_many.specs.declared.network.How.TheVariants as how
 
 -- quotas, names and tokens may be others after it
@@ -43,6 +46,11 @@ is_gone admits (Some speaker) = not (admits speaker)
 abbrev pub AreGone : List Act → Type 0
 AreGone [] = Unit {0}
 AreGone (a ∷ acts) = ((n : ℕ) × (a ≡ Closed n how.Gone)) × AreGone acts
+
+-- what happened to a slot: its client was closed, since its speaker is gone; or nothing
+abbrev pub SlotGone : Option View → Story → Type 0
+SlotGone None more = more ≡ []
+SlotGone (Some v) more = (more ≡ []) ⊎ ((more ≡ Did (Closed v.number how.Gone) ∷ []) × (who : Speaker) × (v.who ≡ Some who))
 
 -- what is answered: `OK` only where the table was put in force
 abbrev pub reply_head : Bool → List ℕ

@@ -13,9 +13,10 @@ use Rattle.judy_many.specs.Journaling.{AreKept, AreSettled, Carries, IsFailure, 
 use Rattle.judy_many.specs.Lives.{IsPart, IsServed, Lives, View}
 use Rattle.judy_many.specs.Nets.{Act, Acts, DidLog}
 use Rattle.judy_many.specs.Others.{IsLimited}
+use Rattle.judy_many.specs.Questions.{AreAsked, Stage, last_stage, stage_since}
 use Rattle.judy_many.specs.Rules.{Rules}
 use Rattle.judy_many.specs.Statuses.{Keeps, Lasts, Passes}
-use Rattle.judy_many.specs.Stories.{AreRead, AreWithin, HasTurns, IsPhased, Phase, Share, Story, acts_in, came_in, closed_in, most, own, runs_in, turns_in, turns_since, writes_since}
+use Rattle.judy_many.specs.Stories.{AreRead, AreSingle, AreWithin, HasTurns, IsPhased, Phase, Share, Story, acts_in, came_in, closed_in, most, own, runs_in, turns_in, turns_since, writes_since}
 use Rattle.judy_many.specs.Watches.{Alert, HasEach, IsAwake, Queued, unqueued}
 
 -- this client is in this slot
@@ -49,14 +50,21 @@ pub record IsThere {B : Type 0} (view : B → View) (slots : List (Option B)) (n
 abbrev pub HasFew : ℕ → Story → Type 0
 HasFew clients story = (p q : Story) → story ≡ p ++ q → came_in (acts_in p) ≤ closed_in (acts_in p) + clients
 
--- how often the server has waited; the journal with which it began, and the journal now, if there is one
+-- how often the server has waited; the journal with which it began, and the journal now, if there is one;
+-- and where the answering of a question is
 pub record Past : Type 0 where
   pub waits : ℕ
   pub began : Option Journal
   pub journal : Option Journal
+  pub stage : Stage
 
+-- at this stage
+abbrev pub at_stage : Stage → Past → Past
+at_stage stage past = record past { stage = stage }
+
+-- nothing is asked
 abbrev pub past_of : ℕ → Option Journal → Option Journal → Past
-past_of waits began journal = record { waits = waits; began = began; journal = journal }
+past_of waits began journal = record { waits = waits; began = began; journal = journal; stage = Stage.Unasked }
 
 -- What holds of a story so far, whoever its connections are. In the first phase of a round nothing was
 -- written since the server last waited. In the second, all records are kept.
@@ -83,6 +91,9 @@ pub record IsTold {B S : Type 0} (rules : Rules S) (limits : Limits) (first : S)
   pub awake : IsAwake story
   pub each : HasEach story
   pub limited : IsLimited limits.tenant_clients [] story
+  pub asked : AreAsked Stage.Unasked story
+  pub stage : stage_since Stage.Unasked story ≡ past.stage
+  pub single : limits.clients ≡ 1 → AreSingle story
 
 -- So far this happened. Each client in a slot is one of its own number, below the count of connections,
 -- and every connection is served so far. Each connection that came is in a slot or was closed. Those
@@ -125,6 +136,8 @@ pub record HasServedMany {S : Type 0} (rules : Rules S) (limits : Limits) (write
   pub order : (p q : Story) → story ≡ p ++ q → (n : ℕ) → IsPart (acts_in (own n p)) (turns_in (own n p))
   -- all lines of a round were run before any answer of it was written
   pub phases : IsPhased false story
+  -- where one client at most is served, its lines were run one at a time: each is answered before the next
+  pub single : limits.clients ≡ 1 → AreSingle story
   -- since the server last waited each connection was read at most once, had lines run at most once, and
   -- was written at most once
   pub fair : HasTurns story
@@ -147,8 +160,15 @@ pub record HasServedMany {S : Type 0} (rules : Rules S) (limits : Limits) (write
   pub cause : IsCaused how story
   -- at `Done` as many connections as were wanted have come, and each of them was closed
   pub done : how ≡ ending.Done → (n : ℕ) → n < limits.connections → closed_in (acts_in (own n story)) ≡ 1
-  -- each status that was told is that of the service and of the open connections at this moment; nothing
-  -- but lines and tables changes the service
+  -- Each question is answered before the server waits again, and each answer answers a question. The file of
+  -- the table is read only where that is asked for, and only after it a new table is put in force.
+  -- Connections are closed since their speakers are gone only then, before that question is answered.
+  pub asked : AreAsked Stage.Unasked story
+  -- no question is left without its answer, but the one for a stop
+  pub answered : stage_since Stage.Unasked story ≡ last_stage how
+  -- Each status that was told is that of the service and of the open connections at this moment. The
+  -- speaker of a connection that is closed since it is gone is not in the table in force. Nothing but lines
+  -- and tables changes the service.
   pub told : Passes rules [] before story after
   -- each table that was put in force is the one that was just read; without a status socket there is none
   pub reads : AreRead limits None story

@@ -4,7 +4,7 @@ use Rattle.judy_many.specs.declared.client.Fate.{Fate}
 use Rattle.judy_many.specs.declared.client.Fate.TheVariants as fate
 use Rattle.judy_many.specs.declared.network.How.{How}
 use Rattle.judy_many.specs.declared.serve.Limits.{Limits}
-use Rattle.judy_many.specs.Lives.{IsOrdered, IsReason, IsWhole, Lives, View, end_well, is_orderly}
+use Rattle.judy_many.specs.Lives.{HearsWhenReady, IsOrdered, IsReason, IsWhole, Lives, View, end_well, is_orderly}
 use Rattle.judy_many.specs.Stories.{IsAllowed, Story, acts_in, came_in, closed_in, turns_in}
 
 -- the client stays
@@ -14,6 +14,7 @@ Stays v w more = (story : Story) → Lives story v → Lives (story ++ more) w
 -- the client is to be closed, for this reason
 pub record IsLeft (how : How) (story : Story) : Type 0 where
   pub order : IsOrdered story
+  pub ready : HearsWhenReady story
   pub whole : is_orderly how ≡ true → IsWhole (acts_in story) (turns_in story)
   pub stays : end_well (acts_in story) ≡ false
   pub why : IsReason how (acts_in story) (turns_in story)

@@ -13,6 +13,7 @@ pub mod Lives
 pub mod Nets
 pub mod Others
 pub mod Present
+pub mod Questions
 pub mod Queues
 pub mod Records
 pub mod Rules

@@ -2,6 +2,7 @@
 --     read_in, wrote_in            the bytes that it gave, and those that it took
 --     IsLive acts turns v          a client so far, with what it keeps
 --     Lives story v                the same at each moment
+--     HearsWhenReady story         it is read, and lines of it are run, only when all before is answered
 --     IsServed story               the promise to a connection, at any time and after its end
 --     SlotDid ..                   what happened to the client of a slot
 use Rattle.std.specs.List.{list_any}
@@ -18,7 +19,7 @@ use Rattle.judy_many.specs.declared.serve.Limits.{Limits}
 use Rattle.judy_many.specs.Nets.{Act}
 use Rattle.judy_many.specs.Nets.Act.{Came, Refused, Read, Dry, Ended, Broke, Wrote, Failed, Closed, Waited, Lost, Asked, Questioned, Reported, Warned, Tabled, Untabled, Named, Replied, Began, Kept, Unkept, Synced, Unsynced}
 use Rattle.judy_many.specs.Sessions.{Turn, lines_in, texts, Speaks}
-use Rattle.judy_many.specs.Stories.{AreWithin, Phase, InPhase, IsOnce, Mine, Story, acts_in, came_in, closed_in, is_end, is_fault, turns_in}
+use Rattle.judy_many.specs.Stories.{AreWithin, Moment, Phase, InPhase, IsOnce, Mine, Story, acts_in, came_in, closed_in, hears, is_end, is_fault, is_read, turns_in}
 use Rattle.judy_many.specs.Stories.Moment.{Did}
 
 -- the bytes that were read
@@ -117,8 +118,23 @@ pub record IsWhole (acts : List Act) (turns : List Turn) : Type 0 where
 abbrev pub IsOrdered : Story → Type 0
 IsOrdered story = (p q : Story) → story ≡ p ++ q → IsPart (acts_in p) (turns_in p)
 
+-- A connection is ready to be heard: it came and is open, the answers to all its lines so far are written,
+-- none of them asked to quit, it has not ended, and no read and no write of it has failed.
+pub record IsReady (acts : List Act) (turns : List Turn) : Type 0 where
+  pub came : came_in acts ≡ 1
+  pub unclosed : closed_in acts ≡ 0
+  pub written : wrote_in acts ≡ texts turns
+  pub unasked : asks_to_quit (lines_in turns) ≡ false
+  pub unended : list_any is_end acts ≡ false
+  pub unfailed : list_any is_fault acts ≡ false
+
+-- it is read, and lines of it are run, only when it is ready
+abbrev pub HearsWhenReady : Story → Type 0
+HearsWhenReady story = (p q : Story) (m : Moment) → story ≡ p ++ m ∷ q → hears m ≡ true → IsReady (acts_in p) (turns_in p)
+
 -- Why a connection is closed: a line asked to quit; it sends no more; a read or a write of it failed;
--- nobody had logged in on it. A connection whose speaker is gone, or was kicked, had logged in.
+-- nobody had logged in on it; or there was no memory for its buffers, and then it was not read and no line of
+-- it was run. A connection whose speaker is gone, or was kicked, had logged in.
 abbrev pub IsReason : How → List Act → List Turn → Type 0
 IsReason how.Quit acts turns = asks_to_quit (lines_in turns) ≡ true
 IsReason how.End acts turns = list_any is_end acts ≡ true
@@ -126,7 +142,7 @@ IsReason how.Fault acts turns = list_any is_fault acts ≡ true
 IsReason how.Login acts turns = Speaks None turns None
 IsReason how.Idle acts turns = Unit {0}
 IsReason how.Over acts turns = Unit {0}
-IsReason how.Memory acts turns = Unit {0}
+IsReason how.Memory acts turns = (list_any is_read acts ≡ false) × (turns ≡ [])
 IsReason how.Gone acts turns = (who : Speaker) × Speaks None turns (Some who)
 IsReason how.Kicked acts turns = (who : Speaker) × Speaks None turns (Some who)
 
@@ -138,12 +154,16 @@ HasReason story = (p q : Story) (n : ℕ) (how : How) → story ≡ p ++ Did (Cl
 pub record Lives (story : Story) (v : View) : Type 0 where
   pub live : IsLive (acts_in story) (turns_in story) v
   pub order : IsOrdered story
+  pub ready : HearsWhenReady story
   pub came : came_in (acts_in story) ≡ 1
   pub unclosed : closed_in (acts_in story) ≡ 0
+  pub unended : list_any is_end (acts_in story) ≡ false
+  pub unfailed : list_any is_fault (acts_in story) ≡ false
 
 -- the promise to a connection, at any time; and all of it, once it was closed in order
 pub record IsServed (story : Story) : Type 0 where
   pub order : IsOrdered story
+  pub ready : HearsWhenReady story
   pub whole : end_well (acts_in story) ≡ true → IsWhole (acts_in story) (turns_in story)
   pub why : HasReason story
   -- it came at most once, and was closed at most once

@@ -1,31 +1,45 @@
 -- What is told on the status socket.
---     Passes rules past s story s'    a story after this past takes the service from s to s', and each status
---                                     that is told is that of the service and of its connections at this moment
+--     Passes rules past s story s'    a story after this past takes the service from s to s', each status that
+--                                     is told is that of the service and of its connections at this moment, and
+--                                     the table has no speaker of a connection that is closed since it is gone
 --     Keeps rules t past s story s' h each new table on the way kept this tenant's quota and arrays
 --     Lasts rules keep s story s'     if that is wanted, each new table on the way kept all tenants
 --     HasAnswered ..                  what was asked once, and what it was answered
-use Rattle.std.specs.Prelude.{◌≡◌, ◌⊎◌, ℕ, Bool, true, false, List, [], ◌∷◌, ◌++◌, Option}
+use Rattle.std.specs.Prelude.{◌≡◌, ◌⊎◌, ℕ, Bool, true, false, List, [], ◌∷◌, ◌++◌, Option, Some, None}
 use Rattle.judy_model.specs.Speakers.{Speaker}
 use Rattle.judy_many.specs.Changes.{KeepsTenants}
 use Rattle.judy_many.specs.declared.asking.Next.{Next}
 use Rattle.judy_many.specs.declared.asking.Next.TheVariants as next
+use Rattle.judy_many.specs.declared.network.How.{How}
+use Rattle.judy_many.specs.declared.network.How.TheVariants as how
 use Rattle.judy_many.specs.declared.network.Question.TheVariants as question
 use Rattle.judy_many.specs.Nets.{Act, Acts, DidLog}
 use Rattle.judy_many.specs.Nets.Act.{Came, Refused, Read, Dry, Ended, Broke, Wrote, Failed, Closed, Waited, Lost, Asked, Questioned, Reported, Warned, Tabled, Untabled, Named, Replied, Began, Kept, Unkept, Synced, Unsynced}
-use Rattle.judy_many.specs.Present.{AreOpen}
+use Rattle.judy_many.specs.Present.{AreOpen, speaker_since}
 use Rattle.judy_many.specs.Rules.{Rules}
 use Rattle.judy_many.specs.Sessions.{AreTurns}
-use Rattle.judy_many.specs.Stories.{Story}
+use Rattle.judy_many.specs.Stories.{Story, own, turns_in}
 use Rattle.judy_many.specs.Stories.Moment.{Changed, Did, Ran}
 
 -- a text is this status, or empty where there is no memory for it
 abbrev pub IsStatus : List ℕ → List ℕ → Type 0
 IsStatus status text = (text ≡ status) ⊎ (text ≡ [])
 
--- after this past, the text that is told is the status with the speakers of the connections that are open
-abbrev pub Tells : (List (Option Speaker) → List ℕ) → Story → Act → Type 0
-Tells status past (Reported text) = (who : List (Option Speaker)) × AreOpen past who × IsStatus (status who) text
-Tells status past act = Unit {0}
+-- somebody speaks on this connection
+abbrev pub IsSpokenOn : Story → ℕ → Type 0
+IsSpokenOn past n = (who : Speaker) × (speaker_since None (turns_in (own n past)) ≡ Some who)
+
+-- a connection is closed since its speaker is gone only where somebody speaks on it
+abbrev pub IsClosedFor : How → Story → ℕ → Type 0
+IsClosedFor how.Gone past n = IsSpokenOn past n
+IsClosedFor other past n = Unit {0}
+
+-- after this past, the text that is told is the status with the speakers of the connections that are open;
+-- and a connection that is closed since its speaker is gone has one
+abbrev pub Tells : {S : Type 0} → Rules S → S → Story → Act → Type 0
+Tells rules now past (Reported text) = (who : List (Option Speaker)) × AreOpen past who × IsStatus (rules.status now who) text
+Tells rules now past (Closed n how) = IsClosedFor how past n
+Tells rules now past act = Unit {0}
 
 -- A stop was asked for, or that the table is read again, or that connections of a tenant are closed; or nothing was; or the status, which was told.
 -- Without a status socket nothing is asked.
@@ -44,7 +58,7 @@ HasAnswered false next.Round status log log' = DidLog log [] log'
 -- question does.
 abbrev pub Passes : {S : Type 0} → Rules S → Story → S → Story → S → Type 0
 Passes rules past before [] after = after ≡ before
-Passes rules past before (Did a ∷ story) after = Tells (rules.status before) past a × Passes rules (past ++ Did a ∷ []) before story after
+Passes rules past before (Did a ∷ story) after = Tells rules before past a × Passes rules (past ++ Did a ∷ []) before story after
 Passes {S} rules past before (Ran n turns ∷ story) after = (mid : S) × AreTurns rules before turns mid × Passes rules (past ++ Ran n turns ∷ []) mid story after
 Passes {S} rules past before (Changed text ∷ story) after = (mid : S) × rules.changed before text mid × Passes rules (past ++ Changed text ∷ []) mid story after
 

@@ -2,12 +2,14 @@
 --     Moment                       an answer of the system, lines of one connection that were run, or a new table
 --     acts_in, turns_in            the answers of a story, and its lines
 --     own n story                  the moments of one connection
+--     hears m                      whether a connection is read, or lines of it are run
 --     came_in, closed_in           how many connections came, and how many were closed
 --     IsPhased                     the lines of a round were run before any of its answers was written
 --     HasTurns                     each connection has at most one turn in a round
+--     AreSingle                    one line at a time was run
 --     AreWithin limits             why connections were closed, and that nothing else was asked
 use Rattle.std.specs.List.{list_any}
-use Rattle.std.specs.Prelude.{◌≡◌, ◌⊎◌, ◌==◌, ◌≤◌, ◌+◌, ℕ, Bool, true, false, List, [], ◌∷◌, ◌++◌, codes, is_some, if◌then◌else◌, Option, Some, None}
+use Rattle.std.specs.Prelude.{◌≡◌, ◌⊎◌, ◌==◌, ◌≤◌, ◌+◌, ℕ, Bool, true, false, List, [], ◌∷◌, ◌++◌, codes, is_some, if◌then◌else◌, length, Option, Some, None}
 use Rattle.judy_many.specs.declared.network.How.{How}
 use Rattle.judy_many.specs.declared.network.How.TheVariants as how
 use Rattle.judy_many.specs.declared.buffers.Sent.{Sent}
@@ -115,17 +117,45 @@ is_fault (Broke m) = true
 is_fault (Failed m) = true
 is_fault act = false
 
+-- no answer says so
+abbrev pub AreWell : List Act → Type 0
+AreWell acts = (list_any is_end acts ≡ false) × (list_any is_fault acts ≡ false)
+
 -- what a read, and a write, says of the connection
 abbrev pub TellsRead : Got → List Act → Type 0
-TellsRead (got.Bytes n) acts = Unit {0}
-TellsRead got.Nothing acts = Unit {0}
+TellsRead (got.Bytes n) acts = AreWell acts
+TellsRead got.Nothing acts = AreWell acts
 TellsRead got.End acts = list_any is_end acts ≡ true
 TellsRead got.Fault acts = list_any is_fault acts ≡ true
 
+abbrev pub has_failed : Sent → Bool
+has_failed sent.Some = false
+has_failed sent.Nothing = false
+has_failed sent.Fault = true
+
 abbrev pub TellsWrite : Sent → List Act → Type 0
-TellsWrite sent.Some acts = Unit {0}
-TellsWrite sent.Nothing acts = Unit {0}
-TellsWrite sent.Fault acts = list_any is_fault acts ≡ true
+TellsWrite sent acts = (list_any is_end acts ≡ false) × (list_any is_fault acts ≡ has_failed sent)
+
+-- whether it is the answer to a read
+abbrev pub is_read : Act → Bool
+is_read (Read m bytes) = true
+is_read (Dry m) = true
+is_read (Ended m) = true
+is_read (Broke m) = true
+is_read act = false
+
+-- one line at a time is run
+abbrev pub AreSingle : Story → Type 0
+AreSingle [] = Unit {0}
+AreSingle (Did a ∷ story) = AreSingle story
+AreSingle (Ran n turns ∷ story) = (length turns ≤ 1) × AreSingle story
+AreSingle (Changed text ∷ story) = AreSingle story
+
+-- whether a connection is read, or lines of it are run
+abbrev pub hears : Moment → Bool
+hears (Did a) = is_read a
+hears (Ran n turns) = true
+hears (Changed text) = false
 
 -- how many connections came
 abbrev pub came_by : Act → ℕ

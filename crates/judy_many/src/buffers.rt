@@ -14,6 +14,7 @@ ghost use Rattle.judy_many.specs.Watches.{HasLine, LeavesLine, TellsMore};
 use crate::client::Client;
 use crate::keeping::Keeper;
 use crate::network::{Got, Network, Put};
+use crate::serve::Limits;
 use crate::session::{Ran, Rooms, Session, run_lines};
 use crate::shows::Shows;
 use arrayvec::ArrayVec;
@@ -180,7 +181,7 @@ impl Answers {
         bytes: &[u8],
         others: &[Option<Box<Client<S::Speaker, N::Connection>>>],
         keeper: &mut Keeper,
-        most: Option<u32>,
+        limits: Limits,
     ) -> Ran
         requires empty { self.old ≡ [] }
         requires known { HasLoggedIn (S.seen service.old).speakers
@@ -188,7 +189,8 @@ impl Answers {
         ensures steps { (used : List ℕ) × (rest : List ℕ) × (turns : List Turn)
             × (used ++ rest ≡ bytes.now) × (length rest ≡ result.left)
             × LeavesLine result.quit rest × ((HasLine bytes.now × IsTrue (has_room keeper.old)) → 0 < length turns)
-            × AreLimited most (speakers_at (λ b. view_of S.who N.number b.value) others.now) turns
+            × AreLimited limits.tenant_clients (speakers_at (λ b. view_of S.who N.number b.value) others.now) turns
+            × (limits.clients ≡ 1 → length turns ≤ 1)
             × Steps (rules_of S.made S.seen S.noted S.status S.changed) used turns result.quit
             session.old.held session.new.held
             (option_map S.who session.old.speaker) (option_map S.who session.new.speaker)
@@ -210,7 +212,7 @@ impl Answers {
             others,
             &mut self.bytes,
             keeper,
-            most,
+            limits,
         )
     }
 

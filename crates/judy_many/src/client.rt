@@ -1,5 +1,5 @@
 //! A client, and the two halves of its turn.
-ghost use Rattle.std.specs.Prelude.{◌≡◌, ◌++◌, IsTrue, List, [], None, true, false, option_map};
+ghost use Rattle.std.specs.Prelude.{◌≡◌, ◌⊎◌, ◌≤◌, ◌++◌, IsTrue, length, List, [], None, true, false, option_map};
 ghost use Rattle.judy_protocol.specs.Services.{HasLoggedIn};
 ghost use Rattle.judy_many.specs.Books.{has_room, noted_by};
 ghost use Rattle.judy_many.specs.Fates.{FateGoes, HeardGoes};
@@ -9,13 +9,14 @@ ghost use Rattle.judy_many.specs.Others.{AreLimited};
 ghost use Rattle.judy_many.specs.Present.{speakers_at};
 ghost use Rattle.judy_many.specs.Rules.{rules_of};
 ghost use Rattle.judy_many.specs.Sessions.{AreTurns, Turn, records_in};
-ghost use Rattle.judy_many.specs.Stories.{IsPiece, Story, acts_in, turns_in};
+ghost use Rattle.judy_many.specs.Stories.{AreSingle, IsPiece, Story, acts_in, has_failed, turns_in};
 ghost use Rattle.judy_many.specs.Stories.Phase.{Reads, Writes};
 ghost use Rattle.judy_many.specs.Watches.{FateTells, HearsAll, Listens};
 
 use crate::buffers::{Answers, Input, Sent};
 use crate::keeping::Keeper;
 use crate::network::{Got, How, Network};
+use crate::serve::Limits;
 use crate::session::{Rooms, Session};
 use crate::shows::Shows;
 use judy_protocol::Served;
@@ -65,8 +66,20 @@ impl<P: Copy, C: Drop> Client<P, C> {
     }
 }
 
+/// Whether a client is ready to be heard: no line of it asked to quit, and its answers are written.
+fn is_ready<P: Copy, C: Drop>(client: &Client<P, C>) -> bool
+    ensures unasked { result ≡ true → client.now.quits ≡ false }
+    ensures written { result ≡ true → client.now.answers ≡ [] }
+    ensures why { result ≡ false → (client.now.answers ≡ [] → ⊥) ⊎ (client.now.quits ≡ true) }
+{
+    if client.quits {
+        return false;
+    }
+    client.answers.is_empty()
+}
+
 /// Runs the lines that have come, as long as there is room for the longest answer and record. At least
-/// one is run, if there is room for its record.
+/// one is run, if there is room for its record; and no more, where there is one client at most.
 fn hear<S: Shows, N: Network>(
     alloc: Global,
     service: &mut S,
@@ -74,7 +87,7 @@ fn hear<S: Shows, N: Network>(
     client: &mut Client<S::Speaker, N::Connection>,
     others: &[Option<Box<Client<S::Speaker, N::Connection>>>],
     keeper: &mut Keeper,
-    most: Option<u32>,
+    limits: Limits,
 )
     requires unasked { client.old.quits ≡ false }
     requires empty { client.old.answers ≡ [] }
@@ -86,7 +99,8 @@ fn hear<S: Shows, N: Network>(
         → IsLive acts ran (view_of S.who N.number client.old)
         → IsLive acts (ran ++ turns) (view_of S.who N.number client.new))
         × (keeper.new ≡ noted_by (records_in turns) keeper.old)
-        × AreLimited most (speakers_at (λ b. view_of S.who N.number b.value) others.now) turns
+        × AreLimited limits.tenant_clients (speakers_at (λ b. view_of S.who N.number b.value) others.now) turns
+        × (limits.clients ≡ 1 → length turns ≤ 1)
         × HearsAll (IsTrue (has_room keeper.old)) (view_of S.who N.number client.old)
         (view_of S.who N.number client.new) turns }
     ensures same { N.number client.new.connection ≡ N.number client.old.connection }
@@ -103,7 +117,7 @@ fn hear<S: Shows, N: Network>(
         client.input.as_slice(),
         others,
         keeper,
-        most,
+        limits,
     );
     client.input.keep(ran.left);
     client.quits = ran.quit;
@@ -120,7 +134,7 @@ pub fn listen<S: Shows, N: Network>(
     client: &mut Client<S::Speaker, N::Connection>,
     others: &[Option<Box<Client<S::Speaker, N::Connection>>>],
     keeper: &mut Keeper,
-    most: Option<u32>,
+    limits: Limits,
     now: u64,
 ) -> Option<How>
     requires known { HasLoggedIn (S.seen service.old).speakers
@@ -132,7 +146,8 @@ pub fn listen<S: Shows, N: Network>(
         × HeardGoes result (view_of S.who N.number client.old)
         (view_of S.who N.number client.new) more
         × (keeper.new ≡ noted_by (records_in (turns_in more)) keeper.old)
-        × AreLimited most (speakers_at (λ b. view_of S.who N.number b.value) others.now) (turns_in more)
+        × AreLimited limits.tenant_clients (speakers_at (λ b. view_of S.who N.number b.value) others.now) (turns_in more)
+        × (limits.clients ≡ 1 → AreSingle more)
         × Listens (view_of S.who N.number client.old) (view_of S.who N.number client.new) more }
     ensures same { N.number client.new.connection ≡ N.number client.old.connection }
     ensures logins { (S.seen service.new).logins ≡ (S.seen service.old).logins }
@@ -140,20 +155,17 @@ pub fn listen<S: Shows, N: Network>(
     ensures known { HasLoggedIn (S.seen service.new).speakers
         (option_map S.who client.new.session.speaker) }
 {
-    if client.quits {
-        return None;
-    }
-    if !client.answers.is_empty() {
+    if !is_ready(&*client) {
         return None;
     }
     if !client.input.is_empty() {
-        hear::<S, N>(alloc, service, rooms, client, others, keeper, most);
+        hear::<S, N>(alloc, service, rooms, client, others, keeper, limits);
         return None;
     }
     match client.input.fill(network, &mut client.connection) {
         Got::Bytes(_) => {
             client.since = now;
-            hear::<S, N>(alloc, service, rooms, client, others, keeper, most);
+            hear::<S, N>(alloc, service, rooms, client, others, keeper, limits);
             None
         }
         Got::Nothing => None,
@@ -173,6 +185,17 @@ pub enum Fate {
     Blocked,
     /// It has to be closed, and why.
     Ends(How),
+}
+
+/// Whether a write failed.
+fn has_failed(sent: Sent) -> bool
+    ensures { result ≡ has_failed sent }
+{
+    match sent {
+        Sent::Some => false,
+        Sent::Nothing => false,
+        Sent::Fault => true,
+    }
 }
 
 /// When a client last took a byte or sent one.
@@ -200,7 +223,7 @@ pub fn tell<S: Served, N: Network>(
     ensures session { client.new.session ≡ client.old.session }
 {
     let sent = client.answers.send(network, &mut client.connection);
-    if let Sent::Fault = sent {
+    if has_failed(sent) {
         return Fate::Ends(How::Fault);
     }
     client.since = later(sent, client.since, now);

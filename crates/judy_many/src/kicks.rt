@@ -2,10 +2,12 @@
 ghost use Rattle.std.specs.Prelude.{◌≡◌, ◌++◌, ◌<◌, ℕ, codes, decimal, true, false, if◌then◌else◌, length, map, option_map, ◌∷◌, [], List, Bool};
 ghost use Rattle.judy_model.specs.Speakers.{Speaker};
 ghost use Rattle.judy_protocol.specs.Services.{HasLoggedIn};
-ghost use Rattle.judy_many.specs.Crowds.{Crowd, Past};
+ghost use Rattle.judy_many.specs.Crowds.{Crowd, Past, at_stage};
 ghost use Rattle.judy_many.specs.Kicks.{HasKicked, after_kick, kick_act, kick_acts, kick_reply, speaks_as};
 ghost use Rattle.judy_many.specs.Lives.{SlotDid, view_of};
 ghost use Rattle.judy_many.specs.Nets.{Acts, DidLog};
+ghost use Rattle.judy_many.specs.Questions.{asks_kick};
+ghost use Rattle.judy_many.specs.Questions.Stage.{Unasked};
 ghost use Rattle.judy_many.specs.Rules.{rules_of};
 ghost use Rattle.judy_many.specs.Slots.{AreKnown, IsKnownSlot};
 ghost use Rattle.judy_many.specs.Stories.{Story, acts_in, turns_in};
@@ -132,10 +134,12 @@ pub fn kick<S: Shows, N: Network>(network: &mut N, service: &S, clients: &mut Cl
     requires known { AreKnown (λ b. option_map S.who b.value.session.speaker)
         (S.seen service.now).speakers clients.old.slots.items }
     ensures crowd { (limits : Limits) (first now : S) (start : Acts) (past : Past) → limits.status ≡ true
+        → past.stage ≡ asks_kick
         → Crowd (λ b. view_of S.who N.number b.value) (rules_of S.made S.seen S.noted S.status S.changed) limits first
         start Sweeps (nobody clients.old.queue) past (N.log network.old) clients.old.slots.items clients.old.accepted now
         → Crowd (λ b. view_of S.who N.number b.value) (rules_of S.made S.seen S.noted S.status S.changed) limits first
-        start Sweeps (nobody clients.new.queue) past (N.log network.new) clients.new.slots.items clients.new.accepted now }
+        start Sweeps (nobody clients.new.queue) (at_stage Unasked past) (N.log network.new)
+        clients.new.slots.items clients.new.accepted now }
     ensures kicked { HasKicked (S.seen service.now).names
         (map (option_map (λ b. view_of S.who N.number b.value)) clients.old.slots.items)
         (map (option_map (λ b. view_of S.who N.number b.value)) clients.new.slots.items)

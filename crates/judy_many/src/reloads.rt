@@ -2,10 +2,12 @@
 ghost use Rattle.std.specs.Prelude.{◌≡◌, ◌⊎◌, ℕ, List, [], Some, true, false, is_some, MatchBool, option_map};
 ghost use Rattle.judy_model.specs.Speakers.{Speaker};
 ghost use Rattle.judy_protocol.specs.Services.{HasLoggedIn};
-ghost use Rattle.judy_many.specs.Changes.{AreClosed, AreGone, HasChanged, HasReloaded, KeepsTenants, is_gone, reply_head};
-ghost use Rattle.judy_many.specs.Crowds.{Crowd, Past};
+ghost use Rattle.judy_many.specs.Changes.{AreClosed, AreGone, HasChanged, HasReloaded, KeepsTenants, SlotGone, is_gone, reply_head};
+ghost use Rattle.judy_many.specs.Crowds.{Crowd, Past, at_stage};
 ghost use Rattle.judy_many.specs.Lives.{SlotDid, view_of};
 ghost use Rattle.judy_many.specs.Nets.{Act, Acts, DidLog};
+ghost use Rattle.judy_many.specs.Questions.{asks_reload, read_stage};
+ghost use Rattle.judy_many.specs.Questions.Stage.{Renewed, Unasked};
 ghost use Rattle.judy_many.specs.Rules.{rules_of};
 ghost use Rattle.judy_many.specs.Slots.{AreAdmitted, AreKnown, IsAdmittedSlot, IsGoneSlot, IsKnownSlot};
 ghost use Rattle.judy_many.specs.Stories.{BeginsWith, Story, acts_in, told_head, turns_in};
@@ -94,7 +96,8 @@ fn close_at<S: Shows, N: Network>(
     slot: &mut Option<Box<Client<S::Speaker, N::Connection>>>,
 ) -> bool
     ensures did { (more : Story) × DidLog (N.log network.old) (acts_in more) (N.log network.new)
-        × (turns_in more ≡ []) × AreGone (acts_in more)
+        × (turns_in more ≡ [])
+        × SlotGone (option_map (λ b. view_of S.who N.number b.value) slot.old) more
         × ((limits : Limits) → limits.status ≡ true → SlotDid limits Sweeps
         (option_map (λ b. view_of S.who N.number b.value) slot.old)
         (option_map (λ b. view_of S.who N.number b.value) slot.new) more)
@@ -118,11 +121,14 @@ fn close_at<S: Shows, N: Network>(
 
 /// Closes the clients whose speakers may not go on.
 fn close_gone<S: Shows, N: Network>(network: &mut N, service: &S, clients: &mut Clients<S, N>)
-    ensures crowd { (limits : Limits) (first now : S) (start : Acts) (past : Past) → limits.status ≡ true
+    ensures crowd { (limits : Limits) (first : S) (start : Acts) (past : Past) → limits.status ≡ true
+        → past.stage ≡ Renewed
         → Crowd (λ b. view_of S.who N.number b.value) (rules_of S.made S.seen S.noted S.status S.changed) limits first
-        start Sweeps (nobody clients.old.queue) past (N.log network.old) clients.old.slots.items clients.old.accepted now
+        start Sweeps (nobody clients.old.queue) past (N.log network.old)
+        clients.old.slots.items clients.old.accepted service.now
         → Crowd (λ b. view_of S.who N.number b.value) (rules_of S.made S.seen S.noted S.status S.changed) limits first
-        start Sweeps (nobody clients.new.queue) past (N.log network.new) clients.new.slots.items clients.new.accepted now }
+        start Sweeps (nobody clients.new.queue) past (N.log network.new)
+        clients.new.slots.items clients.new.accepted service.now }
     ensures gone { (gone : List Act) × DidLog (N.log network.old) gone (N.log network.new) × AreGone gone }
     ensures known { AreKnown (λ b. option_map S.who b.value.session.speaker)
         (S.seen service.now).speakers clients.new.slots.items }
@@ -143,11 +149,14 @@ fn close_after<S: Shows, N: Network>(
 )
     requires known { changed ≡ false → AreKnown (λ b. option_map S.who b.value.session.speaker)
         (S.seen service.now).speakers clients.old.slots.items }
-    ensures crowd { (limits : Limits) (first now : S) (start : Acts) (past : Past) → limits.status ≡ true
+    ensures crowd { (limits : Limits) (first : S) (start : Acts) (past : Past) → limits.status ≡ true
+        → past.stage ≡ read_stage changed
         → Crowd (λ b. view_of S.who N.number b.value) (rules_of S.made S.seen S.noted S.status S.changed) limits first
-        start Sweeps (nobody clients.old.queue) past (N.log network.old) clients.old.slots.items clients.old.accepted now
+        start Sweeps (nobody clients.old.queue) past (N.log network.old)
+        clients.old.slots.items clients.old.accepted service.now
         → Crowd (λ b. view_of S.who N.number b.value) (rules_of S.made S.seen S.noted S.status S.changed) limits first
-        start Sweeps (nobody clients.new.queue) past (N.log network.new) clients.new.slots.items clients.new.accepted now }
+        start Sweeps (nobody clients.new.queue) past (N.log network.new)
+        clients.new.slots.items clients.new.accepted service.now }
     ensures gone { (gone : List Act) × DidLog (N.log network.old) gone (N.log network.new)
         × AreClosed changed gone }
     ensures known { AreKnown (λ b. option_map S.who b.value.session.speaker)
@@ -202,11 +211,13 @@ pub fn reload<S: Shows, N: Network>(
     requires known { AreKnown (λ b. option_map S.who b.value.session.speaker)
         (S.seen service.old).speakers clients.old.slots.items }
     ensures crowd { (limits : Limits) (first : S) (start : Acts) (past : Past) → limits.status ≡ true
-        → keep ≡ is_some limits.journal
+        → keep ≡ is_some limits.journal → past.stage ≡ asks_reload
         → Crowd (λ b. view_of S.who N.number b.value) (rules_of S.made S.seen S.noted S.status S.changed) limits first
-        start Sweeps (nobody clients.old.queue) past (N.log network.old) clients.old.slots.items clients.old.accepted service.old
+        start Sweeps (nobody clients.old.queue) past (N.log network.old)
+        clients.old.slots.items clients.old.accepted service.old
         → Crowd (λ b. view_of S.who N.number b.value) (rules_of S.made S.seen S.noted S.status S.changed) limits first
-        start Sweeps (nobody clients.new.queue) past (N.log network.new) clients.new.slots.items clients.new.accepted service.new }
+        start Sweeps (nobody clients.new.queue) (at_stage Unasked past) (N.log network.new)
+        clients.new.slots.items clients.new.accepted service.new }
     ensures reloaded { HasReloaded (rules_of S.made S.seen S.noted S.status S.changed)
         (N.log network.old) (N.log network.new) service.old service.new }
     ensures known { AreKnown (λ b. option_map S.who b.value.session.speaker)

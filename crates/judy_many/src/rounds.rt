@@ -11,16 +11,16 @@ ghost use Rattle.judy_many.specs.Lives.{SlotDid, view_of};
 ghost use Rattle.judy_many.specs.Nets.{Acts, DidLog};
 ghost use Rattle.judy_many.specs.Rules.{rules_of};
 ghost use Rattle.judy_many.specs.Sessions.{AreTurns, records_in};
-ghost use Rattle.judy_many.specs.Stories.{Story, acts_in, turns_in};
+ghost use Rattle.judy_many.specs.Stories.{AreSingle, Story, acts_in, turns_in};
 ghost use Rattle.judy_many.specs.Stories.Phase.{Reads, Sweeps, Writes};
 ghost use Rattle.judy_many.specs.Watches.{SlotListens, SlotTells, everybody, nobody, those_before};
-ghost use Rattle.judy_many.specs.declared.serve.Limits.{Limits};
 
 use crate::client::{Client, Fate, listen, tell};
 use crate::clients::Clients;
 use crate::keeping::Keeper;
 use crate::network::Network;
 use crate::queue::Left;
+use crate::serve::Limits;
 use crate::session::Rooms;
 use crate::shows::Shows;
 use judy_protocol::Served;
@@ -36,7 +36,7 @@ fn listen_at<S: Shows, N: Network>(
     slot: &mut Option<Box<Client<S::Speaker, N::Connection>>>,
     others: &[Option<Box<Client<S::Speaker, N::Connection>>>],
     keeper: &mut Keeper,
-    most: Option<u32>,
+    limits: Limits,
     now: u64,
 ) -> bool
     requires known { IsKnownSlot (λ b. option_map S.who b.value.session.speaker)
@@ -44,11 +44,12 @@ fn listen_at<S: Shows, N: Network>(
     requires room { IsTrue (has_room keeper.old) }
     ensures did { (more : Story) × DidLog (N.log network.old) (acts_in more) (N.log network.new)
         × AreTurns (rules_of S.made S.seen S.noted S.status S.changed) service.old (turns_in more) service.new
-        × ((limits : Limits) → SlotDid limits Reads
+        × ((any : Limits) → SlotDid any Reads
         (option_map (λ b. view_of S.who N.number b.value) slot.old)
         (option_map (λ b. view_of S.who N.number b.value) slot.new) more)
         × (keeper.new ≡ noted_by (records_in (turns_in more)) keeper.old)
-        × AreLimited most (speakers_at (λ b. view_of S.who N.number b.value) others.now) (turns_in more)
+        × AreLimited limits.tenant_clients (speakers_at (λ b. view_of S.who N.number b.value) others.now) (turns_in more)
+        × (limits.clients ≡ 1 → AreSingle more)
         × SlotListens (option_map (λ b. view_of S.who N.number b.value) slot.old)
         (option_map (λ b. view_of S.who N.number b.value) slot.new) more }
     ensures logins { (S.seen service.new).logins ≡ (S.seen service.old).logins }
@@ -67,7 +68,7 @@ fn listen_at<S: Shows, N: Network>(
         &mut client,
         others,
         keeper,
-        most,
+        limits,
         now,
     ) {
         network.close(&mut client.connection, how);
@@ -85,7 +86,7 @@ fn listen_to<S: Shows, N: Network>(
     rooms: &mut Rooms,
     clients: &mut Clients<S, N>,
     keeper: &mut Keeper,
-    most: Option<u32>,
+    limits: Limits,
     place: usize,
     now: u64,
 )
@@ -94,8 +95,7 @@ fn listen_to<S: Shows, N: Network>(
     requires within { place < length clients.old.queue.order }
     requires apart { AreApart clients.old.queue.order }
     requires room { IsTrue (has_room keeper.old) }
-    ensures crowd { (limits : Limits) (first : S) (start : Acts) (waits : ℕ) (began : Option Journal)
-        → limits.tenant_clients ≡ most
+    ensures crowd { (first : S) (start : Acts) (waits : ℕ) (began : Option Journal)
         → Crowd (λ b. view_of S.who N.number b.value) (rules_of S.made S.seen S.noted S.status S.changed) limits first
         start Reads (those_before clients.old.queue place) (past_of waits began keeper.old)
         (N.log network.old) clients.old.slots.items clients.old.accepted service.old
@@ -121,7 +121,7 @@ fn listen_to<S: Shows, N: Network>(
         &mut slot,
         clients.slots.as_slice(),
         keeper,
-        most,
+        limits,
         now,
     );
     clients.slots[at] = slot;
@@ -138,20 +138,20 @@ pub fn listen_all<S: Shows, N: Network>(
     rooms: &mut Rooms,
     clients: &mut Clients<S, N>,
     keeper: &mut Keeper,
-    most: Option<u32>,
+    limits: Limits,
     now: u64,
 ) -> bool
     requires known { AreKnown (λ b. option_map S.who b.value.session.speaker)
         (S.seen service.old).speakers clients.old.slots.items }
-    ensures crowd { (limits : Limits) (first : S) (start : Acts) (waits : ℕ) (began : Option Journal)
-        → result ≡ true → limits.tenant_clients ≡ most → Crowd (λ b. view_of S.who N.number b.value) (rules_of S.made S.seen S.noted S.status S.changed) limits first
+    ensures crowd { (first : S) (start : Acts) (waits : ℕ) (began : Option Journal)
+        → result ≡ true → Crowd (λ b. view_of S.who N.number b.value) (rules_of S.made S.seen S.noted S.status S.changed) limits first
         start Reads (nobody clients.old.queue) (past_of waits began keeper.old)
         (N.log network.old) clients.old.slots.items clients.old.accepted service.old
         → Crowd (λ b. view_of S.who N.number b.value) (rules_of S.made S.seen S.noted S.status S.changed) limits first
         start Reads (everybody clients.new.queue) (past_of waits began keeper.new)
         (N.log network.new) clients.new.slots.items clients.new.accepted service.new }
-    ensures failed { (limits : Limits) (first : S) (start : Acts) (waits : ℕ) (began : Option Journal)
-        → result ≡ false → limits.tenant_clients ≡ most → Crowd (λ b. view_of S.who N.number b.value) (rules_of S.made S.seen S.noted S.status S.changed) limits first
+    ensures failed { (first : S) (start : Acts) (waits : ℕ) (began : Option Journal)
+        → result ≡ false → Crowd (λ b. view_of S.who N.number b.value) (rules_of S.made S.seen S.noted S.status S.changed) limits first
         start Reads (nobody clients.old.queue) (past_of waits began keeper.old)
         (N.log network.old) clients.old.slots.items clients.old.accepted service.old
         → HasFailed (λ b. view_of S.who N.number b.value) (rules_of S.made S.seen S.noted S.status S.changed) limits first
@@ -167,7 +167,7 @@ pub fn listen_all<S: Shows, N: Network>(
             return false;
         }
         listen_to(
-            alloc, network, service, rooms, clients, keeper, most, place, now,
+            alloc, network, service, rooms, clients, keeper, limits, place, now,
         );
     }
     true

@@ -1,7 +1,7 @@
 //! The loop over all connections.
 ghost use Rattle.std.specs.Prelude.{◌≡◌, ℕ, List, Bool, [], false, true, Option, option_map};
 ghost use Rattle.judy_many.specs.Books.{Journal};
-ghost use Rattle.judy_many.specs.Crowds.{Crowd, HasFailed, HasServedMany, Past, past_of};
+ghost use Rattle.judy_many.specs.Crowds.{Crowd, HasFailed, HasServedMany, past_of};
 ghost use Rattle.judy_many.specs.Endings.{waited_if};
 ghost use Rattle.judy_many.specs.Lives.{view_of};
 ghost use Rattle.judy_many.specs.Nets.{Acts, DidLog, may_sleep};
@@ -173,14 +173,7 @@ fn take_turns<S: Shows, N: Network>(
 {
     let second = now.unwrap_or(0);
     if !listen_all(
-        alloc,
-        network,
-        service,
-        rooms,
-        clients,
-        keeper,
-        limits.tenant_clients,
-        second,
+        alloc, network, service, rooms, clients, keeper, limits, second,
     ) {
         return false;
     }
@@ -206,11 +199,13 @@ fn ask<S: Shows, N: Network>(
 ) -> bool
     requires known { AreKnown (λ b. option_map S.who b.value.session.speaker)
         (S.seen service.old).speakers clients.old.slots.items }
-    ensures crowd { (first : S) (start : Acts) (past : Past) → result ≡ false
+    ensures crowd { (first : S) (start : Acts) (waits : ℕ) (began journal : Option Journal) → result ≡ false
         → Crowd (λ b. view_of S.who N.number b.value) (rules_of S.made S.seen S.noted S.status S.changed) limits first
-        start Sweeps (nobody clients.old.queue) past (N.log network.old) clients.old.slots.items clients.old.accepted service.old
+        start Sweeps (nobody clients.old.queue) (past_of waits began journal)
+        (N.log network.old) clients.old.slots.items clients.old.accepted service.old
         → Crowd (λ b. view_of S.who N.number b.value) (rules_of S.made S.seen S.noted S.status S.changed) limits first
-        start Sweeps (nobody clients.new.queue) past (N.log network.new) clients.new.slots.items clients.new.accepted service.new }
+        start Sweeps (nobody clients.new.queue) (past_of waits began journal)
+        (N.log network.new) clients.new.slots.items clients.new.accepted service.new }
     ensures stop { result ≡ true
         → HasAnswered limits.status Next.Stop (S.status service.old
         (speakers_at (λ b. view_of S.who N.number b.value) clients.old.slots.items))

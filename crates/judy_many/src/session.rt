@@ -1,5 +1,5 @@
 //! A session: the lines of one connection, run as they come, with their answers in a buffer.
-ghost use Rattle.std.specs.Prelude.{◌≡◌, ◌<◌, ◌≤◌, ◌+◌, ◌++◌, ◌∷◌, ℕ, List, [], None, length, IfSome, IsTrue, option_map};
+ghost use Rattle.std.specs.Prelude.{◌≡◌, false, true, ◌<◌, ◌≤◌, ◌+◌, ◌++◌, ◌∷◌, ℕ, List, [], None, length, IfSome, IsTrue, option_map};
 ghost use Rattle.judy_protocol.specs.Services.{HasLoggedIn};
 ghost use Rattle.judy_protocol.specs.Talks.{HasNoLf, Holds};
 ghost use Rattle.judy_many.specs.Books.{has_room, noted_by};
@@ -15,6 +15,7 @@ use crate::client::Client;
 use crate::keeping::Keeper;
 use crate::network::Network;
 use crate::others::limit_login;
+use crate::serve::Limits;
 use crate::shows::Shows;
 use arrayvec::ArrayVec;
 use judy_model::{KEY_LIMIT, LINE_LIMIT};
@@ -167,8 +168,34 @@ pub fn run_line<S: Shows, N: Network>(
     quit
 }
 
+/// Whether no further line is run in this turn: where there is one client at most, one line is.
+fn is_enough(limits: Limits, ran: bool) -> bool
+    ensures none { ran ≡ false → result ≡ false }
+    ensures one { limits.clients ≡ 1 → ran ≡ true → result ≡ true }
+{
+    ran && limits.clients == 1
+}
+
+/// Whether the next line is run in this turn: enough were not, and there is room for the longest answer
+/// and for the longest record.
+fn may_run(answers: &ArrayVec<u8, ANSWERS_LIMIT>, keeper: &Keeper, enough: bool) -> bool
+    ensures room { result ≡ true → length answers.now.items + REPLY_LIMIT ≤ ANSWERS_LIMIT }
+    ensures journal { result ≡ true → IsTrue (has_room keeper.now) }
+    ensures more { result ≡ true → enough ≡ false }
+    ensures first { enough ≡ false → answers.now.items ≡ [] → IsTrue (has_room keeper.now) → result ≡ true }
+{
+    if enough {
+        return false;
+    }
+    if answers.len() > ANSWERS_LIMIT - REPLY_LIMIT {
+        return false;
+    }
+    keeper.has_room()
+}
+
 /// Runs the lines that the bytes complete, as long as there is room for the longest answer and for the
-/// longest record, and up to a line that asks to quit. Holds what comes after the last line feed.
+/// longest record, and up to a line that asks to quit; where there is one client at most, one line. Holds
+/// what comes after the last line feed.
 pub fn run_lines<S: Shows, N: Network>(
     alloc: Global,
     session: &mut Session<S::Speaker>,
@@ -178,14 +205,15 @@ pub fn run_lines<S: Shows, N: Network>(
     others: &[Option<Box<Client<S::Speaker, N::Connection>>>],
     answers: &mut ArrayVec<u8, ANSWERS_LIMIT>,
     keeper: &mut Keeper,
-    most: Option<u32>,
+    limits: Limits,
 ) -> Ran
     requires known { HasLoggedIn (S.seen service.old).speakers (option_map S.who session.old.speaker) }
     ensures steps { (used : List ℕ) × (rest : List ℕ) × (turns : List Turn)
         × (used ++ rest ≡ bytes.now) × (length rest ≡ result.left)
         × LeavesLine result.quit rest
         × ((HasLine bytes.now × IsTrue (has_room keeper.old) × (answers.old.items ≡ [])) → 0 < length turns)
-        × AreLimited most (speakers_at (λ b. view_of S.who N.number b.value) others.now) turns
+        × AreLimited limits.tenant_clients (speakers_at (λ b. view_of S.who N.number b.value) others.now) turns
+        × (limits.clients ≡ 1 → length turns ≤ 1)
         × Steps (rules_of S.made S.seen S.noted S.status S.changed) used turns result.quit
         session.old.held session.new.held
         (option_map S.who session.old.speaker) (option_map S.who session.new.speaker)
@@ -197,8 +225,9 @@ pub fn run_lines<S: Shows, N: Network>(
     ensures known { HasLoggedIn (S.seen service.new).speakers (option_map S.who session.new.speaker) }
 {
     let mut rest = bytes;
+    let mut ran = false;
     while let Some((chunk, after)) = cut_line(rest) {
-        if answers.len() > ANSWERS_LIMIT - REPLY_LIMIT || !keeper.has_room() {
+        if !may_run(&*answers, &*keeper, is_enough(limits, ran)) {
             return Ran {
                 left: rest.len(),
                 quit: false,
@@ -206,13 +235,22 @@ pub fn run_lines<S: Shows, N: Network>(
         }
         rest = after;
         if run_line::<S, N>(
-            alloc, session, service, rooms, chunk, others, answers, keeper, most,
+            alloc,
+            session,
+            service,
+            rooms,
+            chunk,
+            others,
+            answers,
+            keeper,
+            limits.tenant_clients,
         ) {
             return Ran {
                 left: rest.len(),
                 quit: true,
             };
         }
+        ran = true;
     }
     session.held.hold(rest);
     Ran {

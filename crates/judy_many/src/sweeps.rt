@@ -5,6 +5,7 @@ ghost use Rattle.judy_many.specs.Crowds.{Crowd, Past};
 ghost use Rattle.judy_many.specs.Slots.{AreKnown, IsKnownSlot};
 ghost use Rattle.judy_many.specs.Lives.{IsReason, SlotDid, is_orderly, view_of};
 ghost use Rattle.judy_many.specs.Nets.{Act, Acts, DidLog};
+ghost use Rattle.judy_many.specs.Questions.{gone_how, gones_in};
 ghost use Rattle.judy_many.specs.Rules.{rules_of};
 ghost use Rattle.judy_many.specs.Sessions.{Turn};
 ghost use Rattle.judy_many.specs.Stories.{IsAllowed, Story, acts_in, turns_in};
@@ -40,6 +41,7 @@ fn overdue(limits: Limits, since: u64, came: u64, now: Option<u64>) -> Option<Ho
     ensures disorderly { IfSome result (λ how. is_orderly how ≡ false) }
     ensures reason { IfSome result (λ how. (acts : List Act) (turns : List Turn) → IsReason how acts turns) }
     ensures allowed { IfSome result (λ how. IsAllowed limits how) }
+    ensures stay { IfSome result (λ how. gone_how how ≡ 0) }
 {
     if is_past(limits.idle, since, now) {
         return Some(How::Idle);
@@ -58,7 +60,7 @@ fn sweep_at<S: Served, N: Network>(
     now: Option<u64>,
 ) -> bool
     ensures did { (more : Story) × DidLog (N.log network.old) (acts_in more) (N.log network.new)
-        × (turns_in more ≡ [])
+        × (turns_in more ≡ []) × (gones_in (acts_in more) ≡ 0)
         × SlotDid limits Sweeps
         (option_map (λ b. view_of S.who N.number b.value) slot.old)
         (option_map (λ b. view_of S.who N.number b.value) slot.new) more

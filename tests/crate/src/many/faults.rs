@@ -90,7 +90,7 @@ fn one_after_another(rt: HostRuntime) -> Result<(), Fail> {
     assert_eq!(rt; ending, Ending::Done);
     assert_eq!(rt;
         stage.asked(),
-        b".a0r0w0c0Q.a1r1c1F.a2r2w2|r2c2E".as_slice()
+        b".a0r0w0.w0.w0.w0c0Q.a1r1c1F.a2r2w2|r2c2E".as_slice()
     );
     Ok(())
 }

@@ -8,11 +8,11 @@ use std::test::Fail;
 // A segment with this many bytes is full.
 const SEGMENT_LIMIT: u64 = 67_108_864;
 
-// As many clients and connections, with a journal that is synced by this rule.
+// As many connections, two slots at least, and a journal that is synced by this rule.
 fn journaled(clients: u32, rule: Sync) -> Limits {
     Limits {
         journal: Some(rule),
-        ..limits(clients, clients)
+        ..limits(clients.max(2), clients)
     }
 }
 
@@ -113,7 +113,7 @@ fn no_change_costs_nothing(rt: HostRuntime) -> Result<(), Fail> {
     assert_eq!(rt; looking.asked(), b".a0r0w0c0Q".as_slice());
     let parts = [giving(b"AUTH alice abc\nJ1S a 1\nQUIT\n")];
     let mut without = stage(alloc, &parts)?;
-    let ending = play(alloc, &mut without, limits(1, 1))?;
+    let ending = play(alloc, &mut without, limits(2, 1))?;
     assert_eq!(rt; ending, Ending::Done);
     assert_eq!(rt; without.asked(), b".a0r0w0c0Q".as_slice());
     Ok(())

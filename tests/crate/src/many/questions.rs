@@ -20,11 +20,11 @@ fn count(text: &[u8], wanted: &[u8]) -> usize {
     found
 }
 
-// One client, with a status socket.
+// One client and a free slot, with a status socket.
 fn watched() -> Limits {
     Limits {
         status: true,
-        ..limits(1, 1)
+        ..limits(2, 1)
     }
 }
 
@@ -92,7 +92,7 @@ fn no_question_without_a_socket(rt: HostRuntime) -> Result<(), Fail> {
     let questions = [Question::Stop];
     let mut stage = stage(alloc, &parts)?;
     stage.questions = &questions;
-    let ending = play(alloc, &mut stage, limits(1, 1))?;
+    let ending = play(alloc, &mut stage, limits(2, 1))?;
     assert_eq!(rt; ending, Ending::Done);
     assert_eq!(rt; stage.asked(), b".a0r0w0c0Q".as_slice());
     Ok(())

@@ -9,11 +9,11 @@ sha256 = \"2cf24dba5fb0a30e26e83b2ac5b9e29e1b161e5c1fa7425e73043362938b9824\"
 quota = 1000
 ";
 
-// One client, with a status socket.
+// One client and a free slot, with a status socket.
 fn watched() -> Limits {
     Limits {
         status: true,
-        ..limits(1, 1)
+        ..limits(2, 1)
     }
 }
 

@@ -118,3 +118,15 @@ fn a_blocked_client_is_not_read(rt: HostRuntime) -> Result<(), Fail> {
     );
     Ok(())
 }
+
+// With one slot one line at a time is run, and its reply is written before the next line is run.
+#[test]
+fn one_client_is_answered_line_by_line(rt: HostRuntime) -> Result<(), Fail> {
+    let alloc = rt.alloc();
+    let parts = [giving(b"J1T a 1\nJ1T a 2\nJ1T a 3\nhalf")];
+    let mut stage = stage(alloc, &parts)?;
+    let ending = play(alloc, &mut stage, limits(1, 1))?;
+    assert_eq!(rt; ending, Ending::Done);
+    assert_eq!(rt; stage.asked(), b".a0r0w0.w0.w0|r0c0E".as_slice());
+    Ok(())
+}

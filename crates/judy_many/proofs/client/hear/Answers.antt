@@ -8,7 +8,7 @@ use Rattle.judy_many.proofs.client.hear.Goals as goal
 
 pub returns-clause-turns : goal.returns-clause-turns
 returns-clause-turns g c =
-    let (used, rest, turns, cut, few, leaves, some, limited, steps) = c.run-ran.ensures.steps in
+    let (used, rest, turns, cut, few, leaves, some, limited, single, steps) = c.run-ran.ensures.steps in
     let is = c.keep.ensures.waiting used rest (cut ∙ c.as_slice.ensures) few in (
       turns,
       steps.run,
@@ -16,6 +16,7 @@ returns-clause-turns g c =
           c.requires.unasked c.requires.empty (cut ∙ c.as_slice.ensures) is steps,
       steps.noted,
       limited,
+      single,
       record {
         some = λ room line. some (subst HasLine (sym c.as_slice.ensures) line, room);
         left = λ w. c.keep.ensures.more (some_left rest _ few (λ e. w (is ∙ e)));

@@ -1,4 +1,4 @@
-use Rattle.std.proofs.Common.{arith, ◌≡◌, [], ◌∷◌, ◌++◌, refl, inl, inr, subst, sym}
+use Rattle.std.proofs.Common.{arith, ◌≡◌, [], ◌∷◌, ◌++◌, refl, inr, subst, sym}
 use Rattle.judy_many.specs.declared.network.How.TheVariants as how
 use Rattle.judy_many.specs.Lives.{view_of}
 use Rattle.judy_many.specs.Nets.{DidLog}
@@ -12,66 +12,68 @@ use Rattle.judy_many.specs.Stories.Phase.{Reads}
 use Rattle.judy_many.proofs.Looking.{listens_dry, listens_held, listens_not, listens_read}
 use Rattle.judy_many.proofs.Living.{no_log}
 use Rattle.judy_many.proofs.Recording.{noted_none}
-use Rattle.judy_many.proofs.Telling.{acts_heard, acts_in-told, leaves_part, leaves_whole, piece_heard, piece_none, piece_reads, said_after, stays_none, stays_ran, stays_read, stays_then, turns_heard, turns_in-told}
+use Rattle.judy_many.proofs.Singles.{AreSingle-append, told_single}
+use Rattle.judy_many.proofs.Telling.{acts_heard, acts_in-told, leaves_part, leaves_whole, piece_heard, piece_none, piece_reads, reaches_read, said_after, stays_none, stays_ran, stays_then, stays_well, turns_heard, turns_in-told}
 use Rattle.judy_many.specs.Rules.{rules_of}
 use Rattle.judy_many.proofs.client.listen.Goals as goal
 
-pub returns-then-client-clause-goes : goal.returns-then-client-clause-goes
-returns-then-client-clause-goes g c =
+pub returns-then-not-is_ready-clause-goes : goal.returns-then-not-is_ready-clause-goes
+returns-then-not-is_ready-clause-goes g c =
     let v = view_of g.S.Served.who g.N.Network.number c.args.client.now in
-    ([], no_log _, piece_none v.number Reads, refl, stays_none v, noted_none c.args.keeper.now, tt, listens_not v (inr c.if-client.true))
+    ([], no_log _, piece_none v.number Reads, refl, stays_none v, noted_none c.args.keeper.now, tt, (λ e. tt), listens_not v (c.is_ready.ensures.why c.if-not-is_ready.true))
 
 pub returns-then-not-is_empty-clause-goes : goal.returns-then-not-is_empty-clause-goes
 returns-then-not-is_empty-clause-goes g c =
-    let v = view_of g.S.Served.who g.N.Network.number c.args.client.now in
-    ([], no_log _, piece_none v.number Reads, refl, stays_none v, noted_none c.args.keeper.now, tt, listens_not v (inl (c.is_empty.ensures.some c.if-not-is_empty.true)))
-
-pub returns-then-not-is_empty-2-clause-goes : goal.returns-then-not-is_empty-2-clause-goes
-returns-then-not-is_empty-2-clause-goes g c =
     let n = g.N.Network.number c.args.client.now.connection in
-    let (turns, run, stays, noted, limited, hears) = c.hear.ensures.turns in (
+    let (turns, run, stays, noted, limited, single, hears) = c.hear.ensures.turns in (
       Ran n turns ∷ [],
       no_log _,
       piece_heard n [] turns tt (omega arith),
       subst (λ t. AreTurns (rules_of g.S.Served.made g.S.Served.seen g.S.Shows.noted g.S.Shows.status g.S.Shows.changed) c.args.service.now t c.hear.new.service) (sym (turns_heard n [] turns)) run,
-      stays_ran _ _ n turns stays,
+      stays_ran (view_of g.S.Served.who g.N.Network.number c.args.client.now) _ n turns (c.is_ready.ensures.written c.if-not-is_ready.false) (c.is_ready.ensures.unasked c.if-not-is_ready.false) stays,
       subst (λ t. c.hear.new.keeper ≡ noted_by (records_in t) c.args.keeper.now) (sym (turns_heard n [] turns)) noted,
-      subst (AreLimited c.args.most (speakers_at (λ b. view_of g.S.Served.who g.N.Network.number b.value) c.args.others.now)) (sym (turns_heard n [] turns)) limited,
-      listens_held (view_of g.S.Served.who g.N.Network.number c.args.client.now) _ n turns _ c.requires.room refl c.if-client.false (c.is_empty-2.ensures.some c.if-not-is_empty-2.true) hears,
+      subst (AreLimited c.args.limits.tenant_clients (speakers_at (λ b. view_of g.S.Served.who g.N.Network.number b.value) c.args.others.now)) (sym (turns_heard n [] turns)) limited,
+      λ e. (single e, tt),
+      listens_held (view_of g.S.Served.who g.N.Network.number c.args.client.now) _ n turns _ c.requires.room refl (c.is_ready.ensures.unasked c.if-not-is_ready.false) (c.is_empty.ensures.some c.if-not-is_empty.true) hears,
     )
 
 pub returns-in-Bytes-clause-goes : goal.returns-in-Bytes-clause-goes
 returns-in-Bytes-clause-goes g c =
-    let (acts, log, mine, few, read, wrote, tells, told_more) = c.fill.ensures.acts in
+    let (acts, log, mine, few, read, wrote, tells, told_more) = c.in-Bytes.ensures.acts in
     let v = view_of g.S.Served.who g.N.Network.number c.args.client.now in
     let n = g.N.Network.number c.args.client.now.connection in
-    let empty = c.is_empty-2.ensures.none c.if-not-is_empty-2.false in
-    let (turns, run, stays, noted, limited, hears) = c.hear-in-Bytes.ensures.turns in (
+    let mid = record v { waiting = c.fill.new.self.waiting; number = g.N.Network.number c.fill.new.connection; more = c.fill.new.self.more } in
+    let written = c.is_ready.ensures.written c.if-not-is_ready.false in
+    let unasked = c.is_ready.ensures.unasked c.if-not-is_ready.false in
+    let empty = c.is_empty.ensures.none c.if-not-is_empty.false in
+    let (turns, run, stays, noted, limited, single, hears) = c.hear-in-Bytes.ensures.turns in (
       told acts ++ Ran n turns ∷ [],
       subst (λ a. DidLog (g.N.Network.log c.args.network.now) a (g.N.Network.log c.fill.new.network)) (sym (acts_heard n acts turns)) log,
       piece_heard n acts turns mine few,
       subst (λ t. AreTurns (rules_of g.S.Served.made g.S.Served.seen g.S.Shows.noted g.S.Shows.status g.S.Shows.changed) c.args.service.now t c.hear-in-Bytes.new.service) (sym (turns_heard n acts turns)) run,
-      stays_then v _ _ (told acts) (Ran n turns ∷ [])
-          (stays_read v n (g.N.Network.number c.fill.new.connection) acts c.fill.new.self.waiting c.fill.new.self.more empty mine few read wrote)
-          (stays_ran _ _ n turns stays),
+      stays_then v mid _ (told acts) (Ran n turns ∷ [])
+          (stays_well v mid acts tells (reaches_read v n (g.N.Network.number c.fill.new.connection) acts c.fill.new.self.waiting c.fill.new.self.more written unasked empty mine few read wrote))
+          (stays_ran mid _ n turns written unasked stays),
       subst (λ t. c.hear-in-Bytes.new.keeper ≡ noted_by (records_in t) c.args.keeper.now) (sym (turns_heard n acts turns)) noted,
-      subst (AreLimited c.args.most (speakers_at (λ b. view_of g.S.Served.who g.N.Network.number b.value) c.args.others.now)) (sym (turns_heard n acts turns)) limited,
+      subst (AreLimited c.args.limits.tenant_clients (speakers_at (λ b. view_of g.S.Served.who g.N.Network.number b.value) c.args.others.now)) (sym (turns_heard n acts turns)) limited,
+      λ e. AreSingle-append (told acts) (Ran n turns ∷ []) (told_single acts) (single e, tt),
       listens_read v _ _ n acts turns _ refl mine few told_more hears,
     )
 
 pub returns-in-Nothing-clause-goes : goal.returns-in-Nothing-clause-goes
 returns-in-Nothing-clause-goes g c =
-    let (acts, log, mine, few, read, wrote, tells, told_more) = c.fill.ensures.acts in
+    let (acts, log, mine, few, read, wrote, tells, told_more) = c.in-Nothing.ensures.acts in
     let v = view_of g.S.Served.who g.N.Network.number c.args.client.now in
     let n = g.N.Network.number c.args.client.now.connection in
-    let empty = c.is_empty-2.ensures.none c.if-not-is_empty-2.false in (
+    let empty = c.is_empty.ensures.none c.if-not-is_empty.false in (
       told acts,
       subst (λ a. DidLog (g.N.Network.log c.args.network.now) a (g.N.Network.log c.fill.new.network)) (sym (acts_in-told acts)) log,
       piece_reads n acts mine few,
       subst (λ t. AreTurns (rules_of g.S.Served.made g.S.Served.seen g.S.Shows.noted g.S.Shows.status g.S.Shows.changed) c.args.service.now t c.args.service.now) (sym (turns_in-told acts)) refl,
-      stays_read v n (g.N.Network.number c.fill.new.connection) acts c.fill.new.self.waiting c.fill.new.self.more empty mine few read wrote,
+      stays_well v _ acts tells (reaches_read v n (g.N.Network.number c.fill.new.connection) acts c.fill.new.self.waiting c.fill.new.self.more (c.is_ready.ensures.written c.if-not-is_ready.false) (c.is_ready.ensures.unasked c.if-not-is_ready.false) empty mine few read wrote),
       subst (λ t. c.args.keeper.now ≡ noted_by (records_in t) c.args.keeper.now) (sym (turns_in-told acts)) (noted_none c.args.keeper.now),
-      subst (AreLimited c.args.most (speakers_at (λ b. view_of g.S.Served.who g.N.Network.number b.value) c.args.others.now)) (sym (turns_in-told acts)) tt,
+      subst (AreLimited c.args.limits.tenant_clients (speakers_at (λ b. view_of g.S.Served.who g.N.Network.number b.value) c.args.others.now)) (sym (turns_in-told acts)) tt,
+      λ e. told_single acts,
       listens_dry v _ n acts refl mine few told_more (c.in-Nothing.ensures.none refl),
     )
 
@@ -80,18 +82,19 @@ returns-in-End-clause-goes g c =
     let (acts, log, mine, few, read, wrote, tells, told_more) = c.in-End.ensures.acts in
     let v = view_of g.S.Served.who g.N.Network.number c.args.client.now in
     let n = g.N.Network.number c.args.client.now.connection in
-    let empty = c.is_empty-2.ensures.none c.if-not-is_empty-2.false in (
+    let empty = c.is_empty.ensures.none c.if-not-is_empty.false in (
       told acts,
       subst (λ a. DidLog (g.N.Network.log c.args.network.now) a (g.N.Network.log c.fill.new.network)) (sym (acts_in-told acts)) log,
       piece_reads n acts mine few,
       subst (λ t. AreTurns (rules_of g.S.Served.made g.S.Served.seen g.S.Shows.noted g.S.Shows.status g.S.Shows.changed) c.args.service.now t c.args.service.now) (sym (turns_in-told acts)) refl,
       (
         λ limits. tt,
-        leaves_whole how.End v _ (told acts) (c.is_empty.ensures.none c.if-not-is_empty.false) (inr (c.in-End.ensures.none refl)) (λ before turns live. said_after is_end before acts tells)
-            (stays_read v n (g.N.Network.number c.fill.new.connection) acts c.fill.new.self.waiting c.fill.new.self.more empty mine few read wrote),
+        leaves_whole how.End v _ (told acts) (c.is_ready.ensures.written c.if-not-is_ready.false) (inr (c.in-End.ensures.none refl)) (λ before turns live. said_after is_end before acts tells)
+            (reaches_read v n (g.N.Network.number c.fill.new.connection) acts c.fill.new.self.waiting c.fill.new.self.more (c.is_ready.ensures.written c.if-not-is_ready.false) (c.is_ready.ensures.unasked c.if-not-is_ready.false) empty mine few read wrote),
       ),
       subst (λ t. c.args.keeper.now ≡ noted_by (records_in t) c.args.keeper.now) (sym (turns_in-told acts)) (noted_none c.args.keeper.now),
-      subst (AreLimited c.args.most (speakers_at (λ b. view_of g.S.Served.who g.N.Network.number b.value) c.args.others.now)) (sym (turns_in-told acts)) tt,
+      subst (AreLimited c.args.limits.tenant_clients (speakers_at (λ b. view_of g.S.Served.who g.N.Network.number b.value) c.args.others.now)) (sym (turns_in-told acts)) tt,
+      λ e. told_single acts,
       listens_dry v _ n acts refl mine few told_more (c.in-End.ensures.none refl),
     )
 
@@ -100,7 +103,7 @@ returns-in-Fault-clause-goes g c =
     let (acts, log, mine, few, read, wrote, tells, told_more) = c.in-Fault.ensures.acts in
     let v = view_of g.S.Served.who g.N.Network.number c.args.client.now in
     let n = g.N.Network.number c.args.client.now.connection in
-    let empty = c.is_empty-2.ensures.none c.if-not-is_empty-2.false in (
+    let empty = c.is_empty.ensures.none c.if-not-is_empty.false in (
       told acts,
       subst (λ a. DidLog (g.N.Network.log c.args.network.now) a (g.N.Network.log c.fill.new.network)) (sym (acts_in-told acts)) log,
       piece_reads n acts mine few,
@@ -108,9 +111,10 @@ returns-in-Fault-clause-goes g c =
       (
         λ limits. tt,
         leaves_part how.Fault v _ (told acts) refl (λ before turns. said_after is_fault before acts tells)
-            (stays_read v n (g.N.Network.number c.fill.new.connection) acts c.fill.new.self.waiting c.fill.new.self.more empty mine few read wrote),
+            (reaches_read v n (g.N.Network.number c.fill.new.connection) acts c.fill.new.self.waiting c.fill.new.self.more (c.is_ready.ensures.written c.if-not-is_ready.false) (c.is_ready.ensures.unasked c.if-not-is_ready.false) empty mine few read wrote),
       ),
       subst (λ t. c.args.keeper.now ≡ noted_by (records_in t) c.args.keeper.now) (sym (turns_in-told acts)) (noted_none c.args.keeper.now),
-      subst (AreLimited c.args.most (speakers_at (λ b. view_of g.S.Served.who g.N.Network.number b.value) c.args.others.now)) (sym (turns_in-told acts)) tt,
+      subst (AreLimited c.args.limits.tenant_clients (speakers_at (λ b. view_of g.S.Served.who g.N.Network.number b.value) c.args.others.now)) (sym (turns_in-told acts)) tt,
+      λ e. told_single acts,
       listens_dry v _ n acts refl mine few told_more (c.in-Fault.ensures.none refl),
     )

@@ -1,9 +1,10 @@
-use Rattle.std.proofs.Common.{◌≡◌, ◌∙◌, ◌+◌, ◌++◌, ◌≤◌, ◌<◌, Bool, true, false, get_or, [], add-one, ap, append-nil, arith, drop, length, map, refl, slice_set, subst, sym, take, vec_len}
+use Rattle.std.proofs.Common.{◌≡◌, ◌∙◌, ◌+◌, ◌++◌, ◌≤◌, ◌<◌, Bool, true, false, get_or, add-one, ap, append-nil, arith, drop, inl, length, map, refl, slice_set, subst, sym, take, vec_len}
 use Rattle.std.specs.Prelude.{if◌then◌else◌, option_map}
 use Rattle.std.proofs.lemmas.List.{drop_all, length-append, length-map, take_all}
 use Rattle.judy_many.specs.Kicks.{after_kick, kick_act, kick_acts, speaks_as}
 use Rattle.judy_many.specs.Lives.{view_of}
 use Rattle.judy_many.specs.Nets.{DidLog}
+use Rattle.judy_many.specs.Questions.{gones_in}
 use Rattle.judy_many.specs.Rules.{rules_of}
 use Rattle.judy_many.specs.Slots.{AreKnown, IsKnownSlot}
 use Rattle.judy_many.specs.Stories.Phase.{Sweeps}
@@ -12,6 +13,7 @@ use Rattle.judy_many.proofs.Crowding.{crowd_closed, shown}
 use Rattle.judy_many.proofs.Kicking.{change_at, change_step, kicks_more, map_at, map_set}
 use Rattle.judy_many.proofs.Known.{known-at, known-change}
 use Rattle.judy_many.proofs.Living.{no_log, then_log}
+use Rattle.judy_many.proofs.Questioning.{kick_stays}
 use Rattle.judy_many.proofs.kicks.close_all.Goals as goal
 
 pub loop-at-init : goal.loop-at-init
@@ -39,7 +41,8 @@ loop-at-preserved g c =
       crowd = λ limits first now start past e h.
           shown (λ b. view_of g.S.Served.who g.N.Network.number b.value) (rules_of g.S.Served.made g.S.Served.seen g.S.Shows.noted g.S.Shows.status g.S.Shows.changed) limits first start Sweeps (nobody c.note_closed.new.self.queue) past _ _ _ _ _ now (ap (λ s. s.items) c.note_closed.ensures.slots) c.note_closed.ensures.count
           (crowd_closed (λ b. view_of g.S.Served.who g.N.Network.number b.value) (rules_of g.S.Served.made g.S.Served.seen g.S.Shows.noted g.S.Shows.status g.S.Shows.changed) limits first start c.loop-at.clients.queue c.note_closed.new.self.queue past _ _ c.loop-at.clients.slots.items c.loop-at.clients.accepted now c.loop-at.at
-          c.index_mut.result.now c.close_at-closed.new.slot more c.close_at-closed.result (c.loop-at.invariant.crowd limits first now start past e h) (omega arith) c.index_mut.ensures.value log
+          c.index_mut.result.now c.close_at-closed.new.slot more c.close_at-closed.result (c.loop-at.invariant.crowd limits first now start past e h)
+          (inl (ap gones_in acts ∙ kick_stays (speaks_as (g.S.Served.seen c.args.service.now).names c.args.name.now) (option_map (λ b. view_of g.S.Served.who g.N.Network.number b.value) c.index_mut.result.now))) (omega arith) c.index_mut.ensures.value log
           none (did limits e) whole c.note_closed.ensures.others c.note_closed.ensures.same);
       changed = rw add-one (
           ap (λ s. map (option_map (λ b. view_of g.S.Served.who g.N.Network.number b.value)) s.items) c.note_closed.ensures.slots

@@ -1,5 +1,6 @@
-use Rattle.std.proofs.Common.{[], ◌∷◌, ◌∙◌, ap, refl, subst, sym}
+use Rattle.std.proofs.Common.{[], ◌∷◌, ◌∙◌, ap, inl, inr, refl, subst, sym}
 use Rattle.std.specs.Prelude.{option_map}
+use Rattle.judy_many.specs.Changes.{SlotGone}
 use Rattle.judy_many.specs.Lives.{view_of}
 use Rattle.judy_many.specs.Nets.{DidLog}
 use Rattle.judy_many.specs.Nets.Act.{Closed}
@@ -17,7 +18,7 @@ returns-in_default-clause-did g c = (
   [],
   no_log _,
   refl,
-  tt,
+  subst (λ s. SlotGone (option_map (λ b. view_of g.S.Served.who g.N.Network.number b.value) s) []) (sym (sym c.take.ensures.value ∙ c.in_default.is)) refl,
   λ limits e. did_none (λ b. view_of g.S.Served.who g.N.Network.number b.value) limits Sweeps c.args.slot.now c.take.new.self (sym c.take.ensures.value ∙ c.in_default.is) c.take.ensures.after,
   open_none (λ b. view_of g.S.Served.who g.N.Network.number b.value) c.args.slot.now c.take.new.self (sym c.take.ensures.value ∙ c.in_default.is) c.take.ensures.after,
 )
@@ -28,7 +29,11 @@ returns-then-is_gone-clause-did g c = (
   subst (λ n. DidLog (g.N.Network.log c.args.network.now) (Closed n how.Gone ∷ []) (g.N.Network.log c.close.new.self))
       (ap (λ x. g.N.Network.number x.connection) c.deref_mut.ensures.value) c.close.ensures,
   refl,
-  ((_, refl), tt),
+  (
+      let (who, is) = c.is_gone.ensures.gone c.if-is_gone.true in
+      subst (λ s. SlotGone (option_map (λ b. view_of g.S.Served.who g.N.Network.number b.value) s) (Did (Closed (g.N.Network.number c.in-Some.client.value.connection) how.Gone) ∷ [])) c.in-Some.ensures.value
+      (inr (refl, who, ap (λ x. option_map g.S.Served.who x.session.speaker) (sym c.deref.ensures) ∙ is))
+      ),
   λ limits e.
       let (who, is) = c.is_gone.ensures.gone c.if-is_gone.true in
       did_gone (λ b. view_of g.S.Served.who g.N.Network.number b.value) limits Sweeps c.args.slot.now c.take.new.self c.in-Some.client who
@@ -41,7 +46,7 @@ returns-clause-did g c = (
   [],
   no_log _,
   refl,
-  tt,
+  subst (λ s. SlotGone (option_map (λ b. view_of g.S.Served.who g.N.Network.number b.value) s) []) c.in-Some.ensures.value (inl refl),
   λ limits e. did_stay (λ b. view_of g.S.Served.who g.N.Network.number b.value) limits Sweeps c.args.slot.now c.in-Some.client (view_of g.S.Served.who g.N.Network.number c.in-Some.client.value) [] c.in-Some.ensures.value refl
       (piece_none _ Sweeps) (stays_none _),
   open_stay (λ b. view_of g.S.Served.who g.N.Network.number b.value) c.args.slot.now c.in-Some.client c.in-Some.ensures.value,

@@ -8,7 +8,7 @@ use Rattle.judy_many.proofs.rounds.listen_all.Goals as goal
 
 pub loop-place-init : goal.loop-place-init
 loop-place-init g c = record {
-  crowd = λ limits first start waits began m h. begins (λ b. view_of g.S.Served.who g.N.Network.number b.value) (rules_of g.S.Served.made g.S.Served.seen g.S.Shows.noted g.S.Shows.status g.S.Shows.changed) limits first start Reads c.args.clients.now.queue (past_of waits began c.args.keeper.now) _ _ _ _ h;
+  crowd = λ first start waits began h. begins (λ b. view_of g.S.Served.who g.N.Network.number b.value) (rules_of g.S.Served.made g.S.Served.seen g.S.Shows.noted g.S.Shows.status g.S.Shows.changed) c.args.limits first start Reads c.args.clients.now.queue (past_of waits began c.args.keeper.now) _ _ _ _ h;
   queue = refl;
   logins = refl;
   speakers = refl;
@@ -16,18 +16,18 @@ loop-place-init g c = record {
 }
 
 pub returns-then-not-make_room-clause-failed : goal.returns-then-not-make_room-clause-failed
-returns-then-not-make_room-clause-failed g c = λ limits first start waits began e m h.
-    has_failed (λ b. view_of g.S.Served.who g.N.Network.number b.value) (rules_of g.S.Served.made g.S.Served.seen g.S.Shows.noted g.S.Shows.status g.S.Shows.changed) limits first start _ waits began c.loop-place.keeper _ _ _ _ _ _ (rw c.if-not-make_room.true at c.make_room.ensures.written) (c.loop-place.invariant.crowd limits first start waits began m h)
+returns-then-not-make_room-clause-failed g c = λ first start waits began e h.
+    has_failed (λ b. view_of g.S.Served.who g.N.Network.number b.value) (rules_of g.S.Served.made g.S.Served.seen g.S.Shows.noted g.S.Shows.status g.S.Shows.changed) c.args.limits first start _ waits began c.loop-place.keeper _ _ _ _ _ _ (rw c.if-not-make_room.true at c.make_room.ensures.written) (c.loop-place.invariant.crowd first start waits began h)
 
 pub loop-place-preserved : goal.loop-place-preserved
 loop-place-preserved g c =
     let same = c.loop-place.invariant.logins in
     record {
-      crowd = λ limits first start waits began m h.
-          let turned = c.listen_to.ensures.crowd limits first start waits began m in
+      crowd = λ first start waits began h.
+          let turned = c.listen_to.ensures.crowd first start waits began in
           let queued = rw c.loop-place.invariant.queue at turned in
-          queued (has_written (λ b. view_of g.S.Served.who g.N.Network.number b.value) (rules_of g.S.Served.made g.S.Served.seen g.S.Shows.noted g.S.Shows.status g.S.Shows.changed) limits first start _ waits began c.loop-place.keeper c.make_room.new.self _ _ _ _ _ (rw c.if-not-make_room.false at c.make_room.ensures.written)
-          (c.loop-place.invariant.crowd limits first start waits began m h));
+          queued (has_written (λ b. view_of g.S.Served.who g.N.Network.number b.value) (rules_of g.S.Served.made g.S.Served.seen g.S.Shows.noted g.S.Shows.status g.S.Shows.changed) c.args.limits first start _ waits began c.loop-place.keeper c.make_room.new.self _ _ _ _ _ (rw c.if-not-make_room.false at c.make_room.ensures.written)
+          (c.loop-place.invariant.crowd first start waits began h));
       queue = c.listen_to.ensures.queue ∙ c.loop-place.invariant.queue;
       logins = c.listen_to.ensures.logins ∙ same;
       speakers = c.listen_to.ensures.speakers ∙ c.loop-place.invariant.speakers;
@@ -35,5 +35,5 @@ loop-place-preserved g c =
     }
 
 pub returns-clause-crowd : goal.returns-clause-crowd
-returns-clause-crowd g c = λ limits first start waits began e m h.
-    all_read (λ b. view_of g.S.Served.who g.N.Network.number b.value) (rules_of g.S.Served.made g.S.Served.seen g.S.Shows.noted g.S.Shows.status g.S.Shows.changed) limits first start c.args.clients.now.queue c.loop-place.clients.queue c.loop-place.place (past_of waits began c.loop-place.keeper) _ _ _ _ c.loop-place.invariant.queue c.len-place-end.ensures.found (let n = c.len-place-end.ensures.long in omega (arith, n)) (c.loop-place.invariant.crowd limits first start waits began m h)
+returns-clause-crowd g c = λ first start waits began e h.
+    all_read (λ b. view_of g.S.Served.who g.N.Network.number b.value) (rules_of g.S.Served.made g.S.Served.seen g.S.Shows.noted g.S.Shows.status g.S.Shows.changed) c.args.limits first start c.args.clients.now.queue c.loop-place.clients.queue c.loop-place.place (past_of waits began c.loop-place.keeper) _ _ _ _ c.loop-place.invariant.queue c.len-place-end.ensures.found (let n = c.len-place-end.ensures.long in omega (arith, n)) (c.loop-place.invariant.crowd first start waits began h)

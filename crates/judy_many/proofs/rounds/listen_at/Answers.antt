@@ -15,6 +15,7 @@ use Rattle.judy_many.specs.Watches.{Listens}
 use Rattle.judy_many.proofs.Looking.{listens_left, listens_none, listens_stay}
 use Rattle.judy_many.proofs.Living.{no_log, then_log}
 use Rattle.judy_many.proofs.Recording.{noted_none}
+use Rattle.judy_many.proofs.Singles.{AreSingle-append}
 use Rattle.judy_many.proofs.Telling.{acts_in-append, turns_in-append}
 use Rattle.judy_many.specs.Rules.{rules_of}
 use Rattle.judy_many.proofs.rounds.listen_at.Goals as goal
@@ -27,12 +28,13 @@ returns-in_default-clause-did g c = (
   λ limits. did_none (λ b. view_of g.S.Served.who g.N.Network.number b.value) limits Reads c.args.slot.now c.take.new.self (sym c.take.ensures.value ∙ c.in_default.is) c.take.ensures.after,
   noted_none c.args.keeper.now,
   tt,
+  (λ e. tt),
   listens_none (λ b. view_of g.S.Served.who g.N.Network.number b.value) c.args.slot.now _ [] (sym c.take.ensures.value ∙ c.in_default.is),
 )
 
 pub returns-in-Some-listen-clause-did : goal.returns-in-Some-listen-clause-did
 returns-in-Some-listen-clause-did g c =
-    let (more, log, piece, run, ends, noted, limited, looks) = c.in-Some-listen.ensures.goes in
+    let (more, log, piece, run, ends, noted, limited, single, looks) = c.in-Some-listen.ensures.goes in
     let n = g.N.Network.number c.in-Some.client.value.connection in
     let first = ap (λ x. g.N.Network.number x.connection) c.deref_mut.ensures.value in
     let back = ap (λ x. g.N.Network.number x.connection) c.deref_mut-in-Some-listen.ensures.value ∙ c.in-Some-listen.ensures.same ∙ first in
@@ -47,13 +49,14 @@ returns-in-Some-listen-clause-did g c =
           (subst (λ x. Leaves c.in-Some-listen.how (view_of g.S.Served.who g.N.Network.number x) more)
           c.deref_mut.ensures.value ends.1),
       subst (λ t. c.listen.new.keeper ≡ noted_by (records_in t) c.args.keeper.now) (sym (turns_in-append more (Did (Closed n c.in-Some-listen.how) ∷ []) ∙ append-nil _)) noted,
-      subst (AreLimited c.args.most (speakers_at (λ b. view_of g.S.Served.who g.N.Network.number b.value) c.args.others.now)) (sym (turns_in-append more (Did (Closed n c.in-Some-listen.how) ∷ []) ∙ append-nil _)) limited,
+      subst (AreLimited c.args.limits.tenant_clients (speakers_at (λ b. view_of g.S.Served.who g.N.Network.number b.value) c.args.others.now)) (sym (turns_in-append more (Did (Closed n c.in-Some-listen.how) ∷ []) ∙ append-nil _)) limited,
+      λ e. AreSingle-append more (Did (Closed n c.in-Some-listen.how) ∷ []) (single e) tt,
       listens_left (λ b. view_of g.S.Served.who g.N.Network.number b.value) c.args.slot.now c.take.new.self c.in-Some.client _ c.in-Some.ensures.value c.take.ensures.after,
     )
 
 pub returns-clause-did : goal.returns-clause-did
 returns-clause-did g c =
-    let (more, log, piece, run, stays, noted, limited, looks) = c.in_default-listen.ensures.goes in
+    let (more, log, piece, run, stays, noted, limited, single, looks) = c.in_default-listen.ensures.goes in
     let first = ap (λ x. g.N.Network.number x.connection) c.deref_mut.ensures.value in (
       more,
       log,
@@ -64,6 +67,7 @@ returns-clause-did g c =
           c.deref_mut.ensures.value stays),
       noted,
       limited,
+      single,
       listens_stay (λ b. view_of g.S.Served.who g.N.Network.number b.value) c.args.slot.now c.in-Some.client (view_of g.S.Served.who g.N.Network.number c.listen.new.client) more c.in-Some.ensures.value
           (subst (λ x. Listens (view_of g.S.Served.who g.N.Network.number x) (view_of g.S.Served.who g.N.Network.number c.listen.new.client) more) c.deref_mut.ensures.value looks),
     )

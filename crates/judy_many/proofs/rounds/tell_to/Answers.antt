@@ -1,10 +1,11 @@
-use Rattle.std.proofs.Common.{arith, ◌+◌, ◌∙◌, ap, subst, sym}
+use Rattle.std.proofs.Common.{arith, ◌+◌, ◌∙◌, ap, inl, subst, sym}
 use Rattle.judy_many.specs.Queues.{IsBefore, is_awake}
 use Rattle.judy_many.specs.Watches.{those_before}
 use Rattle.judy_many.specs.Lives.{view_of}
 use Rattle.judy_many.specs.Stories.Phase.{Writes}
 use Rattle.judy_many.proofs.Crowding.{crowd_still, passes}
 use Rattle.judy_many.proofs.Looking.{tells_in}
+use Rattle.judy_many.proofs.Questioning.{slot_stays}
 use Rattle.judy_many.proofs.Queueing.{before_later, before_not, before_only, before_this}
 use Rattle.judy_many.proofs.Watching.{alert_beside, alert_tells}
 use Rattle.judy_many.proofs.Known.{known-change}
@@ -25,7 +26,7 @@ returns-clause-crowd g c = λ limits first now start past h.
     now at c.index_mut.result.now c.tell_at-left.new.slot more
     (λ j k. before_later q.order q'.order c.args.place j c.settle-2.ensures.order k) (λ k. before_not q.order c.args.place c.requires.apart c.requires.within (subst (IsBefore q.order c.args.place) c.slot_at-at.ensures.slot k))
     (subst (λ l. IsBefore l (c.args.place + 1) at) (sym c.settle-2.ensures.order) (before_this q.order c.args.place _ c.slot_at-at.ensures.slot))
-    h (omega arith) c.index_mut.ensures.value log none (did limits)
+    h (inl (slot_stays limits Writes _ _ more did)) (omega arith) c.index_mut.ensures.value log none (did limits)
     (λ j apart v s k. alert_beside Writes q q' (IsBefore q.order c.args.place) (IsBefore q'.order (c.args.place + 1)) j v s
     (λ e. ap is_awake (c.settle-2.ensures.others j apart) ∙ e) (λ e. c.settle-2.ensures.stands j ∙ e)
     (before_later q.order q'.order c.args.place j c.settle-2.ensures.order) (λ k. before_only q.order c.args.place j at apart c.slot_at-at.ensures.slot (subst (λ l. IsBefore l (c.args.place + 1) j) c.settle-2.ensures.order k)) k)

@@ -8,7 +8,7 @@ use Rattle.judy_many.specs.Watches.{nobody}
 use Rattle.judy_many.specs.Stories.Phase.{Reads, Sweeps}
 use Rattle.judy_many.proofs.Closing.{ends_done, ends_first, ends_lost, ends_spent, ends_stopped, ends_unkept, opened_allowed}
 use Rattle.judy_many.proofs.Beginning.{crowd_none}
-use Rattle.judy_many.proofs.Crowding.{idle, shown, swept, waited, warned}
+use Rattle.judy_many.proofs.Crowding.{idle, shown, waited, warned}
 use Rattle.judy_many.proofs.Known.{known-free}
 use Rattle.judy_many.specs.Rules.{rules_of}
 use Rattle.judy_many.proofs.serve.serve_many.Goals as goal
@@ -41,7 +41,7 @@ returns-then-not-accept g c =
     let (mid, last, came) = c.if-not-accept.ensures.crowd c.args.service.now c.loop-round.service (g.N.Network.log c.args.network.now) (past_of (c.loop-round._round + 1) (opened c.args.limits.journal (option_map (λ w. w.value) c.args.writer)) c.loop-round.keeper)
     (idle (λ b. view_of g.S.Served.who g.N.Network.number b.value) (rules_of g.S.Served.made g.S.Served.seen g.S.Shows.noted g.S.Shows.status g.S.Shows.changed) c.args.limits c.args.service.now (g.N.Network.log c.args.network.now) Reads (nobody c.wait.new.clients.queue) (past_of (c.loop-round._round + 1) (opened c.args.limits.journal (option_map (λ w. w.value) c.args.writer)) c.loop-round.keeper) _ _ _ _ c.loop-round.service c.time-now.ensures
     (waited (λ b. view_of g.S.Served.who g.N.Network.number b.value) (rules_of g.S.Served.made g.S.Served.seen g.S.Shows.noted g.S.Shows.status g.S.Shows.changed) c.args.limits c.args.service.now (g.N.Network.log c.args.network.now) c.loop-round.clients.queue c.wait.new.clients.queue (past_of c.loop-round._round (opened c.args.limits.journal (option_map (λ w. w.value) c.args.writer)) c.loop-round.keeper) _ _ _ _ _ _ c.loop-round.service
-    c.if-not-wait.ensures.log.0 c.if-not-wait.ensures.log.1 c.if-not-wait.ensures.log.2 c.wait.ensures.stay c.if-not-wait.ensures.log.3 c.if-not-wait.ensures.log.4 (ap (λ v. v.items) c.wait.ensures.slots) c.wait.ensures.count c.loop-round.invariant.crowd)) in
+    c.if-not-wait.ensures.log.0 c.if-not-wait.ensures.log.1 refl c.if-not-wait.ensures.log.2 c.wait.ensures.stay c.if-not-wait.ensures.log.3 c.if-not-wait.ensures.log.4 (ap (λ v. v.items) c.wait.ensures.slots) c.wait.ensures.count c.loop-round.invariant.crowd)) in
     ends_lost (λ b. view_of g.S.Served.who g.N.Network.number b.value) (rules_of g.S.Served.made g.S.Served.seen g.S.Shows.noted g.S.Shows.status g.S.Shows.changed) g.met.S.Served.apart g.met.S.Shows.unseen g.met.S.Shows.stays
     c.served_runs_go_on.ensures c.one_call_is_a_run.ensures c.tenants_are_answered_equally.ensures c.runs_go_on.ensures c.args.service.now (g.N.Network.log c.args.network.now) c.args.limits (option_map (λ w. w.value) c.args.writer)
     mid _ _ _ _ _ _ _ c.loop-round.service last came
@@ -57,7 +57,7 @@ returns-then-not-take_turns g c =
     let (mid, last, came) = c.if-not-accept.ensures.crowd c.args.service.now c.loop-round.service (g.N.Network.log c.args.network.now) (past_of (c.loop-round._round + 1) (opened c.args.limits.journal (option_map (λ w. w.value) c.args.writer)) c.loop-round.keeper)
     (idle (λ b. view_of g.S.Served.who g.N.Network.number b.value) (rules_of g.S.Served.made g.S.Served.seen g.S.Shows.noted g.S.Shows.status g.S.Shows.changed) c.args.limits c.args.service.now (g.N.Network.log c.args.network.now) Reads (nobody c.wait.new.clients.queue) (past_of (c.loop-round._round + 1) (opened c.args.limits.journal (option_map (λ w. w.value) c.args.writer)) c.loop-round.keeper) _ _ _ _ c.loop-round.service c.time-now.ensures
     (waited (λ b. view_of g.S.Served.who g.N.Network.number b.value) (rules_of g.S.Served.made g.S.Served.seen g.S.Shows.noted g.S.Shows.status g.S.Shows.changed) c.args.limits c.args.service.now (g.N.Network.log c.args.network.now) c.loop-round.clients.queue c.wait.new.clients.queue (past_of c.loop-round._round (opened c.args.limits.journal (option_map (λ w. w.value) c.args.writer)) c.loop-round.keeper) _ _ _ _ _ _ c.loop-round.service
-    c.if-not-wait.ensures.log.0 c.if-not-wait.ensures.log.1 c.if-not-wait.ensures.log.2 c.wait.ensures.stay c.if-not-wait.ensures.log.3 c.if-not-wait.ensures.log.4 (ap (λ v. v.items) c.wait.ensures.slots) c.wait.ensures.count c.loop-round.invariant.crowd)) in
+    c.if-not-wait.ensures.log.0 c.if-not-wait.ensures.log.1 refl c.if-not-wait.ensures.log.2 c.wait.ensures.stay c.if-not-wait.ensures.log.3 c.if-not-wait.ensures.log.4 (ap (λ v. v.items) c.wait.ensures.slots) c.wait.ensures.count c.loop-round.invariant.crowd)) in
     let before = idle (λ b. view_of g.S.Served.who g.N.Network.number b.value) (rules_of g.S.Served.made g.S.Served.seen g.S.Shows.noted g.S.Shows.status g.S.Shows.changed) c.args.limits c.args.service.now (g.N.Network.log c.args.network.now) Reads (nobody c.accept.new.clients.queue) (past_of (c.loop-round._round + 1) (opened c.args.limits.journal (option_map (λ w. w.value) c.args.writer)) c.loop-round.keeper) _ _ _ _ c.loop-round.service last came in
     let failed = c.take_turns.ensures.failed c.args.service.now (g.N.Network.log c.args.network.now) (c.loop-round._round + 1) (opened c.args.limits.journal (option_map (λ w. w.value) c.args.writer)) c.if-not-take_turns.true before in
     ends_unkept (λ b. view_of g.S.Served.who g.N.Network.number b.value) (rules_of g.S.Served.made g.S.Served.seen g.S.Shows.noted g.S.Shows.status g.S.Shows.changed) g.met.S.Served.apart g.met.S.Shows.unseen g.met.S.Shows.stays
@@ -69,7 +69,7 @@ returns-then-ask g c =
     let (mid, last, came) = c.if-not-accept.ensures.crowd c.args.service.now c.loop-round.service (g.N.Network.log c.args.network.now) (past_of (c.loop-round._round + 1) (opened c.args.limits.journal (option_map (λ w. w.value) c.args.writer)) c.loop-round.keeper)
     (idle (λ b. view_of g.S.Served.who g.N.Network.number b.value) (rules_of g.S.Served.made g.S.Served.seen g.S.Shows.noted g.S.Shows.status g.S.Shows.changed) c.args.limits c.args.service.now (g.N.Network.log c.args.network.now) Reads (nobody c.wait.new.clients.queue) (past_of (c.loop-round._round + 1) (opened c.args.limits.journal (option_map (λ w. w.value) c.args.writer)) c.loop-round.keeper) _ _ _ _ c.loop-round.service c.time-now.ensures
     (waited (λ b. view_of g.S.Served.who g.N.Network.number b.value) (rules_of g.S.Served.made g.S.Served.seen g.S.Shows.noted g.S.Shows.status g.S.Shows.changed) c.args.limits c.args.service.now (g.N.Network.log c.args.network.now) c.loop-round.clients.queue c.wait.new.clients.queue (past_of c.loop-round._round (opened c.args.limits.journal (option_map (λ w. w.value) c.args.writer)) c.loop-round.keeper) _ _ _ _ _ _ c.loop-round.service
-    c.if-not-wait.ensures.log.0 c.if-not-wait.ensures.log.1 c.if-not-wait.ensures.log.2 c.wait.ensures.stay c.if-not-wait.ensures.log.3 c.if-not-wait.ensures.log.4 (ap (λ v. v.items) c.wait.ensures.slots) c.wait.ensures.count c.loop-round.invariant.crowd)) in
+    c.if-not-wait.ensures.log.0 c.if-not-wait.ensures.log.1 refl c.if-not-wait.ensures.log.2 c.wait.ensures.stay c.if-not-wait.ensures.log.3 c.if-not-wait.ensures.log.4 (ap (λ v. v.items) c.wait.ensures.slots) c.wait.ensures.count c.loop-round.invariant.crowd)) in
     let before = idle (λ b. view_of g.S.Served.who g.N.Network.number b.value) (rules_of g.S.Served.made g.S.Served.seen g.S.Shows.noted g.S.Shows.status g.S.Shows.changed) c.args.limits c.args.service.now (g.N.Network.log c.args.network.now) Reads (nobody c.accept.new.clients.queue) (past_of (c.loop-round._round + 1) (opened c.args.limits.journal (option_map (λ w. w.value) c.args.writer)) c.loop-round.keeper) _ _ _ _ c.loop-round.service last came in
     let turned = c.take_turns.ensures.crowd c.args.service.now (g.N.Network.log c.args.network.now) (c.loop-round._round + 1) (opened c.args.limits.journal (option_map (λ w. w.value) c.args.writer)) c.if-not-take_turns.false before in
     let told = warned (λ b. view_of g.S.Served.who g.N.Network.number b.value) (rules_of g.S.Served.made g.S.Served.seen g.S.Shows.noted g.S.Shows.status g.S.Shows.changed) c.args.limits c.args.service.now (g.N.Network.log c.args.network.now) Sweeps (nobody c.take_turns.new.clients.queue) (past_of (c.loop-round._round + 1) (opened c.args.limits.journal (option_map (λ w. w.value) c.args.writer)) c.take_turns.new.keeper) _ _ _ _ c.take_turns.new.service c.tell.ensures turned in
@@ -85,12 +85,12 @@ loop-round-preserved g c =
     let (mid, last, came) = c.if-not-accept.ensures.crowd c.args.service.now c.loop-round.service (g.N.Network.log c.args.network.now) (past_of (c.loop-round._round + 1) (opened c.args.limits.journal (option_map (λ w. w.value) c.args.writer)) c.loop-round.keeper)
     (idle (λ b. view_of g.S.Served.who g.N.Network.number b.value) (rules_of g.S.Served.made g.S.Served.seen g.S.Shows.noted g.S.Shows.status g.S.Shows.changed) c.args.limits c.args.service.now (g.N.Network.log c.args.network.now) Reads (nobody c.wait.new.clients.queue) (past_of (c.loop-round._round + 1) (opened c.args.limits.journal (option_map (λ w. w.value) c.args.writer)) c.loop-round.keeper) _ _ _ _ c.loop-round.service c.time-now.ensures
     (waited (λ b. view_of g.S.Served.who g.N.Network.number b.value) (rules_of g.S.Served.made g.S.Served.seen g.S.Shows.noted g.S.Shows.status g.S.Shows.changed) c.args.limits c.args.service.now (g.N.Network.log c.args.network.now) c.loop-round.clients.queue c.wait.new.clients.queue (past_of c.loop-round._round (opened c.args.limits.journal (option_map (λ w. w.value) c.args.writer)) c.loop-round.keeper) _ _ _ _ _ _ c.loop-round.service
-    c.if-not-wait.ensures.log.0 c.if-not-wait.ensures.log.1 c.if-not-wait.ensures.log.2 c.wait.ensures.stay c.if-not-wait.ensures.log.3 c.if-not-wait.ensures.log.4 (ap (λ v. v.items) c.wait.ensures.slots) c.wait.ensures.count c.loop-round.invariant.crowd)) in
+    c.if-not-wait.ensures.log.0 c.if-not-wait.ensures.log.1 refl c.if-not-wait.ensures.log.2 c.wait.ensures.stay c.if-not-wait.ensures.log.3 c.if-not-wait.ensures.log.4 (ap (λ v. v.items) c.wait.ensures.slots) c.wait.ensures.count c.loop-round.invariant.crowd)) in
     let before = idle (λ b. view_of g.S.Served.who g.N.Network.number b.value) (rules_of g.S.Served.made g.S.Served.seen g.S.Shows.noted g.S.Shows.status g.S.Shows.changed) c.args.limits c.args.service.now (g.N.Network.log c.args.network.now) Reads (nobody c.accept.new.clients.queue) (past_of (c.loop-round._round + 1) (opened c.args.limits.journal (option_map (λ w. w.value) c.args.writer)) c.loop-round.keeper) _ _ _ _ c.loop-round.service last came in
     let turned = c.take_turns.ensures.crowd c.args.service.now (g.N.Network.log c.args.network.now) (c.loop-round._round + 1) (opened c.args.limits.journal (option_map (λ w. w.value) c.args.writer)) c.if-not-take_turns.false before in
     let told = warned (λ b. view_of g.S.Served.who g.N.Network.number b.value) (rules_of g.S.Served.made g.S.Served.seen g.S.Shows.noted g.S.Shows.status g.S.Shows.changed) c.args.limits c.args.service.now (g.N.Network.log c.args.network.now) Sweeps (nobody c.take_turns.new.clients.queue) (past_of (c.loop-round._round + 1) (opened c.args.limits.journal (option_map (λ w. w.value) c.args.writer)) c.take_turns.new.keeper) _ _ _ _ c.take_turns.new.service c.tell.ensures turned in
     record {
-      crowd = c.ask.ensures.crowd c.args.service.now (g.N.Network.log c.args.network.now) (past_of (c.loop-round._round + 1) (opened c.args.limits.journal (option_map (λ w. w.value) c.args.writer)) c.take_turns.new.keeper) c.if-ask.false told;
+      crowd = c.ask.ensures.crowd c.args.service.now (g.N.Network.log c.args.network.now) (c.loop-round._round + 1) (opened c.args.limits.journal (option_map (λ w. w.value) c.args.writer)) c.take_turns.new.keeper c.if-ask.false told;
       known = c.ask.ensures.known;
     }
 

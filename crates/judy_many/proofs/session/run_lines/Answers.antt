@@ -1,10 +1,12 @@
-use Rattle.std.proofs.Common.{arith, ◌≡◌, ◌⊎◌, inl, inr, ◌<◌, ◌+◌, [], ◌∷◌, ◌++◌, List, ℕ, true, false, refl, sym, ap, subst, ◌∙◌, append_assoc, append-nil}
+use Rattle.std.proofs.Common.{arith, ◌≡◌, inl, inr, ◌<◌, ◌≤◌, [], ◌∷◌, ◌++◌, List, ℕ, true, false, refl, sym, ap, subst, ◌∙◌, append_assoc, append-nil}
 use Rattle.std.proofs.lemmas.List.{length-append}
-use Rattle.std.specs.Prelude.{length}
+use Rattle.std.specs.Prelude.{IsTrue, length}
+use Rattle.judy_many.specs.Books.{has_room}
 use Rattle.judy_many.specs.Sessions.{Turn}
 use Rattle.judy_many.proofs.Stepping.{Steps-none, Steps-held, Steps-append}
 use Rattle.judy_many.proofs.Looking.{no_line}
 use Rattle.judy_many.proofs.Limiting.{AreLimited-append}
+use Rattle.judy_many.proofs.Singles.{none_yet, one_at_most}
 use Rattle.judy_many.proofs.session.run_lines.Goals as goal
 
 -- one more line was heard
@@ -16,9 +18,15 @@ cut_more heard chunk after rest bytes h e =
 one_more : (turns : List Turn) (t : Turn) → 0 < length (turns ++ t ∷ [])
 one_more turns t = let e = length-append turns (t ∷ []) in omega (arith, e)
 
+one_line : (turns : List Turn) (t : Turn) → length turns ≡ 0 → length (turns ++ t ∷ []) ≤ 1
+one_line turns t none = let e = length-append turns (t ∷ []) in omega (arith, e, none)
+
+never : true ≡ false → ⊥
+never e = cc
+
 pub loop-chunk-init : goal.loop-chunk-init
 loop-chunk-init g c = record {
-  steps = ([], [], refl, tt, Steps-none _ _ _ _ _ _, inr (refl, refl, refl));
+  steps = ([], [], refl, tt, (λ e. omega arith), Steps-none _ _ _ _ _ _, inr (refl, refl, refl, refl));
   left = omega arith;
   more = omega arith;
   logins = refl;
@@ -28,7 +36,7 @@ loop-chunk-init g c = record {
 
 pub returns-clause-steps : goal.returns-clause-steps
 returns-clause-steps g c =
-    let (used, turns, cut, limited, steps, first) = c.loop-chunk.invariant.steps in (
+    let (used, turns, cut, limited, single, steps, first) = c.loop-chunk.invariant.steps in (
       used ++ c.loop-chunk.rest.now,
       [],
       turns ++ [],
@@ -37,16 +45,35 @@ returns-clause-steps g c =
       λ some. absurd (some refl),
       λ starts. elim first [
         | inl one ↦ subst (λ t. 0 < length t) (sym (append-nil turns)) one
-        | inr none ↦ absurd (no_line c.loop-chunk.rest.now c.args.bytes.now none.0 starts.0 c.in_default.ensures)
+        | inr none ↦ absurd (no_line c.loop-chunk.rest.now c.args.bytes.now none.1 starts.0 c.in_default.ensures)
       ],
       AreLimited-append _ _ turns [] limited tt,
+      λ e. subst (λ t. length t ≤ 1) (sym (append-nil turns)) (one_at_most c.loop-chunk.ran (length turns) (single e)),
       Steps-append _ used c.loop-chunk.rest.now turns [] false _ _ _ _ _ _ _ _ _ _ _ _ _ _ _ steps
           (Steps-held _ c.loop-chunk.rest.now _ _ _ _ _ _ c.in_default.ensures c.hold.ensures),
     )
 
+pub returns-then-not-may_run-clause-steps : goal.returns-then-not-may_run-clause-steps
+returns-then-not-may_run-clause-steps g c =
+    let (used, turns, cut, limited, single, steps, first) = c.loop-chunk.invariant.steps in (
+      used,
+      c.loop-chunk.rest.now,
+      turns,
+      cut,
+      refl,
+      λ some quit. (c.in-Some.chunk.now, c.in-Some.after.now, c.in-Some.ensures.1, c.in-Some.ensures.0),
+      λ starts. elim first [
+        | inl one ↦ one
+        | inr none ↦ absurd (never (sym (c.may_run.ensures.first (c.is_enough.ensures.none none.0) (none.2 ∙ starts.2) (subst (λ k. IsTrue (has_room k)) (sym none.3) starts.1)) ∙ c.if-not-may_run.true))
+      ],
+      limited,
+      λ e. one_at_most c.loop-chunk.ran (length turns) (single e),
+      steps,
+    )
+
 pub returns-then-run_line-clause-steps : goal.returns-then-run_line-clause-steps
 returns-then-run_line-clause-steps g c =
-    let (used, turns, cut, limited, steps, first) = c.loop-chunk.invariant.steps in
+    let (used, turns, cut, limited, single, steps, first) = c.loop-chunk.invariant.steps in
     let k = c.run_line.ensures.steps in
     let more = rw c.if-run_line.true at k.2 in
     let line = c.in-Some.chunk.now ++ 10 ∷ [] in (
@@ -58,15 +85,13 @@ returns-then-run_line-clause-steps g c =
       λ some quit. absurd (never quit),
       λ starts. one_more turns k.0,
       AreLimited-append _ _ turns (k.0 ∷ []) limited k.1,
+      λ e. one_line turns k.0 (none_yet c.loop-chunk.ran (length turns) (λ ran. never (sym (c.is_enough.ensures.one e ran) ∙ c.may_run.ensures.more c.if-not-may_run.false)) (single e)),
       Steps-append _ used line turns (k.0 ∷ []) _ _ _ _ _ _ _ _ _ _ _ _ _ _ _ _ steps more,
     )
-  where
-    never : true ≡ false → ⊥
-    never e = cc
 
 pub loop-chunk-preserved : goal.loop-chunk-preserved
 loop-chunk-preserved g c =
-    let (used, turns, cut, limited, steps, first) = c.loop-chunk.invariant.steps in
+    let (used, turns, cut, limited, single, steps, first) = c.loop-chunk.invariant.steps in
     let k = c.run_line.ensures.steps in
     let more = rw c.if-run_line.false at k.2 in
     let line = c.in-Some.chunk.now ++ 10 ∷ [] in
@@ -77,6 +102,7 @@ loop-chunk-preserved g c =
         turns ++ k.0 ∷ [],
         cut_more used c.in-Some.chunk.now c.in-Some.after.now c.loop-chunk.rest.now c.args.bytes.now cut c.in-Some.ensures.1,
         AreLimited-append _ _ turns (k.0 ∷ []) limited k.1,
+        λ e. one_line turns k.0 (none_yet c.loop-chunk.ran (length turns) (λ ran. never (sym (c.is_enough.ensures.one e ran) ∙ c.may_run.ensures.more c.if-not-may_run.false)) (single e)),
         Steps-append _ used line turns (k.0 ∷ []) _ _ _ _ _ _ _ _ _ _ _ _ _ _ _ _ steps more,
         inl (one_more turns k.0),
       );

@@ -1,5 +1,5 @@
 use Rattle.std.proofs.Common.{◌≡◌, ◌<◌, ◌≤◌, ◌⊎◌, ◌++◌, false, ℕ, List, length}
-use Rattle.std.specs.Prelude.{option_map}
+use Rattle.std.specs.Prelude.{if◌then◌else◌, option_map}
 use Rattle.judy_protocol.specs.Services.{HasLoggedIn}
 use Rattle.judy_many.specs.Sessions.{Steps, Turn}
 use Rattle.judy_many.specs.Lives.{view_of}
@@ -11,11 +11,12 @@ use Rattle.judy_many.proofs.session.run_lines.Given as goal
 abbrev pub invariant-loop-chunk : goal.invariant-loop-chunk
 invariant-loop-chunk g l = record {
   steps : (used : List ℕ) × (turns : List Turn) × (used ++ l.rest ≡ l.bytes)
-      × AreLimited l.most (speakers_at (λ b. view_of g.S.Served.who g.N.Network.number b.value) l.others) turns
+      × AreLimited l.limits.tenant_clients (speakers_at (λ b. view_of g.S.Served.who g.N.Network.number b.value) l.others) turns
+      × (l.limits.clients ≡ 1 → length turns ≤ (if l.ran then 1 else 0))
       × Steps (rules_of g.S.Served.made g.S.Served.seen g.S.Shows.noted g.S.Shows.status g.S.Shows.changed) used turns false l.fn.session.held l.session.held
       (option_map g.S.Served.who l.fn.session.speaker) (option_map g.S.Served.who l.session.speaker)
       l.fn.service l.service l.fn.answers.items l.answers.items l.fn.keeper l.keeper
-      × ((0 < length turns) ⊎ ((l.rest ≡ l.bytes) × (l.answers.items ≡ l.fn.answers.items) × (l.keeper ≡ l.fn.keeper)));
+      × ((0 < length turns) ⊎ ((l.ran ≡ false) × (l.rest ≡ l.bytes) × (l.answers.items ≡ l.fn.answers.items) × (l.keeper ≡ l.fn.keeper)));
   left : length l.rest ≤ length l.bytes;
   more : length l.fn.answers.items ≤ length l.answers.items;
   logins : (g.S.Served.seen l.service).logins ≡ (g.S.Served.seen l.fn.service).logins;

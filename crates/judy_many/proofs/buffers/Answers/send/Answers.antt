@@ -13,6 +13,6 @@ returns-in-Took-clause-acts g c = (
   took_text c.self.inside.bytes.items c.split_at.result.1.now c.args.self.now c.self.inside.written c.in-Took.n
       (c.split_at.ensures.back ∙ ap (drop c.self.inside.written) c.as_slice.ensures.value) c.self.view_is,
   refl,
-  tt,
+  (refl, refl),
   λ some. omega arith,
 )
