@@ -26,7 +26,8 @@ send-requires-clause-some g c =
 pub send-requires-clause-answers : goal.send-requires-clause-answers
 send-requires-clause-answers g c =
     let are = gathered_answers _ _ _ _ _ _ _ _ _ _ _ c.gather-gathered.ensures.gathers.2 c.gather-gathered.ensures.short in
-    MaySend-later _ AreAnswers _ c.args.sink.now c.loop-chunk.sink (λ text e. subst AreAnswers (sym (e ∙ c.as_slice.ensures.value)) are)
+    MaySend-later _ (AreAnswers c.args.batch) _ c.args.sink.now c.loop-chunk.sink
+    (λ text e. subst (AreAnswers c.args.batch) (sym (e ∙ c.as_slice.ensures.value)) are)
     c.loop-chunk.invariant.flushed c.requires.answers
 
 pub returns-then-not-send-clause-heard : goal.returns-then-not-send-clause-heard

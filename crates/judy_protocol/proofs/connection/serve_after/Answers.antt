@@ -89,7 +89,8 @@ returns-in-Some-WriteFault g c =
 
 pub feed-requires-in-Bytes-clause-answers : goal.feed-requires-in-Bytes-clause-answers
 feed-requires-in-Bytes-clause-answers g c =
-    MaySend-later _ AreAnswers AreAnswers c.args.sink.now c.loop-pulls.sink (λ text is. is) c.loop-pulls.invariant.flushed c.requires.answers
+    MaySend-later _ (AreAnswers c.args.batch) (AreAnswers c.args.batch) c.args.sink.now c.loop-pulls.sink (λ text is. is)
+    c.loop-pulls.invariant.flushed c.requires.answers
 
 pub pull-requires-clause-ready : goal.pull-requires-clause-ready
 pull-requires-clause-ready g c = c.requires.prompt c.loop-pulls.source c.loop-pulls.sink _ (omega arith) (record {
