@@ -1,8 +1,9 @@
 -- What the serving of a connection did, in the terms of its specification.
-use Rattle.std.proofs.Common.{◌≡◌, ℕ, ◌≤◌, true, List, [], ◌∷◌, ◌++◌, length, Option, None, sym, ◌∙◌, ap, subst, refl, arith, append_assoc, append-nil}
+use Rattle.std.proofs.Common.{◌≡◌, ℕ, ◌≤◌, Bool, true, List, [], ◌∷◌, ◌++◌, length, Option, None, sym, ◌∙◌, ap, subst, refl, arith, append_assoc, append-nil}
 use Rattle.std.specs.Prelude.{zip}
 use Rattle.std.specs.Io.KnownBytes.{Appends, Consumes}
 use Rattle.std.proofs.lemmas.List.{length-append}
+use Rattle.judy_stream.specs.Streams.{IsFlushed}
 use Rattle.judy_model.specs.declared.quotas.Quota.{Quota}
 use Rattle.judy_model.specs.declared.replies.Reply.{Reply}
 use Rattle.judy_model.specs.declared.replies.Reply.TheVariants.{Memory}
@@ -96,16 +97,16 @@ module _ {S : Type 0} (made : Made S) (seen : S → Seen) (apart : (before after
         goes_on = told.goes_on;
       }
 
-  module _ {batch : Batch} (first : S) (before : Option (List ℕ)) (stream bytes : List ℕ) (from : Talk S) (after : S) (taken left left' : Option (List ℕ))
+  module _ {batch : Batch} (first : S) (before : Option (List ℕ)) (stream bytes : List ℕ) (from : Talk S) (after : S) (taken left left' : Option (List ℕ)) {pending pending' : Bool}
       (read : Consumes left left' (stream ++ bytes)) (short : length bytes ≤ 4096) (told : Told made (seen first).logins first before stream from) where
     -- all bytes in their parts
-    parted : (how : Stop) (s : Stops made (seen first).logins batch how bytes from after taken) → stream ++ bytes ≡ ((stream ++ s.kept) ++ s.cut) ++ s.unheard
+    parted : (how : Stop) (s : Stops made (seen first).logins batch how bytes from after taken pending pending') → stream ++ bytes ≡ ((stream ++ s.kept) ++ s.cut) ++ s.unheard
     parted how s =
         ap (λ v. stream ++ v) (sym s.parts) ∙ sym (append_assoc stream s.kept (s.cut ++ s.unheard))
         ∙ sym (append_assoc (stream ++ s.kept) s.cut s.unheard)
 
     -- a connection that a line ended
-    pub all_quit : Stops made (seen first).logins batch stop.Quit bytes from after taken → AllQuit made seen left left' first after before taken
+    pub all_quit : Stops made (seen first).logins batch stop.Quit bytes from after taken pending pending' → AllQuit made seen left left' first after before taken
     all_quit s =
         let login = (seen first).logins in
         let kept = stream ++ s.kept in
@@ -135,7 +136,8 @@ module _ {S : Type 0} (made : Made S) (seen : S → Seen) (apart : (before after
         }
 
     -- a connection that a failed write ended
-    pub part_run : Stops made (seen first).logins batch stop.WriteFault bytes from after taken → PartRun made seen batch left left' first after before taken
+    pub part_run : Stops made (seen first).logins batch stop.WriteFault bytes from after taken pending pending'
+        → PartRun made seen batch left left' first after before taken
     part_run s =
         let login = (seen first).logins in
         let kept = stream ++ s.kept in
@@ -168,3 +170,9 @@ module _ {S : Type 0} (made : Made S) (seen : S → Seen) (apart : (before after
           part = append_assoc a.text s.sent s.missing ∙ ap (λ v. a.text ++ v) s.split ∙ t.text_is;
           text = subst (λ v. length v ≤ answers_limit) (sym s.split) s.short;  -- of the last text
         }
+
+    -- and what was flushed then
+    pub part_flushed : (s : Stops made (seen first).logins batch stop.WriteFault bytes from after taken pending pending')
+        → (part_run s).begun ≡ [] → IsFlushed pending pending'
+    unfolding part_run
+    part_flushed s = s.flushed

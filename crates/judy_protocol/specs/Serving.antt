@@ -4,6 +4,7 @@
 --     AreRun lines replies ..      lines were run: each tenant's replies are those that it would
 --                                  get alone
 --     Ends batch end ..            what was read, run and written, by how the serving ended
+--     IsFlushedBefore ..           what was flushed when a write failed
 --     IsPrompt ..                  all lines that came so far have their answers
 --     MayPull ..                   the source may be pulled once they have
 --     Serves batch how most ..     the whole: what was run, and what the connection shows
@@ -181,6 +182,16 @@ module _ {S : Type 0} (made : Made S) (seen : S → Seen) where
   Ends batch ended.Limit left left' before after taken taken' = AllOpen left left' before after taken taken'
   Ends batch ended.WriteFault left left' before after taken taken' = PartRun batch left left' before after taken taken'
 
+  -- After a failed write: if nothing of the last text was sent, the texts before it were flushed.
+  abbrev pub IsFlushedBefore : (batch : Batch) (how : End) (left left' : MaybeBytes) (before after : S) (taken taken' : MaybeBytes)
+      → Ends batch how left left' before after taken taken' → Bool → Bool → Type 0
+  IsFlushedBefore batch ended.Quit left left' before after taken taken' run pending pending' = Unit {0}
+  IsFlushedBefore batch ended.End left left' before after taken taken' run pending pending' = Unit {0}
+  IsFlushedBefore batch ended.ReadFault left left' before after taken taken' run pending pending' = Unit {0}
+  IsFlushedBefore batch ended.Limit left left' before after taken taken' run pending pending' = Unit {0}
+  IsFlushedBefore batch ended.WriteFault left left' before after taken taken' part pending pending' =
+      part.begun ≡ [] → IsFlushed pending pending'
+
   -- All lines that the source gave so far were run, and none asked to quit. Their answers were
   -- written and flushed. Now the source may be pulled.
   pub record IsPrompt (left left' : MaybeBytes) (before : S) (taken taken' : MaybeBytes) (pending pending' : Bool) : Type 0 where
@@ -205,6 +216,7 @@ module _ {S : Type 0} (made : Made S) (seen : S → Seen) where
     pub end : how ≡ ended.End → IsAtEnd to.left
     -- nothing more waits for a flush, unless a write failed
     pub flushed : how ≢ ended.WriteFault → IsFlushed from.pending to.pending
+    pub flushed_before : IsFlushedBefore batch how from.left to.left before after from.taken to.taken served from.pending to.pending
     -- each end and each fault is counted once, and nothing else is
     pub ends : to.ends ≡ ends_by how from.ends
     pub read_faults : to.read_faults ≡ read_faults_by how from.read_faults

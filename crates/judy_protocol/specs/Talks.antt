@@ -3,7 +3,7 @@
 use Rattle.std.specs.Prelude.{◌≡◌, ℕ, ◌<◌, ◌≤◌, Bool, true, false, not, List, [], ◌∷◌, ◌++◌, zip, length, IsTrue, ◌==◌, Option, Some, None, option_map, Result, Ok, Err}
 use Rattle.std.specs.List.{list_all}
 use Rattle.std.specs.Io.KnownBytes.{Appends}
-use Rattle.judy_stream.specs.Streams.{counted}
+use Rattle.judy_stream.specs.Streams.{IsFlushed, counted}
 use Rattle.judy_model.specs.declared.replies.Reply.{Reply}
 use Rattle.judy_model.specs.declared.requests.Line.{Line}
 use Rattle.judy_model.specs.declared.requests.TheConstants.{LINE_LIMIT}
@@ -123,8 +123,9 @@ module _ {S : Type 0} (made : Made S) (login : Login) where
 
   -- The bytes were heard up to a line at which the connection stopped. The lines of `kept` were run
   -- and answered. Then those of `cut` were run, and `sent` was written of their answers, which are one
-  -- text. The bytes after them had no effect.
-  pub record Stops (batch : Batch) (how : Stop) (bytes : List ℕ) (from : Talk S) (after : S) (taken : MaybeBytes) : Type 0 where
+  -- text. If nothing of it was written, the texts before it were flushed. The bytes after them had no
+  -- effect.
+  pub record Stops (batch : Batch) (how : Stop) (bytes : List ℕ) (from : Talk S) (after : S) (taken : MaybeBytes) (pending pending' : Bool) : Type 0 where
     pub kept : List ℕ
     pub cut : List ℕ
     pub unheard : List ℕ
@@ -142,6 +143,7 @@ module _ {S : Type 0} (made : Made S) (login : Login) where
     pub short : length text ≤ answers_limit
     pub split : sent ++ missing ≡ text
     pub written : Appends mid.taken taken sent
+    pub flushed : sent ≡ [] → IsFlushed pending pending'
     pub by : StopsBy how quit missing
 
 -- the count of failed writes, by where the connection stops: a failed write counts once

@@ -69,7 +69,7 @@ fn feed<S: Served, W: Sink>(
         (talk S.who held.new speaker.new service.new (W.sink.taken sink.new)))
         (λ how. Stops S.made (S.seen service.old).logins batch how pulled.now
         (talk S.who held.old speaker.old service.old (W.sink.taken sink.old)) service.new
-        (W.sink.taken sink.new)) }
+        (W.sink.taken sink.new) (W.sink.pending sink.old) (W.sink.pending sink.new)) }
     ensures logins { (S.seen service.new).logins ≡ (S.seen service.old).logins }
     ensures speakers { (S.seen service.new).speakers ≡ (S.seen service.old).speakers }
     ensures known { HasLoggedIn (S.seen service.new).speakers (option_map S.who speaker.new) }

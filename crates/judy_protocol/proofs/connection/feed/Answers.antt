@@ -54,6 +54,7 @@ returns-then-not-send-clause-heard g c =
       short = c.gather-gathered.ensures.short;
       split = p.2 ∙ c.as_slice.ensures.value;
       written = p.3;
+      flushed = λ none waits. c.loop-chunk.invariant.flushed (sym (p.4 none) ∙ waits);
       by = tt;
     }
 
@@ -82,6 +83,7 @@ returns-then-gathered-clause-heard g c =
       split = append-nil text;
       written = subst (Appends (g.W.Sink.sink.taken c.loop-chunk.sink) (g.W.Sink.sink.taken c.send.new.sink)) c.as_slice.ensures.value
           (c.send.ensures.sent c.if-not-send.false);
+      flushed = λ none waits. absurd (false≢true (sym (c.send.ensures.flushed c.if-not-send.false) ∙ waits));
       by = (c.if-gathered.true, refl);
     }
 
