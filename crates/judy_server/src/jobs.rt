@@ -31,7 +31,11 @@ fn text_of(word: &Option<Word>) -> Option<&str>
 fn batch_of(batch: bool) -> Batch
     ensures { result ≡ batch_of batch }
 {
-    if batch { Batch::EachRead } else { Batch::EachReply }
+    if batch {
+        Batch::EachRead
+    } else {
+        Batch::EachReply
+    }
 }
 
 /// When the journal is synced, if there is one.

@@ -3,6 +3,7 @@
 --     fault-means    at a failed write the front of the answers was sent, up to within the last text
 --     reply-means    where each reply is written alone, up to within the answer to the last line that was
 --                    run
+--     fault-flushed  if nothing of the last text was sent, the texts before it were flushed
 --     open-means     at any other end all lines that came were answered, and none asked to quit
 use Rattle.std.specs.Prelude.{◌≡◌, ℕ, ◌<◌, ◌≤◌, true, false, List, [], ◌∷◌, ◌++◌, length, None}
 use Rattle.std.specs.Io.KnownBytes.{Consumes, Appends}
@@ -10,7 +11,9 @@ use Rattle.std.proofs.Common.{◌∙◌, ap, subst}
 use Rattle.judy_model.specs.declared.replies.Reply.{Reply}
 use Rattle.judy_model.specs.Stream.{Heard, rest_of, served, answer_from, answer}
 use Rattle.judy_protocol.specs.Services.{Made, Seen}
-use Rattle.judy_protocol.specs.Serving.{AreOneText, MaybeBytes, AreRun, AllQuit, AllOpen, PartRun, asks_to_quit, heard_in}
+use Rattle.judy_stream.specs.Streams.{IsFlushed}
+use Rattle.judy_protocol.specs.Serving.{AreOneText, MaybeBytes, AreRun, AllQuit, AllOpen, PartRun, Serves, Wire, asks_to_quit, heard_in}
+use Rattle.judy_protocol.specs.declared.connection.End.TheVariants as ended
 use Rattle.judy_protocol.specs.declared.gathering.Batch.{Batch}
 use Rattle.judy_protocol.specs.declared.gathering.Batch.TheVariants as batches
 use Rattle.judy_protocol.proofs.lemmas.SendingLaws.{only}
@@ -101,3 +104,9 @@ module _ {S : Type 0} (made : Made S) (seen : S → Seen) (left left' : MaybeByt
       → (script : List ℕ) × (replies : List Reply) × Consumes left left' script × (asks_to_quit (heard_in script) ≡ false)
       × AreRun made seen (served script) replies before after × Appends taken taken' (answer (seen before).logins script replies)
   open-means o = (o.script, o.run.replies, o.run.read, o.goes_on, o.run.run, o.run.written)
+
+-- If no byte of the text whose write or flush failed was sent, no more bytes wait for a flush than
+-- before: the texts before it were flushed.
+pub fault-flushed : {S : Type 0} (made : Made S) (seen : S → Seen) (batch : Batch) (most : ℕ) (before after : S) (from to : Wire)
+    → (h : Serves made seen batch ended.WriteFault most before after from to) → h.served.begun ≡ [] → IsFlushed from.pending to.pending
+fault-flushed made seen batch most before after from to h = h.flushed_before

@@ -163,7 +163,11 @@ fn a_failing_writer(rt: HostRuntime) {
     let mut tape = Tape::new(script, &[], 5000, None);
     let mut page: Page<512> = Page::new(4, Refusal::Fails, None, None);
     let end = serve(rt.alloc(), &mut house, &mut tape, &mut page);
-    same(&rt, (end, page.bytes()), (End::WriteFault, b"OK\n1".as_slice()));
+    same(
+        &rt,
+        (end, page.bytes()),
+        (End::WriteFault, b"OK\n1".as_slice()),
+    );
     same(&rt, house.used(Tenant::Alice), 1);
 }
 
