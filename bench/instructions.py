@@ -4,8 +4,9 @@
 usage: bench/instructions.py [--lines N] [--only WORD] [--out FOLDER]
        bench/instructions.py --show FILE
 
-Each load runs from a file through `judyd run` and through judy_lines.c, under valgrind's tool
-callgrind, with the replies into /dev/null. The program's start, the table of tenants and the lines
+Each load runs from a file through `judyd run --batch` and through judy_lines.c, under valgrind's tool
+callgrind, with the replies into /dev/null. judyd writes those of a read at once, judy_lines.c each
+alone; what the system takes for a write is not counted. The program's start, the table of tenants and the lines
 that fill an array before the load are run alone too, and subtracted. So other work on the machine
 does not change the figures. They leave out the system's part of reads and writes.
 
@@ -184,7 +185,7 @@ def measure(folder, count, only):
     judyd, libjudy = run.Judyd(folder), run.Libjudy(folder)
     if not libjudy.is_there:
         print("libjudy is not here: left out", file=sys.stderr)
-    words = [PROGRAM, "run", "--words"]
+    words = [PROGRAM, "run", "--words", "--batch"]
     for load in loads(count):
         if only in load.name:
             costs = valgrind.of_a_line(words, judyd.run_words()[1] + run.LOG_IN, load)

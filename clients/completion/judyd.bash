@@ -4,7 +4,7 @@
 _judyd_words() {
     case $1 in
         '') echo "run serve compact journal help --help --version" ;;
-        run) echo "--words --help" ;;
+        run) echo "--words --batch --help" ;;
         serve)
             echo "--config --socket --status --control --clients --tenant-clients --connections --login --idle --turn" \
                 "--reserve --journal --sync --check --help"

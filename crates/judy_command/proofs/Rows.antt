@@ -156,9 +156,13 @@ taken-run : takes judyd_app (codes "run" ∷ codes "--words" ∷ []) ≡ true
 unfolding clap_on_literals
 taken-run = refl
 
-job-run : job_of (subcommand_of judyd_app (codes "run" ∷ codes "--words" ∷ [])) ≡ Some (Run true)
+job-run : job_of (subcommand_of judyd_app (codes "run" ∷ codes "--words" ∷ [])) ≡ Some (Run true false)
 unfolding clap_on_literals
 job-run = refl
+
+job-batch : job_of (subcommand_of judyd_app (codes "run" ∷ codes "--batch" ∷ [])) ≡ Some (Run false true)
+unfolding clap_on_literals
+job-batch = refl
 
 taken-serve : takes judyd_app (codes "serve" ∷ codes "--config" ∷ codes "c" ∷ codes "--socket" ∷ codes "s" ∷ []) ≡ true
 unfolding clap_on_literals

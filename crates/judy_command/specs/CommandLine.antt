@@ -62,9 +62,9 @@ connections_rule = record (number_rule (codes "connections")) { defaults = codes
 abbrev pub login_rule : Rule
 login_rule = record (number_rule (codes "login")) { defaults = codes "10" ∷ [] }
 
--- `run [--words]`
+-- `run [--words] [--batch]`
 abbrev pub run_app : App
-run_app = with_rule (new_app (codes "run")) (flag_rule (codes "words"))
+run_app = with_rule (with_rule (new_app (codes "run")) (flag_rule (codes "words"))) (flag_rule (codes "batch"))
 
 -- `--config FILE --socket PATH [--status PATH] [--control PATH]`
 abbrev pub with_places : App → App
@@ -157,7 +157,7 @@ served rows = Serve (unwrap_or (first_of (codes "config") rows) []) (unwrap_or (
 -- the job of the subcommand of this name with these matches
 abbrev pub job_at : Text → List Row → Job
 job_at name rows =
-    if bytes_eq name (codes "run") then Run (is_set (codes "words") rows)
+    if bytes_eq name (codes "run") then Run (is_set (codes "words") rows) (is_set (codes "batch") rows)
     else if bytes_eq name (codes "compact") then Compact (unwrap_or (first_of (codes "directory") rows) [])
     else if bytes_eq name (codes "journal") then Journal (unwrap_or (first_of (codes "directory") rows) []) (first_of (codes "tenant") rows)
     else served rows
@@ -191,7 +191,7 @@ IsSync (Seconds n) = IsCount most_count n
 IsSync Never = Unit {0}
 
 abbrev pub IsInRange : Job → Type 0
-IsInRange (Run words) = Unit {0}
+IsInRange (Run words batch) = Unit {0}
 IsInRange (Serve config socket status control clients tenant_clients connections login idle turn reserve journal sync check) =
     IsCount most_clients clients × IfSome tenant_clients (IsCount most_clients) × IsCount most_count connections × IsCount most_count login
     × IfSome idle (IsCount most_count) × IfSome turn (IsCount most_count)

@@ -224,7 +224,7 @@ fn with<'a>(command: Made<'a>, arg: Arg<'a>) -> Made<'a>
     command?.arg(arg)
 }
 
-/// `run [--words]`.
+/// `run [--words] [--batch]`.
 fn run_command<'a>(alloc: Global) -> Made<'a>
     ensures app { IfOk result (λ c. app_of c ≡ run_app) }
     ensures local { IfOk result (λ c. (fields_of c).has_globals ≡ false) }
@@ -233,7 +233,9 @@ fn run_command<'a>(alloc: Global) -> Made<'a>
         "Serves one script from standard input: a table of tenants, a line ---, and then requests";
     let command = used(alloc, "run", about, "judyd run [OPTIONS]", RUN_EXAMPLES);
     let words = "At the end, write a last line WORDS n: the words of memory that all arrays hold";
-    with(Ok(command), flag(alloc, "words", words))
+    let batch = "Write the replies to all requests of a read at once, not each reply alone";
+    let command = with(Ok(command), flag(alloc, "words", words));
+    with(command, flag(alloc, "batch", batch))
 }
 
 /// A command with the options for the table of tenants and the sockets.

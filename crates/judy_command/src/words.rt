@@ -43,6 +43,8 @@ pub enum Job {
     Run {
         /// Whether to print the line `WORDS n`.
         words: bool,
+        /// Whether to write the replies to all requests of a read at once, and not each alone.
+        batch: bool,
     },
     /// Serve connections to a socket.
     Serve {
@@ -241,6 +243,7 @@ fn job_of(alloc: Global, name: &str, matches: &ArgMatches<'_>) -> Result<Job, Al
     if name == "run" {
         return Ok(Job::Run {
             words: is_set(matches, "words"),
+            batch: is_set(matches, "batch"),
         });
     }
     if name == "compact" {

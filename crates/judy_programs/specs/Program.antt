@@ -1,12 +1,12 @@
 -- What `judyd run` does with its input, for any kind S of service: the step of a call (`made`), the
 -- visible state (`seen`), the words of its arrays (`words_in`), and when the service is new
 -- (`is_new`).
---     RunsOn words ran ..             a script was served, and then the line with the words, if
+--     RunsOn words batch ran ..       a script was served, and then the line with the words, if
 --                                     wanted
---     HasRunOn words how .. from to   the same, and what the streams show then
---     Runs words ran ..               a table was read, and the script after it was served to its
+--     HasRunOn words batch how ..     the same, and what the streams show then
+--     Runs words batch ran ..         a table was read, and the script after it was served to its
 --                                     tenants
---     HasRun words how from to        the same, and what the streams show then
+--     HasRun words batch how ..       the same, and what the streams show then
 --     ServesSoFar ..                  all lines that came so far are answered, and none asked to
 --                                     quit
 --     MayPullScript ..                the source may be pulled while that is so
@@ -17,6 +17,7 @@ use Rattle.judy_stream.specs.Streams.{IsFlushed, SinkOf, SourceOf, counted}
 use Rattle.judy_protocol.specs.Services.{Made, Seen}
 use Rattle.judy_protocol.specs.Sending.{AreAnswers}
 use Rattle.judy_protocol.specs.Serving.{MaybeBytes, Ends, IsPrompt, Wire, ends_by, pull_limit, read_faults_by, reads_limit, write_faults_by}
+use Rattle.judy_protocol.specs.declared.gathering.Batch.{Batch}
 use Rattle.judy_protocol.specs.declared.connection.End.{End}
 use Rattle.judy_protocol.specs.declared.connection.End.TheVariants as ends
 use Rattle.judy_table.specs.Tenants.{read_table}
@@ -33,9 +34,9 @@ use Rattle.judy_programs.specs.declared.program.Ran.TheVariants as ran
 abbrev pub words_line : ℕ → List ℕ
 words_line n = line (codes "WORDS " ++ decimal n)
 
--- what `judyd run` sends: the answers to lines that follow one another, or the line with the words
-abbrev pub IsSent : List ℕ → Type 0
-IsSent text = AreAnswers text ⊎ ((n : ℕ) × text ≡ words_line n)
+-- what `judyd run` sends at once: answers, or the line with the words
+abbrev pub IsSent : Batch → List ℕ → Type 0
+IsSent batch text = AreAnswers batch text ⊎ ((n : ℕ) × text ≡ words_line n)
 
 -- whether the line with the words is written: if it is wanted, after a script that was served to
 -- its end
@@ -110,44 +111,44 @@ module _ {S : Type 0} (made : Made S) (seen : S → Seen) (words_in : S → ℕ)
 
   -- the script was served; at its end nothing is left of the source, and the source reported its
   -- end once
-  pub record IsEnded (end : End) (left left' : MaybeBytes) (before after : S) (taken taken' : MaybeBytes) (told told' : ℕ) : Type 0 where
-    pub served : Ends made seen end left left' before after taken taken'
+  pub record IsEnded (batch : Batch) (end : End) (left left' : MaybeBytes) (before after : S) (taken taken' : MaybeBytes) (told told' : ℕ) : Type 0 where
+    pub served : Ends made seen batch end left left' before after taken taken'
     pub none : end ≡ ends.End → IsAtEnd left'
     pub count : told' ≡ ends_by end told
 
   -- the script was served, and what follows the answers was written
-  pub record IsServedOut (words : Bool) (end : End) (left left' : MaybeBytes) (before after : S) (taken taken' : MaybeBytes) (told told' : ℕ) : Type 0 where
+  pub record IsServedOut (words : Bool) (batch : Batch) (end : End) (left left' : MaybeBytes) (before after : S) (taken taken' : MaybeBytes) (told told' : ℕ) : Type 0 where
     pub between : MaybeBytes
-    pub script : IsEnded end left left' before after taken between told told'
+    pub script : IsEnded batch end left left' before after taken between told told'
     pub last : Appends between taken' (last_line words end (words_in after))
 
   -- the script was served to its end, and only a part of the line that follows the answers was
   -- written
-  pub record IsCutShort (words : Bool) (left left' : MaybeBytes) (before after : S) (taken taken' : MaybeBytes) (told told' : ℕ) : Type 0 where
+  pub record IsCutShort (words : Bool) (batch : Batch) (left left' : MaybeBytes) (before after : S) (taken taken' : MaybeBytes) (told told' : ℕ) : Type 0 where
     pub end : End
     pub between : MaybeBytes
     pub part : List ℕ
     pub missing : List ℕ
     pub tells : tells_words words end ≡ true
-    pub script : IsEnded end left left' before after taken between told told'
+    pub script : IsEnded batch end left left' before after taken between told told'
     pub cut : part ++ missing ≡ words_line (words_in after)
     pub last : Appends between taken' part
 
   -- the result for a script
-  abbrev pub RunsOn : Bool → Ran → MaybeBytes → MaybeBytes → S → S → MaybeBytes → MaybeBytes → ℕ → ℕ → Type 0
-  RunsOn words (ran.Served end) left left' before after taken taken' told told' = IsServedOut words end left left' before after taken taken' told told'
-  RunsOn words ran.Write left left' before after taken taken' told told' = IsCutShort words left left' before after taken taken' told told'
-  RunsOn words (ran.Table f) left left' before after taken taken' told told' = ⊥
-  RunsOn words ran.Cut left left' before after taken taken' told told' = ⊥
-  RunsOn words ran.Long left left' before after taken taken' told told' = ⊥
-  RunsOn words ran.Memory left left' before after taken taken' told told' = ⊥
-  RunsOn words ran.Read left left' before after taken taken' told told' = ⊥
+  abbrev pub RunsOn : Bool → Batch → Ran → MaybeBytes → MaybeBytes → S → S → MaybeBytes → MaybeBytes → ℕ → ℕ → Type 0
+  RunsOn words batch (ran.Served end) left left' before after taken taken' told told' = IsServedOut words batch end left left' before after taken taken' told told'
+  RunsOn words batch ran.Write left left' before after taken taken' told told' = IsCutShort words batch left left' before after taken taken' told told'
+  RunsOn words batch (ran.Table f) left left' before after taken taken' told told' = ⊥
+  RunsOn words batch ran.Cut left left' before after taken taken' told told' = ⊥
+  RunsOn words batch ran.Long left left' before after taken taken' told told' = ⊥
+  RunsOn words batch ran.Memory left left' before after taken taken' told told' = ⊥
+  RunsOn words batch ran.Read left left' before after taken taken' told told' = ⊥
 
   -- A script was served, and this is how that ended. `from` and `to` are what the streams showed
   -- before and after.
-  pub record HasRunOn (words : Bool) (how : Ran) (before after : S) (from to : Wire) : Type 0 where
+  pub record HasRunOn (words : Bool) (batch : Batch) (how : Ran) (before after : S) (from to : Wire) : Type 0 where
     -- what was read, run and written
-    pub runs : RunsOn words how from.left to.left before after from.taken to.taken from.ends to.ends
+    pub runs : RunsOn words batch how from.left to.left before after from.taken to.taken from.ends to.ends
     -- nothing more waits for a flush, unless a write failed
     pub flushed : how ≢ ran.Write → how ≢ ran.Served ends.WriteFault → IsFlushed from.pending to.pending
     -- each fault is counted once, and nothing else is
@@ -162,7 +163,7 @@ module _ {S : Type 0} (made : Made S) (seen : S → Seen) (words_in : S → ℕ)
   module _ (is_new : List Tenant → S → Type 0) where
     -- a table was read, its tenants got a new service, and the script that follows was served to
     -- them
-    pub record HasServed (words : Bool) (ran : Ran) (left left' taken taken' : MaybeBytes) (told told' : ℕ) : Type 0 where
+    pub record HasServed (words : Bool) (batch : Batch) (ran : Ran) (left left' taken taken' : MaybeBytes) (told told' : ℕ) : Type 0 where
       pub mid : MaybeBytes
       pub text : List ℕ
       pub script : List ℕ
@@ -172,24 +173,24 @@ module _ {S : Type 0} (made : Made S) (seen : S → Seen) (words_in : S → ℕ)
       pub gave : GaveTable left mid text script
       pub reads : read_table text ≡ Ok tenants  -- the table's tenants
       pub fresh : is_new tenants before
-      pub run : RunsOn words ran (prepend_known script mid) left' before after taken taken' told told'
+      pub run : RunsOn words batch ran (prepend_known script mid) left' before after taken taken' told told'
 
     -- the result for the input, by how the program ended
-    abbrev pub Runs : Bool → Ran → MaybeBytes → MaybeBytes → MaybeBytes → MaybeBytes → ℕ → ℕ → Type 0
-    Runs words (ran.Served end) left left' taken taken' told told' = HasServed words (ran.Served end) left left' taken taken' told told'
-    Runs words ran.Write left left' taken taken' told told' = HasServed words ran.Write left left' taken taken' told told'
-    Runs words (ran.Table f) left left' taken taken' told told' = HasFault f left left' × (told' ≡ told)
-    Runs words ran.Memory left left' taken taken' told told' = HasNoFault left left' × (told' ≡ told)
-    Runs words ran.Long left left' taken taken' told told' = (given : List ℕ) × Consumes left left' given × IsLong given × (told' ≡ told)
-    Runs words ran.Read left left' taken taken' told told' = (given : List ℕ) × Consumes left left' given × IsOpen given × (told' ≡ told)
-    Runs words ran.Cut left left' taken taken' told told' =
+    abbrev pub Runs : Bool → Batch → Ran → MaybeBytes → MaybeBytes → MaybeBytes → MaybeBytes → ℕ → ℕ → Type 0
+    Runs words batch (ran.Served end) left left' taken taken' told told' = HasServed words batch (ran.Served end) left left' taken taken' told told'
+    Runs words batch ran.Write left left' taken taken' told told' = HasServed words batch ran.Write left left' taken taken' told told'
+    Runs words batch (ran.Table f) left left' taken taken' told told' = HasFault f left left' × (told' ≡ told)
+    Runs words batch ran.Memory left left' taken taken' told told' = HasNoFault left left' × (told' ≡ told)
+    Runs words batch ran.Long left left' taken taken' told told' = (given : List ℕ) × Consumes left left' given × IsLong given × (told' ≡ told)
+    Runs words batch ran.Read left left' taken taken' told told' = (given : List ℕ) × Consumes left left' given × IsOpen given × (told' ≡ told)
+    Runs words batch ran.Cut left left' taken taken' told told' =
         (given : List ℕ) × Consumes left left' given × IsOpen given × IsAtEnd left' × (told' ≡ counted told)
 
     -- The input was read, and this is how the program ended. `from` and `to` are what the streams
     -- showed before and after.
-    pub record HasRun (words : Bool) (how : Ran) (from to : Wire) : Type 0 where
+    pub record HasRun (words : Bool) (batch : Batch) (how : Ran) (from to : Wire) : Type 0 where
       -- what was read, run and written
-      pub runs : Runs words how from.left to.left from.taken to.taken from.ends to.ends
+      pub runs : Runs words batch how from.left to.left from.taken to.taken from.ends to.ends
       -- nothing more waits for a flush, unless a write failed
       pub flushed : how ≢ ran.Write → how ≢ ran.Served ends.WriteFault → IsFlushed from.pending to.pending  -- at the end
       -- each fault is counted once, and nothing else is

@@ -9,7 +9,7 @@ use crate::opens::{Opens, Unopened};
 use crate::reading::{HELD_LIMIT, Reading, read_table};
 use arrayvec::ArrayVec;
 use itoa::Buffer;
-use judy_protocol::{End, READS_LIMIT, send, serve_after};
+use judy_protocol::{Batch, End, READS_LIMIT, send, serve_after};
 use judy_stream::{Sink, Source};
 use judy_table::TableFault;
 use std::alloc::Global;
@@ -62,9 +62,9 @@ fn tells_words(words: bool, end: End) -> bool
     }
 }
 
-/// Serves a script: the bytes in `first`, which were read before, and then those of the source. If
-/// `words` is true and the script was served to its end, it then writes a last line with the words
-/// of all blocks of all arrays.
+/// Serves a script: the bytes in `first`, which were read before, and then those of the source.
+/// `batch` says which answers are written at once. If `words` is true and the script was served to its
+/// end, it then writes a last line with the words of all blocks of all arrays.
 ///
 /// The source may be pulled once all lines that came so far have their answers, written and
 /// flushed, and none of them asked to quit.
@@ -75,16 +75,17 @@ pub fn run_on<S: Opens, R: Source, W: Sink>(
     r: &mut R,
     w: &mut W,
     words: bool,
+    batch: Batch,
 ) -> Ran
     requires short { length first.now ≤ pull_limit }
     requires prompt { MayPull S.made S.seen R.source W.sink service.old
         (with_first first.now (wire R.source W.sink r.old w.old)) }
-    requires answers { MaySend W.sink IsSent w.old }
-    ensures { HasRunOn S.made S.seen S.words_in words result service.old service.new
+    requires answers { MaySend W.sink (IsSent batch) w.old }
+    ensures { HasRunOn S.made S.seen S.words_in words batch result service.old service.new
         (with_first first.now (wire R.source W.sink r.old w.old))
         (wire R.source W.sink r.new w.new) }
 {
-    let end = serve_after(alloc, service, first, r, w, READS_LIMIT);
+    let end = serve_after(alloc, service, first, r, w, READS_LIMIT, batch);
     let n = service.live_words();
     if !tells_words(words, end) {
         return Ran::Served(end);
@@ -97,7 +98,7 @@ pub fn run_on<S: Opens, R: Source, W: Sink>(
 }
 
 /// Reads a table of tenants and the line `---` that ends it. Then it serves the script that follows
-/// to these tenants.
+/// to these tenants, and writes the answers of one batch at once.
 ///
 /// The source may be pulled while no table has ended in what it gave and one may still end. Then it
 /// may be pulled once all lines of the script that came so far have their answers, written and
@@ -108,12 +109,13 @@ pub fn run_with<S: Opens + Drop, R: Source, W: Sink>(
     r: &mut R,
     w: &mut W,
     words: bool,
+    batch: Batch,
 ) -> Ran
     requires table { MayPullTable R.source r.old }
     requires prompt { MayPullScript S.made S.seen S.words_in (S.is_new secret.now None)
         R.source W.sink (wire R.source W.sink r.old w.old) }
-    requires answers { MaySend W.sink IsSent w.old }
-    ensures runs { HasRun S.made S.seen S.words_in (S.is_new secret.now None) words result
+    requires answers { MaySend W.sink (IsSent batch) w.old }
+    ensures runs { HasRun S.made S.seen S.words_in (S.is_new secret.now None) words batch result
         (wire R.source W.sink r.old w.old)
         (wire R.source W.sink r.new w.new) }
     ensures quiet { is_refused result ≡ true → w.new ≡ w.old }
@@ -124,7 +126,7 @@ pub fn run_with<S: Opens + Drop, R: Source, W: Sink>(
             let table = bytes.as_slice().split_at(text).0;
             let first = bytes.as_slice().split_at(script).1;
             match S::open(alloc, secret, table) {
-                Ok(mut service) => run_on(alloc, &mut service, first, r, w, words),
+                Ok(mut service) => run_on(alloc, &mut service, first, r, w, words, batch),
                 Err(Unopened::Table(fault)) => Ran::Table(fault),
                 Err(Unopened::Memory) => Ran::Memory,
             }

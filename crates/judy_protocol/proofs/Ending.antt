@@ -1,8 +1,9 @@
 -- What the serving of a connection did, in the terms of its specification.
-use Rattle.std.proofs.Common.{◌≡◌, ℕ, ◌≤◌, true, List, [], ◌∷◌, ◌++◌, length, Option, None, sym, ◌∙◌, ap, subst, refl, arith, append_assoc, append-nil}
+use Rattle.std.proofs.Common.{◌≡◌, ℕ, ◌≤◌, Bool, true, List, [], ◌∷◌, ◌++◌, length, Option, None, sym, ◌∙◌, ap, subst, refl, arith, append_assoc, append-nil}
 use Rattle.std.specs.Prelude.{zip}
 use Rattle.std.specs.Io.KnownBytes.{Appends, Consumes}
 use Rattle.std.proofs.lemmas.List.{length-append}
+use Rattle.judy_stream.specs.Streams.{IsFlushed}
 use Rattle.judy_model.specs.declared.quotas.Quota.{Quota}
 use Rattle.judy_model.specs.declared.replies.Reply.{Reply}
 use Rattle.judy_model.specs.declared.replies.Reply.TheVariants.{Memory}
@@ -16,10 +17,11 @@ use Rattle.judy_model.specs.Worlds.{served-worlds}
 use Rattle.judy_protocol.specs.Services.{Seen, IsCalled, Made, AreMade}
 use Rattle.judy_protocol.specs.Serving.{answers_limit, heard_in, asks_to_quit, AreRun, AllOpen, AllQuit, PartRun}
 use Rattle.judy_protocol.specs.Talks.{Talk, Gathers, Answered, Told, Stops}
+use Rattle.judy_protocol.specs.declared.gathering.Batch.{Batch}
 use Rattle.judy_protocol.specs.declared.connection.Stop.{Stop}
 use Rattle.judy_protocol.specs.declared.connection.Stop.TheVariants as stop
 use Rattle.judy_protocol.proofs.KnownBytes.{Appends-append}
-use Rattle.judy_protocol.proofs.Talking.{all_answered, all_quits, all_served, all_turns, front_text}
+use Rattle.judy_protocol.proofs.Talking.{all_answered, all_lines, all_quits, all_served, all_turns, front_text}
 
 -- an empty list has no item
 no_item : {A : Type 0} (before after : List A) (x : A) → [] ≡ before ++ x ∷ after → ⊥
@@ -95,22 +97,22 @@ module _ {S : Type 0} (made : Made S) (seen : S → Seen) (apart : (before after
         goes_on = told.goes_on;
       }
 
-  module _ (first : S) (before : Option (List ℕ)) (stream bytes : List ℕ) (from : Talk S) (after : S) (taken left left' : Option (List ℕ))
+  module _ {batch : Batch} (first : S) (before : Option (List ℕ)) (stream bytes : List ℕ) (from : Talk S) (after : S) (taken left left' : Option (List ℕ)) {pending pending' : Bool}
       (read : Consumes left left' (stream ++ bytes)) (short : length bytes ≤ 4096) (told : Told made (seen first).logins first before stream from) where
     -- all bytes in their parts
-    parted : (how : Stop) (s : Stops made (seen first).logins how bytes from after taken) → stream ++ bytes ≡ ((stream ++ s.kept) ++ s.cut) ++ s.unheard
+    parted : (how : Stop) (s : Stops made (seen first).logins batch how bytes from after taken pending pending') → stream ++ bytes ≡ ((stream ++ s.kept) ++ s.cut) ++ s.unheard
     parted how s =
         ap (λ v. stream ++ v) (sym s.parts) ∙ sym (append_assoc stream s.kept (s.cut ++ s.unheard))
         ∙ sym (append_assoc (stream ++ s.kept) s.cut s.unheard)
 
     -- a connection that a line ended
-    pub all_quit : Stops made (seen first).logins stop.Quit bytes from after taken → AllQuit made seen left left' first after before taken
+    pub all_quit : Stops made (seen first).logins batch stop.Quit bytes from after taken pending pending' → AllQuit made seen left left' first after before taken
     all_quit s =
         let login = (seen first).logins in
         let kept = stream ++ s.kept in
         let ran = kept ++ s.cut in
         let front : Told made login first before kept s.mid = s.hears first before stream told in
-        let g = subst (λ q. Gathers made login s.cut q s.mid.held s.held s.mid.who s.who s.mid.service after s.text) s.by.0 s.gathers in
+        let g = subst (λ q. Gathers made login batch s.cut q s.mid.held s.held s.mid.who s.who s.mid.service after s.text) s.by.0 s.gathers in
         let whole : s.sent ≡ s.text = sym (append-nil s.sent) ∙ ap (λ v. s.sent ++ v) (sym s.by.1) ∙ s.split in
         let a : Answered made login first before (heard_in ran) s.who after taken
         = all_answered made login first before kept s.cut true s.held s.who after s.text s.mid front g taken (subst (Appends s.mid.taken taken) whole s.written) in
@@ -134,7 +136,8 @@ module _ {S : Type 0} (made : Made S) (seen : S → Seen) (apart : (before after
         }
 
     -- a connection that a failed write ended
-    pub part_run : Stops made (seen first).logins stop.WriteFault bytes from after taken → PartRun made seen left left' first after before taken
+    pub part_run : Stops made (seen first).logins batch stop.WriteFault bytes from after taken pending pending'
+        → PartRun made seen batch left left' first after before taken
     part_run s =
         let login = (seen first).logins in
         let kept = stream ++ s.kept in
@@ -148,6 +151,7 @@ module _ {S : Type 0} (made : Made S) (seen : S → Seen) (apart : (before after
           kept = kept;
           cut = s.cut;
           unheard = s.unheard;
+          lines = s.gathers.lines;
           replies = t.replies;
           sent = a.text ++ s.sent;
           begun = s.sent;
@@ -156,6 +160,8 @@ module _ {S : Type 0} (made : Made S) (seen : S → Seen) (apart : (before after
           once = omega (arith, short, ap length s.parts, length-append s.kept (s.cut ++ s.unheard));  -- of the last read
           few = omega (arith, short, s.few);  -- after the failed write
           ended = s.gathers.complete.ended kept;  -- by the failed write
+          completes = all_lines made login first before kept s.cut s.quit s.held s.who after s.text s.mid front s.gathers;
+          one_text = s.gathers.one_text;  -- those of the last text
           goes_on = front.goes_on;  -- before the last text
           last = all_served made login first before kept s.cut s.quit s.held s.who after s.text s.mid front s.gathers;  -- no line after QUIT
           run = are_run (heard_in ran) t.replies first after t.count t.run;
@@ -164,3 +170,9 @@ module _ {S : Type 0} (made : Made S) (seen : S → Seen) (apart : (before after
           part = append_assoc a.text s.sent s.missing ∙ ap (λ v. a.text ++ v) s.split ∙ t.text_is;
           text = subst (λ v. length v ≤ answers_limit) (sym s.split) s.short;  -- of the last text
         }
+
+    -- and what was flushed then
+    pub part_flushed : (s : Stops made (seen first).logins batch stop.WriteFault bytes from after taken pending pending')
+        → (part_run s).begun ≡ [] → IsFlushed pending pending'
+    unfolding part_run
+    part_flushed s = s.flushed

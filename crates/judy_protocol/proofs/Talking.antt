@@ -1,5 +1,5 @@
 -- How a connection goes on, line by line and pull by pull.
-use Rattle.std.proofs.Common.{◌≡◌, ℕ, ◌+◌, Bool, true, false, ◌||◌, List, [], ◌∷◌, ◌++◌, map, length, Option, None, sym, ◌∙◌, ap, ap₂}
+use Rattle.std.proofs.Common.{◌≡◌, ◌<◌, ℕ, ◌+◌, Bool, true, false, ◌||◌, List, [], ◌∷◌, ◌++◌, map, length, Option, None, sym, ◌∙◌, ap, ap₂}
 use Rattle.std.proofs.Common.{subst, refl, arith, append_assoc, append-nil}
 use Rattle.std.specs.Prelude.{zip}
 use Rattle.std.specs.Io.KnownBytes.{Appends}
@@ -13,8 +13,10 @@ use Rattle.judy_model.specs.Stream.{Heard, Login, lines_of, rest_of, heard, is_q
 use Rattle.judy_model.specs.Stream.Heard.{TooLong, Unclear, Asked}
 use Rattle.judy_model.proofs.lemmas.StreamLemmas.{speaker_of-append, events_from-append, answer_from-append, through_quit-none}
 use Rattle.judy_protocol.specs.Services.{Made, AreMade}
-use Rattle.judy_protocol.specs.Serving.{heard_in, asks_to_quit}
+use Rattle.judy_protocol.specs.Serving.{AreOneText, heard_in, asks_to_quit}
 use Rattle.judy_protocol.specs.Talks.{HasNoLf, Holds, LineGrows, Completes, Turn, Turns, Gathers, Talk, Answered, Told, Hears}
+use Rattle.judy_protocol.specs.declared.gathering.Batch.{Batch}
+use Rattle.judy_protocol.specs.declared.gathering.Batch.TheVariants as batches
 use Rattle.judy_protocol.specs.declared.held.Held.{Held}
 use Rattle.judy_protocol.proofs.KnownBytes.{Appends-append}
 
@@ -45,6 +47,12 @@ one_line Unclear = refl
 one_line (Asked (request.Auth name token)) = refl
 one_line (Asked request.Quit) = refl
 one_line (Asked (request.Call call)) = refl
+
+one_is_some : (n : ℕ) → n ≡ 1 → 0 < n
+one_is_some n h = omega (arith, h)
+
+still_some : (lines more : List Heard) → 0 < length lines → 0 < length (lines ++ more)
+still_some lines more h = omega (arith, h, length-append lines more)
 
 or_false : (b : Bool) → (b || false) ≡ b
 or_false true = refl
@@ -125,28 +133,46 @@ module _ {S : Type 0} (made : Made S) (login : Login) where
 
   -- ---- answers that are gathered
 
+  -- a text may always answer one line
+  alone : (batch : Batch) (lines : List Heard) → length lines ≡ 1 → AreOneText batch lines
+  alone batches.EachReply lines h = h
+  alone batches.EachRead lines h = one_is_some (length lines) h
+
+  pub Gathers-any : (batch : Batch) (bytes : List ℕ) (quit : Bool) (held held' : Held) (who who' : Option Speaker) (before after : S) (text : List ℕ)
+      → Gathers made login batches.EachReply bytes quit held held' who who' before after text
+      → Gathers made login batch bytes quit held held' who who' before after text
+  Gathers-any batch bytes quit held held' who who' before after text g = record {
+    lines = g.lines;
+    complete = g.complete;
+    turns = g.turns;
+    one_text = alone batch g.lines g.one_text;
+    last = g.last;
+    quits = g.quits;
+  }
+
   pub Gathers-line : (chunk : List ℕ) (line : Heard) (quit : Bool) (held held' : Held) (who who' : Option Speaker) (before after : S) (text : List ℕ)
       → HasNoLf chunk → ((rest : List ℕ) → Holds rest held → line ≡ heard (rest ++ chunk)) → Holds [] held'
       → Turn made login line who who' before after text → quit ≡ is_quit line
-      → Gathers made login (chunk ++ 10 ∷ []) quit held held' who who' before after text
+      → Gathers made login batches.EachReply (chunk ++ 10 ∷ []) quit held held' who who' before after text
   Gathers-line chunk line quit held held' who who' before after text lacks is empty t quits = record {
     lines = line ∷ [];
     complete = Completes-line held held' chunk line lacks is empty;
     turns = Turns-line line who who' before after text t;
-    some = omega arith;
+    one_text = refl;
     last = one_line line;
     quits = or_false (is_quit line) ∙ sym quits;
   }
 
   pub Gathers-append : (bytes more : List ℕ) (quit : Bool) (a b c : Held) (who mid last : Option Speaker) (first between after : S) (text next all : List ℕ)
-      → all ≡ text ++ next → Gathers made login bytes false a b who mid first between text → Gathers made login more quit b c mid last between after next
-      → Gathers made login (bytes ++ more) quit a c who last first after all
+      → all ≡ text ++ next → Gathers made login batches.EachRead bytes false a b who mid first between text
+      → Gathers made login batches.EachReply more quit b c mid last between after next
+      → Gathers made login batches.EachRead (bytes ++ more) quit a c who last first after all
   Gathers-append bytes more quit a b c who mid last first between after text next all e h k = record {
     lines = h.lines ++ k.lines;
     complete = Completes-append a b c bytes more h.lines k.lines h.complete k.complete;
     turns = subst (λ v. Turns made login (h.lines ++ k.lines) who last first after v) (sym e)
         (Turns-append h.lines k.lines who mid last first between after text next h.turns k.turns);
-    some = omega (arith, h.some, length-append h.lines k.lines);
+    one_text = still_some h.lines k.lines h.one_text;
     last = through_quit-none h.lines k.lines h.quits ∙ ap (λ v. h.lines ++ v) k.last;
     quits = list_any-append is_quit h.lines k.lines ∙ ap (λ b. b || asks_to_quit k.lines) h.quits ∙ k.quits;
   }
@@ -154,8 +180,8 @@ module _ {S : Type 0} (made : Made S) (login : Login) where
   -- ---- a stream
 
   module _ (first : S) (before : Option (List ℕ)) where
-    module _ (stream bytes : List ℕ) (quit : Bool) (held' : Held) (who' : Option Speaker) (after : S) (text : List ℕ) (from : Talk S)
-        (told : Told made login first before stream from) (g : Gathers made login bytes quit from.held held' from.who who' from.service after text) where
+    module _ {batch : Batch} (stream bytes : List ℕ) (quit : Bool) (held' : Held) (who' : Option Speaker) (after : S) (text : List ℕ) (from : Talk S)
+        (told : Told made login first before stream from) (g : Gathers made login batch bytes quit from.held held' from.who who' from.service after text) where
       -- the lines then
       pub all_lines : heard_in (stream ++ bytes) ≡ heard_in stream ++ g.lines
       all_lines = g.complete.heard stream told.holds
@@ -186,7 +212,8 @@ module _ {S : Type 0} (made : Made S) (login : Login) where
       }
 
     -- lines whose answers were gathered and written
-    pub Told-gathered : (stream bytes text : List ℕ) (from to : Talk S) → Gathers made login bytes false from.held to.held from.who to.who from.service to.service text
+    pub Told-gathered : {batch : Batch} (stream bytes text : List ℕ) (from to : Talk S)
+        → Gathers made login batch bytes false from.held to.held from.who to.who from.service to.service text
         → Appends from.taken to.taken text → Told made login first before stream from → Told made login first before (stream ++ bytes) to
     Told-gathered stream bytes text from to g sent told = record {
       holds = subst (λ r. Holds r to.held) (sym (g.complete.ended stream)) g.complete.empty;
@@ -219,6 +246,7 @@ module _ {S : Type 0} (made : Made S) (login : Login) where
       → Hears made login chunk from (record from { held = held' })
   Hears-chunk chunk from held' lacks grows first before stream told = Told-chunk first before stream chunk from held' lacks grows told
 
-  pub Hears-gathered : (bytes text : List ℕ) (from to : Talk S) → Gathers made login bytes false from.held to.held from.who to.who from.service to.service text
+  pub Hears-gathered : {batch : Batch} (bytes text : List ℕ) (from to : Talk S)
+      → Gathers made login batch bytes false from.held to.held from.who to.who from.service to.service text
       → Appends from.taken to.taken text → Hears made login bytes from to
   Hears-gathered bytes text from to g sent first before stream told = Told-gathered first before stream bytes text from to g sent told

@@ -1,20 +1,23 @@
--- What may be pushed to a sink, and when it may be flushed: one text at a time, which is the answers
--- to lines that follow one another, after a push the rest of it, and one flush after its last byte.
+-- What may be pushed to a sink, and when it may be flushed: one text at a time, which is the answer to
+-- one line, or with `EachRead` the answers to lines that follow one another, after a push the rest of
+-- it, and one flush after its last byte.
 use Rattle.std.specs.Prelude.{◌≡◌, ◌<◌, ◌≤◌, ℕ, true, List, [], ◌++◌, length, Option}
 use Rattle.std.specs.Io.KnownBytes.{Appends}
 use Rattle.judy_stream.specs.Streams.{IsFlushed, SinkOf}
 use Rattle.judy_model.specs.declared.replies.Reply.{Reply}
 use Rattle.judy_model.specs.Speakers.{Speaker}
 use Rattle.judy_model.specs.Stream.{Heard, Login, events_from, answer_from}
-use Rattle.judy_protocol.specs.Serving.{answers_limit}
+use Rattle.judy_protocol.specs.Serving.{AreOneText, answers_limit}
+use Rattle.judy_protocol.specs.declared.gathering.Batch.{Batch}
 
--- the bytes are the answers to one line or more, one after another, and at most 16,384
-pub record AreAnswers (bytes : List ℕ) : Type 0 where
+-- The bytes are the answers to the lines of one text, one after another: with `EachReply` the answer to
+-- exactly one line, otherwise to one line or more. They are at most 16,384.
+pub record AreAnswers (batch : Batch) (bytes : List ℕ) : Type 0 where
   pub login : Login
   pub who : Option Speaker
   pub lines : List Heard
   pub replies : List Reply
-  pub some : 0 < length lines
+  pub one_text : AreOneText batch lines
   pub count : length replies ≡ length (events_from login who lines)
   pub is : bytes ≡ answer_from login who lines replies
   pub short : length bytes ≤ answers_limit

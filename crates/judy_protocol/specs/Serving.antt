@@ -1,11 +1,13 @@
 -- What the serving of a connection did.
 --     Wire                         what a connection shows at one time
+--     AreOneText batch lines       the answers to the lines are written as one text
 --     AreRun lines replies ..      lines were run: each tenant's replies are those that it would
 --                                  get alone
---     Ends end ..                  what was read, run and written, by how the serving ended
+--     Ends batch end ..            what was read, run and written, by how the serving ended
+--     IsFlushedBefore ..           what was flushed when a write failed
 --     IsPrompt ..                  all lines that came so far have their answers
 --     MayPull ..                   the source may be pulled once they have
---     Serves how most .. from to   the whole: what was run, and what the connection shows
+--     Serves batch how most ..     the whole: what was run, and what the connection shows
 use Rattle.std.specs.Prelude.{◌≡◌, ◌≢◌, ℕ, ◌+◌, ◌-◌, ◌^◌, ◌<◌, ◌≤◌, Bool, false, true, List, [], ◌++◌, map, zip, length, Option, None}
 use Rattle.std.specs.List.{list_any}
 use Rattle.std.specs.Io.KnownBytes.{Consumes, Appends, IsAtEnd, prepend_known}
@@ -15,6 +17,8 @@ use Rattle.judy_model.specs.Service.{AreServed}
 use Rattle.judy_model.specs.Worlds.{AreTheOnly}
 use Rattle.judy_model.specs.Stream.{Heard, lines_of, rest_of, heard, is_quit, served, events_from, answer_from, answer}
 use Rattle.judy_protocol.specs.Services.{Seen, Made, AreMade}
+use Rattle.judy_protocol.specs.declared.gathering.Batch.{Batch}
+use Rattle.judy_protocol.specs.declared.gathering.Batch.TheVariants as batches
 use Rattle.judy_protocol.specs.declared.connection.End.{End}
 use Rattle.judy_protocol.specs.declared.connection.End.TheVariants as ended
 
@@ -37,6 +41,11 @@ pull_limit = 4096
 -- the most bytes of the answers that are written as one text
 abbrev pub answers_limit : ℕ
 answers_limit = 16384
+
+-- The answers to these lines are written as one text: exactly one line, or at least one.
+abbrev pub AreOneText : Batch → List Heard → Type 0
+AreOneText batches.EachReply lines = length lines ≡ 1
+AreOneText batches.EachRead lines = 0 < length lines
 
 -- the most reads of one connection that give bytes
 abbrev pub reads_limit : ℕ
@@ -138,13 +147,15 @@ module _ {S : Type 0} (made : Made S) (seen : S → Seen) where
     pub few : length unheard < pull_limit  -- of the read that gave QUIT
 
   -- The lines that the source gave were run, up to a text of answers whose write or flush failed. The
-  -- answers to the lines in `kept` were sent whole. The lines that `cut` completes were run too, and a
-  -- part of their answers was sent, which are one text. `cut` and the bytes after it are of one read.
-  -- No line was run after one that asks to quit.
-  pub record PartRun (left left' : MaybeBytes) (before after : S) (taken taken' : MaybeBytes) : Type 0 where
+  -- answers to the lines in `kept` were sent whole. The lines that `cut` completes (`lines`) were run
+  -- too, and a part of their answers was sent, which are one text: with `EachReply` there is exactly
+  -- one of these lines. `cut` and the bytes after it are of one read. No line was run after one that
+  -- asks to quit.
+  pub record PartRun (batch : Batch) (left left' : MaybeBytes) (before after : S) (taken taken' : MaybeBytes) : Type 0 where
     pub kept : List ℕ
     pub cut : List ℕ
     pub unheard : List ℕ
+    pub lines : List Heard
     pub replies : List Reply
     pub sent : List ℕ
     pub begun : List ℕ
@@ -153,6 +164,8 @@ module _ {S : Type 0} (made : Made S) (seen : S → Seen) where
     pub once : length (cut ++ unheard) ≤ pull_limit  -- the lines of the last text
     pub few : length unheard < pull_limit  -- of the last read
     pub ended : rest_of (kept ++ cut) ≡ []  -- whole lines up to the failed write
+    pub completes : heard_in (kept ++ cut) ≡ heard_in kept ++ lines
+    pub one_text : AreOneText batch lines  -- those of the last text
     pub goes_on : asks_to_quit (heard_in kept) ≡ false
     pub last : served (kept ++ cut) ≡ heard_in (kept ++ cut)  -- none after QUIT
     pub run : AreRun (heard_in (kept ++ cut)) replies before after
@@ -162,12 +175,22 @@ module _ {S : Type 0} (made : Made S) (seen : S → Seen) where
     pub text : length (begun ++ missing) ≤ answers_limit  -- the last text
 
   -- what the serving did, by how it ended
-  abbrev pub Ends : End → MaybeBytes → MaybeBytes → S → S → MaybeBytes → MaybeBytes → Type 0
-  Ends ended.Quit left left' before after taken taken' = AllQuit left left' before after taken taken'
-  Ends ended.End left left' before after taken taken' = AllOpen left left' before after taken taken'
-  Ends ended.ReadFault left left' before after taken taken' = AllOpen left left' before after taken taken'
-  Ends ended.Limit left left' before after taken taken' = AllOpen left left' before after taken taken'
-  Ends ended.WriteFault left left' before after taken taken' = PartRun left left' before after taken taken'
+  abbrev pub Ends : Batch → End → MaybeBytes → MaybeBytes → S → S → MaybeBytes → MaybeBytes → Type 0
+  Ends batch ended.Quit left left' before after taken taken' = AllQuit left left' before after taken taken'
+  Ends batch ended.End left left' before after taken taken' = AllOpen left left' before after taken taken'
+  Ends batch ended.ReadFault left left' before after taken taken' = AllOpen left left' before after taken taken'
+  Ends batch ended.Limit left left' before after taken taken' = AllOpen left left' before after taken taken'
+  Ends batch ended.WriteFault left left' before after taken taken' = PartRun batch left left' before after taken taken'
+
+  -- After a failed write: if nothing of the last text was sent, the texts before it were flushed.
+  abbrev pub IsFlushedBefore : (batch : Batch) (how : End) (left left' : MaybeBytes) (before after : S) (taken taken' : MaybeBytes)
+      → Ends batch how left left' before after taken taken' → Bool → Bool → Type 0
+  IsFlushedBefore batch ended.Quit left left' before after taken taken' run pending pending' = Unit {0}
+  IsFlushedBefore batch ended.End left left' before after taken taken' run pending pending' = Unit {0}
+  IsFlushedBefore batch ended.ReadFault left left' before after taken taken' run pending pending' = Unit {0}
+  IsFlushedBefore batch ended.Limit left left' before after taken taken' run pending pending' = Unit {0}
+  IsFlushedBefore batch ended.WriteFault left left' before after taken taken' part pending pending' =
+      part.begun ≡ [] → IsFlushed pending pending'
 
   -- All lines that the source gave so far were run, and none asked to quit. Their answers were
   -- written and flushed. Now the source may be pulled.
@@ -186,13 +209,14 @@ module _ {S : Type 0} (made : Made S) (seen : S → Seen) where
 
   -- A connection was served, starting without a speaker, and this is how it ended. At most `most`
   -- reads gave bytes.
-  pub record Serves (how : End) (most : ℕ) (before after : S) (from to : Wire) : Type 0 where
+  pub record Serves (batch : Batch) (how : End) (most : ℕ) (before after : S) (from to : Wire) : Type 0 where
     -- the lines that came were run, and their answers were written
-    pub served : Ends how from.left to.left before after from.taken to.taken
+    pub served : Ends batch how from.left to.left before after from.taken to.taken
     -- at `End` nothing is left of a source that reports its bytes
     pub end : how ≡ ended.End → IsAtEnd to.left
     -- nothing more waits for a flush, unless a write failed
     pub flushed : how ≢ ended.WriteFault → IsFlushed from.pending to.pending
+    pub flushed_before : IsFlushedBefore batch how from.left to.left before after from.taken to.taken served from.pending to.pending
     -- each end and each fault is counted once, and nothing else is
     pub ends : to.ends ≡ ends_by how from.ends
     pub read_faults : to.read_faults ≡ read_faults_by how from.read_faults

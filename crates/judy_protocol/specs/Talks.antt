@@ -3,7 +3,7 @@
 use Rattle.std.specs.Prelude.{◌≡◌, ℕ, ◌<◌, ◌≤◌, Bool, true, false, not, List, [], ◌∷◌, ◌++◌, zip, length, IsTrue, ◌==◌, Option, Some, None, option_map, Result, Ok, Err}
 use Rattle.std.specs.List.{list_all}
 use Rattle.std.specs.Io.KnownBytes.{Appends}
-use Rattle.judy_stream.specs.Streams.{counted}
+use Rattle.judy_stream.specs.Streams.{IsFlushed, counted}
 use Rattle.judy_model.specs.declared.replies.Reply.{Reply}
 use Rattle.judy_model.specs.declared.requests.Line.{Line}
 use Rattle.judy_model.specs.declared.requests.TheConstants.{LINE_LIMIT}
@@ -13,9 +13,10 @@ use Rattle.judy_model.specs.Stream.{Heard, Login, heard_request, rest_of, throug
 use Rattle.judy_model.specs.Stream.Heard.{TooLong, Unclear, Asked}
 use Rattle.judy_protocol.specs.Plain.{has_changed}
 use Rattle.judy_protocol.specs.Services.{Made, AreMade}
-use Rattle.judy_protocol.specs.Serving.{MaybeBytes, answers_limit, heard_in, asks_to_quit}
+use Rattle.judy_protocol.specs.Serving.{AreOneText, MaybeBytes, answers_limit, heard_in, asks_to_quit}
 use Rattle.judy_protocol.specs.declared.connection.Stop.{Stop}
 use Rattle.judy_protocol.specs.declared.connection.Stop.TheVariants as stop
+use Rattle.judy_protocol.specs.declared.gathering.Batch.{Batch}
 use Rattle.judy_protocol.specs.declared.held.Held.{Held}
 use Rattle.judy_protocol.specs.declared.turns.Refusal.{Refusal}
 use Rattle.judy_protocol.specs.declared.turns.Refusal.TheVariants as refusal
@@ -88,13 +89,13 @@ module _ {S : Type 0} (made : Made S) (login : Login) where
     pub run : AreMade made before (zip (events_from login who lines) replies) after
     pub text_is : text ≡ answer_from login who lines replies
 
-  -- Lines were run, and their answers were gathered: these bytes complete them, and end with the last
-  -- of them. Only the last may have asked to quit.
-  pub record Gathers (bytes : List ℕ) (quit : Bool) (held held' : Held) (who who' : Option Speaker) (before after : S) (text : List ℕ) : Type 0 where
+  -- Lines were run, and their answers were gathered as one text: these bytes complete them, and end
+  -- with the last of them. Only the last may have asked to quit.
+  pub record Gathers (batch : Batch) (bytes : List ℕ) (quit : Bool) (held held' : Held) (who who' : Option Speaker) (before after : S) (text : List ℕ) : Type 0 where
     pub lines : List Heard
     pub complete : Completes held bytes lines held'
     pub turns : Turns lines who who' before after text
-    pub some : 0 < length lines
+    pub one_text : AreOneText batch lines
     pub last : through_quit lines ≡ lines
     pub quits : asks_to_quit lines ≡ quit
 
@@ -121,9 +122,10 @@ module _ {S : Type 0} (made : Made S) (login : Login) where
   StopsBy stop.WriteFault quit missing = Unit {0}
 
   -- The bytes were heard up to a line at which the connection stopped. The lines of `kept` were run
-  -- and answered. Then those of `cut` were run, and `sent` was written of their answers. The bytes
-  -- after them had no effect.
-  pub record Stops (how : Stop) (bytes : List ℕ) (from : Talk S) (after : S) (taken : MaybeBytes) : Type 0 where
+  -- and answered. Then those of `cut` were run, and `sent` was written of their answers, which are one
+  -- text. If nothing of it was written, the texts before it were flushed. The bytes after them had no
+  -- effect.
+  pub record Stops (batch : Batch) (how : Stop) (bytes : List ℕ) (from : Talk S) (after : S) (taken : MaybeBytes) (pending pending' : Bool) : Type 0 where
     pub kept : List ℕ
     pub cut : List ℕ
     pub unheard : List ℕ
@@ -137,10 +139,11 @@ module _ {S : Type 0} (made : Made S) (login : Login) where
     pub parts : kept ++ (cut ++ unheard) ≡ bytes
     pub few : length unheard < length bytes
     pub hears : Hears kept from mid
-    pub gathers : Gathers cut quit mid.held held mid.who who mid.service after text
+    pub gathers : Gathers batch cut quit mid.held held mid.who who mid.service after text
     pub short : length text ≤ answers_limit
     pub split : sent ++ missing ≡ text
     pub written : Appends mid.taken taken sent
+    pub flushed : sent ≡ [] → IsFlushed pending pending'
     pub by : StopsBy how quit missing
 
 -- the count of failed writes, by where the connection stops: a failed write counts once

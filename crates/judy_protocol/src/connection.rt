@@ -7,7 +7,7 @@ ghost use Rattle.judy_protocol.specs.Serving.{MayPull, Serves, pull_limit, reads
 ghost use Rattle.judy_protocol.specs.Talks.{Hears, Stops, stop_faults, talk};
 
 use crate::cutting::cut_line;
-use crate::gathering::{Rooms, gather};
+use crate::gathering::{Batch, Rooms, gather};
 use crate::held::Held;
 use crate::sending::send;
 use crate::service::Served;
@@ -48,10 +48,11 @@ pub enum Stop {
 }
 
 /// Runs the lines that the bytes of one pull complete, up to a line that asks to quit. Writes their
-/// answers, as many at once as the buffer holds, and holds what comes after the last line feed.
-/// Returns why the connection stops, if it does.
+/// answers, those of one batch at once, and holds what comes after the last line feed. Returns why the
+/// connection stops, if it does.
 fn feed<S: Served, W: Sink>(
     alloc: Global,
+    batch: Batch,
     held: &mut Held,
     speaker: &mut Option<S::Speaker>,
     service: &mut S,
@@ -61,14 +62,14 @@ fn feed<S: Served, W: Sink>(
 ) -> Option<Stop>
     requires short { length pulled.now ≤ pull_limit }
     requires known { HasLoggedIn (S.seen service.old).speakers (option_map S.who speaker.old) }
-    requires answers { MaySend W.sink AreAnswers sink.old }
+    requires answers { MaySend W.sink (AreAnswers batch) sink.old }
     ensures heard { MatchOption result
         (Hears S.made (S.seen service.old).logins pulled.now
         (talk S.who held.old speaker.old service.old (W.sink.taken sink.old))
         (talk S.who held.new speaker.new service.new (W.sink.taken sink.new)))
-        (λ how. Stops S.made (S.seen service.old).logins how pulled.now
+        (λ how. Stops S.made (S.seen service.old).logins batch how pulled.now
         (talk S.who held.old speaker.old service.old (W.sink.taken sink.old)) service.new
-        (W.sink.taken sink.new)) }
+        (W.sink.taken sink.new) (W.sink.pending sink.old) (W.sink.pending sink.new)) }
     ensures logins { (S.seen service.new).logins ≡ (S.seen service.old).logins }
     ensures speakers { (S.seen service.new).speakers ≡ (S.seen service.old).speakers }
     ensures known { HasLoggedIn (S.seen service.new).speakers (option_map S.who speaker.new) }
@@ -78,7 +79,7 @@ fn feed<S: Served, W: Sink>(
 {
     let mut rest = pulled;
     while let Some((chunk, after)) = cut_line(rest) {
-        let gathered = gather(alloc, held, speaker, service, rooms, chunk, after);
+        let gathered = gather(alloc, batch, held, speaker, service, rooms, chunk, after);
         if !send(sink, rooms.answers.as_slice()) {
             return Some(Stop::WriteFault);
         }
@@ -92,9 +93,9 @@ fn feed<S: Served, W: Sink>(
 }
 
 /// Serves the lines of a stream: first the bytes in `first`, which were read before, then those of
-/// the source. It writes and flushes the answers to all lines of a read before the next read. It
-/// ends when a line asks to quit, the source ends, a read or a write fails, or `limit` reads gave
-/// bytes.
+/// the source. It writes and flushes the answers to all lines of a read before the next read, and with
+/// `EachReply` the answer to each line before the next line is run. It ends when a line asks to quit,
+/// the source ends, a read or a write fails, or `limit` reads gave bytes.
 ///
 /// The source may be pulled once all lines that came so far have their answers, written and
 /// flushed, and none of them asked to quit.
@@ -105,13 +106,14 @@ pub fn serve_after<S: Served, R: Source, W: Sink>(
     source: &mut R,
     sink: &mut W,
     limit: u64,
+    batch: Batch,
 ) -> End
     requires limit { 1 ≤ limit }
     requires short { length first.now ≤ pull_limit }
     requires prompt { MayPull S.made S.seen R.source W.sink service.old
         (with_first first.now (wire R.source W.sink source.old sink.old)) }
-    requires answers { MaySend W.sink AreAnswers sink.old }
-    ensures { Serves S.made S.seen result limit service.old service.new
+    requires answers { MaySend W.sink (AreAnswers batch) sink.old }
+    ensures { Serves S.made S.seen batch result limit service.old service.new
         (with_first first.now (wire R.source W.sink source.old sink.old))
         (wire R.source W.sink source.new sink.new) }
 {
@@ -129,6 +131,7 @@ pub fn serve_after<S: Served, R: Source, W: Sink>(
     let mut speaker: Option<S::Speaker> = None;
     match feed(
         alloc,
+        batch,
         &mut held,
         &mut speaker,
         service,
@@ -146,6 +149,7 @@ pub fn serve_after<S: Served, R: Source, W: Sink>(
             Pull::Bytes(n) => {
                 match feed(
                     alloc,
+                    batch,
                     &mut held,
                     &mut speaker,
                     service,
@@ -165,9 +169,9 @@ pub fn serve_after<S: Served, R: Source, W: Sink>(
     End::Limit
 }
 
-/// Serves the lines of the source. It writes and flushes the answers to all lines of a read before
-/// the next read. It ends when a line asks to quit, the source ends, a read or a write fails, or
-/// `limit` reads gave bytes.
+/// Serves the lines of the source. It writes and flushes the answer to each line before the next line
+/// is run. It ends when a line asks to quit, the source ends, a read or a write fails, or `limit` reads
+/// gave bytes.
 ///
 /// The source may be pulled once all lines that it gave have their answers, written and flushed,
 /// and none of them asked to quit.
@@ -181,12 +185,12 @@ pub fn serve_up_to<S: Served, R: Source, W: Sink>(
     requires limit { 1 ≤ limit }
     requires prompt { MayPull S.made S.seen R.source W.sink service.old
         (wire R.source W.sink source.old sink.old) }
-    requires answers { MaySend W.sink AreAnswers sink.old }
-    ensures { Serves S.made S.seen result limit service.old service.new
+    requires answers { MaySend W.sink (AreAnswers Batch.EachReply) sink.old }
+    ensures { Serves S.made S.seen Batch.EachReply result limit service.old service.new
         (wire R.source W.sink source.old sink.old)
         (wire R.source W.sink source.new sink.new) }
 {
-    serve_after(alloc, service, b"", source, sink, limit)
+    serve_after(alloc, service, b"", source, sink, limit, Batch::EachReply)
 }
 
 /// `serve_up_to` with a limit of `READS_LIMIT` reads that give bytes.
@@ -198,8 +202,8 @@ pub fn serve<S: Served, R: Source, W: Sink>(
 ) -> End
     requires prompt { MayPull S.made S.seen R.source W.sink service.old
         (wire R.source W.sink source.old sink.old) }
-    requires answers { MaySend W.sink AreAnswers sink.old }
-    ensures { Serves S.made S.seen result reads_limit service.old service.new
+    requires answers { MaySend W.sink (AreAnswers Batch.EachReply) sink.old }
+    ensures { Serves S.made S.seen Batch.EachReply result reads_limit service.old service.new
         (wire R.source W.sink source.old sink.old)
         (wire R.source W.sink source.new sink.new) }
 {

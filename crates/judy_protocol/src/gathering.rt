@@ -1,4 +1,4 @@
-//! Runs lines one after another, and gathers their answers in one buffer.
+//! Runs lines one after another, and gathers the answers that are written at once in one buffer.
 ghost use Rattle.std.specs.Prelude.{◌≡◌, ◌<◌, ◌≤◌, ◌+◌, ◌++◌, ◌∷◌, ℕ, List, [], length, option_map};
 ghost use Rattle.judy_protocol.specs.Services.{HasLoggedIn};
 ghost use Rattle.judy_protocol.specs.Talks.{HasNoLf, Gathers};
@@ -24,6 +24,15 @@ pub struct Rooms {
     pub reply: ArrayVec<u8, REPLY_LIMIT>,
     /// The answers that are written at once.
     pub answers: ArrayVec<u8, ANSWERS_LIMIT>,
+}
+
+/// Which answers are written at once, as one text.
+#[derive(Clone, Copy, Debug, PartialEq, Eq)]
+pub enum Batch {
+    /// The answer to one line. It is written and flushed before the next line is run.
+    EachReply,
+    /// The answers to the lines of a read, as many as the buffer holds.
+    EachRead,
 }
 
 /// How the gathering of answers ended.
@@ -57,7 +66,7 @@ fn answer<S: Served>(
     requires room { length rooms.old.answers.items + REPLY_LIMIT ≤ ANSWERS_LIMIT }
     requires known { HasLoggedIn (S.seen service.old).speakers (option_map S.who speaker.old) }
     ensures gathers { (text : List ℕ) × (rooms.new.answers.items ≡ rooms.old.answers.items ++ text)
-        × Gathers S.made (S.seen service.old).logins (chunk.now ++ 10 ∷ []) result
+        × Gathers S.made (S.seen service.old).logins Batch.EachReply (chunk.now ++ 10 ∷ []) result
         held.old held.new (option_map S.who speaker.old) (option_map S.who speaker.new)
         service.old service.new text }
     ensures short { length rooms.new.answers.items ≤ ANSWERS_LIMIT }
@@ -78,11 +87,12 @@ fn answer<S: Served>(
     asks_to_quit(&asked)
 }
 
-/// Runs the line that is held and ends with the chunk, and then the lines of the bytes after it, as
-/// long as there is room for the longest answer, and up to a line that asks to quit. Gathers their
-/// answers, which replace what was gathered before.
+/// Runs the line that is held and ends with the chunk, and gathers its answer, which replaces what was
+/// gathered before. With `EachRead` it then runs the lines of the bytes after it in the same way, as
+/// long as there is room for the longest answer, and up to a line that asks to quit.
 pub fn gather<'a, S: Served>(
     alloc: Global,
+    batch: Batch,
     held: &mut Held,
     speaker: &mut Option<S::Speaker>,
     service: &mut S,
@@ -93,7 +103,7 @@ pub fn gather<'a, S: Served>(
     requires line { HasNoLf chunk.now }
     requires known { HasLoggedIn (S.seen service.old).speakers (option_map S.who speaker.old) }
     ensures gathers { (used : List ℕ) × (used ++ result.rest.now ≡ chunk.now ++ 10 ∷ after.now)
-        × Gathers S.made (S.seen service.old).logins used result.quit
+        × Gathers S.made (S.seen service.old).logins batch used result.quit
         held.old held.new (option_map S.who speaker.old) (option_map S.who speaker.new)
         service.old service.new rooms.new.answers.items }
     ensures fewer { length result.rest.now ≤ length after.now }
@@ -105,6 +115,10 @@ pub fn gather<'a, S: Served>(
     rooms.answers.clear();
     let mut rest = after;
     let mut quit = answer(alloc, held, speaker, service, rooms, chunk);
+    match batch {
+        Batch::EachReply => return Gathered { rest, quit },
+        Batch::EachRead => {}
+    }
     while !quit && rooms.answers.len() <= ANSWERS_LIMIT - REPLY_LIMIT {
         let Some((line, more)) = cut_line(rest) else {
             return Gathered { rest, quit: false };

@@ -22,6 +22,7 @@ mod turns;
 
 pub use connection::{End, PULL_LIMIT, READS_LIMIT, serve, serve_after, serve_up_to};
 pub use cutting::cut_line;
+pub use gathering::Batch;
 pub use held::Held;
 pub use judy_model::Line;
 pub use limits::{ANSWERS_LIMIT, REPLY_LIMIT};

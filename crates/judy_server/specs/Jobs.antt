@@ -5,6 +5,8 @@ use Rattle.judy_command.specs.declared.words.Job.TheVariants as job
 use Rattle.judy_command.specs.declared.words.Sync.{Sync as When}
 use Rattle.judy_command.specs.declared.words.Sync.TheVariants as when
 use Rattle.judy_protocol.specs.Serving.{Wire}
+use Rattle.judy_protocol.specs.declared.gathering.Batch.{Batch}
+use Rattle.judy_protocol.specs.declared.gathering.Batch.TheVariants as batches
 use Rattle.judy_many.specs.Nets.Step.{Drawn, Undrawn}
 use Rattle.judy_many.specs.declared.network.Sync.{Sync}
 use Rattle.judy_many.specs.declared.network.Sync.TheVariants as sync
@@ -50,9 +52,21 @@ limits_of clients tenant_clients connections login idle turn desks directory w =
   journal = rule_of directory w;
 }
 
+-- `--batch`: the answers to the lines of a read are written at once; otherwise each answer alone
+abbrev pub batch_of : Bool → Batch
+batch_of false = batches.EachReply
+batch_of true = batches.EachRead
+
+-- which answers a job writes at once to its standard output; `serve` writes none there
+abbrev pub batch_in : Job → Batch
+batch_in (job.Run words batch) = batch_of batch
+batch_in (job.Serve config socket watch control clients tenant_clients connections login idle turn reserve directory w check) = batches.EachReply
+batch_in (job.Compact directory) = batches.EachReply
+batch_in (job.Journal directory tenant) = batches.EachReply
+
 -- the job is one of the two programs
 abbrev pub IsProgram : Job → Type 0
-IsProgram (job.Run words) = Unit {0}
+IsProgram (job.Run words batch) = Unit {0}
 IsProgram (job.Serve config socket watch control clients tenant_clients connections login idle turn reserve directory w check) = Unit {0}
 IsProgram (job.Compact directory) = ⊥
 IsProgram (job.Journal directory tenant) = ⊥
@@ -88,8 +102,8 @@ module _ (has : List ℕ → Kept → Type 0) where
   -- What the job did with a secret: its status and its line on standard error, if any, follow from how it ended for
   -- exactly this input. `from` and `to` are what the standard streams showed before and after.
   abbrev pub HasDone : List ℕ → Job → ℕ → Option (List ℕ) → Wire → Wire → Log → Log → Type 0
-  HasDone secret (job.Run words) status text from to log log' = (ran : Ran)
-      × HasRun IsServedStep seen_of held_words (IsNewService secret None) words ran from to
+  HasDone secret (job.Run words batch) status text from to log log' = (ran : Ran)
+      × HasRun IsServedStep seen_of held_words (IsNewService secret None) words (batch_of batch) ran from to
       × (status ≡ run_status ran) × (text ≡ run_text ran) × (log' ≡ log)
   HasDone secret (job.Serve config socket watch control clients tenant_clients connections login idle turn reserve directory w check) status text from to log log' = (hosted : Hosted)
       × ServesBy check directory secret reserve hosted config socket (desks_at watch control)

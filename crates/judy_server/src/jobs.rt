@@ -4,7 +4,7 @@ ghost use Rattle.judy_stream.specs.Streams.{MayAlwaysPull};
 ghost use Rattle.judy_protocol.specs.Sending.{MaySend};
 ghost use Rattle.judy_protocol.specs.Serving.{pull_limit, wire};
 ghost use Rattle.judy_programs.specs.Hosting.{desks_at};
-ghost use Rattle.judy_server.specs.Jobs.{ChecksBy, Does, HasDone, HostsBy, IsProgram, connections_of, rule_of};
+ghost use Rattle.judy_server.specs.Jobs.{ChecksBy, Does, HasDone, HostsBy, IsProgram, batch_in, batch_of, connections_of, rule_of};
 ghost use Rattle.judy_programs.specs.Program.{IsSent};
 
 use crate::server::{Chosen, Server, run};
@@ -13,6 +13,7 @@ use judy_many::{Limits, Sync};
 use judy_programs::{
     Hosted, Journals, check_journaled, check_on, finish, finish_hosted, host_journaled, host_on,
 };
+use judy_protocol::Batch;
 use judy_stream::{Sink, Source};
 use std::alloc::Global;
 
@@ -23,6 +24,17 @@ fn text_of(word: &Option<Word>) -> Option<&str>
     match word {
         Some(word) => Some(word.0.as_str()),
         None => None,
+    }
+}
+
+/// Which answers are written at once: those of a read with `--batch`, otherwise each answer alone.
+fn batch_of(batch: bool) -> Batch
+    ensures { result ≡ batch_of batch }
+{
+    if batch {
+        Batch::EachRead
+    } else {
+        Batch::EachReply
     }
 }
 
@@ -117,7 +129,7 @@ fn do_job_with<K: Chosen, R: Source, W: Sink, H: Journals>(
 ) -> (u8, Option<&'static str>)
     requires serves { IsProgram job.now }
     requires script { MayAlwaysPull R.source pull_limit }
-    requires written { MaySend W.sink IsSent writer.old }
+    requires written { MaySend W.sink (IsSent (batch_in job.now)) writer.old }
     requires files { MayAlwaysPull H.File.source pull_limit }
     ensures { HasDone H.may_have secret.now job.now result.0 (option_map (λ s. s.now) result.1)
         (wire R.source W.sink reader.old writer.old)
@@ -125,7 +137,10 @@ fn do_job_with<K: Chosen, R: Source, W: Sink, H: Journals>(
         (H.log system.old) (H.log system.new) }
 {
     match job {
-        Job::Run { words } => finish(run::<K, R, W>(alloc, secret, reader, writer, *words)),
+        Job::Run { words, batch } => {
+            let batch = batch_of(*batch);
+            finish(run::<K, R, W>(alloc, secret, reader, writer, *words, batch))
+        }
         Job::Serve {
             config,
             socket,
@@ -184,7 +199,7 @@ pub fn do_job_on<K: Chosen, R: Source, W: Sink, H: Journals>(
 ) -> (u8, Option<&'static str>)
     requires serves { IsProgram job.now }
     requires script { MayAlwaysPull R.source pull_limit }
-    requires written { MaySend W.sink IsSent writer.old }
+    requires written { MaySend W.sink (IsSent (batch_in job.now)) writer.old }
     requires files { MayAlwaysPull H.File.source pull_limit }
     ensures { Does H.may_have job.now result.0 (option_map (λ s. s.now) result.1)
         (wire R.source W.sink reader.old writer.old)

@@ -26,7 +26,7 @@ use judy_journal::Unplayed;
 use judy_many::Shows;
 use judy_model::{Call, KEY_LIMIT, Reply};
 use judy_programs::{Opens, Ran, Replays, Unopened, run_with};
-use judy_protocol::{Line, Refusal, Served};
+use judy_protocol::{Batch, Line, Refusal, Served};
 use judy_recovery::{Halt as Stopped, JournalFault, Reason};
 use judy_stream::{Sink, Source};
 use judy_table::{Speaker, Table, TableFault, TenantId};
@@ -319,8 +319,9 @@ impl<H: Chosen> Replays for Server<H> {
 }
 
 /// `judyd run`: reads a table of tenants and the line `---` that ends it. Then it serves the script
-/// that follows to these tenants. If `words` is true and the script was served to its end, it
-/// writes a last line with the words of all blocks of all arrays.
+/// that follows to these tenants. `batch` says which answers are written at once. If `words` is true
+/// and the script was served to its end, it writes a last line with the words of all blocks of all
+/// arrays.
 ///
 /// The source may be pulled while no table has ended in what it gave and one may still end. Then it
 /// may be pulled once all lines of the script that came so far have their answers, written and
@@ -331,15 +332,16 @@ pub fn run<H: Chosen, R: Source, W: Sink>(
     r: &mut R,
     w: &mut W,
     words: bool,
+    batch: Batch,
 ) -> Ran
     requires table { MayPullTable R.source r.old }
     requires prompt { MayPullScript IsServedStep seen_of held_words (IsNewService secret.now None)
         R.source W.sink (wire R.source W.sink r.old w.old) }
-    requires answers { MaySend W.sink IsSent w.old }
-    ensures runs { HasRun IsServedStep seen_of held_words (IsNewService secret.now None) words result
+    requires answers { MaySend W.sink (IsSent batch) w.old }
+    ensures runs { HasRun IsServedStep seen_of held_words (IsNewService secret.now None) words batch result
         (wire R.source W.sink r.old w.old)
         (wire R.source W.sink r.new w.new) }
     ensures quiet { is_refused result ≡ true → w.new ≡ w.old }
 {
-    run_with::<Server<H>, R, W>(alloc, secret, r, w, words)
+    run_with::<Server<H>, R, W>(alloc, secret, r, w, words, batch)
 }

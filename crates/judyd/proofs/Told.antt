@@ -55,7 +55,7 @@ host-told host.Journal h = inl (codes "judyd: journal fault", refl)
 -- ---- by what the program tells
 
 pub well-is-silent : (j : Job) (status : ℕ) (text : Option (List ℕ)) → IsFinished j status text → status ≡ 0 → text ≡ None
-well-is-silent (job.Run words) status text (inl (how, is, told)) e = told ∙ run-silent how (sym is ∙ e)
+well-is-silent (job.Run words batch) status text (inl (how, is, told)) e = told ∙ run-silent how (sym is ∙ e)
 well-is-silent (job.Serve config socket watch control clients tenant_clients connections login idle turn reserve journal sync check) status text (inl (how, is, told)) e =
     told ∙ host-silent how (sym is ∙ e)
 well-is-silent (job.Compact directory) status text (inl (ended, none)) e = none
@@ -66,7 +66,7 @@ well-is-silent j status text (inr (four, line)) e = absurd (omega (arith, four, 
 -- that only read or compact a journal
 pub faults-are-told : (j : Job) (status : ℕ) (text : Option (List ℕ)) → IsProgram j → IsFinished j status text → status ≢ 0
     → ((line : List ℕ) × text ≡ Some line) ⊎ ((status ≡ 3) × (text ≡ None))
-faults-are-told (job.Run words) status text p (inl (how, is, told)) h =
+faults-are-told (job.Run words batch) status text p (inl (how, is, told)) h =
     let (line, by) = run-told how (λ e. h (is ∙ e)) in inl (line, told ∙ by)
 faults-are-told (job.Serve config socket watch control clients tenant_clients connections login idle turn reserve journal sync check) status text p (inl (how, is, told)) h =
     elim (host-told how (λ e. h (is ∙ e))) [

@@ -8,6 +8,7 @@ use Rattle.std.specs.Io.KnownBytes.{Consumes, IsAtEnd}
 use Rattle.std.proofs.Common.{inl, inr}
 use Rattle.judy_protocol.specs.Services.{Made, Seen}
 use Rattle.judy_protocol.specs.Serving.{MaybeBytes}
+use Rattle.judy_protocol.specs.declared.gathering.Batch.{Batch}
 use Rattle.judy_table.specs.Tenants.{read_table}
 use Rattle.judy_table.specs.declared.fault.TableFault.{TableFault}
 use Rattle.judy_table.specs.declared.fault.TableFault.TheVariants as fault
@@ -27,18 +28,18 @@ refused-table f left left' other h = by h.why
 
 module _ {S : Type 0} (made : Made S) (seen : S → Seen) (words_in : S → ℕ) (is_new : List Tenant → S → Type 0) where
   -- the tenants are those of the table
-  pub served-table : (words : Bool) (how : Ran) (left left' taken taken' : MaybeBytes) (told told' : ℕ)
-      → (h : HasServed made seen words_in is_new words how left left' taken taken' told told') → read_table h.text ≡ Ok h.tenants
-  served-table words how left left' taken taken' told told' h = h.reads
+  pub served-table : (words : Bool) (batch : Batch) (how : Ran) (left left' taken taken' : MaybeBytes) (told told' : ℕ)
+      → (h : HasServed made seen words_in is_new words batch how left left' taken taken' told told') → read_table h.text ≡ Ok h.tenants
+  served-table words batch how left left' taken taken' told told' h = h.reads
 
   -- the input ended before the table did
-  pub cut-input : (words : Bool) (left left' taken taken' : MaybeBytes) (told told' : ℕ)
-      → Runs made seen words_in is_new words ran.Cut left left' taken taken' told told'
+  pub cut-input : (words : Bool) (batch : Batch) (left left' taken taken' : MaybeBytes) (told told' : ℕ)
+      → Runs made seen words_in is_new words batch ran.Cut left left' taken taken' told told'
       → (given : List ℕ) × Consumes left left' given × IsOpen given × IsAtEnd left'
-  cut-input words left left' taken taken' told told' (given, read, may, end, count) = (given, read, may, end)
+  cut-input words batch left left' taken taken' told told' (given, read, may, end, count) = (given, read, may, end)
 
   -- a read failed before the table ended
-  pub failed-input : (words : Bool) (left left' taken taken' : MaybeBytes) (told told' : ℕ)
-      → Runs made seen words_in is_new words ran.Read left left' taken taken' told told'
+  pub failed-input : (words : Bool) (batch : Batch) (left left' taken taken' : MaybeBytes) (told told' : ℕ)
+      → Runs made seen words_in is_new words batch ran.Read left left' taken taken' told told'
       → (given : List ℕ) × Consumes left left' given × IsOpen given
-  failed-input words left left' taken taken' told told' (given, read, may, count) = (given, read, may)
+  failed-input words batch left left' taken taken' told told' (given, read, may, count) = (given, read, may)

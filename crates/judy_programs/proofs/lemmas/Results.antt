@@ -15,6 +15,7 @@ use Rattle.std.proofs.Common.{inl, inr}
 use Rattle.judy_stream.specs.Streams.{IsFlushed}
 use Rattle.judy_protocol.specs.Services.{Made, Seen}
 use Rattle.judy_protocol.specs.Serving.{MaybeBytes, Wire}
+use Rattle.judy_protocol.specs.declared.gathering.Batch.{Batch}
 use Rattle.judy_protocol.specs.declared.connection.End.TheVariants as ends
 use Rattle.judy_table.specs.Tenants.{read_table}
 use Rattle.judy_table.specs.declared.fault.TableFault.{TableFault}
@@ -28,7 +29,7 @@ use Rattle.judy_programs.specs.declared.socket.Hosted.TheVariants as hosted
 
 module _ {S : Type 0} (made : Made S) (seen : S → Seen) (words_in : S → ℕ) (is_new : List Tenant → S → Type 0) where
   -- what holds of `run`, however it ended
-  module _ (words : Bool) (how : Ran) (from to : Wire) (h : HasRun made seen words_in is_new words how from to) where
+  module _ (words : Bool) (batch : Batch) (how : Ran) (from to : Wire) (h : HasRun made seen words_in is_new words batch how from to) where
     pub run-reads : to.gave ≤ from.gave + 4295032837
     run-reads = h.reads
 
@@ -39,10 +40,10 @@ module _ {S : Type 0} (made : Made S) (seen : S → Seen) (words_in : S → ℕ)
     run-flushed = h.flushed
 
   -- the line with the words of all arrays was not written whole: a front of it was
-  pub cut-words : (words : Bool) (left left' : MaybeBytes) (before after : S) (taken taken' : MaybeBytes) (told told' : ℕ)
-      → IsCutShort made seen words_in words left left' before after taken taken' told told'
+  pub cut-words : (words : Bool) (batch : Batch) (left left' : MaybeBytes) (before after : S) (taken taken' : MaybeBytes) (told told' : ℕ)
+      → IsCutShort made seen words_in words batch left left' before after taken taken' told told'
       → (between : MaybeBytes) × (part : List ℕ) × (missing : List ℕ) × (part ++ missing ≡ words_line (words_in after)) × Appends between taken' part
-  cut-words words left left' before after taken taken' told told' h = (h.between, h.part, h.missing, h.cut, h.last)
+  cut-words words batch left left' before after taken taken' told told' h = (h.between, h.part, h.missing, h.cut, h.last)
 
   -- the file was read to its end, and is no longer than a table may be
   pub opened-whole : (left left' : MaybeBytes) (service : S) → HasOpened is_new left left' service

@@ -11,9 +11,11 @@ use Rattle.judy_model.specs.Speakers.{Speaker}
 use Rattle.judy_model.specs.Stream.{Heard, Login, events_from, welcome, answer_from}
 use Rattle.judy_model.specs.Stream.Heard.{TooLong, Unclear, Asked}
 use Rattle.judy_protocol.specs.Services.{Made}
-use Rattle.judy_protocol.specs.Serving.{answers_limit}
+use Rattle.judy_protocol.specs.Serving.{AreOneText, answers_limit}
 use Rattle.judy_protocol.specs.Talks.{Gathers}
 use Rattle.judy_protocol.specs.Sending.{AreAnswers, MaySend}
+use Rattle.judy_protocol.specs.declared.gathering.Batch.{Batch}
+use Rattle.judy_protocol.specs.declared.gathering.Batch.TheVariants as batches
 use Rattle.judy_protocol.specs.declared.held.Held.{Held}
 
 -- the bytes end with a line feed
@@ -63,16 +65,39 @@ module _ (login : Login) where
   lines_end (Some speaker) (Asked (request.Call call) ∷ rest) (reply ∷ replies) count some =
       then_lines (Some speaker) rest replies (omega (arith, count)) _ (one_line (reply_words reply))
 
--- answers end with a line feed, so they have a byte
-pub answers_line : (bytes : List ℕ) → AreAnswers bytes → EndsLine bytes
-answers_line bytes are = let l = lines_end are.login are.who are.lines are.replies are.count are.some in (l.0, are.is ∙ l.1)
+one_is_some : (n : ℕ) → n ≡ 1 → 0 < n
+one_is_some n e = omega (arith, e)
 
-pub answers_some : (bytes : List ℕ) → AreAnswers bytes → 0 < length bytes
+-- a text answers at least one line
+text_some : (batch : Batch) (lines : List Heard) → AreOneText batch lines → 0 < length lines
+text_some batches.EachReply lines h = one_is_some (length lines) h
+text_some batches.EachRead lines h = h
+
+-- answers end with a line feed, so they have a byte
+pub answers_line : {batch : Batch} (bytes : List ℕ) → AreAnswers batch bytes → EndsLine bytes
+answers_line {batch} bytes are =
+    let l = lines_end are.login are.who are.lines are.replies are.count (text_some batch are.lines are.one_text) in (l.0, are.is ∙ l.1)
+
+pub answers_some : {batch : Batch} (bytes : List ℕ) → AreAnswers batch bytes → 0 < length bytes
 answers_some bytes are = let l = answers_line bytes are in omega (arith, ap length l.1, length-append l.0 (10 ∷ []))
 
 -- they are no more than the buffer holds
-pub answers_short : (bytes : List ℕ) → AreAnswers bytes → length bytes ≤ 16384
+pub answers_short : {batch : Batch} (bytes : List ℕ) → AreAnswers batch bytes → length bytes ≤ 16384
 answers_short bytes are = are.short
+
+-- a list of one item
+pub only : (lines : List Heard) → length lines ≡ 1 → (line : Heard) × (lines ≡ line ∷ [])
+only [] one = absurd (omega (arith, one))
+only (line ∷ []) one = (line, refl)
+only (line ∷ next ∷ rest) one = absurd (omega (arith, one))
+
+-- where each reply is written alone, they are the answer to exactly one line
+pub answer_alone : (bytes : List ℕ) → AreAnswers batches.EachReply bytes
+    → (login : Login) × (who : Option Speaker) × (line : Heard) × (replies : List Reply)
+    × (bytes ≡ answer_from login who (line ∷ []) replies)
+answer_alone bytes are =
+    let (line, one) = only are.lines are.one_text in
+    (are.login, are.who, line, are.replies, are.is ∙ ap (λ ls. answer_from are.login are.who ls are.replies) one)
 
 -- what is left of answers also ends with a line feed
 pub rest_ends : (front rest text : List ℕ) → front ++ rest ≡ text ++ 10 ∷ [] → 0 < length rest → EndsLine rest
@@ -81,14 +106,15 @@ rest_ends (x ∷ xs) rest [] e some = absurd (omega (arith, some, ap length e, l
 rest_ends (x ∷ xs) rest (t ∷ ts) e some = let tails : xs ++ rest ≡ ts ++ 10 ∷ [] = cc in rest_ends xs rest ts tails some
 
 -- the text that was gathered is the answers to its lines
-pub gathered_answers : {S : Type 0} (made : Made S) (login : Login) (bytes : List ℕ) (quit : Bool) (held held' : Held) (who who' : Option Speaker)
-    (before after : S) (text : List ℕ) → Gathers made login bytes quit held held' who who' before after text → length text ≤ answers_limit → AreAnswers text
+pub gathered_answers : {S : Type 0} {batch : Batch} (made : Made S) (login : Login) (bytes : List ℕ) (quit : Bool) (held held' : Held) (who who' : Option Speaker)
+    (before after : S) (text : List ℕ) → Gathers made login batch bytes quit held held' who who' before after text → length text ≤ answers_limit
+    → AreAnswers batch text
 gathered_answers made login bytes quit held held' who who' before after text g short = record {
   login = login;
   who = who;
   lines = g.lines;
   replies = g.turns.replies;
-  some = g.some;
+  one_text = g.one_text;
   count = g.turns.count;
   is = g.turns.text_is;
   short = short;  -- of the buffer

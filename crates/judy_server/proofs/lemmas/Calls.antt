@@ -16,6 +16,7 @@ use Rattle.judy_model.specs.Stream.{event_of}
 use Rattle.judy_model.specs.Tenant.{no_arrays}
 use Rattle.judy_protocol.specs.Services.{AreMade}
 use Rattle.judy_protocol.specs.Serving.{MaybeBytes}
+use Rattle.judy_protocol.specs.declared.gathering.Batch.{Batch}
 use Rattle.judy_programs.specs.Program.{HasServed}
 use Rattle.judy_programs.specs.declared.program.Ran.{Ran}
 use Rattle.judy_table.specs.Tenants.{read_table}
@@ -25,16 +26,16 @@ use Rattle.judy_server.specs.Served.{IsServedStep, IsNewService, seen_of, held_w
 use Rattle.judy_server.specs.Tally.{Tallied}
 
 -- where a script begins, no tenant has an entry
-pub begins-empty : (secret : List ℕ) (words : Bool) (how : Ran) (left left' taken taken' : MaybeBytes) (told told' : ℕ)
-    → (h : HasServed IsServedStep seen_of held_words (IsNewService secret None) words how left left' taken taken' told told')
+pub begins-empty : (secret : List ℕ) (words : Bool) (batch : Batch) (how : Ran) (left left' taken taken' : MaybeBytes) (told told' : ℕ)
+    → (h : HasServed IsServedStep seen_of held_words (IsNewService secret None) words batch how left left' taken taken' told told')
     → (t : ℕ) → (seen_of h.before).states t ≡ no_arrays
-begins-empty secret words how left left' taken taken' told told' h = h.fresh.states
+begins-empty secret words batch how left left' taken taken' told told' h = h.fresh.states
 
 -- and the quotas are those of the table that was read
-pub begins-by-table : (secret : List ℕ) (words : Bool) (how : Ran) (left left' taken taken' : MaybeBytes) (told told' : ℕ)
-    → (h : HasServed IsServedStep seen_of held_words (IsNewService secret None) words how left left' taken taken' told told')
+pub begins-by-table : (secret : List ℕ) (words : Bool) (batch : Batch) (how : Ran) (left left' taken taken' : MaybeBytes) (told told' : ℕ)
+    → (h : HasServed IsServedStep seen_of held_words (IsNewService secret None) words batch how left left' taken taken' told told')
     → (read_table h.text ≡ Ok h.tenants) × ((seen_of h.before).quotas ≡ quotas_of h.tenants)
-begins-by-table secret words how left left' taken taken' told told' h = (h.reads, ap quotas_of h.fresh.tenants)
+begins-by-table secret words batch how left left' taken taken' told told' h = (h.reads, ap quotas_of h.fresh.tenants)
 
 -- `Memory` has a cause, which is counted
 pub memory-caused : (old : Tallied) (event : Event) (reply : Reply) (new : Tallied) → is_memory reply ≡ true → IsServedStep old event reply new

@@ -26,6 +26,7 @@ use Rattle.judy_model.specs.Service.{all_pieces}
 use Rattle.judy_model.specs.Speakers.{Event}
 use Rattle.judy_protocol.specs.Services.{AreMade}
 use Rattle.judy_protocol.specs.Serving.{MaybeBytes, Ends}
+use Rattle.judy_protocol.specs.declared.gathering.Batch.{Batch}
 use Rattle.judy_protocol.specs.declared.connection.End.{End}
 use Rattle.judy_protocol.specs.declared.connection.End.TheVariants as ends
 use Rattle.judy_programs.specs.Asking.{Log}
@@ -64,13 +65,13 @@ sound-calls before after (p ∷ ps) h (mid, made, rest) =
     }
 
 -- a connection keeps it, however it ends
-pub sound-end : (end : End) (left left' : MaybeBytes) (before after : Tallied) (taken taken' : MaybeBytes) → IsSoundService before.held
-    → Ends IsServedStep seen_of end left left' before after taken taken' → IsSoundOf before.held after.held
-sound-end ends.Quit left left' before after taken taken' s h = sound-calls before after _ s h.run.run.calls
-sound-end ends.End left left' before after taken taken' s h = sound-calls before after _ s h.run.run.calls
-sound-end ends.ReadFault left left' before after taken taken' s h = sound-calls before after _ s h.run.run.calls
-sound-end ends.Limit left left' before after taken taken' s h = sound-calls before after _ s h.run.run.calls
-sound-end ends.WriteFault left left' before after taken taken' s h = sound-calls before after _ s h.run.calls
+pub sound-end : (batch : Batch) (end : End) (left left' : MaybeBytes) (before after : Tallied) (taken taken' : MaybeBytes) → IsSoundService before.held
+    → Ends IsServedStep seen_of batch end left left' before after taken taken' → IsSoundOf before.held after.held
+sound-end batch ends.Quit left left' before after taken taken' s h = sound-calls before after _ s h.run.run.calls
+sound-end batch ends.End left left' before after taken taken' s h = sound-calls before after _ s h.run.run.calls
+sound-end batch ends.ReadFault left left' before after taken taken' s h = sound-calls before after _ s h.run.run.calls
+sound-end batch ends.Limit left left' before after taken taken' s h = sound-calls before after _ s h.run.run.calls
+sound-end batch ends.WriteFault left left' before after taken taken' s h = sound-calls before after _ s h.run.calls
 
 -- one line keeps it: its call, and then its count
 sound-turn : (before : Tallied) (t : Turn) (after : Tallied) → IsSoundService before.held → IsTurn server_rules before t after
@@ -209,13 +210,13 @@ calls-are-bounded (p ∷ done) rest before after s (mid, made, run) =
     )
 
 -- so it is where a script ends, however it ends; both numbers never fall, so they were no greater before
-pub run-is-bounded : (secret : List ℕ) (words : Bool) (end : End) (left left' taken taken' : MaybeBytes) (told told' : ℕ)
-    → (h : HasServed IsServedStep seen_of held_words (IsNewService secret None) words (ran.Served end) left left' taken taken' told told')
+pub run-is-bounded : (secret : List ℕ) (words : Bool) (batch : Batch) (end : End) (left left' taken taken' : MaybeBytes) (told told' : ℕ)
+    → (h : HasServed IsServedStep seen_of held_words (IsNewService secret None) words batch (ran.Served end) left left' taken taken' told told')
     → IsBoundedBy (words_for h.tenants) 0 h.after.held
-run-is-bounded secret words end left left' taken taken' told told' h =
+run-is-bounded secret words batch end left left' taken taken' told told' h =
     subst (λ n. IsBoundedBy (words_for h.tenants) n h.after.held) (h.fresh.reserved ∙ h.fresh.taken.0)
     (subst (λ n. IsBoundedBy n h.before.held.reserved h.after.held) (h.fresh.granted ∙ ap words_for h.fresh.tenants)
-    (bounded h.before.held h.after.held (sound-end end _ _ h.before h.after _ _ h.fresh.sound h.run.script.served)))
+    (bounded h.before.held h.after.held (sound-end batch end _ _ h.before h.after _ _ h.fresh.sound h.run.script.served)))
 
 -- and at each moment of a server's story, with a journal or without one, but for what was taken at its start
 pub server-is-bounded : (secret config socket : List ℕ) (watch : Desks) (reserve : Option ℕ) (limits : Limits) (how : Ending) (log log' : Log)
@@ -239,11 +240,11 @@ server-is-bounded secret config socket watch reserve limits how log log' h p q e
     )
 
 -- if a script was served to its end and the words are wanted, the words that are reported are few
-pub few-words : (secret : List ℕ) (words : Bool) (end : End) (left left' taken taken' : MaybeBytes) (told told' : ℕ) → tells_words words end ≡ true
-    → (h : HasServed IsServedStep seen_of held_words (IsNewService secret None) words (ran.Served end) left left' taken taken' told told')
+pub few-words : (secret : List ℕ) (words : Bool) (batch : Batch) (end : End) (left left' taken taken' : MaybeBytes) (told told' : ℕ) → tells_words words end ≡ true
+    → (h : HasServed IsServedStep seen_of held_words (IsNewService secret None) words batch (ran.Served end) left left' taken taken' told told')
     → TellsFew (length h.tenants) h.after.held h.run.between taken'
-few-words secret words end left left' taken taken' told told' tells h =
-    let s : IsSoundOf h.before.held h.after.held = sound-end end _ _ h.before h.after _ _ h.fresh.sound h.run.script.served in
+few-words secret words batch end left left' taken taken' told told' tells h =
+    let s : IsSoundOf h.before.held h.after.held = sound-end batch end _ _ h.before h.after _ _ h.fresh.sound h.run.script.served in
     let many : length h.after.held.tenants ≡ length h.tenants = ap length (s.tenants ∙ h.fresh.tenants) in
     let pieces : all_pieces (length h.after.held.tenants) (states_of h.after.held) ≡ all_pieces (length h.tenants) (states_of h.after.held)
     = ap (λ m. all_pieces m (states_of h.after.held)) many in
@@ -251,7 +252,7 @@ few-words secret words end left left' taken taken' told told' tells h =
     = ap (λ m. all_arrays m (states_of h.after.held)) many in
     record {
       n = held_words h.after;
-      line = told-words IsServedStep seen_of held_words (IsNewService secret None) words end left left' taken taken' told told' tells h;
+      line = told-words IsServedStep seen_of held_words (IsNewService secret None) words batch end left left' taken taken' told told' tells h;
       most = omega (arith, s.sound.space.most, pieces);
       least = omega (arith, s.sound.space.least, s.sound.names, arrays);
     }

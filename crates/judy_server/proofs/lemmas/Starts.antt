@@ -22,9 +22,9 @@ no-secret ended line from to log log' h = (h.status, h.text, h.streams, h.asked)
 -- whatever journal a directory may have
 module _ (has : List ℕ → Kept → Type 0) where
   -- `run` opens no file and no socket
-  pub run-asks-nothing : (secret : List ℕ) (words : Bool) (status : ℕ) (text : Option (List ℕ)) (from to : Wire) (log log' : Log)
-      → HasDone has secret (job.Run words) status text from to log log' → log' ≡ log
-  run-asks-nothing secret words status text from to log log' (how, has_run, is, told, same) = same
+  pub run-asks-nothing : (secret : List ℕ) (words batch : Bool) (status : ℕ) (text : Option (List ℕ)) (from to : Wire) (log log' : Log)
+      → HasDone has secret (job.Run words batch) status text from to log log' → log' ≡ log
+  run-asks-nothing secret words batch status text from to log log' (how, has_run, is, told, same) = same
 
   -- `serve` neither reads standard input nor writes standard output
   pub serve-says-nothing : (secret config socket : List ℕ) (watch control : Option (List ℕ)) (clients : ℕ) (tenant_clients : Option ℕ) (connections login : ℕ) (idle turn reserve : Option ℕ) (directory : Option (List ℕ)) (sync : Sync) (check : Bool)

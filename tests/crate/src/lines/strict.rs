@@ -3,7 +3,8 @@
 
 use crate::checks::same;
 use crate::lines::house::House;
-use judy_protocol::{End, serve};
+use crate::lines::tests::{BATCHES, serve_by};
+use judy_protocol::{Batch, End};
 use judy_stream::{Page, Pull, Push, Refusal, Sink, Source, Tape};
 use std::test::Fail;
 
@@ -75,29 +76,32 @@ pub fn reads_with_lines(script: &[u8], step: usize) -> u64 {
     reads
 }
 
+// Each of the 6 replies is one text, or with `EachRead` those of a read.
 #[test]
-fn one_push_and_one_flush_a_read(rt: HostRuntime) {
+fn one_push_and_one_flush_a_text(rt: HostRuntime) {
     let replies: &[u8] = b"ERR AUTH\nOK\n1\nERR SYNTAX\n1\nBYE\n";
     let script = b"J1T a 5\nAUTH alice abc\nJ1S a 5\n\nJ1T a 5\nQUIT\n";
     for step in 1..60 {
-        let mut house = House::new(rt.alloc());
-        let mut source = Narrow {
-            tape: Tape::new(script, &[], step, None),
-        };
-        let mut sink = WholeLines {
-            page: Page::new(40960, Refusal::Fails, None, None),
-            waits: false,
-            pushes: 0,
-            flushes: 0,
-        };
-        same(
-            &rt,
-            serve(rt.alloc(), &mut house, &mut source, &mut sink),
-            End::Quit,
-        );
-        same(&rt, sink.page.bytes(), replies);
         let reads = reads_with_lines(script, step);
-        same(&rt, (sink.pushes, sink.flushes), (reads, reads));
+        for (batch, texts) in [(Batch::EachReply, 6), (Batch::EachRead, reads)] {
+            let mut house = House::new(rt.alloc());
+            let mut source = Narrow {
+                tape: Tape::new(script, &[], step, None),
+            };
+            let mut sink = WholeLines {
+                page: Page::new(40960, Refusal::Fails, None, None),
+                waits: false,
+                pushes: 0,
+                flushes: 0,
+            };
+            same(
+                &rt,
+                serve_by(rt.alloc(), batch, &mut house, &mut source, &mut sink),
+                End::Quit,
+            );
+            same(&rt, sink.page.bytes(), replies);
+            same(&rt, (sink.pushes, sink.flushes), (texts, texts));
+        }
     }
     // Each line was a read of its own, and the whole script was one.
     same(
@@ -118,7 +122,8 @@ fn push_key(script: &mut Vec<u8>, text: &[u8]) -> Result<(), Fail> {
 }
 
 // The answers to the lines of one read are more than the buffer holds, so they are three texts: seven
-// replies of 2,006 bytes are as many as leave no room for the longest answer.
+// replies of 2,006 bytes are as many as leave no room for the longest answer. If each reply is written
+// alone, there are 18 texts.
 #[test]
 fn a_full_buffer_loses_no_line(rt: HostRuntime) -> Result<(), Fail> {
     let mut script = Vec::new(rt.alloc());
@@ -130,22 +135,28 @@ fn a_full_buffer_loses_no_line(rt: HostRuntime) -> Result<(), Fail> {
         script.extend_from_slice(b"JSLF s x\n")?;
         push_key(&mut replies, b"V 0 x")?;
     }
-    let mut house = House::new(rt.alloc());
-    let mut source = Narrow {
-        tape: Tape::new(script.as_slice(), &[], 4096, None),
-    };
-    let mut sink = WholeLines {
-        page: Page::new(40960, Refusal::Fails, None, None),
-        waits: false,
-        pushes: 0,
-        flushes: 0,
-    };
-    same(
-        &rt,
-        serve(rt.alloc(), &mut house, &mut source, &mut sink),
-        End::End,
-    );
-    same(&rt, sink.page.bytes(), replies.as_slice());
-    same(&rt, (sink.pushes, sink.flushes), (3, 3));
+    for batch in BATCHES {
+        let texts = match batch {
+            Batch::EachReply => 18,
+            Batch::EachRead => 3,
+        };
+        let mut house = House::new(rt.alloc());
+        let mut source = Narrow {
+            tape: Tape::new(script.as_slice(), &[], 4096, None),
+        };
+        let mut sink = WholeLines {
+            page: Page::new(40960, Refusal::Fails, None, None),
+            waits: false,
+            pushes: 0,
+            flushes: 0,
+        };
+        same(
+            &rt,
+            serve_by(rt.alloc(), batch, &mut house, &mut source, &mut sink),
+            End::End,
+        );
+        same(&rt, sink.page.bytes(), replies.as_slice());
+        same(&rt, (sink.pushes, sink.flushes), (texts, texts));
+    }
     Ok(())
 }

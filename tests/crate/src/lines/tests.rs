@@ -3,8 +3,8 @@
 use crate::checks::{same, same_at};
 use crate::lines::house::{House, Tenant};
 use crate::lines::strict::reads_with_lines;
-use judy_protocol::{End, serve, serve_up_to};
-use judy_stream::{Page, Reads, Refusal, Tape, Writes};
+use judy_protocol::{Batch, End, READS_LIMIT, Served, serve, serve_after, serve_up_to};
+use judy_stream::{Page, Reads, Refusal, Sink, Source, Tape, Writes};
 use std::alloc::Global;
 use std::cell::Cell;
 use std::io::{self, ErrorKind, Read, Write};
@@ -39,18 +39,36 @@ fn first_lines(text: &[u8], lines: usize) -> &[u8] {
     &text[..end.min(text.len())]
 }
 
+/// Which answers are written at once: each alone, as `serve` does, or those of a read.
+pub const BATCHES: [Batch; 2] = [Batch::EachReply, Batch::EachRead];
+
+/// Serves a connection as `serve` does, but that it writes the answers of one batch at once.
+pub fn serve_by<S: Served, R: Source, W: Sink>(
+    alloc: Global,
+    batch: Batch,
+    service: &mut S,
+    source: &mut R,
+    sink: &mut W,
+) -> End {
+    match batch {
+        Batch::EachReply => serve(alloc, service, source, sink),
+        Batch::EachRead => serve_after(alloc, service, b"", source, sink, READS_LIMIT, batch),
+    }
+}
+
 // Serves a tape in a new house, and checks how that ends, what is written, and how many entries alice
 // then has.
 fn serves(
     rt: &impl Abort,
     alloc: Global,
+    batch: Batch,
     tape: Tape<'_>,
     page: Page<512>,
     want: (End, &[u8]),
 ) -> u64 {
     let (mut tape, mut page) = (tape, page);
     let mut house = House::new(alloc);
-    let end = serve(alloc, &mut house, &mut tape, &mut page);
+    let end = serve_by(alloc, batch, &mut house, &mut tape, &mut page);
     same(rt, (end, page.bytes()), want);
     house.used(Tenant::Alice)
 }
@@ -69,10 +87,12 @@ fn answers(rt: &impl Abort, alloc: Global, script: &[u8], replies: &[u8]) {
 fn every_cut_and_step(rt: HostRuntime) {
     for place in 0..SCRIPT.len() {
         for (cuts, step) in [([place], 5000), ([0], place + 1)] {
-            let tape = Tape::new(SCRIPT, &cuts, step, None);
-            let page = Page::new(512, Refusal::Fails, None, None);
-            let used = serves(&rt, rt.alloc(), tape, page, (End::Quit, REPLIES));
-            same_at(&rt, used, 1, ("at", place));
+            for batch in BATCHES {
+                let tape = Tape::new(SCRIPT, &cuts, step, None);
+                let page = Page::new(512, Refusal::Fails, None, None);
+                let used = serves(&rt, rt.alloc(), batch, tape, page, (End::Quit, REPLIES));
+                same_at(&rt, used, 1, ("at", place));
+            }
         }
     }
 }
@@ -82,10 +102,12 @@ fn every_read_fails(rt: HostRuntime) {
     // The script without its QUIT line and what follows.
     let script = first_lines(SCRIPT, 17);
     for place in 0..script.len() {
-        let tape = Tape::new(script, &[], 5000, Some(place));
-        let page = Page::new(512, Refusal::Fails, None, None);
-        let want = first_lines(REPLIES, count_lines(&script[..place]));
-        let _used = serves(&rt, rt.alloc(), tape, page, (End::ReadFault, want));
+        for batch in BATCHES {
+            let tape = Tape::new(script, &[], 5000, Some(place));
+            let page = Page::new(512, Refusal::Fails, None, None);
+            let want = first_lines(REPLIES, count_lines(&script[..place]));
+            let _used = serves(&rt, rt.alloc(), batch, tape, page, (End::ReadFault, want));
+        }
     }
 }
 
@@ -95,45 +117,74 @@ fn every_write_fails(rt: HostRuntime) {
         for refusal in [Refusal::TakesNothing, Refusal::Fails] {
             // All pushes fail from the place on, or only one fails.
             for (limit, push_fails_at) in [(place, None), (512, Some(place))] {
-                let tape = Tape::new(SCRIPT, &[], 5000, None);
-                let page = Page::new(limit.min(512), refusal, push_fails_at, None);
-                let want = (End::WriteFault, &REPLIES[..place]);
-                let _used = serves(&rt, rt.alloc(), tape, page, want);
+                for batch in BATCHES {
+                    let tape = Tape::new(SCRIPT, &[], 5000, None);
+                    let page = Page::new(limit.min(512), refusal, push_fails_at, None);
+                    let want = (End::WriteFault, &REPLIES[..place]);
+                    let _used = serves(&rt, rt.alloc(), batch, tape, page, want);
+                }
             }
         }
     }
 }
 
-// One flush fails, and all others succeed. A flush follows the answers to the lines of each read, and
-// nothing follows the flush that failed. The reads have one byte each, or the whole script.
+// One flush fails, and all others succeed. A flush follows each answer, or with `EachRead` the answers
+// to the lines of each read, and nothing follows the flush that failed. The reads have one byte each,
+// or the whole script.
 #[test]
 fn every_flush_fails(rt: HostRuntime) {
-    for step in [1, 5000] {
+    for (batch, step) in [
+        (Batch::EachReply, 1),
+        (Batch::EachReply, 5000),
+        (Batch::EachRead, 1),
+        (Batch::EachRead, 5000),
+    ] {
+        let one_text = batch == Batch::EachRead && step == 5000;
         for place in 1..=REPLIES.len() {
             let tape = Tape::new(SCRIPT, &[], step, None);
             let page = Page::new(512, Refusal::Fails, None, Some(place));
-            let of_line = step == 1 && REPLIES[place - 1] == b'\n';
+            let of_line = !one_text && REPLIES[place - 1] == b'\n';
             let want = if of_line || place == REPLIES.len() {
                 (End::WriteFault, &REPLIES[..place])
             } else {
                 (End::Quit, REPLIES)
             };
-            let _used = serves(&rt, rt.alloc(), tape, page, want);
+            let _used = serves(&rt, rt.alloc(), batch, tape, page, want);
         }
     }
 }
 
+// The row "failing writer": the writer takes 4 bytes and then fails. The line whose answer is cut is
+// the last that is run, although the next one came with it.
+#[test]
+fn a_failing_writer(rt: HostRuntime) {
+    let script = b"AUTH alice abc\nJ1S a 1\nJ1S a 2\n";
+    let mut house = House::new(rt.alloc());
+    let mut tape = Tape::new(script, &[], 5000, None);
+    let mut page: Page<512> = Page::new(4, Refusal::Fails, None, None);
+    let end = serve(rt.alloc(), &mut house, &mut tape, &mut page);
+    same(
+        &rt,
+        (end, page.bytes()),
+        (End::WriteFault, b"OK\n1".as_slice()),
+    );
+    same(&rt, house.used(Tenant::Alice), 1);
+}
+
 const THREE_SETS: &[u8] = b"AUTH alice abc\nJ1S a 1\nJ1S a 2\nJ1S a 3\n";
 
-// The lines of the read whose answers are not written are run, up to its end, and no line of the next
-// read is.
+// Where the read ends does not matter, as long as each reply is written alone. With `EachRead` the
+// lines of the read whose answers are not written are run, up to its end, and no line of the next read
+// is.
 #[test]
-fn a_failed_write_runs_no_line_of_the_next_read(rt: HostRuntime) {
-    for (cuts, used) in [([15, 23], 1), ([0, 23], 1), ([0, 31], 2)] {
-        let tape = Tape::new(THREE_SETS, &cuts, 5000, None);
-        let page = Page::new(4, Refusal::Fails, None, None);
-        let want = (End::WriteFault, b"OK\n1".as_slice());
-        same(&rt, serves(&rt, rt.alloc(), tape, page, want), used);
+fn a_failed_write_runs_no_line_of_the_next_text(rt: HostRuntime) {
+    for (cuts, used) in [([15, 23], 1), ([0, 23], 1), ([0, 31], 2), ([0, 39], 3)] {
+        for (batch, used) in [(Batch::EachReply, 1), (Batch::EachRead, used)] {
+            let tape = Tape::new(THREE_SETS, &cuts, 5000, None);
+            let page = Page::new(4, Refusal::Fails, None, None);
+            let want = (End::WriteFault, b"OK\n1".as_slice());
+            same(&rt, serves(&rt, rt.alloc(), batch, tape, page, want), used);
+        }
     }
 }
 
@@ -252,9 +303,11 @@ fn long_lines(rt: HostRuntime) -> Result<(), Fail> {
     push_line(&mut script, b"J1T a 2", b' ', 0)?;
     let want = b"OK\n1\nERR LONG\nERR LONG\n1\nERR SYNTAX\nERR LONG\nERR LONG\n0\n".as_slice();
     for step in [1, 2, 4095, 4096, 4097] {
-        let tape = Tape::new(script.as_slice(), &[], step, None);
-        let page = Page::new(512, Refusal::Fails, None, None);
-        let _used = serves(&rt, rt.alloc(), tape, page, (End::End, want));
+        for batch in BATCHES {
+            let tape = Tape::new(script.as_slice(), &[], step, None);
+            let page = Page::new(512, Refusal::Fails, None, None);
+            let _used = serves(&rt, rt.alloc(), batch, tape, page, (End::End, want));
+        }
     }
     Ok(())
 }
@@ -332,7 +385,7 @@ impl<'a> Write for Hears<'a> {
 }
 
 // Serves such a peer, and returns how often it was flushed.
-fn flushes_of(rt: &impl Abort, alloc: Global, step: Option<usize>) -> u64 {
+fn flushes_of(rt: &impl Abort, alloc: Global, batch: Batch, step: Option<usize>) -> u64 {
     let talk = Talk::new();
     let mut source = Reads::new(Asks {
         rest: SCRIPT,
@@ -343,7 +396,7 @@ fn flushes_of(rt: &impl Abort, alloc: Global, step: Option<usize>) -> u64 {
     let mut house = House::new(alloc);
     same(
         rt,
-        serve(alloc, &mut house, &mut source, &mut sink),
+        serve_by(alloc, batch, &mut house, &mut source, &mut sink),
         End::Quit,
     );
     talk.flushes.get()
@@ -352,11 +405,16 @@ fn flushes_of(rt: &impl Abort, alloc: Global, step: Option<usize>) -> u64 {
 #[test]
 fn each_reply_goes_out_before_the_next_read(rt: HostRuntime) {
     // There is exactly one flush after each of the 18 replies.
-    same(&rt, flushes_of(&rt, rt.alloc(), None), 18);
-    // A read may end within a line: then the replies to the lines before it go out, with one flush.
+    for batch in BATCHES {
+        same(&rt, flushes_of(&rt, rt.alloc(), batch, None), 18);
+    }
+    // A read may end within a line: then the replies to the lines before it go out, each with a flush,
+    // or with `EachRead` all with one.
     let until_quit = first_lines(SCRIPT, 18);
     for step in 1..SCRIPT.len() {
-        let flushes = flushes_of(&rt, rt.alloc(), Some(step));
+        let flushes = flushes_of(&rt, rt.alloc(), Batch::EachReply, Some(step));
+        same_at(&rt, flushes, 18, step);
+        let flushes = flushes_of(&rt, rt.alloc(), Batch::EachRead, Some(step));
         same_at(&rt, flushes, reads_with_lines(until_quit, step), step);
     }
 }

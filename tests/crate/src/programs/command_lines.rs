@@ -70,7 +70,7 @@ fn journal_text(alloc: Global, journal: Option<Word>, sync: Sync) -> Result<Stri
 // A job, as a text.
 fn job_text(alloc: Global, job: Job) -> Result<String, AllocError> {
     match job {
-        Job::Run { words } => format!(in alloc; "run {words}"),
+        Job::Run { words, batch } => format!(in alloc; "run {words} {batch}"),
         Job::Serve {
             config,
             socket,
@@ -126,9 +126,12 @@ fn compare(rt: &impl Abort, alloc: Global, text: &str) -> Result<(), Fail> {
 }
 
 const COMMAND_LINES: &str = " -> usage
-run -> run false
-run --words -> run true
+run -> run false false
+run --words -> run true false
+run --batch -> run false true
+run --batch --words -> run true true
 run --words --words -> usage
+run --batch --batch -> usage
 run --words=true -> usage
 run -w -> usage
 run x -> usage
@@ -147,6 +150,7 @@ serve --config c --help -> help
 run --version -> usage
 serve --check -> usage
 run --check -> usage
+serve --batch -> usage
 run --idle 1 -> usage
 run --clients 1 -> usage";
 

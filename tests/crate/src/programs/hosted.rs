@@ -535,7 +535,10 @@ fn run_drawn(
     system.secret = secret;
     let mut tape = Tape::new(script.as_str().as_bytes(), &[], 4096, None);
     let mut page: Page<256> = Page::new(256, Refusal::Fails, None, None);
-    let job = Job::Run { words: false };
+    let job = Job::Run {
+        words: false,
+        batch: false,
+    };
     let ended = do_job_on::<Sha256Hash, _, _, _>(alloc, &job, &mut tape, &mut page, &mut system);
     same(
         rt,

@@ -2,7 +2,7 @@
 
 use crate::checks::{holds_at, same_at};
 use judy_programs::Ran;
-use judy_protocol::End;
+use judy_protocol::{Batch, End};
 use judy_server::Server;
 use judy_stream::{Page, Refusal, Sink, Source, Tape};
 use judy_tenants::Sha256Hash;
@@ -15,7 +15,18 @@ pub type Tenants = Server<Sha256Hash>;
 
 /// Runs an input with the service of the program. Names are looked up with this secret.
 pub fn run<R: Source, W: Sink>(alloc: Global, r: &mut R, w: &mut W, words: bool) -> Ran {
-    judy_server::run::<Sha256Hash, R, W>(alloc, b"secret", r, w, words)
+    run_by(alloc, Batch::EachReply, r, w, words)
+}
+
+/// The same, with the answers that are written at once.
+pub fn run_by<R: Source, W: Sink>(
+    alloc: Global,
+    batch: Batch,
+    r: &mut R,
+    w: &mut W,
+    words: bool,
+) -> Ran {
+    judy_server::run::<Sha256Hash, R, W>(alloc, b"secret", r, w, words, batch)
 }
 
 /// alice has 4 entries, the token `abc`, and the read-only token `hello`. bob has 1,000 entries and

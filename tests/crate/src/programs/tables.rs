@@ -1,8 +1,8 @@
 //! The table before the script: its end, its faults, and failing reads and writes.
 use crate::checks::{holds_at, same, same_at};
-use crate::programs::rows::{TABLE, input, run};
+use crate::programs::rows::{TABLE, input, run, run_by};
 use judy_programs::{Hosted, Ran, finish, finish_hosted};
-use judy_protocol::End;
+use judy_protocol::{Batch, End};
 use judy_stream::{Page, Refusal, Tape};
 use judy_table::TableFault;
 use std::alloc::{AllocError, Global};
@@ -189,15 +189,17 @@ fn failing_writes(rt: HostRuntime) -> Result<(), Fail> {
     let bytes = whole.as_str().as_bytes();
     let replies = b"OK\n1\n1\nBYE\nWORDS 4\n".as_slice();
     for limit in 0..19usize {
-        let mut tape = Tape::new(bytes, &[], 4096, None);
-        let mut page: Page<64> = Page::new(limit, Refusal::TakesNothing, None, None);
-        let ran = run(rt.alloc(), &mut tape, &mut page, true);
-        if limit < 11 {
-            same_at(&rt, ran, Ran::Served(End::WriteFault), limit);
-        } else {
-            same_at(&rt, ran, Ran::Write, limit);
+        for batch in [Batch::EachReply, Batch::EachRead] {
+            let mut tape = Tape::new(bytes, &[], 4096, None);
+            let mut page: Page<64> = Page::new(limit, Refusal::TakesNothing, None, None);
+            let ran = run_by(rt.alloc(), batch, &mut tape, &mut page, true);
+            if limit < 11 {
+                same_at(&rt, ran, Ran::Served(End::WriteFault), limit);
+            } else {
+                same_at(&rt, ran, Ran::Write, limit);
+            }
+            holds_at(&rt, replies.starts_with(page.bytes()), limit);
         }
-        holds_at(&rt, replies.starts_with(page.bytes()), limit);
     }
     Ok(())
 }

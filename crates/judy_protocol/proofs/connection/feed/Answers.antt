@@ -26,7 +26,8 @@ send-requires-clause-some g c =
 pub send-requires-clause-answers : goal.send-requires-clause-answers
 send-requires-clause-answers g c =
     let are = gathered_answers _ _ _ _ _ _ _ _ _ _ _ c.gather-gathered.ensures.gathers.2 c.gather-gathered.ensures.short in
-    MaySend-later _ AreAnswers _ c.args.sink.now c.loop-chunk.sink (λ text e. subst AreAnswers (sym (e ∙ c.as_slice.ensures.value)) are)
+    MaySend-later _ (AreAnswers c.args.batch) _ c.args.sink.now c.loop-chunk.sink
+    (λ text e. subst (AreAnswers c.args.batch) (sym (e ∙ c.as_slice.ensures.value)) are)
     c.loop-chunk.invariant.flushed c.requires.answers
 
 pub returns-then-not-send-clause-heard : goal.returns-then-not-send-clause-heard
@@ -53,6 +54,7 @@ returns-then-not-send-clause-heard g c =
       short = c.gather-gathered.ensures.short;
       split = p.2 ∙ c.as_slice.ensures.value;
       written = p.3;
+      flushed = λ none waits. c.loop-chunk.invariant.flushed (sym (p.4 none) ∙ waits);
       by = tt;
     }
 
@@ -81,6 +83,7 @@ returns-then-gathered-clause-heard g c =
       split = append-nil text;
       written = subst (Appends (g.W.Sink.sink.taken c.loop-chunk.sink) (g.W.Sink.sink.taken c.send.new.sink)) c.as_slice.ensures.value
           (c.send.ensures.sent c.if-not-send.false);
+      flushed = λ none waits. absurd (false≢true (sym (c.send.ensures.flushed c.if-not-send.false) ∙ waits));
       by = (c.if-gathered.true, refl);
     }
 

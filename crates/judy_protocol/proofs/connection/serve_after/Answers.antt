@@ -9,7 +9,7 @@ use Rattle.judy_protocol.specs.declared.connection.Stop.TheVariants as stop
 use Rattle.judy_protocol.specs.declared.held.Held.{Held}
 use Rattle.judy_protocol.proofs.KnownBytes.{Appends-nil, Consumes-append, Consumes-keeps, Consumes-prepend}
 use Rattle.judy_protocol.proofs.Talking.{Turns-none}
-use Rattle.judy_protocol.proofs.Ending.{all_open, all_quit, part_run}
+use Rattle.judy_protocol.proofs.Ending.{all_open, all_quit, part_flushed, part_run}
 use Rattle.judy_protocol.specs.Sending.{AreAnswers}
 use Rattle.judy_protocol.proofs.lemmas.SendingLaws.{MaySend-later}
 use Rattle.judy_protocol.proofs.connection.serve_after.Goals as goal
@@ -62,6 +62,7 @@ returns-in-Some-Quit g c =
           (g.W.Sink.sink.taken c.args.sink.now) c.new-held.ensures) stops;
       end = λ e. cc;
       flushed = λ h. (rw c.in-Some-Quit.field-0-is at c.in-Some-Quit.ensures.flushed) unlike;
+      flushed_before = tt;
       ends = refl;
       read_faults = refl;
       write_faults = rw c.in-Some-Quit.field-0-is at c.in-Some-Quit.ensures.faults;
@@ -80,6 +81,11 @@ returns-in-Some-WriteFault g c =
           (g.W.Sink.sink.taken c.args.sink.now) c.new-held.ensures) stops;
       end = λ e. cc;
       flushed = λ h. absurd (h refl);
+      flushed_before = part_flushed g.S.Served.made g.S.Served.seen g.met.S.Served.apart c.served_runs_go_on.ensures
+          c.one_call_is_a_run.ensures c.tenants_are_answered_equally.ensures _ _ [] c.args.first.now _ _ _ _ _
+          (Consumes-prepend c.args.first.now (g.R.Source.source.left c.args.source.now)) c.requires.short
+          (begun g.S.Served.made (g.S.Served.seen c.args.service.now).logins g.S.Served.who _ c.args.service.now
+          (g.W.Sink.sink.taken c.args.sink.now) c.new-held.ensures) stops;
       ends = refl;
       read_faults = refl;
       write_faults = rw c.in-Some-WriteFault.field-0-is at c.in-Some-WriteFault.ensures.faults;
@@ -89,7 +95,8 @@ returns-in-Some-WriteFault g c =
 
 pub feed-requires-in-Bytes-clause-answers : goal.feed-requires-in-Bytes-clause-answers
 feed-requires-in-Bytes-clause-answers g c =
-    MaySend-later _ AreAnswers AreAnswers c.args.sink.now c.loop-pulls.sink (λ text is. is) c.loop-pulls.invariant.flushed c.requires.answers
+    MaySend-later _ (AreAnswers c.args.batch) (AreAnswers c.args.batch) c.args.sink.now c.loop-pulls.sink (λ text is. is)
+    c.loop-pulls.invariant.flushed c.requires.answers
 
 pub pull-requires-clause-ready : goal.pull-requires-clause-ready
 pull-requires-clause-ready g c = c.requires.prompt c.loop-pulls.source c.loop-pulls.sink _ (omega arith) (record {
@@ -108,6 +115,7 @@ returns-in-End g c =
           (Consumes-keeps _ _ _ _ c.loop-pulls.invariant.heard.1 c.in-End.ensures.bytes) c.loop-pulls.invariant.heard.2;
       end = λ e. c.in-End.ensures.end;
       flushed = λ h. c.loop-pulls.invariant.flushed;
+      flushed_before = tt;
       ends = c.in-End.ensures.ends ∙ ap counted c.loop-pulls.invariant.ends;
       read_faults = c.in-End.ensures.faults ∙ c.loop-pulls.invariant.read_faults;
       write_faults = c.loop-pulls.invariant.write_faults;
@@ -123,6 +131,7 @@ returns-in-Fault g c =
           (Consumes-keeps _ _ _ _ c.loop-pulls.invariant.heard.1 c.in-Fault.ensures.bytes) c.loop-pulls.invariant.heard.2;
       end = λ e. cc;
       flushed = λ h. c.loop-pulls.invariant.flushed;
+      flushed_before = tt;
       ends = c.in-Fault.ensures.ends ∙ c.loop-pulls.invariant.ends;
       read_faults = c.in-Fault.ensures.faults ∙ ap counted c.loop-pulls.invariant.read_faults;
       write_faults = c.loop-pulls.invariant.write_faults;
@@ -138,6 +147,7 @@ returns g c =
           c.loop-pulls.invariant.heard.1 c.loop-pulls.invariant.heard.2;
       end = λ e. cc;
       flushed = λ h. c.loop-pulls.invariant.flushed;
+      flushed_before = tt;
       ends = c.loop-pulls.invariant.ends;
       read_faults = c.loop-pulls.invariant.read_faults;
       write_faults = c.loop-pulls.invariant.write_faults;
@@ -156,6 +166,7 @@ returns-in-Some-Quit-feed g c =
           (Consumes-append _ _ _ _ _ h.1 c.in-Bytes.ensures.bytes.2) short h.2 stops;
       end = λ e. cc;
       flushed = λ h waits. c.loop-pulls.invariant.flushed ((rw c.in-Some-Quit-feed.field-0-is at c.in-Some-Quit-feed.ensures.flushed) unlike waits);
+      flushed_before = tt;
       ends = c.in-Bytes.ensures.ends ∙ c.loop-pulls.invariant.ends;
       read_faults = c.in-Bytes.ensures.faults ∙ c.loop-pulls.invariant.read_faults;
       write_faults = (rw c.in-Some-Quit-feed.field-0-is at c.in-Some-Quit-feed.ensures.faults) ∙ c.loop-pulls.invariant.write_faults;
@@ -174,6 +185,9 @@ returns-in-Some-WriteFault-feed g c =
           (Consumes-append _ _ _ _ _ h.1 c.in-Bytes.ensures.bytes.2) short h.2 stops;
       end = λ e. cc;
       flushed = λ h. absurd (h refl);
+      flushed_before = λ none waits. c.loop-pulls.invariant.flushed (part_flushed g.S.Served.made g.S.Served.seen g.met.S.Served.apart
+          c.served_runs_go_on.ensures c.one_call_is_a_run.ensures c.tenants_are_answered_equally.ensures _ _ h.0
+          (take c.in-Bytes.n c.pull.new.buf) _ _ _ _ _ (Consumes-append _ _ _ _ _ h.1 c.in-Bytes.ensures.bytes.2) short h.2 stops none waits);
       ends = c.in-Bytes.ensures.ends ∙ c.loop-pulls.invariant.ends;
       read_faults = c.in-Bytes.ensures.faults ∙ c.loop-pulls.invariant.read_faults;
       write_faults = (rw c.in-Some-WriteFault-feed.field-0-is at c.in-Some-WriteFault-feed.ensures.faults) ∙ ap counted c.loop-pulls.invariant.write_faults;

@@ -8,7 +8,7 @@ use Rattle.judy_protocol.proofs.gathering.gather.Given as goal
 abbrev pub invariant-loop-quit : goal.invariant-loop-quit
 invariant-loop-quit g l = record {
   gathers : (used : List ℕ) × (used ++ l.rest ≡ l.chunk ++ 10 ∷ l.after)
-      × Gathers g.S.Served.made (g.S.Served.seen l.fn.service).logins used l.quit l.fn.held l.held
+      × Gathers g.S.Served.made (g.S.Served.seen l.fn.service).logins l.fn.batch used l.quit l.fn.held l.held
       (option_map g.S.Served.who l.fn.speaker) (option_map g.S.Served.who l.speaker) l.fn.service l.service l.rooms.answers.items;
   fewer : length l.rest ≤ length l.after;
   short : length l.rooms.answers.items ≤ ANSWERS_LIMIT;

@@ -5,8 +5,13 @@ use Rattle.judy_programs.specs.Hosting.{desks_at}
 use Rattle.judy_server.specs.Jobs.{ChecksBy, HostsBy, connections_of, rule_of}
 use Rattle.judy_server.proofs.jobs.do_job_with.Goals as goal
 
+pub run-requires-clause-answers : goal.run-requires-clause-answers
+run-requires-clause-answers g c = rw c.batch_of-batch.ensures (rw c.in-Run.is at c.requires.written)
+
 pub returns-in-Run : goal.returns-in-Run
-returns-in-Run g c = rw c.in-Run.is (c.run.result, c.run.ensures.runs, c.finish.ensures.status, c.finish.ensures.text, refl)
+returns-in-Run g c =
+    let runs = rw c.batch_of-batch.ensures at c.run.ensures.runs in
+    rw c.in-Run.is (c.run.result, runs, c.finish.ensures.status, c.finish.ensures.text, refl)
 
 moved : (P : List ℕ → List ℕ → Option (List ℕ) → Option (List ℕ) → ℕ → Bool → Option (List ℕ) → Option Sync → Type 0) (a a' b b' : List ℕ) (w w' v v' : Option (List ℕ)) (n n' : ℕ) (s s' : Bool)
     (d d' : Option (List ℕ)) (r r' : Option Sync) → a ≡ a' → b ≡ b' → w ≡ w' → v ≡ v' → n ≡ n' → s ≡ s' → d ≡ d' → r ≡ r' → P a b w v n s d r → P a' b' w' v' n' s' d' r'
