@@ -7,6 +7,7 @@ use crate::hosts::Hosts;
 use crate::journals::{Journals, Readies};
 use crate::limits::{FILE_LIMIT, PATH_LIMIT};
 use crate::marks::{Mark, remove_marked};
+use crate::table_file::TableFile;
 use arrayvec::ArrayVec;
 use judy_disk::Locks;
 use judy_many::{
@@ -359,7 +360,7 @@ impl<'a, F: Locks + Net + Clock + Eprint + Clone + Drop> Network for System<'a, 
 }
 
 impl<'a, F: Locks + Net + Clock + Eprint + Clone + Drop> Hosts for System<'a, F> {
-    type File = Reads<F::File>;
+    type File = TableFile<F::File>;
 
     fn secret(&mut self) -> Option<[u8; 16]> {
         let secret = read_secret(self.rt, "/dev/urandom");
@@ -370,7 +371,7 @@ impl<'a, F: Locks + Net + Clock + Eprint + Clone + Drop> Hosts for System<'a, F>
         secret
     }
 
-    fn open(&mut self, path: &str) -> Option<Reads<F::File>> {
+    fn open(&mut self, path: &str) -> Option<TableFile<F::File>> {
         let opened = fs::open(self.rt, path);
         self.record.opened(opened.is_ok(), path.as_bytes());
         match opened {
@@ -379,7 +380,7 @@ impl<'a, F: Locks + Net + Clock + Eprint + Clone + Drop> Hosts for System<'a, F>
                 if self.path.is_empty() {
                     let _ = self.path.try_extend_from_slice(path.as_bytes());
                 }
-                Some(Reads::new(file))
+                Some(TableFile::new(file))
             }
             Err(e) => {
                 self.failed = Some(Failed::File(e));
@@ -388,7 +389,7 @@ impl<'a, F: Locks + Net + Clock + Eprint + Clone + Drop> Hosts for System<'a, F>
         }
     }
 
-    fn shut(&mut self, _file: Reads<F::File>) {
+    fn shut(&mut self, _file: TableFile<F::File>) {
         self.record.shut();
     }
 
