@@ -12,3 +12,10 @@ HasCome number (accept.Came c) n slot log log' = (number c ≡ n) × DidLog log 
 HasCome number accept.Nothing n slot log log' = DidLog log [] log'
 HasCome number accept.Later n slot log log' = DidLog log (Refused ∷ []) log'
 HasCome number accept.Fault n slot log log' = DidLog log (Lost ∷ []) log'
+
+-- the connection that came, if one did, has this number
+abbrev pub HasNumber : {C : Type 0} → (C → ℕ) → Accept C → ℕ → Type 0
+HasNumber number (accept.Came c) n = number c ≡ n
+HasNumber number accept.Nothing n = Unit {0}
+HasNumber number accept.Later n = Unit {0}
+HasNumber number accept.Fault n = Unit {0}

@@ -11,6 +11,7 @@ pub mod Journaling
 pub mod Kicks
 pub mod Lives
 pub mod Nets
+pub mod Notes
 pub mod Others
 pub mod Present
 pub mod Questions

@@ -1,11 +1,14 @@
 //! Unix sockets, by `epoll`. Two more may be for the operator.
-ghost use Rattle.std.specs.Prelude.{None};
+ghost use Rattle.std.specs.Prelude.{◌≡◌, ◌<◌, length};
+ghost use Rattle.judy_many.specs.Comes.{HasNumber};
+ghost use Rattle.judy_many.specs.Nets.{Fits, Takes};
+ghost use Rattle.judy_many.specs.Queues.{AreAwake, StayAwake};
 
 use crate::counts::Counts;
 use crate::desk::{CONTROL, Desk, Purpose, STATUS};
 use crate::limits::{CLIENTS_LIMIT, EVENTS_LIMIT};
 use crate::lines::tell_line;
-use crate::network::{Accept, Got, How, Network, Put, Question, Unread};
+use crate::network::{Accept, Got, How, Put, Question};
 use crate::queue::Queue;
 use judy_model::Name;
 use mio::net::{UnixListener, UnixStream};
@@ -38,12 +41,15 @@ pub struct Sockets<'a, F> {
     control: Option<Desk>,
     counts: Counts,
     warned: Option<u64>,
+    /// The slots whose connections the last wait told of.
+    pub told: Vec<u64>,
 }
 
 /// A connection, and whether it waits for room to write.
 #[derive(Drop)]
 pub struct Connection {
-    id: u64,
+    /// Its number.
+    pub id: u64,
     stream: UnixStream,
     slot: usize,
     blocked: bool,
@@ -69,6 +75,7 @@ impl<'a, F: Files + Net + Clock + Eprint> Sockets<'a, F> {
             control: None,
             counts: Counts::new(),
             warned: None,
+            told: Vec::with_capacity(alloc, EVENTS_LIMIT)?,
         })
     }
 
@@ -142,6 +149,51 @@ fn ask_at(desk: &mut Option<Desk>, registry: &Registry, now: Option<u64>) -> Que
     desk.ask(now)
 }
 
+/// Marks the slot of a connection that became ready, and adds it to those that were told of.
+fn tell_slot(queue: &mut Queue, told: &mut Vec<u64>, slot: usize, ended: bool)
+    ensures stay { StayAwake queue.old queue.new }
+    ensures told { AreAwake told.old.items queue.old → AreAwake told.new.items queue.new }
+{
+    if slot >= CLIENTS_LIMIT {
+        return;
+    }
+    let _fits = told.push(slot as u64);
+    if ended {
+        queue.mark_ended(slot);
+    } else {
+        queue.mark_ready(slot);
+    }
+}
+
+/// The listeners to which connections came.
+#[derive(Clone, Copy, Debug, PartialEq, Eq)]
+struct Ready {
+    listener: bool,
+    status: bool,
+    control: bool,
+}
+
+/// Marks the slots of the connections that became ready, in the order in which events tell of them.
+fn tell_slots(events: &Events<Global>, queue: &mut Queue, told: &mut Vec<u64>) -> Ready
+    ensures stay { StayAwake queue.old queue.new }
+    ensures told { AreAwake told.old.items queue.old → AreAwake told.new.items queue.new }
+{
+    let mut ready = Ready {
+        listener: false,
+        status: false,
+        control: false,
+    };
+    for event in events.iter() {
+        let token = event.token();
+        ready.listener = ready.listener || token == LISTENER;
+        ready.status = ready.status || token == STATUS;
+        ready.control = ready.control || token == CONTROL;
+        let ended = event.is_read_closed() || event.is_error();
+        tell_slot(queue, told, token.0, ended);
+    }
+    ready
+}
+
 /// Whether a later accept may succeed.
 fn is_passing(e: &io::Error) -> bool {
     let Some(number) = e.raw_os_error() else {
@@ -150,14 +202,11 @@ fn is_passing(e: &io::Error) -> bool {
     LATER.contains(&number)
 }
 
-impl<'a, F: Files + Net + Clock + Eprint> Network for Sockets<'a, F> {
-    type Connection = Connection;
-
-    ghost log = { λ _. None };
-
-    ghost number = { λ c. c.id };
-
-    fn accept(&mut self, id: u64, slot: usize) -> Accept<Connection> {
+impl<'a, F: Files + Net + Clock + Eprint> Sockets<'a, F> {
+    /// The next connection, which gets this number. `wait` tells of it at this slot.
+    pub fn accept(&mut self, id: u64, slot: usize) -> Accept<Connection>
+        ensures { HasNumber (λ c. c.id) result id }
+    {
         match self.listener.accept() {
             Ok((mut stream, _)) => {
                 let registry = self.poll.registry();
@@ -191,7 +240,15 @@ impl<'a, F: Files + Net + Clock + Eprint> Network for Sockets<'a, F> {
         }
     }
 
-    fn wait(&mut self, time: Option<u32>, queue: &mut Queue) -> Option<bool> {
+    /// Waits until a connection is ready, or one can be accepted, or this many milliseconds have
+    /// passed. Without a time there is no limit. Marks the slots whose connections became ready, in
+    /// this order, and returns whether a connection can be accepted. None if the system fails for
+    /// good.
+    pub fn wait(&mut self, time: Option<u32>, queue: &mut Queue) -> Option<bool>
+        ensures stay { StayAwake queue.old queue.new }
+        ensures told { AreAwake self.new.told.items queue.new }
+    {
+        self.told.clear();
         let time = patience(&self.status, patience(&self.control, time));
         let timeout = time.map(|n| Duration::from_millis(u64::from(n)));
         if let Err(e) = self.poll.poll(&mut self.events, timeout) {
@@ -201,27 +258,22 @@ impl<'a, F: Files + Net + Clock + Eprint> Network for Sockets<'a, F> {
             self.fault = Some(e);
             return None;
         }
-        let mut comes = false;
-        for event in self.events.iter() {
-            let Token(slot) = event.token();
-            if slot >= CLIENTS_LIMIT {
-                comes = comes || event.token() == LISTENER;
-                if event.token() == STATUS {
-                    expect_at(&mut self.status);
-                }
-                if event.token() == CONTROL {
-                    expect_at(&mut self.control);
-                }
-            } else if event.is_read_closed() || event.is_error() {
-                queue.mark_ended(slot);
-            } else {
-                queue.mark_ready(slot);
-            }
+        let ready = tell_slots(&self.events, queue, &mut self.told);
+        if ready.status {
+            expect_at(&mut self.status);
         }
-        Some(comes)
+        if ready.control {
+            expect_at(&mut self.control);
+        }
+        Some(ready.listener)
     }
 
-    fn read(&mut self, connection: &mut Connection, buf: &mut [u8]) -> Got {
+    /// Reads what has come to the front of the buffer.
+    pub fn read(&mut self, connection: &mut Connection, buf: &mut [u8]) -> Got
+        requires room { 0 < length buf.old }
+        ensures fits { Fits result (length buf.new) }
+        ensures same { connection.new.id ≡ connection.old.id }
+    {
         match connection.stream.read(buf) {
             Ok(0) => Got::End,
             Ok(n) => {
@@ -237,7 +289,13 @@ impl<'a, F: Files + Net + Clock + Eprint> Network for Sockets<'a, F> {
         }
     }
 
-    fn write(&mut self, connection: &mut Connection, bytes: &[u8]) -> Put {
+    /// Writes bytes from the front of the slice. Where it does not take all of them, `wait` tells
+    /// when the connection takes more.
+    pub fn write(&mut self, connection: &mut Connection, bytes: &[u8]) -> Put
+        requires some { 0 < length bytes.now }
+        ensures takes { Takes result (length bytes.now) }
+        ensures same { connection.new.id ≡ connection.old.id }
+    {
         let put = match connection.stream.write(bytes) {
             Ok(n) => n,
             Err(e) => {
@@ -268,17 +326,20 @@ impl<'a, F: Files + Net + Clock + Eprint> Network for Sockets<'a, F> {
         Put::Took(put)
     }
 
-    fn close(&mut self, _connection: &mut Connection, how: How) {
+    /// Counts a connection that is closed.
+    pub fn close(&mut self, how: How) {
         self.counts.close(how);
     }
 
-    fn seconds(&mut self) -> Option<u64> {
+    /// The seconds since the socket was made. None if the clock fails.
+    pub fn seconds(&mut self) -> Option<u64> {
         let began = self.began?;
         let time = began.elapsed(self.rt).ok()?;
         Some(time.as_secs())
     }
 
-    fn ask(&mut self) -> Question {
+    /// What the operator asks for on the status socket or the control socket, if there is one.
+    pub fn ask(&mut self) -> Question {
         if !is_busy(&self.control) && !is_busy(&self.status) {
             return Question::Nothing;
         }
@@ -291,7 +352,8 @@ impl<'a, F: Files + Net + Clock + Eprint> Network for Sockets<'a, F> {
         ask_at(&mut self.status, registry, now)
     }
 
-    fn report(&mut self, text: &[u8]) {
+    /// Answers what was asked last. What the asker does not take at once is dropped.
+    pub fn report(&mut self, text: &[u8]) {
         let seconds = self.seconds().unwrap_or(0);
         let first = self.counts.text(seconds);
         if let Some(desk) = &mut self.status {
@@ -299,40 +361,25 @@ impl<'a, F: Files + Net + Clock + Eprint> Network for Sockets<'a, F> {
         }
     }
 
-    fn warn(&mut self, text: &[u8]) {
+    /// Tells a line to the operator, on standard error.
+    pub fn warn(&mut self, text: &[u8]) {
         if let Ok(text) = str::from_utf8(text) {
             self.tell(format_args!("judyd: {text}"));
         }
     }
 
-    // Sockets alone know no file of a table. The network of the program has one, and asks them for all
-    // else.
-    fn table(&mut self, _text: &mut Vec<u8>) -> Result<(), Unread> {
-        Err(Unread::File)
-    }
-
-    fn named(&mut self) -> Name {
+    /// The name of the tenant that the last question named. Empty if it named none.
+    pub fn named(&mut self) -> Name {
         match &self.control {
             Some(desk) => desk.named(),
             None => Name::of(b""),
         }
     }
 
-    fn reply(&mut self, text: &[u8]) {
+    /// Answers what was asked last, with this text alone.
+    pub fn reply(&mut self, text: &[u8]) {
         if let Some(desk) = &mut self.control {
             desk.answer(text, b"");
         }
-    }
-
-    fn begin(&mut self, _segment: u64) -> bool {
-        false
-    }
-
-    fn keep(&mut self, _bytes: &[u8]) -> bool {
-        false
-    }
-
-    fn sync(&mut self) -> bool {
-        false
     }
 }

@@ -16,6 +16,7 @@ mod socket;
 mod statuses;
 mod system;
 mod table_end;
+mod table_file;
 
 pub use hosts::Hosts;
 pub use journaled::{check_journaled, host_journaled};

@@ -1,5 +1,5 @@
 //! The random bytes, the files and the Unix sockets of the system.
-ghost use Rattle.std.specs.Prelude.{None};
+ghost use Rattle.std.specs.Prelude.{◌≡◌, Some};
 
 use crate::config::{FileRead, read_file};
 use crate::directory::Directory;
@@ -7,9 +7,12 @@ use crate::hosts::Hosts;
 use crate::journals::{Journals, Readies};
 use crate::limits::{FILE_LIMIT, PATH_LIMIT};
 use crate::marks::{Mark, remove_marked};
+use crate::table_file::TableFile;
 use arrayvec::ArrayVec;
 use judy_disk::Locks;
-use judy_many::{Accept, Connection, Got, How, Network, Put, Question, Queue, Sockets, Unread};
+use judy_many::{
+    Accept, Connection, Got, How, Network, Put, Question, Queue, Record, Sockets, Unread,
+};
 use judy_model::Name;
 use judy_recovery::{JournalFault, Resumed};
 use judy_stream::Reads;
@@ -49,8 +52,8 @@ struct Made {
     control: Option<Mark>,
 }
 
-/// The random bytes, the files and the Unix sockets of the system. Nothing is known of what they
-/// give and take.
+/// The random bytes, the files and the Unix sockets of the system. Its log has what was asked of
+/// them, and what they gave and took, in order.
 #[derive(Drop)]
 pub struct System<'a, F: Locks> {
     rt: &'a F,
@@ -62,6 +65,7 @@ pub struct System<'a, F: Locks> {
     started: bool,
     path: ArrayVec<u8, PATH_LIMIT>,
     directory: Directory<'a, F>,
+    record: Record,
 }
 
 /// Random bytes that nobody can guess, read from this file of the system. None if it gives too few.
@@ -92,6 +96,7 @@ impl<'a, F: Locks + Net + Clock + Eprint + Clone + Drop> System<'a, F> {
             started: false,
             path: ArrayVec::new(),
             directory: Directory::new(rt),
+            record: Record::new(),
         }
     }
 
@@ -106,7 +111,9 @@ impl<'a, F: Locks + Net + Clock + Eprint + Clone + Drop> System<'a, F> {
     }
 
     /// Tells that clients are waited for, once.
-    fn tell_start(&mut self) {
+    fn tell_start(&mut self)
+        ensures log { self.new.record ≡ self.old.record }
+    {
         self.started = true;
         let Some(line) = self.start.take() else {
             return;
@@ -126,6 +133,77 @@ impl<'a, F: Locks + Net + Clock + Eprint + Clone + Drop> System<'a, F> {
             remove_marked(self.rt, path, self.made.control);
         }
         self.sockets = None;
+    }
+
+    /// Keeps why the listener or a wait failed for good, if one did.
+    fn note_fault(&mut self)
+        ensures log { self.new.record ≡ self.old.record }
+    {
+        if let Some(sockets) = &self.sockets
+            && let Some(e) = sockets.fault()
+        {
+            self.failed = Some(Failed::Socket(e));
+        }
+    }
+
+    /// Reads the file of the table again.
+    fn read_again(&mut self, text: &mut Vec<u8>) -> Result<(), Unread>
+        ensures log { self.new.record ≡ self.old.record }
+    {
+        let path = str::from_utf8(self.path.as_slice()).map_err(|_| Unread::File)?;
+        // To open a pipe or to read from it may wait.
+        let found = fs::metadata(self.rt, path).map_err(|_| Unread::File)?;
+        if !found.is_file() {
+            return Err(Unread::Irregular);
+        }
+        let file = fs::open(self.rt, path).map_err(|_| Unread::File)?;
+        let mut reads = Reads::new(file);
+        let mut bytes: ArrayVec<u8, FILE_LIMIT> = ArrayVec::new();
+        match read_file(&mut reads, &mut bytes) {
+            FileRead::Whole => text
+                .extend_from_slice(bytes.as_slice())
+                .map_err(|_| Unread::Memory),
+            FileRead::Long => Err(Unread::Long),
+            FileRead::Fault => Err(Unread::File),
+        }
+    }
+
+    /// Makes the status socket. False if it cannot be made.
+    fn watch_at(&mut self, path: &str) -> bool
+        ensures log { self.new.record ≡ self.old.record }
+    {
+        let Some(sockets) = &mut self.sockets else {
+            return false;
+        };
+        match sockets.watch(path) {
+            Ok(()) => {
+                self.made.status = Mark::of(self.rt, path);
+                true
+            }
+            Err(e) => {
+                self.failed = Some(Failed::Status(e));
+                false
+            }
+        }
+    }
+
+    /// Makes the control socket. False if it cannot be made.
+    fn control_at(&mut self, path: &str) -> bool
+        ensures log { self.new.record ≡ self.old.record }
+    {
+        let Some(sockets) = &mut self.sockets else {
+            return false;
+        };
+        match sockets.control(path) {
+            Ok(()) => {
+                self.made.control = Mark::of(self.rt, path);
+                true
+            }
+            Err(e) => {
+                self.failed = Some(Failed::Control(e));
+                false
+            }
+        }
     }
 
     /// What the system refused last, and why, if it gave a reason.
@@ -152,21 +230,20 @@ impl<'a, F: Locks + Net + Clock + Eprint + Clone + Drop> System<'a, F> {
 impl<'a, F: Locks + Net + Clock + Eprint + Clone + Drop> Network for System<'a, F> {
     type Connection = Connection;
 
-    ghost log = { λ _. None };
+    ghost log = { λ s. Some s.record.acts };
 
-    ghost number = { ⟦<Sockets<'a, F> as Network>⟧.number };
+    ghost number = { λ c. c.id };
 
     fn accept(&mut self, id: u64, slot: usize) -> Accept<Connection> {
-        let Some(sockets) = &mut self.sockets else {
-            return Accept::Fault;
+        let accept = match &mut self.sockets {
+            Some(sockets) => sockets.accept(id, slot),
+            None => Accept::Fault,
         };
-        let accept = sockets.accept(id, slot);
+        self.record.came(&accept, id, slot);
         if matches!(&accept, Accept::Later) {
             self.unserved.accepts = self.unserved.accepts.saturating_add(1);
         }
-        if let Some(e) = sockets.fault() {
-            self.failed = Some(Failed::Socket(e));
-        }
+        self.note_fault();
         accept
     }
 
@@ -174,26 +251,33 @@ impl<'a, F: Locks + Net + Clock + Eprint + Clone + Drop> Network for System<'a, 
         if !self.started {
             self.tell_start();
         }
-        let sockets = self.sockets.as_mut()?;
-        let told = sockets.wait(time, queue);
-        if let Some(e) = sockets.fault() {
-            self.failed = Some(Failed::Socket(e));
-        }
-        told
+        let sleeps = time != Some(0);
+        let Some(sockets) = &mut self.sockets else {
+            self.record.waited(None, sleeps, &[]);
+            return None;
+        };
+        let found = sockets.wait(time, queue);
+        self.record.waited(found, sleeps, sockets.told.as_slice());
+        self.note_fault();
+        found
     }
 
     fn read(&mut self, connection: &mut Connection, buf: &mut [u8]) -> Got {
-        let Some(sockets) = &mut self.sockets else {
-            return Got::Fault;
+        let got = match &mut self.sockets {
+            Some(sockets) => sockets.read(connection, buf),
+            None => Got::Fault,
         };
-        sockets.read(connection, buf)
+        self.record.read(connection.id, got, buf);
+        got
     }
 
     fn write(&mut self, connection: &mut Connection, bytes: &[u8]) -> Put {
-        let Some(sockets) = &mut self.sockets else {
-            return Put::Fault;
+        let put = match &mut self.sockets {
+            Some(sockets) => sockets.write(connection, bytes),
+            None => Put::Fault,
         };
-        sockets.write(connection, bytes)
+        self.record.wrote(connection.id, put, bytes);
+        put
     }
 
     fn close(&mut self, connection: &mut Connection, how: How) {
@@ -201,8 +285,9 @@ impl<'a, F: Locks + Net + Clock + Eprint + Clone + Drop> Network for System<'a, 
             self.unserved.memory = self.unserved.memory.saturating_add(1);
         }
         if let Some(sockets) = &mut self.sockets {
-            sockets.close(connection, how);
+            sockets.close(how);
         }
+        self.record.closed(connection.id, how);
     }
 
     fn seconds(&mut self) -> Option<u64> {
@@ -211,84 +296,91 @@ impl<'a, F: Locks + Net + Clock + Eprint + Clone + Drop> Network for System<'a, 
     }
 
     fn ask(&mut self) -> Question {
-        let Some(sockets) = &mut self.sockets else {
-            return Question::Nothing;
+        let question = match &mut self.sockets {
+            Some(sockets) => sockets.ask(),
+            None => Question::Nothing,
         };
-        sockets.ask()
+        self.record.asked(question);
+        question
     }
 
     fn report(&mut self, text: &[u8]) {
         if let Some(sockets) = &mut self.sockets {
             sockets.report(text);
         }
+        self.record.reported(text);
     }
 
     fn table(&mut self, text: &mut Vec<u8>) -> Result<(), Unread> {
-        let path = str::from_utf8(self.path.as_slice()).map_err(|_| Unread::File)?;
-        // To open a pipe or to read from it may wait.
-        let found = fs::metadata(self.rt, path).map_err(|_| Unread::File)?;
-        if !found.is_file() {
-            return Err(Unread::Irregular);
-        }
-        let file = fs::open(self.rt, path).map_err(|_| Unread::File)?;
-        let mut reads = Reads::new(file);
-        let mut bytes: ArrayVec<u8, FILE_LIMIT> = ArrayVec::new();
-        match read_file(&mut reads, &mut bytes) {
-            FileRead::Whole => text
-                .extend_from_slice(bytes.as_slice())
-                .map_err(|_| Unread::Memory),
-            FileRead::Long => Err(Unread::Long),
-            FileRead::Fault => Err(Unread::File),
-        }
+        let read = self.read_again(text);
+        self.record.tabled(&read, text.as_slice());
+        read
     }
 
     fn named(&mut self) -> Name {
-        match &mut self.sockets {
+        let name = match &mut self.sockets {
             Some(sockets) => sockets.named(),
             None => Name::of(b""),
-        }
+        };
+        self.record.named(&name);
+        name
     }
 
     fn reply(&mut self, text: &[u8]) {
         if let Some(sockets) = &mut self.sockets {
             sockets.reply(text);
         }
+        self.record.replied(text);
     }
 
     fn warn(&mut self, text: &[u8]) {
         if let Some(sockets) = &mut self.sockets {
             sockets.warn(text);
         }
+        self.record.warned(text);
     }
 
     fn begin(&mut self, segment: u64) -> bool {
-        self.directory.begin(segment)
+        let done = self.directory.begin(segment);
+        self.record.began(done, segment);
+        done
     }
 
     fn keep(&mut self, bytes: &[u8]) -> bool {
-        self.directory.keep(bytes)
+        let done = self.directory.keep(bytes);
+        self.record.kept(done, bytes);
+        done
     }
 
     fn sync(&mut self) -> bool {
-        self.directory.sync()
+        let done = self.directory.sync();
+        self.record.synced(done);
+        done
     }
 }
 
 impl<'a, F: Locks + Net + Clock + Eprint + Clone + Drop> Hosts for System<'a, F> {
-    type File = Reads<F::File>;
+    type File = TableFile<F::File>;
 
     fn secret(&mut self) -> Option<[u8; 16]> {
-        read_secret(self.rt, "/dev/urandom")
+        let secret = read_secret(self.rt, "/dev/urandom");
+        match &secret {
+            Some(secret) => self.record.drawn(secret),
+            None => self.record.undrawn(),
+        }
+        secret
     }
 
-    fn open(&mut self, path: &str) -> Option<Reads<F::File>> {
-        match fs::open(self.rt, path) {
+    fn open(&mut self, path: &str) -> Option<TableFile<F::File>> {
+        let opened = fs::open(self.rt, path);
+        self.record.opened(opened.is_ok(), path.as_bytes());
+        match opened {
             Ok(file) => {
                 // The first file is that of the table.
                 if self.path.is_empty() {
                     let _ = self.path.try_extend_from_slice(path.as_bytes());
                 }
-                Some(Reads::new(file))
+                Some(TableFile::new(file))
             }
             Err(e) => {
                 self.failed = Some(Failed::File(e));
@@ -297,10 +389,14 @@ impl<'a, F: Locks + Net + Clock + Eprint + Clone + Drop> Hosts for System<'a, F>
         }
     }
 
-    fn shut(&mut self, _file: Reads<F::File>) {}
+    fn shut(&mut self, _file: TableFile<F::File>) {
+        self.record.shut();
+    }
 
     fn bind(&mut self, alloc: Global, path: &str) -> bool {
-        match Sockets::bind(self.rt, alloc, path) {
+        let bound = Sockets::bind(self.rt, alloc, path);
+        self.record.bound(bound.is_ok(), path.as_bytes());
+        match bound {
             Ok(sockets) => {
                 self.sockets = Some(sockets);
                 self.made.socket = Mark::of(self.rt, path);
@@ -314,35 +410,15 @@ impl<'a, F: Locks + Net + Clock + Eprint + Clone + Drop> Hosts for System<'a, F>
     }
 
     fn watch(&mut self, path: &str) -> bool {
-        let Some(sockets) = &mut self.sockets else {
-            return false;
-        };
-        match sockets.watch(path) {
-            Ok(()) => {
-                self.made.status = Mark::of(self.rt, path);
-                true
-            }
-            Err(e) => {
-                self.failed = Some(Failed::Status(e));
-                false
-            }
-        }
+        let made = self.watch_at(path);
+        self.record.watched(made, path.as_bytes());
+        made
     }
 
     fn control(&mut self, path: &str) -> bool {
-        let Some(sockets) = &mut self.sockets else {
-            return false;
-        };
-        match sockets.control(path) {
-            Ok(()) => {
-                self.made.control = Mark::of(self.rt, path);
-                true
-            }
-            Err(e) => {
-                self.failed = Some(Failed::Control(e));
-                false
-            }
-        }
+        let made = self.control_at(path);
+        self.record.controlled(made, path.as_bytes());
+        made
     }
 }
 
