@@ -1,5 +1,5 @@
 //! The random bytes, the files and the Unix sockets of the system.
-ghost use Rattle.std.specs.Prelude.{◌≡◌, Some};
+ghost use Rattle.std.specs.Prelude.{◌≡◌, Some, []};
 
 use crate::config::{FileRead, read_file};
 use crate::directory::Directory;
@@ -78,7 +78,9 @@ pub fn read_secret<F: Files>(rt: &F, path: &str) -> Option<[u8; 16]> {
 
 impl<'a, F: Locks + Net + Clock + Eprint + Clone + Drop> System<'a, F> {
     /// The system, with no socket yet.
-    pub fn new(rt: &'a F) -> Self {
+    pub fn new(rt: &'a F) -> Self
+        ensures log { ⟦<System<'a, F> as Network>⟧.log result ≡ Some [] }
+    {
         System {
             rt,
             sockets: None,

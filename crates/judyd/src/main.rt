@@ -3,7 +3,8 @@
 #![tactic(auto)]
 
 ghost use Rattle.std.specs.Prelude.{◌≡◌, ℕ, List, Option, option_map};
-ghost use Rattle.judy_server.specs.Jobs.{IsProgram};
+ghost use Rattle.judy_protocol.specs.Serving.{Wire};
+ghost use Rattle.judy_server.specs.Jobs.{Does, IsProgram};
 ghost use Rattle.judyd.specs.Obeying.{IsFinished, IsObeyed, IsUpkept, refusal_status};
 
 mod built;
@@ -13,7 +14,10 @@ mod standard;
 use built::BUILT;
 use judy_command::{Job, Refusal, Sync, VERSION, Word, parse_words};
 use judy_disk::{DiskFault, Folder};
-use judy_programs::{Failed, Hosted, System, Unserved, finish_hosted, read_secret, tell_line};
+use judy_many::Network;
+use judy_programs::{
+    Failed, Hosted, Journals, System, Unserved, finish_hosted, read_secret, tell_line,
+};
 use judy_recovery::JournalFault;
 use judy_server::{Server, do_job_on};
 use judy_stream::{Reads, Writes};
@@ -54,14 +58,19 @@ fn read_words(rt: &HostRuntime) -> Result<Vec<String>, Refusal> {
 
 /// Does what the command line asks for, and keeps the front of standard input. Returns the status of the
 /// program, and its line on standard error, if any.
-fn do_job(
+fn do_job<'a>(
     rt: &HostRuntime,
     job: &Job,
-    system: &mut System<'_, HostRuntime>,
+    system: &mut System<'a, HostRuntime>,
     kept: &mut Vec<u8>,
 ) -> (u8, Option<&'static str>)
     requires { IsProgram job.now }
-    ensures { IsFinished job.now result.0 (option_map (λ s. s.now) result.1) }
+    ensures ended { IsFinished job.now result.0 (option_map (λ s. s.now) result.1) }
+    ensures done { (from : Wire) × (to : Wire)
+        × Does (⟦<System<'a, HostRuntime> as Journals>⟧.may_have) job.now
+        result.0 (option_map (λ s. s.now) result.1) from to
+        (⟦<System<'a, HostRuntime> as Network>⟧.log system.old)
+        (⟦<System<'a, HostRuntime> as Network>⟧.log system.new) }
 {
     let mut reader = Reads::new(Kept::new(rt.stdin(), kept));
     let mut writer = Writes::new(rt.stdout());
