@@ -65,7 +65,7 @@ pub struct System<'a, F: Locks> {
     started: bool,
     path: ArrayVec<u8, PATH_LIMIT>,
     directory: Directory<'a, F>,
-    record: Record,
+    notes: Record,
 }
 
 /// Random bytes that nobody can guess, read from this file of the system. None if it gives too few.
@@ -98,7 +98,7 @@ impl<'a, F: Locks + Net + Clock + Eprint + Clone + Drop> System<'a, F> {
             started: false,
             path: ArrayVec::new(),
             directory: Directory::new(rt),
-            record: Record::new(),
+            notes: Record::new(),
         }
     }
 
@@ -114,7 +114,7 @@ impl<'a, F: Locks + Net + Clock + Eprint + Clone + Drop> System<'a, F> {
 
     /// Tells that clients are waited for, once.
     fn tell_start(&mut self)
-        ensures log { self.new.record ≡ self.old.record }
+        ensures log { self.new.notes ≡ self.old.notes }
     {
         self.started = true;
         let Some(line) = self.start.take() else {
@@ -139,7 +139,7 @@ impl<'a, F: Locks + Net + Clock + Eprint + Clone + Drop> System<'a, F> {
 
     /// Keeps why the listener or a wait failed for good, if one did.
     fn note_fault(&mut self)
-        ensures log { self.new.record ≡ self.old.record }
+        ensures log { self.new.notes ≡ self.old.notes }
     {
         if let Some(sockets) = &self.sockets
             && let Some(e) = sockets.fault()
@@ -150,7 +150,7 @@ impl<'a, F: Locks + Net + Clock + Eprint + Clone + Drop> System<'a, F> {
 
     /// Reads the file of the table again.
     fn read_again(&mut self, text: &mut Vec<u8>) -> Result<(), Unread>
-        ensures log { self.new.record ≡ self.old.record }
+        ensures log { self.new.notes ≡ self.old.notes }
     {
         let path = str::from_utf8(self.path.as_slice()).map_err(|_| Unread::File)?;
         // To open a pipe or to read from it may wait.
@@ -172,7 +172,7 @@ impl<'a, F: Locks + Net + Clock + Eprint + Clone + Drop> System<'a, F> {
 
     /// Makes the status socket. False if it cannot be made.
     fn watch_at(&mut self, path: &str) -> bool
-        ensures log { self.new.record ≡ self.old.record }
+        ensures log { self.new.notes ≡ self.old.notes }
     {
         let Some(sockets) = &mut self.sockets else {
             return false;
@@ -191,7 +191,7 @@ impl<'a, F: Locks + Net + Clock + Eprint + Clone + Drop> System<'a, F> {
 
     /// Makes the control socket. False if it cannot be made.
     fn control_at(&mut self, path: &str) -> bool
-        ensures log { self.new.record ≡ self.old.record }
+        ensures log { self.new.notes ≡ self.old.notes }
     {
         let Some(sockets) = &mut self.sockets else {
             return false;
@@ -232,7 +232,7 @@ impl<'a, F: Locks + Net + Clock + Eprint + Clone + Drop> System<'a, F> {
 impl<'a, F: Locks + Net + Clock + Eprint + Clone + Drop> Network for System<'a, F> {
     type Connection = Connection;
 
-    ghost log = { λ s. Some s.record.acts };
+    ghost log = { λ s. Some s.notes.acts };
 
     ghost number = { λ c. c.id };
 
@@ -241,7 +241,7 @@ impl<'a, F: Locks + Net + Clock + Eprint + Clone + Drop> Network for System<'a, 
             Some(sockets) => sockets.accept(id, slot),
             None => Accept::Fault,
         };
-        self.record.came(&accept, id, slot);
+        self.notes.came(&accept, id, slot);
         if matches!(&accept, Accept::Later) {
             self.unserved.accepts = self.unserved.accepts.saturating_add(1);
         }
@@ -255,11 +255,11 @@ impl<'a, F: Locks + Net + Clock + Eprint + Clone + Drop> Network for System<'a, 
         }
         let sleeps = time != Some(0);
         let Some(sockets) = &mut self.sockets else {
-            self.record.waited(None, sleeps, &[]);
+            self.notes.waited(None, sleeps, &[]);
             return None;
         };
         let found = sockets.wait(time, queue);
-        self.record.waited(found, sleeps, sockets.told.as_slice());
+        self.notes.waited(found, sleeps, sockets.told.as_slice());
         self.note_fault();
         found
     }
@@ -269,7 +269,7 @@ impl<'a, F: Locks + Net + Clock + Eprint + Clone + Drop> Network for System<'a, 
             Some(sockets) => sockets.read(connection, buf),
             None => Got::Fault,
         };
-        self.record.read(connection.id, got, buf);
+        self.notes.read(connection.id, got, buf);
         got
     }
 
@@ -278,7 +278,7 @@ impl<'a, F: Locks + Net + Clock + Eprint + Clone + Drop> Network for System<'a, 
             Some(sockets) => sockets.write(connection, bytes),
             None => Put::Fault,
         };
-        self.record.wrote(connection.id, put, bytes);
+        self.notes.wrote(connection.id, put, bytes);
         put
     }
 
@@ -289,7 +289,7 @@ impl<'a, F: Locks + Net + Clock + Eprint + Clone + Drop> Network for System<'a, 
         if let Some(sockets) = &mut self.sockets {
             sockets.close(how);
         }
-        self.record.closed(connection.id, how);
+        self.notes.closed(connection.id, how);
     }
 
     fn seconds(&mut self) -> Option<u64> {
@@ -302,7 +302,7 @@ impl<'a, F: Locks + Net + Clock + Eprint + Clone + Drop> Network for System<'a, 
             Some(sockets) => sockets.ask(),
             None => Question::Nothing,
         };
-        self.record.asked(question);
+        self.notes.asked(question);
         question
     }
 
@@ -310,12 +310,12 @@ impl<'a, F: Locks + Net + Clock + Eprint + Clone + Drop> Network for System<'a, 
         if let Some(sockets) = &mut self.sockets {
             sockets.report(text);
         }
-        self.record.reported(text);
+        self.notes.reported(text);
     }
 
     fn table(&mut self, text: &mut Vec<u8>) -> Result<(), Unread> {
         let read = self.read_again(text);
-        self.record.tabled(&read, text.as_slice());
+        self.notes.tabled(&read, text.as_slice());
         read
     }
 
@@ -324,7 +324,7 @@ impl<'a, F: Locks + Net + Clock + Eprint + Clone + Drop> Network for System<'a, 
             Some(sockets) => sockets.named(),
             None => Name::of(b""),
         };
-        self.record.named(&name);
+        self.notes.named(&name);
         name
     }
 
@@ -332,31 +332,31 @@ impl<'a, F: Locks + Net + Clock + Eprint + Clone + Drop> Network for System<'a, 
         if let Some(sockets) = &mut self.sockets {
             sockets.reply(text);
         }
-        self.record.replied(text);
+        self.notes.replied(text);
     }
 
     fn warn(&mut self, text: &[u8]) {
         if let Some(sockets) = &mut self.sockets {
             sockets.warn(text);
         }
-        self.record.warned(text);
+        self.notes.warned(text);
     }
 
     fn begin(&mut self, segment: u64) -> bool {
         let done = self.directory.begin(segment);
-        self.record.began(done, segment);
+        self.notes.began(done, segment);
         done
     }
 
     fn keep(&mut self, bytes: &[u8]) -> bool {
         let done = self.directory.keep(bytes);
-        self.record.kept(done, bytes);
+        self.notes.kept(done, bytes);
         done
     }
 
     fn sync(&mut self) -> bool {
         let done = self.directory.sync();
-        self.record.synced(done);
+        self.notes.synced(done);
         done
     }
 }
@@ -367,15 +367,15 @@ impl<'a, F: Locks + Net + Clock + Eprint + Clone + Drop> Hosts for System<'a, F>
     fn secret(&mut self) -> Option<[u8; 16]> {
         let secret = read_secret(self.rt, "/dev/urandom");
         match &secret {
-            Some(secret) => self.record.drawn(secret),
-            None => self.record.undrawn(),
+            Some(secret) => self.notes.drawn(secret),
+            None => self.notes.undrawn(),
         }
         secret
     }
 
     fn open(&mut self, path: &str) -> Option<TableFile<F::File>> {
         let opened = fs::open(self.rt, path);
-        self.record.opened(opened.is_ok(), path.as_bytes());
+        self.notes.opened(opened.is_ok(), path.as_bytes());
         match opened {
             Ok(file) => {
                 // The first file is that of the table.
@@ -392,12 +392,12 @@ impl<'a, F: Locks + Net + Clock + Eprint + Clone + Drop> Hosts for System<'a, F>
     }
 
     fn shut(&mut self, _file: TableFile<F::File>) {
-        self.record.shut();
+        self.notes.shut();
     }
 
     fn bind(&mut self, alloc: Global, path: &str) -> bool {
         let bound = Sockets::bind(self.rt, alloc, path);
-        self.record.bound(bound.is_ok(), path.as_bytes());
+        self.notes.bound(bound.is_ok(), path.as_bytes());
         match bound {
             Ok(sockets) => {
                 self.sockets = Some(sockets);
@@ -413,13 +413,13 @@ impl<'a, F: Locks + Net + Clock + Eprint + Clone + Drop> Hosts for System<'a, F>
 
     fn watch(&mut self, path: &str) -> bool {
         let made = self.watch_at(path);
-        self.record.watched(made, path.as_bytes());
+        self.notes.watched(made, path.as_bytes());
         made
     }
 
     fn control(&mut self, path: &str) -> bool {
         let made = self.control_at(path);
-        self.record.controlled(made, path.as_bytes());
+        self.notes.controlled(made, path.as_bytes());
         made
     }
 }
