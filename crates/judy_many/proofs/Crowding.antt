@@ -713,7 +713,7 @@ module _ {B S : Type 0} (view : B → View) (rules : Rules S) (limits : Limits) 
   calm_asks past story now after n more mine (inl none) = unasked_since past.stage more (mine_unasked n more mine none)
   calm_asks past story now after n more mine (inr k) = k.0
 
-  -- a client was closed, since its speaker is not in the table that was just put in force
+  -- a client was closed, since its speaker is gone after a table was put in force
   pub gone_calm : (phase : Phase) (had : Queued) (past : Past) (log : Acts) (slots : List (Option B)) (count : ℕ) (now : S) (h : Now phase had past log slots count now) (i : ℕ) (d : Option B) (more : Story)
       → past.stage ≡ Stage.Renewed → i < length slots → d ≡ slice_index_or slots i d → SlotGone (option_map view d) more → IsCalm past h.story now more now
   gone_calm phase had past log slots count now h i None more asked within is none = inl (ap (λ m. gones_in (acts_in m)) none)

@@ -166,9 +166,9 @@ pub record HasServedMany {S : Type 0} (rules : Rules S) (limits : Limits) (write
   pub asked : AreAsked Stage.Unasked story
   -- no question is left without its answer, but the one for a stop
   pub answered : stage_since Stage.Unasked story ≡ last_stage how
-  -- Each status that was told is that of the service and of the open connections at this moment. The
-  -- speaker of a connection that is closed since it is gone is not in the table in force. Nothing but lines
-  -- and tables changes the service.
+  -- Each status that was told is that of the service and of the open connections at this moment. Somebody
+  -- speaks on a connection that is closed since its speaker is gone. Nothing but lines and tables changes
+  -- the service.
   pub told : Passes rules [] before story after
   -- each table that was put in force is the one that was just read; without a status socket there is none
   pub reads : AreRead limits None story

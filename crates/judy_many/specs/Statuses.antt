@@ -1,7 +1,7 @@
 -- What is told on the status socket.
 --     Passes rules past s story s'    a story after this past takes the service from s to s', each status that
 --                                     is told is that of the service and of its connections at this moment, and
---                                     the table has no speaker of a connection that is closed since it is gone
+--                                     somebody speaks on a connection that is closed since its speaker is gone
 --     Keeps rules t past s story s' h each new table on the way kept this tenant's quota and arrays
 --     Lasts rules keep s story s'     if that is wanted, each new table on the way kept all tenants
 --     HasAnswered ..                  what was asked once, and what it was answered

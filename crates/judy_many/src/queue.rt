@@ -1,4 +1,4 @@
-//! The slots whose clients have a turn, in the order in which they became ready.
+//! The slots whose clients have a turn, in the order in which they were marked.
 ghost use Rattle.std.specs.Prelude.{◌≡◌, ◌≢◌, ◌<◌, ℕ, [], length, true, false};
 ghost use Rattle.judy_many.specs.Queues.{AreApart, IsPlaced, StayAwake, awake_in, is_awake, mark_in, slot_in, stands, stands_in};
 
@@ -59,7 +59,7 @@ fn marked(mark: Mark, seen: Mark) -> Mark
     }
 }
 
-/// Slots in the order in which they became ready. Each of them stands in it once.
+/// Slots in the order in which they were marked as ready. Each of them stands in it once.
 #[derive(Drop)]
 pub struct Queue {
     order: [usize; CLIENTS_LIMIT],

@@ -82,7 +82,7 @@ fn is_owed<S: Shows>(warnings: &Warnings, service: &S, keeper: &Keeper) -> bool 
     warnings.are_owed(service) || keeper.is_owed()
 }
 
-/// How many milliseconds the loop may wait for something to happen. None if it may wait for ever.
+/// How many milliseconds the loop may wait for something to happen. None if it may wait forever.
 fn time_to_wait(busy: bool, asked: bool) -> Option<u32>
     ensures { busy ≡ true → may_sleep result ≡ false }
 {

@@ -101,7 +101,7 @@ impl<'a, F: Files + Net + Clock + Eprint> Sockets<'a, F> {
         self.fault
     }
 
-    /// Counts an accept that failed, and tells the reason, at most once a second.
+    /// Counts an accept that failed, and tells the reason, unless one was told in the same second of the clock.
     fn fail(&mut self, reason: io::Error) {
         self.counts.fail();
         let now = self.seconds();
