@@ -124,8 +124,8 @@ pub trait Network {
 
     /// Waits until a connection is ready, or one can be accepted, or this many milliseconds have
     /// passed. Without a time there is no limit. Marks the slots whose connections became ready, in
-    /// the order in which the system tells of them, and returns whether a connection can be accepted. None if the system fails for
-    /// good. A slot that stands in the queue with a turn owed keeps it.
+    /// the order in which the system tells of them, and returns whether a connection can be accepted.
+    /// None if the system fails for good. A slot that stands in the queue with a turn owed keeps it.
     fn wait(&mut self, time: Option<u32>, queue: &mut Queue) -> Option<bool>
         ensures stay { StayAwake queue.old queue.new }
         ensures log { HasWoken result (may_sleep time) queue.new (log self.old) (log self.new) };
