@@ -196,10 +196,7 @@ static OPTIONAL_KEYS: [Row; 18] = [
         "[alice]\nsha256 = D\nquota = -1\nold_read_sha256 = \"\"",
         Err(TableFault::Digest),
     ),
-    (
-        "[alice]\nold_sha256 = D\nquota = 4",
-        Err(TableFault::Shape),
-    ),
+    ("[alice]\nold_sha256 = D\nquota = 4", Err(TableFault::Shape)),
 ];
 
 #[test]
@@ -556,8 +553,16 @@ fn old_tokens_log_in(rt: HostRuntime) -> Result<(), Fail> {
     let table = parse(a, OLD_TOKENS.as_bytes())?;
     compare_logins(&rt, &table, &OLD_LOGINS);
     let later = seated(a, &table_of(a, &["bob", "alice"])?, &table)?;
-    same(&rt, login(&later, b"alice", b"hello"), Some((0, Right::Change)));
-    same(&rt, login(&later, b"alice", b"look"), Some((0, Right::Look)));
+    same(
+        &rt,
+        login(&later, b"alice", b"hello"),
+        Some((0, Right::Change)),
+    );
+    same(
+        &rt,
+        login(&later, b"alice", b"look"),
+        Some((0, Right::Look)),
+    );
     Ok(())
 }
 
