@@ -127,6 +127,6 @@ fn one_client_is_answered_line_by_line(rt: HostRuntime) -> Result<(), Fail> {
     let mut stage = stage(alloc, &parts)?;
     let ending = play(alloc, &mut stage, limits(1, 1))?;
     assert_eq!(rt; ending, Ending::Done);
-    assert_eq!(rt; stage.asked(), b".a0r0w0.w0.w0|r0c0E".as_slice());
+    assert_eq!(rt; stage.asked(), b".a0r0w0.w0.w0.r0c0E".as_slice());
     Ok(())
 }
