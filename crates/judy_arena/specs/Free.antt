@@ -1,10 +1,10 @@
 -- The free blocks, as their lists lead to them. The head of a list, and the first word of each block
 -- in it, is the number of the next block plus 1, or 0 at the end of the list.
---     followed words link most    the blocks from this head or link on, at most so many of them
+--     followed words link most    the blocks from this head or link on, at most that number of them
 --     free_words words heads      how many words all free blocks have together
 use Rattle.std.specs.Prelude.{ℕ, zero, suc, ◌+◌, ◌*◌, List, [], ◌∷◌, length, get_or}
 
--- the numbers of the blocks from this head or link on, at most so many
+-- the numbers of the blocks from this head or link on, at most that number of them
 abbrev pub followed : List ℕ → ℕ → ℕ → List ℕ
 followed words zero most = []
 followed words (suc n) zero = []

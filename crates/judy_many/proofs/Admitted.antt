@@ -5,7 +5,7 @@ use Rattle.judy_many.specs.Nets.{Acts}
 use Rattle.judy_many.specs.Rules.{Rules}
 use Rattle.judy_many.specs.Slots.{AreAdmitted, IsAdmittedSlot}
 
--- the first slots, so many of them
+-- this holds of the first n slots
 abbrev pub AreAdmittedTo : {B P : Type 0} → (B → Option P) → (P → Bool) → ℕ → List (Option B) → Type 0
 AreAdmittedTo speaker admits zero slots = Unit {0}
 AreAdmittedTo speaker admits (suc n) [] = Unit {0}
