@@ -458,6 +458,14 @@ static int answer(struct connection *c, const uint8_t *line, size_t len)
         say("BYE");
         return 0;
     }
+    if (count == 1 && is_word(fields[0], "PING")) {
+        say("OK");
+        return 1;
+    }
+    if (count == 1 && is_word(fields[0], "HELLO")) {
+        say("JUDYD 1 line 4096 reply 4096 name 32 token 128 key 1000");
+        return 1;
+    }
     if (count == 3 && is_word(fields[0], "AUTH") && is_name(fields[1]) && is_token(fields[2])) {
         log_in(c, fields[1], fields[2]);
         return 1;

@@ -124,7 +124,9 @@ class Walk:
         draw = self.random.random()
         if draw < self.wanders:
             return self.log_in()
-        return b"USED" if draw < self.wanders + 0.005 else self.call()
+        if draw < self.wanders + 0.007:
+            return b"USED" if draw < self.wanders + 0.005 else self.random.choice((b"PING", b"HELLO"))
+        return self.call()
 
 
 class Hostile:
@@ -164,7 +166,7 @@ class Hostile:
         """Another field in place of one: a command, a name, a word or a key, valid or not."""
         field = fields[at]
         if at == 0:
-            others = [field.lower(), field + b"E", field[:-1], field + field, b"QUITE", b"AUTH", b"USED", b"\xff" + field]
+            others = [field.lower(), field + b"E", field[:-1], field + field, b"QUITE", b"AUTH", b"USED", b"PING", b"HELLO", b"\xff" + field]
             return self.random.choice(others + sorted(COMMANDS))
         if at == 1:
             length = self.random.choice((1, 31, 32, 33, 64))

@@ -274,7 +274,7 @@ GAPS = {"first_empty", "next_empty", "last_empty", "prev_empty"}
 def read_line(line):
     """The request of a line: its command word, and the values of its fields."""
     fields = [field for field in line.split(b" ") if field]
-    if fields == [b"QUIT"] or fields == [b"USED"]:
+    if len(fields) == 1 and fields[0] in (b"QUIT", b"USED", b"PING", b"HELLO"):
         return fields[0], ()
     if len(fields) == 3 and fields[0] == b"AUTH":
         return b"AUTH", (read_name(fields[1]), read_token(fields[2]))
@@ -311,6 +311,10 @@ class Connection:
         if command == b"QUIT":
             self.is_open = False
             return b"BYE"
+        if command == b"PING":
+            return b"OK"
+        if command == b"HELLO":
+            return b"JUDYD 1 line 4096 reply 4096 name 32 token 128 key 1000"
         if command == b"AUTH":
             self.speaker = self.store.login(*fields)
             return b"OK" if self.speaker else b"ERR AUTH"

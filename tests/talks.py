@@ -55,7 +55,7 @@ def own_line(draw, hostile, names):
             return line
         if fields[0] in COMMANDS and fields[1][0] in names:
             return line
-        if fields[0] == b"AUTH":
+        if fields[0] in (b"AUTH", b"PING", b"HELLO"):
             return line
 
 

@@ -551,6 +551,16 @@ int jd_used(jd *c, struct jd_usage *usage)
     return finish(c, &result);
 }
 
+int jd_ping(jd *c)
+{
+    struct result result = {.form = OK};
+    int code = start(c, &result);
+    if (code < 0)
+        return code;
+    put_text(c, "PING");
+    return finish(c, &result);
+}
+
 int jd_line(jd *c, const char *line, char *reply)
 {
     struct result result = {.form = LINE, .reply = reply};

@@ -77,6 +77,7 @@ int jd_fd(jd *connection);
 
 int jd_auth(jd *connection, const char *tenant, const char *token);
 int jd_used(jd *connection, struct jd_usage *usage);
+int jd_ping(jd *connection);
 
 /* Any line, without its line feed. The reply, also of a refusal, goes to a buffer of JD_REPLY_ROOM bytes. */
 int jd_line(jd *connection, const char *line, char *reply);

@@ -34,6 +34,7 @@ class Tasks(WithServer):
             self.assertEqual([await s.insert("Bäume", 3), await s.get("Bäume"), await s.last(), await s.next("C")], [0, 3, ("Bäume", 3), None])
             self.assertEqual([await h.insert(b"\0", 4), await h.get(b"\0"), await h.delete(b"\0")], [0, 4, True])
             self.assertEqual((await client.used()).used, 3)
+            self.assertEqual((await client.ping(), await client.hello()), (None, (1, 4096, 4096, 32, 128, 1000)))
             self.assertEqual(await client.lines([b"J1X a", b"J1C ids 0 -1"]), [b"ERR SYNTAX", b"N 2"])
             self.assertEqual([await it.free_array() for it in (ids, m, s, h)], [2, 0, 1, 0])
 

@@ -117,8 +117,9 @@ class Commands(unittest.TestCase):
             letters = re.sub("^(J1|JL|JSL|JHS)", "", line.split()[0].decode())
             self.assertEqual((line, is_query(line)), (line, letters not in ("S", "U", "I", "D", "A", "FA")))
             self.assertEqual((line, is_same_twice(line)), (line, letters != "A"))
-        self.assertTrue(is_query(b"USED") and is_query(b"AUTH alice abc"))
-        for line in (b"QUIT", b"", b"J1X a 1", b"J1TT a 1", b"j1t a 1", b"AUTHX a b", b"USED 1"):
+        for line in (b"USED", b"PING", b"HELLO", b"AUTH alice abc"):
+            self.assertTrue(is_query(line), line)
+        for line in (b"QUIT", b"", b"PING 1", b"HELLOS", b"J1X a 1", b"J1TT a 1", b"j1t a 1", b"AUTHX a b", b"USED 1"):
             self.assertFalse(is_query(line) or is_same_twice(line), line)
 
 

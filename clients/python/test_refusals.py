@@ -15,8 +15,9 @@ sys.path.insert(0, os.path.dirname(os.path.abspath(__file__)))
 
 import judyd  # noqa: E402
 from judyd import (  # noqa: E402
-    Client, Closed, ConnectionLost, Full, KeyTooLong, Long, NoServer, NotAuthorized, ReadOnly, Refused, Syntax, TimedOut, Visitor,
+    Client, Closed, ConnectionLost, Full, Hello, KeyTooLong, Long, NoServer, NotAuthorized, ReadOnly, Refused, Syntax, TimedOut, Visitor,
 )  # fmt: skip
+from judyd.fields import KEY_LIMIT, LINE_LIMIT, hello_of, nothing_of  # noqa: E402
 from served import WithClient, WithServer  # noqa: E402
 
 
@@ -96,6 +97,17 @@ class Refusals(WithClient):
         self.assertEqual(self.client.lines([b"J1X a", b"J1S a 1", b"A" * 4097, b"J1FA a"]), [b"ERR SYNTAX", b"1", b"ERR LONG", b"N 1"])
         self.assertRaises(ValueError, self.client.lines, [b"J1S a 1\nQUIT"])
         self.assertTrue(issubclass(Syntax, Refused) and issubclass(Long, Refused))
+
+    def test_version_and_limits(self):
+        with Client(self.served.path) as client:
+            for _ in range(2):
+                hello = client.hello()
+                self.assertEqual((client.ping(), hello), (None, Hello(1, LINE_LIMIT, 4096, 32, 128, KEY_LIMIT)))
+                client.auth("alice", "abc")
+        self.assertEqual(hello_of(b"JUDYD 2 line 1 reply 2 name 3 token 4 key 5 more 6"), (2, 1, 2, 3, 4, 5))
+        for wrong in (b"OK", b"JUDYD 1", b"JUDYD 1 line 4096 reply 4096 name 32 token 128 key", b" JUDYD 1 line 1 reply 2 name 3 token 4 key 5"):
+            self.assertRaises(judyd.JudyError, hello_of, wrong)
+        self.assertRaises(judyd.JudyError, nothing_of, b"1")
 
     def test_closed(self):
         self.assertEqual(self.client.lines([b"USED", b"QUIT"])[1:], [b"BYE"])

@@ -533,7 +533,9 @@ static void check_rights(const char *path)
     struct jd_usage usage;
     CHECK(JD_AUTH, jd_j1_set(c, "a", 1));
     CHECK(JD_AUTH, jd_used(c, &usage));
+    CHECK(1, jd_ping(c));
     CHECK(1, jd_auth(c, "alice", "look"));
+    CHECK(1, jd_ping(c));
     CHECK(JD_READONLY, jd_j1_set(c, "a", 1));
     CHECK(JD_READONLY, jd_jl_ins(c, "a", 1, 1, &value));
     CHECK(JD_READONLY, jd_js_ensure(c, "a", "k", &value));

@@ -47,6 +47,8 @@ static const struct {
     {"AUTH alice abc", 1, "OK"},
     {"J1FA ids", 1, "N 1"},
     {"JSLD words x74726565", 1, "1"},
+    {"PING", 1, "OK"},
+    {"HELLO", 1, "JUDYD 1 line 4096 reply 4096 name 32 token 128 key 1000"},
 };
 enum { LINES = sizeof SESSION / sizeof *SESSION };
 

@@ -38,7 +38,7 @@ from .errors import (
     Closed, ConnectionLost, Error, Full, JudyError, KeyTooLong, Long, NoMemory, NoServer, NotAuthorized, PoolEmpty, ReadOnly,
     Refused, Restarted, Syntax, TimedOut, TooManyClients,
 )  # fmt: skip
-from .fields import MAX, Used
+from .fields import MAX, Hello, Used
 from .late import Later
 from .maps import JudyHS, JudyL, JudySL
 from .pipeline import Pipeline
@@ -47,7 +47,7 @@ from .retry import IDEMPOTENT, QUERIES, Retry
 from .sets import Judy1
 
 __all__ = [
-    "MAX", "TIMEOUT", "QUERIES", "IDEMPOTENT", "Retry", "Client", "Visitor", "Pool", "Pipeline", "Later", "Used", "Judy1", "JudyL", "JudySL", "JudyHS",
+    "MAX", "TIMEOUT", "QUERIES", "IDEMPOTENT", "Retry", "Client", "Visitor", "Pool", "Pipeline", "Later", "Used", "Hello", "Judy1", "JudyL", "JudySL", "JudyHS",
     "JudyError", "Error", "Closed", "NoServer", "ConnectionLost", "TimedOut", "Restarted",
     "PoolEmpty", "Refused", "Full", "NoMemory", "ReadOnly", "NotAuthorized", "TooManyClients", "Syntax", "Long", "KeyTooLong",
 ]  # fmt: skip

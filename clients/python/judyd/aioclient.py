@@ -12,7 +12,7 @@ from .bound import Bound
 from .client import TIMEOUT
 from .connection import Address, SameServer, checked_address, checked_timeout, place_of
 from .errors import Closed, ConnectionLost, JudyError, NoServer, Restarted, checked, refusal_of
-from .fields import Used, name_field, plain_lines, token_field, used_of
+from .fields import Hello, Used, hello_of, name_field, nothing_of, plain_lines, token_field, used_of
 from .late import LateArrays, Later
 from .retry import LOGGER, QUERIES, TRIES, Exchange, Retry, checked_retry, rule_of, tenant_of
 
@@ -68,6 +68,14 @@ class Client(Bound):
     async def used(self) -> Used:
         """The tenant's numbers of entries and pieces, and its quota of both, as a `Used`."""
         return await self._ask(b"USED", used_of)
+
+    async def ping(self) -> None:
+        """Asks the server for a reply, which needs no log-in. Raises a JudyError if none comes."""
+        await self._ask(b"PING", nothing_of)
+
+    async def hello(self) -> Hello:
+        """The version and the limits of the server's protocol, as a `Hello`. It needs no log-in."""
+        return await self._ask(b"HELLO", hello_of)
 
     async def lines(self, lines: Iterable[bytes]) -> List[bytes]:
         """Sends lines as they are, bytes without LF, and returns the list of their replies. If a call

@@ -23,7 +23,7 @@ Number = TypeVar("Number", covariant=True)
 Found = TypeVar("Found", covariant=True)
 Item = TypeVar("Item", covariant=True)
 
-_QUERY = re.compile(rb"(?:J1|JL|JSL|JHS)(?:T|G|C|BC|[FNLP]E?) |USED$|AUTH ")
+_QUERY = re.compile(rb"(?:J1|JL|JSL|JHS)(?:T|G|C|BC|[FNLP]E?) |(?:USED|PING|HELLO)$|AUTH ")
 _CHANGE = re.compile(rb"(?:J1|JL|JSL|JHS)(?:S|U|I|D|FA) ")
 
 

@@ -8,7 +8,7 @@ from .bound import Bound
 from .catalogue import Catalogue, listed
 from .connection import Address
 from .errors import checked
-from .fields import Used, name_field, plain_lines, token_field, used_of
+from .fields import Hello, Used, hello_of, name_field, nothing_of, plain_lines, token_field, used_of
 from .link import Link
 from .maps import JudyHS, JudyL, JudySL
 from .pipeline import Pipeline
@@ -33,6 +33,14 @@ class Arrays(Bound):
     def used(self) -> Used:
         """The tenant's numbers of entries and pieces, and its quota of both, as a `Used`."""
         return self._ask(b"USED", used_of)
+
+    def ping(self) -> None:
+        """Asks the server for a reply, which needs no log-in. Raises a JudyError if none comes."""
+        self._ask(b"PING", nothing_of)
+
+    def hello(self) -> Hello:
+        """The version and the limits of the server's protocol, as a `Hello`. It needs no log-in."""
+        return self._ask(b"HELLO", hello_of)
 
     def judy1(self, name: str) -> Judy1:
         """The set of words with this name."""

@@ -13,6 +13,7 @@ KEY_LIMIT = 1000
 LINE_LIMIT = 4096
 _NAME = re.compile(r"[A-Za-z0-9_.-]{1,32}\Z")
 _TOKEN = re.compile(r"[!-~]{1,128}\Z")
+_HELLO = re.compile(rb"JUDYD (\d+) line (\d+) reply (\d+) name (\d+) token (\d+) key (\d+)(?: .*)?\Z")
 
 
 class Used(NamedTuple):
@@ -22,6 +23,18 @@ class Used(NamedTuple):
     quota: int
     pieces: int
     most: int
+
+
+class Hello(NamedTuple):
+    """What a server says of its protocol: the version, and the most bytes of a line, of a reply, of a name, of a
+    token and of a key."""
+
+    version: int
+    line: int
+    reply: int
+    name: int
+    token: int
+    key: int
 
 
 # What requests are made of.
@@ -213,3 +226,17 @@ def bytes_item_of(reply: bytes) -> Optional[Tuple[bytes, int]]:
 def used_of(reply: bytes) -> Used:
     """The entries and pieces in use, with their quotas."""
     return Used(*_numbers(reply, b"Q", 4))
+
+
+def nothing_of(reply: bytes) -> None:
+    """Nothing, after `OK`."""
+    if reply != b"OK":
+        raise JudyError("no such answer: %r" % reply)
+
+
+def hello_of(reply: bytes) -> Hello:
+    """The version and the limits of the protocol. A later version may have more of them at the end."""
+    found = _HELLO.match(reply)
+    if found is None:
+        raise JudyError("no such answer: %r" % reply)
+    return Hello(*map(int, found.groups()))

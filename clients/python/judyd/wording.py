@@ -78,6 +78,8 @@ _OTHERS = [
     Call("AUTH", "", ("tenant", "token"), 2, "logs in: OK, or ERR AUTH or ERR CLIENTS, after which nobody is logged in"),
     Call("USED", "", (), 0, "Q used quota pieces most: entries and pieces, each with its quota"),
     Call("QUIT", "", (), 0, "BYE, and the connection ends"),
+    Call("PING", "", (), 0, "OK, without a log-in too"),
+    Call("HELLO", "", (), 0, "JUDYD, the version of the protocol, and the most bytes of a line, a reply, a name, a token and a key"),
 ]
 CALLS: Dict[str, Call] = {call.word: call for kind in _KINDS for call in _calls_of(*kind)}
 WORDS: Dict[str, Call] = {**CALLS, **{call.word: call for call in _OTHERS}}
@@ -87,7 +89,7 @@ HELP = """Lines of the protocol, one reply each; help and a word describes one, 
   J1  S U T (name index)  C (name low high)  BC (name n)  F N L P FE NE LE PE (name index)  FA (name)
   JL  I (name index [value])  A (name index n)  D G (name index)  C BC F N L P FE NE LE PE FA as above
   JSL I (name key [value])  A (name key n)  D G F N L P (name key)  FA        JHS I A D G FA
-  USED   AUTH tenant token   QUIT
+  USED   AUTH tenant token   QUIT   PING   HELLO
 A word is a decimal number up to 18446744073709551615, or -1 for that number. A key is x and hexadecimal digits, or a "text".
 The manual's names work too, as Judy1Set for J1S. At a terminal Tab completes, and help, ?, exit and quit work."""
 

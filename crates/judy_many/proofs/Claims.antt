@@ -25,6 +25,8 @@ claim_is login who TooLong = refl
 claim_is login who Unclear = refl
 claim_is login who (Asked (request.Auth name token)) = refl
 claim_is login who (Asked request.Quit) = refl
+claim_is login who (Asked request.Ping) = refl
+claim_is login who (Asked request.Hello) = refl
 claim_is login who (Asked (request.Call call)) = refl
 
 -- only a right log-in is refused
@@ -44,6 +46,8 @@ no_record names Unclear bare who who' last replies changed true e right is = abs
 no_record names (Asked (request.Auth name token)) bare who who' last replies changed true e right is =
     unrecorded names last bare changed is ∙ sym (unrecorded names who' bare changed is)
 no_record names (Asked request.Quit) bare who who' last replies changed true e right is = absurd (never (sym (right refl)))
+no_record names (Asked request.Ping) bare who who' last replies changed true e right is = absurd (never (sym (right refl)))
+no_record names (Asked request.Hello) bare who who' last replies changed true e right is = absurd (never (sym (right refl)))
 no_record names (Asked (request.Call call)) bare who who' last replies changed true e right is = absurd (never (sym (right refl)))
 
 pub known_unless : (speakers : Speaker → Bool) (crowded : Bool) (who last : Option Speaker) → last ≡ unless_crowded crowded who → HasLoggedIn speakers who → HasLoggedIn speakers last

@@ -47,6 +47,8 @@ answer_is login who TooLong replies = refl
 answer_is login who Unclear replies = refl
 answer_is login who (Asked (request.Auth name token)) replies = refl
 answer_is login who (Asked request.Quit) replies = refl
+answer_is login who (Asked request.Ping) replies = refl
+answer_is login who (Asked request.Hello) replies = refl
 answer_is login None (Asked (request.Call call)) replies = refl
 answer_is login (Some speaker) (Asked (request.Call call)) [] = refl
 answer_is login (Some speaker) (Asked (request.Call call)) (reply ∷ replies) = refl
@@ -57,6 +59,8 @@ one_line TooLong = refl
 one_line Unclear = refl
 one_line (Asked (request.Auth name token)) = refl
 one_line (Asked request.Quit) = refl
+one_line (Asked request.Ping) = refl
+one_line (Asked request.Hello) = refl
 one_line (Asked (request.Call call)) = refl
 
 or_false : (b : Bool) → (b || false) ≡ b

@@ -18,6 +18,8 @@ use Rattle.judy_many.specs.Stories.Moment.{Changed, Did, Ran}
 abbrev pub is_login : Heard → Bool
 is_login (Asked (request.Auth name token)) = true
 is_login (Asked request.Quit) = false
+is_login (Asked request.Ping) = false
+is_login (Asked request.Hello) = false
 is_login (Asked (request.Call call)) = false
 is_login Unclear = false
 is_login TooLong = false

@@ -83,6 +83,8 @@ fn is_login(asked: &Result<Line<'_>, Refusal>) -> bool
     match asked {
         Ok(Line::Auth(_, _)) => true,
         Ok(Line::Quit) => false,
+        Ok(Line::Ping) => false,
+        Ok(Line::Hello) => false,
         Ok(Line::Call(_)) => false,
         Err(_) => false,
     }

@@ -113,6 +113,8 @@ other_letter c d command apart is = let same : slice_index command 1 ≡ c = eqb
 pub Spell-request_of_fields : (fields : List (List ℕ)) (r : Line) → Spell fields r → request_of_fields fields ≡ Some r
 Spell-request_of_fields fields (request.Auth name token) (e, n, t) = rw (e, n, t) refl
 Spell-request_of_fields fields request.Quit e = rw e refl
+Spell-request_of_fields fields request.Ping e = rw e refl
+Spell-request_of_fields fields request.Hello e = rw e refl
 Spell-request_of_fields fields (request.Call Used) e = rw e refl
 Spell-request_of_fields fields (request.Call (One name call)) (command, more, e, n, c) =
     let l : letter_is 49 command ≡ true = one_call_letter command more call c in
@@ -184,9 +186,15 @@ alone_Spell : (command : List ℕ) (r : Line) → request_of_fields (command ∷
 alone_Spell command r h =
     elim (from_if (eq_by_cmp string_order command (codes "QUIT")) (Some request.Quit) _ r h) [
       | inl a ↦ subst (Spell (command ∷ [])) (the_value request.Quit r a.1) (ap (λ c. c ∷ []) (same_command command (codes "QUIT") a.0))
-      | inr a ↦ elim (from_if (eq_by_cmp string_order command (codes "USED")) (Some (request.Call Used)) None r a.1) [
+      | inr a ↦ elim (from_if (eq_by_cmp string_order command (codes "USED")) (Some (request.Call Used)) _ r a.1) [
         | inl b ↦ subst (Spell (command ∷ [])) (the_value (request.Call Used) r b.1) (ap (λ c. c ∷ []) (same_command command (codes "USED") b.0))
-        | inr out ↦ absurd (let none : None ≡ Some r = out.1 in cc)
+        | inr b ↦ elim (from_if (eq_by_cmp string_order command (codes "PING")) (Some request.Ping) _ r b.1) [
+          | inl c ↦ subst (Spell (command ∷ [])) (the_value request.Ping r c.1) (ap (λ x. x ∷ []) (same_command command (codes "PING") c.0))
+          | inr c ↦ elim (from_if (eq_by_cmp string_order command (codes "HELLO")) (Some request.Hello) None r c.1) [
+            | inl d ↦ subst (Spell (command ∷ [])) (the_value request.Hello r d.1) (ap (λ x. x ∷ []) (same_command command (codes "HELLO") d.0))
+            | inr out ↦ absurd (let none : None ≡ Some r = out.1 in cc)
+          ]
+        ]
       ]
     ]
 

@@ -69,6 +69,21 @@ row_farewell : talk (entries_quota 4) (codes "QUIT\r\nAUTH alice abc\n")
     ≡ codes "BYE\n"
 row_farewell = refl
 
+-- PING and HELLO need no speaker, and keep the one that there is
+row_greeting : talk (entries_quota 4) (codes "PING\nHELLO\r\nJ1T a 1\nAUTH alice abc\n PING \nHELLO\nJ1T a 1\n")
+    ≡ codes "OK\nJUDYD 1 line 4096 reply 4096 name 32 token 128 key 1000\nERR AUTH\nOK\nOK\nJUDYD 1 line 4096 reply 4096 name 32 token 128 key 1000\n0\n"
+row_greeting = refl
+
+-- they are no calls
+row_greeting_calls : events door (codes "AUTH alice abc\nPING\nHELLO\n")
+    ≡ []
+row_greeting_calls = refl
+
+-- they take no further field, and have capital letters
+row_greeting_fields : alice (codes "PING 1\nHELLO a b\nping\nHello\nPINGS\nPIN\n")
+    ≡ codes "OK\nERR SYNTAX\nERR SYNTAX\nERR SYNTAX\nERR SYNTAX\nERR SYNTAX\nERR SYNTAX\n"
+row_greeting_fields = refl
+
 -- each command has its number of fields
 row_fields : alice (codes "QUIT now\nUSED a\nJ1C a 1\nJ1FA\nJ1FA a 1\nJLI l\nJLI l 1 2 3\nJSLF s\nJ1S\nNONE a 1\n")
     ≡ codes "OK\nERR SYNTAX\nERR SYNTAX\nERR SYNTAX\nERR SYNTAX\nERR SYNTAX\nERR SYNTAX\nERR SYNTAX\nERR SYNTAX\nERR SYNTAX\nERR SYNTAX\n"

@@ -184,6 +184,8 @@ SpellCall call_with fields name call = (command : List ℕ) × (more : List (Lis
 abbrev pub Spell : List (List ℕ) → Line → Type 0
 Spell fields (request.Auth name token) = (fields ≡ codes "AUTH" ∷ name ∷ token ∷ []) × IsTrue (is_name name) × IsTrue (is_token token)
 Spell fields request.Quit = fields ≡ codes "QUIT" ∷ []
+Spell fields request.Ping = fields ≡ codes "PING" ∷ []
+Spell fields request.Hello = fields ≡ codes "HELLO" ∷ []
 Spell fields (request.Call Used) = fields ≡ codes "USED" ∷ []
 Spell fields (request.Call (One name call)) = SpellCall one_call fields name call
 Spell fields (request.Call (Long name call)) = SpellCall long_call fields name call

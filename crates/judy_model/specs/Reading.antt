@@ -27,7 +27,8 @@ named_request command name more =
 -- the request that the fields of a line spell
 abbrev pub request_of_fields : List (List ℕ) → Option Line
 request_of_fields [] = None
-request_of_fields (command ∷ []) = at_command command ((codes "QUIT", request.Quit) ∷ (codes "USED", request.Call Used) ∷ [])
+request_of_fields (command ∷ []) = at_command command
+    ((codes "QUIT", request.Quit) ∷ (codes "USED", request.Call Used) ∷ (codes "PING", request.Ping) ∷ (codes "HELLO", request.Hello) ∷ [])
 request_of_fields (command ∷ name ∷ more) = if is_name name then named_request command name more else None
 
 -- the request that a line spells

@@ -88,6 +88,11 @@ abbrev pub welcome : Option Speaker → List ℕ
 welcome (Some speaker) = line (codes "OK")
 welcome None = line (codes "ERR AUTH")
 
+-- The reply to a HELLO line: the version of the protocol, and the most bytes of a line, of a reply, of a
+-- name, of a token and of a key.
+abbrev pub greeting : List ℕ
+greeting = codes "JUDYD 1 line 4096 reply 4096 name 32 token 128 key 1000"
+
 -- the text written for the lines; the replies are those to the lines' events
 abbrev pub answer_from : Login → Option Speaker → List Heard → List Reply → List ℕ
 answer_from login who [] replies = []
@@ -95,6 +100,8 @@ answer_from login who (TooLong ∷ rest) replies = line (codes "ERR LONG") ++ an
 answer_from login who (Unclear ∷ rest) replies = line (codes "ERR SYNTAX") ++ answer_from login who rest replies
 answer_from login who (Asked (request.Auth name token) ∷ rest) replies = welcome (login name token) ++ answer_from login (login name token) rest replies
 answer_from login who (Asked request.Quit ∷ rest) replies = line (codes "BYE") ++ answer_from login who rest replies
+answer_from login who (Asked request.Ping ∷ rest) replies = line (codes "OK") ++ answer_from login who rest replies
+answer_from login who (Asked request.Hello ∷ rest) replies = line greeting ++ answer_from login who rest replies
 answer_from login None (Asked (request.Call call) ∷ rest) replies = line (codes "ERR AUTH") ++ answer_from login None rest replies
 answer_from login (Some speaker) (Asked (request.Call call) ∷ rest) (reply ∷ replies) = text reply ++ answer_from login (Some speaker) rest replies
 answer_from login (Some speaker) (Asked (request.Call call) ∷ rest) [] = answer_from login (Some speaker) rest []

@@ -13,6 +13,10 @@ pub enum Line<'a> {
     Auth(Name, Token<'a>),
     /// `QUIT`: ends the connection.
     Quit,
+    /// `PING`: asks whether the server answers.
+    Ping,
+    /// `HELLO`: asks for the version and the limits of the protocol.
+    Hello,
     /// A call, made by the tenant that is logged in.
     Call(Call<'a>),
 }

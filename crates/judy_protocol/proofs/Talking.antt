@@ -46,6 +46,8 @@ one_line TooLong = refl
 one_line Unclear = refl
 one_line (Asked (request.Auth name token)) = refl
 one_line (Asked request.Quit) = refl
+one_line (Asked request.Ping) = refl
+one_line (Asked request.Hello) = refl
 one_line (Asked (request.Call call)) = refl
 
 one_is_some : (n : ℕ) → n ≡ 1 → 0 < n

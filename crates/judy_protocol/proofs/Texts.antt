@@ -26,6 +26,11 @@ none_of_2 b0 b1 x0 x1 h0 h1 = rw (h0, h1) refl
 pub none_of_3 : {A : Type 0} (b0 b1 b2 : Bool) (x0 x1 x2 : Option A) → b0 ≡ false → b1 ≡ false → b2 ≡ false → cond b0 x0 (cond b1 x1 (cond b2 x2 None)) ≡ None
 none_of_3 b0 b1 b2 x0 x1 x2 h0 h1 h2 = rw (h0, h1, h2) refl
 
+-- four tests that fail
+pub none_of_4 : {A : Type 0} (b0 b1 b2 b3 : Bool) (x0 x1 x2 x3 : Option A) → b0 ≡ false → b1 ≡ false → b2 ≡ false → b3 ≡ false
+    → cond b0 x0 (cond b1 x1 (cond b2 x2 (cond b3 x3 None))) ≡ None
+none_of_4 b0 b1 b2 b3 x0 x1 x2 x3 h0 h1 h2 h3 = rw (h0, h1, h2, h3) refl
+
 -- texts that a test finds different
 told_apart : (test : List ℕ → Bool) (x p : List ℕ) → test p ≡ true → test x ≡ false → (b : Bool) → pointwise nat_eq x p ≡ b → b ≡ false
 told_apart test x p hp hx false e = refl

@@ -2,3 +2,4 @@
 pub mod Worlds
 pub mod SendingLaws
 pub mod Endings
+pub mod Greets

@@ -186,6 +186,12 @@ fn lone_request(command: &[u8]) -> Option<Line<'static>>
     if command == b"USED".as_slice() {
         return Some(Line::Call(Call::Used));
     }
+    if command == b"PING".as_slice() {
+        return Some(Line::Ping);
+    }
+    if command == b"HELLO".as_slice() {
+        return Some(Line::Hello);
+    }
     None
 }
 

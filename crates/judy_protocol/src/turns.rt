@@ -3,7 +3,8 @@ ghost use Rattle.std.specs.Prelude.{◌≡◌, ◌++◌, ◌<◌, ◌≤◌, [],
 ghost use Rattle.std.specs.Str.Lines.{strip_carriage_return};
 ghost use Rattle.judy_model.specs.declared.calls.Call.{Call as CallLem};
 ghost use Rattle.judy_model.specs.declared.requests.Line.TheVariants as request;
-ghost use Rattle.judy_model.specs.Stream.{heard, is_quit, welcome};
+ghost use Rattle.judy_model.specs.Replies.{line};
+ghost use Rattle.judy_model.specs.Stream.{greeting, heard, is_quit, welcome};
 ghost use Rattle.judy_model.specs.Stream.Heard.{Asked};
 ghost use Rattle.judy_model.specs.Tenant.{changes};
 ghost use Rattle.judy_protocol.specs.Plain.{is_refused as is_refused_lem};
@@ -116,6 +117,8 @@ pub fn asks_to_quit(asked: &Result<Line<'_>, Refusal>) -> bool
     match asked {
         Ok(Line::Quit) => true,
         Ok(Line::Auth(_, _)) => false,
+        Ok(Line::Ping) => false,
+        Ok(Line::Hello) => false,
         Ok(Line::Call(_)) => false,
         Err(_) => false,
     }
@@ -128,6 +131,16 @@ fn put_answer(answer: &mut ArrayVec<u8, REPLY_LIMIT>, text: &'static [u8])
 {
     answer.clear();
     let _fits = answer.try_extend_from_slice(text);
+}
+
+/// Answers a line that asks for the version and the limits of the protocol.
+fn greet(answer: &mut ArrayVec<u8, REPLY_LIMIT>)
+    ensures { answer.new.items ≡ line greeting }
+{
+    put_answer(
+        answer,
+        b"JUDYD 1 line 4096 reply 4096 name 32 token 128 key 1000\n",
+    );
 }
 
 /// Logs in the speaker with this name and token, if any, and writes the answer.
@@ -221,6 +234,8 @@ pub fn run<S: Served>(
     match asked {
         Ok(Line::Auth(name, token)) => *speaker = let_in(service, name, token, answer),
         Ok(Line::Quit) => put_answer(answer, b"BYE\n"),
+        Ok(Line::Ping) => put_answer(answer, b"OK\n"),
+        Ok(Line::Hello) => greet(answer),
         Ok(Line::Call(call)) => return make_call(alloc, service, *speaker, call, found, answer),
         Err(Refusal::Long) => put_answer(answer, b"ERR LONG\n"),
         Err(Refusal::Syntax) => put_answer(answer, b"ERR SYNTAX\n"),

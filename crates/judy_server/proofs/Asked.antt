@@ -114,12 +114,17 @@ by_letter false false false false command other more name c h = absurd (not_auth
 
 fields_pass : (fields : List (List ℕ)) (name : List ℕ) (c : StrCall) → request_of_fields fields ≡ Some (request.Call (Str name c)) → has_key_string c ≡ true
 fields_pass [] name c h = cc
-fields_pass (command ∷ []) name c h = by (eq_by_cmp string_order command (codes "QUIT")) (eq_by_cmp string_order command (codes "USED")) h
+fields_pass (command ∷ []) name c h = by (eq_by_cmp string_order command (codes "QUIT")) (eq_by_cmp string_order command (codes "USED"))
+    (eq_by_cmp string_order command (codes "PING")) (eq_by_cmp string_order command (codes "HELLO")) h
   where
-    by : (a b : Bool) → cond a (Some request.Quit) (cond b (Some (request.Call Used)) None) ≡ Some (request.Call (Str name c)) → has_key_string c ≡ true
-    by true b h = cc
-    by false true h = cc
-    by false false h = cc
+    by : (quit used ping hello : Bool)
+        → cond quit (Some request.Quit) (cond used (Some (request.Call Used)) (cond ping (Some request.Ping) (cond hello (Some request.Hello) None)))
+        ≡ Some (request.Call (Str name c)) → has_key_string c ≡ true
+    by true used ping hello h = cc
+    by false true ping hello h = cc
+    by false false true hello h = cc
+    by false false false true h = cc
+    by false false false false h = cc
 fields_pass (command ∷ other ∷ more) name c h = by (is_name other) h
   where
     by : (a : Bool) → cond a (named_request command other more) None ≡ Some (request.Call (Str name c)) → has_key_string c ≡ true

@@ -240,6 +240,8 @@ is-short before turn after one = by turn.line turn.who turn.replies one.recorded
     by (Asked (request.Call c)) None replies is = inl is
     by (Asked (request.Auth name token)) who replies is = inl is
     by (Asked request.Quit) who replies is = inl is
+    by (Asked request.Ping) who replies is = inl is
+    by (Asked request.Hello) who replies is = inl is
     by TooLong who replies is = inl is
     by Unclear who replies is = inl is
 

@@ -67,7 +67,7 @@ unknown_over rows story = counted_over (λ rows. refuses rows None) (λ rows cou
 -- Each counter is the number of the lines that it counts, or its most. Lines and replies are counted
 -- whatever the table, refused log-ins by the table in force.
 pub record AreCounted (tenants : List Tenant) (story : Story) (tally : Tally) : Type 0 where
-  pub lines : (place : ℕ) → place < 47 → slice_index tally.lines place ≡ risen 0 (count_by (asks place) (turns_in story))
+  pub lines : (place : ℕ) → place < 49 → slice_index tally.lines place ≡ risen 0 (count_by (asks place) (turns_in story))
   pub replies : (place : ℕ) → place < 8 → slice_index tally.replies place ≡ risen 0 (count_by (answers place) (turns_in story))
   pub logins : (place : ℕ) → place < 128 → slice_index tally.refused place ≡ refused_over place tenants story
   pub unknown : tally.unknown ≡ unknown_over tenants story

@@ -39,7 +39,8 @@ call_names =
     ∷ codes "JLI" ∷ codes "JLA" ∷ codes "JLD" ∷ codes "JLG" ∷ codes "JLC" ∷ codes "JLBC" ∷ codes "JLF" ∷ codes "JLN"
     ∷ codes "JLL" ∷ codes "JLP" ∷ codes "JLFE" ∷ codes "JLNE" ∷ codes "JLLE" ∷ codes "JLPE" ∷ codes "JLFA"
     ∷ codes "JSLI" ∷ codes "JSLA" ∷ codes "JSLD" ∷ codes "JSLG" ∷ codes "JSLF" ∷ codes "JSLN" ∷ codes "JSLL" ∷ codes "JSLP"
-    ∷ codes "JSLFA" ∷ codes "JHSI" ∷ codes "JHSA" ∷ codes "JHSD" ∷ codes "JHSG" ∷ codes "JHSFA" ∷ codes "none" ∷ []
+    ∷ codes "JSLFA" ∷ codes "JHSI" ∷ codes "JHSA" ∷ codes "JHSD" ∷ codes "JHSG" ∷ codes "JHSFA"
+    ∷ codes "PING" ∷ codes "HELLO" ∷ codes "none" ∷ []
 
 -- The place of a call's command there. An insertion is counted by its command, whatever value it gives; an addition by its own.
 abbrev pub one_place : OneCall → ℕ
@@ -108,9 +109,11 @@ place_of_call Used = 2
 abbrev pub call_place : Heard → ℕ
 call_place (Asked (request.Auth name token)) = 0
 call_place (Asked request.Quit) = 1
+call_place (Asked request.Ping) = 46
+call_place (Asked request.Hello) = 47
 call_place (Asked (request.Call call)) = place_of_call call
-call_place Unclear = 46
-call_place TooLong = 46
+call_place Unclear = 48
+call_place TooLong = 48
 
 -- ---- replies
 
@@ -137,6 +140,8 @@ refuses_login place = (place == 3) || (place == 7)
 abbrev pub refused_name : Heard → List ℕ → Option (List ℕ)
 refused_name (Asked (request.Auth name token)) answer = if refuses_login (reply_place answer) then Some name else None
 refused_name (Asked request.Quit) answer = None
+refused_name (Asked request.Ping) answer = None
+refused_name (Asked request.Hello) answer = None
 refused_name (Asked (request.Call call)) answer = None
 refused_name Unclear answer = None
 refused_name TooLong answer = None
@@ -145,7 +150,7 @@ refused_name TooLong answer = None
 
 -- nothing was counted yet; there is a counter for each call, for each kind of reply, and for each place of a tenant
 unfoldable pub no_counts : Tally
-no_counts = record { lines = replicate 47 0; replies = replicate 8 0; refused = replicate 128 0; unknown = 0 }
+no_counts = record { lines = replicate 49 0; replies = replicate 8 0; refused = replicate 128 0; unknown = 0 }
 
 -- the counter at a place goes up, unless it is at its most
 abbrev pub bumped : List ℕ → ℕ → List ℕ

@@ -89,11 +89,11 @@ fn string_name(place: usize) -> &'static str
     }
 }
 
-/// Those of a map from byte keys, and a line that is no request.
+/// Those of a map from byte keys, `PING` and `HELLO`, and a line that is no request.
 #[tactic(auto, unfolding(crate::specs::Tally::call_names))]
 fn last_name(place: usize) -> &'static str
     requires from { 41 ≤ place }
-    requires below { place < 47 }
+    requires below { place < 49 }
     ensures { slice_get call_names place ≡ Some result.now }
 {
     match place {
@@ -102,6 +102,8 @@ fn last_name(place: usize) -> &'static str
         43 => "JHSD",
         44 => "JHSG",
         45 => "JHSFA",
+        46 => "PING",
+        47 => "HELLO",
         _ => "none",
     }
 }

@@ -11,8 +11,9 @@ use crate::calls::place_of_call;
 use judy_protocol::{Line, Refusal};
 use judy_table::TenantId;
 
-/// How many things a line can ask for: `AUTH`, `QUIT`, `USED`, 43 calls of arrays, and nothing.
-pub const CALLS: usize = 47;
+/// How many things a line can ask for: `AUTH`, `QUIT`, `USED`, 43 calls of arrays, `PING`, `HELLO`, and
+/// nothing.
+pub const CALLS: usize = 49;
 
 /// How many kinds of replies there are.
 pub const KINDS: usize = 8;
@@ -76,9 +77,11 @@ fn call_place(asked: &Result<Line<'_>, Refusal>) -> usize
     match asked {
         Ok(Line::Auth(_, _)) => 0,
         Ok(Line::Quit) => 1,
+        Ok(Line::Ping) => 46,
+        Ok(Line::Hello) => 47,
         Ok(Line::Call(call)) => place_of_call(call),
-        Err(Refusal::Syntax) => 46,
-        Err(Refusal::Long) => 46,
+        Err(Refusal::Syntax) => 48,
+        Err(Refusal::Long) => 48,
     }
 }
 
@@ -137,6 +140,8 @@ pub fn refused_name<'a>(asked: &'a Result<Line<'_>, Refusal>, answer: &[u8]) -> 
             None
         }
         Ok(Line::Quit) => None,
+        Ok(Line::Ping) => None,
+        Ok(Line::Hello) => None,
         Ok(Line::Call(_)) => None,
         Err(Refusal::Syntax) => None,
         Err(Refusal::Long) => None,

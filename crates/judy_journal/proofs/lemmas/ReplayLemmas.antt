@@ -427,6 +427,8 @@ change_is : (o : Option Line) (call : Call) → change_in o ≡ Some call → (o
 change_is None call h = cc
 change_is (Some (request.Auth name token)) call h = cc
 change_is (Some request.Quit) call h = cc
+change_is (Some request.Ping) call h = cc
+change_is (Some request.Hello) call h = cc
 change_is (Some (request.Call c)) call h = by (changes c) refl h
   where
     by : (b : Bool) → changes c ≡ b → cond b (Some c) None ≡ Some call

@@ -7,7 +7,7 @@ use Rattle.judy_model.specs.declared.requests.Line.TheVariants as request
 use Rattle.judy_model.specs.Replies.{text, line}
 use Rattle.judy_model.specs.Speakers.{Speaker}
 use Rattle.judy_model.specs.Stream.{lines_of, rest_of, heard, served, Login, Heard, speaker_after, is_quit, through_quit}
-use Rattle.judy_model.specs.Stream.{speaker_of, event_of, events_from, welcome, answer_from}
+use Rattle.judy_model.specs.Stream.{speaker_of, event_of, events_from, welcome, greeting, answer_from}
 use Rattle.judy_model.specs.Stream.Heard.{TooLong, Unclear, Asked}
 use Rattle.judy_model.proofs.lemmas.LineLemmas.{IsOneLine, lines_of-append, lines_of-push}
 
@@ -47,6 +47,10 @@ module _ (login : Login) where
       after_text (welcome (login name token)) (login name token) hs more ours theirs _ (answer_from-append (login name token) hs more ours theirs long)
   answer_from-append who (Asked request.Quit ∷ hs) more ours theirs long = after_text (line (codes "BYE")) who hs more ours theirs
       _ (answer_from-append who hs more ours theirs long)
+  answer_from-append who (Asked request.Ping ∷ hs) more ours theirs long = after_text (line (codes "OK")) who hs more ours theirs
+      _ (answer_from-append who hs more ours theirs long)
+  answer_from-append who (Asked request.Hello ∷ hs) more ours theirs long = after_text (line greeting) who hs more ours theirs
+      _ (answer_from-append who hs more ours theirs long)
   answer_from-append None (Asked (request.Call call) ∷ hs) more ours theirs long =
       after_text (line (codes "ERR AUTH")) None hs more ours theirs _ (answer_from-append None hs more ours theirs long)
   answer_from-append (Some t) (Asked (request.Call call) ∷ hs) more [] theirs long = absurd (omega arith)
@@ -71,6 +75,8 @@ through_quit-none (TooLong ∷ hs) more h = ap (λ z. TooLong ∷ z) (through_qu
 through_quit-none (Unclear ∷ hs) more h = ap (λ z. Unclear ∷ z) (through_quit-none hs more h)
 through_quit-none (Asked (request.Auth name token) ∷ hs) more h = ap (λ z. Asked (request.Auth name token) ∷ z) (through_quit-none hs more h)
 through_quit-none (Asked request.Quit ∷ hs) more h = cc
+through_quit-none (Asked request.Ping ∷ hs) more h = ap (λ z. Asked request.Ping ∷ z) (through_quit-none hs more h)
+through_quit-none (Asked request.Hello ∷ hs) more h = ap (λ z. Asked request.Hello ∷ z) (through_quit-none hs more h)
 through_quit-none (Asked (request.Call call) ∷ hs) more h = ap (λ z. Asked (request.Call call) ∷ z) (through_quit-none hs more h)
 
 -- lines after a `QUIT` line are left out
@@ -80,6 +86,8 @@ through_quit-some (TooLong ∷ hs) more h = ap (λ z. TooLong ∷ z) (through_qu
 through_quit-some (Unclear ∷ hs) more h = ap (λ z. Unclear ∷ z) (through_quit-some hs more h)
 through_quit-some (Asked (request.Auth name token) ∷ hs) more h = ap (λ z. Asked (request.Auth name token) ∷ z) (through_quit-some hs more h)
 through_quit-some (Asked request.Quit ∷ hs) more h = refl
+through_quit-some (Asked request.Ping ∷ hs) more h = ap (λ z. Asked request.Ping ∷ z) (through_quit-some hs more h)
+through_quit-some (Asked request.Hello ∷ hs) more h = ap (λ z. Asked request.Hello ∷ z) (through_quit-some hs more h)
 through_quit-some (Asked (request.Call call) ∷ hs) more h = ap (λ z. Asked (request.Call call) ∷ z) (through_quit-some hs more h)
 
 -- one line is served, whatever it is
@@ -88,6 +96,8 @@ through_quit-one TooLong = refl
 through_quit-one Unclear = refl
 through_quit-one (Asked (request.Auth name token)) = refl
 through_quit-one (Asked request.Quit) = refl
+through_quit-one (Asked request.Ping) = refl
+through_quit-one (Asked request.Hello) = refl
 through_quit-one (Asked (request.Call call)) = refl
 
 -- the lines a ++ b are served one list after the other

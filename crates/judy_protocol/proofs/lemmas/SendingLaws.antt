@@ -8,7 +8,7 @@ use Rattle.judy_model.specs.declared.replies.Reply.{Reply}
 use Rattle.judy_model.specs.declared.requests.Line.TheVariants as request
 use Rattle.judy_model.specs.Replies.{line, reply_words, text as text_of}
 use Rattle.judy_model.specs.Speakers.{Speaker}
-use Rattle.judy_model.specs.Stream.{Heard, Login, events_from, welcome, answer_from}
+use Rattle.judy_model.specs.Stream.{Heard, Login, events_from, welcome, greeting, answer_from}
 use Rattle.judy_model.specs.Stream.Heard.{TooLong, Unclear, Asked}
 use Rattle.judy_protocol.specs.Services.{Made}
 use Rattle.judy_protocol.specs.Serving.{AreOneText, answers_limit}
@@ -45,6 +45,8 @@ module _ (login : Login) where
   then_lines who (Asked (request.Auth name token) ∷ rest) replies count front ends =
       further front (welcome (login name token)) _ (welcome_line (login name token)) (then_lines (login name token) rest replies count)
   then_lines who (Asked request.Quit ∷ rest) replies count front ends = further front (line (codes "BYE")) _ (one_line (codes "BYE")) (then_lines who rest replies count)
+  then_lines who (Asked request.Ping ∷ rest) replies count front ends = further front (line (codes "OK")) _ (one_line (codes "OK")) (then_lines who rest replies count)
+  then_lines who (Asked request.Hello ∷ rest) replies count front ends = further front (line greeting) _ (one_line greeting) (then_lines who rest replies count)
   then_lines None (Asked (request.Call call) ∷ rest) replies count front ends =
       further front (line (codes "ERR AUTH")) _ (one_line (codes "ERR AUTH")) (then_lines None rest replies count)
   then_lines (Some speaker) (Asked (request.Call call) ∷ rest) [] count front ends = absurd (omega (arith, count))
@@ -60,6 +62,8 @@ module _ (login : Login) where
   lines_end who (Asked (request.Auth name token) ∷ rest) replies count some =
       then_lines (login name token) rest replies count _ (welcome_line (login name token))
   lines_end who (Asked request.Quit ∷ rest) replies count some = then_lines who rest replies count _ (one_line (codes "BYE"))
+  lines_end who (Asked request.Ping ∷ rest) replies count some = then_lines who rest replies count _ (one_line (codes "OK"))
+  lines_end who (Asked request.Hello ∷ rest) replies count some = then_lines who rest replies count _ (one_line greeting)
   lines_end None (Asked (request.Call call) ∷ rest) replies count some = then_lines None rest replies count _ (one_line (codes "ERR AUTH"))
   lines_end (Some speaker) (Asked (request.Call call) ∷ rest) [] count some = absurd (omega (arith, count))
   lines_end (Some speaker) (Asked (request.Call call) ∷ rest) (reply ∷ replies) count some =

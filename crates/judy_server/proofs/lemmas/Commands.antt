@@ -119,10 +119,16 @@ three_names : (slice_get call_names 0 ≡ Some (codes "AUTH")) × (slice_get cal
 unfolding call_names
 three_names = (refl, refl, refl)
 
+two_names : (slice_get call_names 46 ≡ Some (codes "PING")) × (slice_get call_names 47 ≡ Some (codes "HELLO"))
+unfolding call_names
+two_names = (refl, refl)
+
 -- fields that spell a request begin with the name by which it is counted
 pub counted-by-its-command : (fields : List (List ℕ)) (r : Line) → Spell fields r → slice_get call_names (call_place (Asked r)) ≡ slice_get fields 0
 counted-by-its-command fields (request.Auth name token) s = first fields (codes "AUTH") (name ∷ token ∷ []) (slice_get call_names 0) s.0 three_names.0
 counted-by-its-command fields request.Quit s = first fields (codes "QUIT") [] (slice_get call_names 1) s three_names.1
+counted-by-its-command fields request.Ping s = first fields (codes "PING") [] (slice_get call_names 46) s two_names.0
+counted-by-its-command fields request.Hello s = first fields (codes "HELLO") [] (slice_get call_names 47) s two_names.1
 counted-by-its-command fields (request.Call Used) s = first fields (codes "USED") [] (slice_get call_names 2) s three_names.2
 counted-by-its-command fields (request.Call (One name c)) (command, more, e, is, found) =
     first fields command (name ∷ more) _ e (one_named command more c found)

@@ -212,9 +212,9 @@ zeros (suc n) (suc place) = zeros n place
 none-yet : ((place : ℕ) → slice_index no_counts.lines place ≡ 0) × ((place : ℕ) → slice_index no_counts.replies place ≡ 0)
     × ((place : ℕ) → slice_index no_counts.refused place ≡ 0) × (no_counts.unknown ≡ 0)
 unfolding no_counts
-none-yet = (zeros 47, zeros 8, zeros 128, refl)
+none-yet = (zeros 49, zeros 8, zeros 128, refl)
 
-counters : (length no_counts.lines ≡ 47) × (length no_counts.replies ≡ 8) × (length no_counts.refused ≡ 128)
+counters : (length no_counts.lines ≡ 49) × (length no_counts.replies ≡ 8) × (length no_counts.refused ≡ 128)
 unfolding no_counts
 counters = (refl, refl, refl)
 

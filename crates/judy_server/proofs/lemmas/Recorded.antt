@@ -180,6 +180,8 @@ line-recorded places before turn after rows leads one = by turn.line turn.who tu
     by (Asked (request.Call call)) None replies knows-it is = none (event_told places) is
     by (Asked (request.Auth name token)) who replies knows-it is = none (event_told places) is
     by (Asked request.Quit) who replies knows-it is = none (event_told places) is
+    by (Asked request.Ping) who replies knows-it is = none (event_told places) is
+    by (Asked request.Hello) who replies knows-it is = none (event_told places) is
     by TooLong who replies knows-it is = none (event_told places) is
     by Unclear who replies knows-it is = none (event_told places) is
 

@@ -126,6 +126,8 @@ fn requests_of_the_connection(rt: HostRuntime) -> Result<(), Fail> {
         Ok(Line::Auth(name("bob"), token)),
     );
     same(&rt, read_line(b"QUIT", &mut room), Ok(Line::Quit));
+    same(&rt, read_line(b"PING", &mut room), Ok(Line::Ping));
+    same(&rt, read_line(b"  HELLO ", &mut room), Ok(Line::Hello));
     same(
         &rt,
         read_line(b" USED ", &mut room),
@@ -134,7 +136,7 @@ fn requests_of_the_connection(rt: HostRuntime) -> Result<(), Fail> {
     Ok(())
 }
 
-static OF_NO_REQUEST: [&[u8]; 40] = [
+static OF_NO_REQUEST: [&[u8]; 45] = [
     b"",
     b"  ",
     b"J1S",
@@ -173,6 +175,11 @@ static OF_NO_REQUEST: [&[u8]; 40] = [
     b"AUTH bob a\x7f",
     b"QUIT now",
     b"USED a",
+    b"PING 1",
+    b"HELLO a b",
+    b"ping",
+    b"Hello",
+    b"PINGS",
     b"\x00",
     b"J1T \xff 1",
 ];

@@ -14,10 +14,10 @@ use std::test::Fail;
 // Odd and malformed lines between good ones, logins that fail and succeed, and bytes after the last
 // line that is run.
 const SCRIPT: &[u8] =
-    b"J1T a 1\nAUTH alice abc\n  J1S   a 5 \r\nJ1T\ta 5\n\nJ1T a 005\r\r\nAUTH alice\nJ1T a 5\nAUTH alice abd\nJ1T a 5\nAUTH nobody abc\nAUTH bob hello\nJ1T a 5\nUSED\nAUTH alice hello\nJ1U a 5\nUSED\nQUIT\nJ1S a 7\nQUIT\n";
+    b"J1T a 1\nPING\nAUTH alice abc\nHELLO\n  J1S   a 5 \r\nJ1T\ta 5\n\nJ1T a 005\r\r\nAUTH alice\nJ1T a 5\nAUTH alice abd\nJ1T a 5\nAUTH nobody abc\nAUTH bob hello\nJ1T a 5\nUSED\nAUTH alice hello\nJ1U a 5\nUSED\nQUIT\nJ1S a 7\nQUIT\n";
 
 const REPLIES: &[u8] =
-    b"ERR AUTH\nOK\n1\nERR SYNTAX\nERR SYNTAX\nERR SYNTAX\nERR SYNTAX\n1\nERR AUTH\nERR AUTH\nERR AUTH\nOK\n0\nQ 0 1000 0 126000\nOK\nERR READONLY\nQ 1 4 1 504\nBYE\n";
+    b"ERR AUTH\nOK\nOK\nJUDYD 1 line 4096 reply 4096 name 32 token 128 key 1000\n1\nERR SYNTAX\nERR SYNTAX\nERR SYNTAX\nERR SYNTAX\n1\nERR AUTH\nERR AUTH\nERR AUTH\nOK\n0\nQ 0 1000 0 126000\nOK\nERR READONLY\nQ 1 4 1 504\nBYE\n";
 
 // The number of line feeds among the bytes.
 fn count_lines(bytes: &[u8]) -> usize {
@@ -100,7 +100,7 @@ fn every_cut_and_step(rt: HostRuntime) {
 #[test]
 fn every_read_fails(rt: HostRuntime) {
     // The script without its QUIT line and what follows.
-    let script = first_lines(SCRIPT, 17);
+    let script = first_lines(SCRIPT, 19);
     for place in 0..script.len() {
         for batch in BATCHES {
             let tape = Tape::new(script, &[], 5000, Some(place));

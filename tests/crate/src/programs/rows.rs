@@ -257,8 +257,11 @@ JHSD h x -> 1
 JHSFA h -> N 1
 
 logins
+PING -> OK
+HELLO -> JUDYD 1 line 4096 reply 4096 name 32 token 128 key 1000
 J1T a 1 -> ERR AUTH
 AUTH alice abc -> OK
+PING -> OK
 AUTH alice abd -> ERR AUTH
 J1T a 1 -> ERR AUTH
 AUTH nobody abc -> ERR AUTH

@@ -12,7 +12,7 @@ loop-place-preserved c = record {
       c.in_ok-add_if.ensures c.loop-place.invariant.text;
 }
 
-count : length call_names ≡ 47
+count : length call_names ≡ 49
 unfolding call_names
 count = refl
 
