@@ -157,12 +157,7 @@ impl<H: Chosen> Shows for Server<H> {
         add_status(text, &self.service, &self.tally, speakers)
     }
 
-    fn note(
-        &mut self,
-        speaker: Option<Speaker>,
-        asked: &Result<Line<'_>, Refusal>,
-        answer: &[u8],
-    ) {
+    fn note(&mut self, speaker: Option<Speaker>, asked: &Result<Line<'_>, Refusal>, answer: &[u8]) {
         self.tally.count(asked, answer);
         self.tally.count_for(tenant_of(speaker), answer);
         if let Some(name) = refused_name(asked, answer) {

@@ -36,11 +36,7 @@ const SHARES: [Share; 4] = [
 ];
 
 /// The numbers of each tenant that come last.
-const LAST_SHARES: [Share; 3] = [
-    Share::RefusedLogins,
-    Share::SpokenLines,
-    Share::FullReplies,
-];
+const LAST_SHARES: [Share; 3] = [Share::RefusedLogins, Share::SpokenLines, Share::FullReplies];
 
 /// Appends bytes.
 fn push(text: &mut Vec<u8>, part: &[u8]) -> Result<(), AllocError>
