@@ -24,6 +24,7 @@ TENANTS = [
 ]
 TABLE = "".join(tenant.toml() for tenant in TENANTS).encode()
 LINES, REPLIES, REFUSED, UNKNOWN = "judyd_lines_total", "judyd_replies_total", "judyd_logins_refused_total", "judyd_logins_unknown_total"
+SPOKEN, FULL = "judyd_tenant_lines_total", "judyd_tenant_full_total"
 RECEIVED, SENT = "judyd_bytes_received_total", "judyd_bytes_sent_total"
 ACCEPTED, ENDED = "judyd_connections_accepted_total", "judyd_connections_ended_total"
 
@@ -56,12 +57,13 @@ class Counts:
         lines, answers = script.split(b"\n")[:-1], replies.split(b"\n")[:-1]
         if len(lines) != len(answers):
             sys.exit("counted: %d lines got %d replies, the last one %r" % (len(lines), len(answers), answers[-1:]))
+        speaker = None
         for line, answer in zip(lines, answers):
-            self.line(line, answer)
+            speaker = self.line(line, answer, speaker)
         self.numbers.update({(RECEIVED, ""): len(script), (SENT, ""): len(replies), (ACCEPTED, ""): 1, (ENDED, cause): 1})
 
-    def line(self, line, answer):
-        """A line, and its reply."""
+    def line(self, line, answer, speaker):
+        """A line, its reply, and the tenant that spoke before it. The tenant that speaks after it, for whom it counts."""
         (call, fields), kind = call_of(line), kind_of(answer)
         wanted = "long" if len(line) > LINE_LIMIT else "syntax"
         if (call == "none") != (kind in ("long", "syntax")) or (call == "none" and kind != wanted):
@@ -69,10 +71,15 @@ class Counts:
         self.numbers.update([(LINES, call), (REPLIES, kind)])
         if call == "AUTH" and kind in ("auth", "clients"):
             self.numbers[(REFUSED, fields[0].decode()) if fields[0] in self.names else (UNKNOWN, "")] += 1
+        if call == "AUTH":
+            speaker = fields[0].decode() if kind == "ok" else None
+        if speaker is not None:
+            self.numbers.update([(SPOKEN, speaker)] + [(FULL, speaker)] * (kind == "full"))
+        return speaker
 
     def wanted(self):
         """All numbers, by name and then by label."""
-        labels = {LINES: CALLS, REPLIES: KINDS.values(), REFUSED: (name.decode() for name in self.names), ENDED: CAUSES}
+        labels = {LINES: CALLS, REPLIES: KINDS.values(), **{name: [it.decode() for it in self.names] for name in (REFUSED, SPOKEN, FULL)}, ENDED: CAUSES}
         found = {name: dict.fromkeys(of, 0) for name, of in labels.items()}
         found[REPLIES]["ok"] = 0
         found.update({name: {"": 0} for name in (UNKNOWN, RECEIVED, SENT, ACCEPTED)})
@@ -89,8 +96,9 @@ class Counts:
                     yield name, label, wanted.get(label), got.get(label)
 
     def never_drawn(self):
-        """The counters that are 0, except those of connections, and of memory that no client can use up."""
-        return [(name, label) for name, of in self.wanted().items() for label, number in of.items() if not number and name != ENDED and label != "memory"]
+        """The counters that are 0, except those of connections, of memory that no client can use up, of tenants that are
+        not full, and of frozen ones."""
+        return [(name, label) for name, of in self.wanted().items() for label, number in of.items() if not number and name not in (ENDED, FULL) and label not in ("memory", "frozen")]
 
 
 class Lines:

@@ -11,7 +11,7 @@ from judyd import wording
 
 CAUSES = ("quit", "end", "fault", "login", "idle", "turn", "memory", "gone", "kick")
 CALLS = ("AUTH", "QUIT", "USED", *sorted(wording.CALLS), "PING", "HELLO", "none")
-KINDS = {b"FULL": "full", b"ERR MEMORY": "memory", b"ERR AUTH": "auth", b"ERR READONLY": "readonly", b"ERR SYNTAX": "syntax", b"ERR LONG": "long", b"ERR CLIENTS": "clients"}
+KINDS = {b"FULL": "full", b"ERR MEMORY": "memory", b"ERR AUTH": "auth", b"ERR READONLY": "readonly", b"ERR SYNTAX": "syntax", b"ERR LONG": "long", b"ERR CLIENTS": "clients", b"ERR FROZEN": "frozen"}
 
 
 class Metric(NamedTuple):
@@ -47,7 +47,10 @@ METRICS = [
     Metric("judyd_lines_total", "counter", "call", "Lines by what they ask for."),
     Metric("judyd_replies_total", "counter", "kind", "Replies by kind."),
     Metric("judyd_logins_refused_total", "counter", "tenant", "Refused log-ins by tenant."),
+    Metric("judyd_tenant_lines_total", "counter", "tenant", "Lines by tenant."),
+    Metric("judyd_tenant_full_total", "counter", "tenant", "FULL replies by tenant."),
     Metric("judyd_logins_unknown_total", "counter", "", "Log-ins with a name that no tenant has."),
+    Metric("judyd_build_info", "gauge", "version", "The version of the program."),
 ]
 TENANTS = ("judyd_tenant_entries", "judyd_tenant_quota_entries", "judyd_tenant_pieces", "judyd_tenant_quota_pieces")
 
@@ -74,6 +77,9 @@ class Numbers:
             "judyd_lines_total": dict.fromkeys(CALLS, 0),
             "judyd_replies_total": dict.fromkeys(("ok", *KINDS.values()), 0),
             "judyd_logins_refused_total": dict.fromkeys(self.tenants, 0),
+            "judyd_tenant_lines_total": dict.fromkeys(self.tenants, 0),
+            "judyd_tenant_full_total": dict.fromkeys(self.tenants, 0),
+            "judyd_build_info": {"1.0.0": 1},
         }
 
     def text(self) -> bytes:

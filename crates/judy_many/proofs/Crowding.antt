@@ -529,15 +529,15 @@ module _ {B S : Type 0} (view : B → View) (rules : Rules S) (limits : Limits) 
       asks phase had past Stage.Unasked log log' slots count now now (Did (Replied reply) ∷ []) (record { foreign = λ n. refl; came = refl; closed = refl; within = (e, tt); phases = λ wrote. ((tt, tt), refl); silent = λ share. refl; unlost = refl; waited = refl; reads = λ last. tt; quiet = refl }) (may, tt) refl k (λ h. (tt, refl)) refl h
 
   -- the asker was answered, and the operator told
-  pub has_replied : (phase : Phase) (had : Queued) (past : Past) (log log' : Acts) (slots : List (Option B)) (count : ℕ) (now : S) (changed : Bool) (reply line : List ℕ) → limits.status ≡ true → MayReply past.stage
-      → BeginsWith (told_head changed) line → DidLog log (Replied reply ∷ Warned line ∷ []) log' → Now phase had past log slots count now → Now phase had (at_stage Stage.Unasked past) log' slots count now
-  has_replied phase had past log log' slots count now changed reply line e may is k h =
+  pub has_replied : (phase : Phase) (had : Queued) (past : Past) (log log' : Acts) (slots : List (Option B)) (count : ℕ) (now : S) (order changed : Bool) (reply line : List ℕ) → limits.status ≡ true → MayReply past.stage
+      → BeginsWith (told_head order changed) line → DidLog log (Replied reply ∷ Warned line ∷ []) log' → Now phase had past log slots count now → Now phase had (at_stage Stage.Unasked past) log' slots count now
+  has_replied phase had past log log' slots count now order changed reply line e may is k h =
       asks phase had past Stage.Unasked log log' slots count now now (Did (Replied reply) ∷ Did (Warned line) ∷ [])
       (record {
         foreign = λ n. refl;
         came = refl;
         closed = refl;
-        within = (e, (inr (inr (e, (changed, is))), tt));
+        within = (e, (inr (inr (e, (order, changed, is))), tt));
         phases = λ wrote. ((tt, (tt, tt)), refl);
         silent = λ share. refl;
         unlost = refl;

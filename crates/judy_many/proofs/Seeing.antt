@@ -2,10 +2,10 @@
 --     turns_seen       the calls of lines, one after another
 --     turns_use        the names and tokens stay, and each speaker is by them, unless its tenant has enough connections
 use Rattle.std.proofs.Common.{◌≡◌, ℕ, List, [], ◌∷◌, ◌+◌, length, sym, ◌∙◌, ap, subst, refl}
-use Rattle.std.specs.Prelude.{zip}
+use Rattle.std.specs.Prelude.{Option, zip}
 use Rattle.std.proofs.lemmas.List.{length-append}
 use Rattle.judy_model.specs.declared.replies.Reply.{Reply}
-use Rattle.judy_model.specs.Speakers.{Event}
+use Rattle.judy_model.specs.Speakers.{Event, Speaker}
 use Rattle.judy_model.specs.Stream.{Heard, event_of}
 use Rattle.judy_protocol.specs.Services.{AreMade, IsCalled, Seen}
 use Rattle.judy_protocol.proofs.Talking.{AreMade-append, zip-append}
@@ -22,7 +22,7 @@ KeepsApart {S} rules = (before after : S) (event : Event) (reply : Reply) → ru
 
 -- counting is not seen
 abbrev pub IsUnseen : {S : Type 0} → Rules S → Type 0
-IsUnseen {S} rules = (before after : S) (line : Heard) (answer : List ℕ) → rules.noted before line answer after → rules.seen after ≡ rules.seen before
+IsUnseen {S} rules = (before after : S) (who : Option Speaker) (line : Heard) (answer : List ℕ) → rules.noted before who line answer after → rules.seen after ≡ rules.seen before
 
 logins_stay : (before after : Seen) (ps : List (Event × Reply)) → AreMade Called before ps after → after.logins ≡ before.logins
 logins_stay before after [] h = ap (λ s. s.logins) h
@@ -36,7 +36,7 @@ module _ {S : Type 0} (rules : Rules S) (apart : KeepsApart rules) (unseen : IsU
   -- one line
   turn_seen : (before after : S) (t : Turn) → IsTurn rules before t after → AreMade Called (rules.seen before) (zip (event_of t.line t.who) t.replies) (rules.seen after)
   turn_seen before after t h =
-      subst (λ s. AreMade Called (rules.seen before) (zip (event_of t.line t.who) t.replies) s) (sym (unseen h.mid after t.line _ h.noted))
+      subst (λ s. AreMade Called (rules.seen before) (zip (event_of t.line t.who) t.replies) s) (sym (unseen h.mid after t.after t.line _ h.noted))
       (calls_seen before h.mid (zip (event_of t.line t.who) t.replies) h.calls)
 
   pub turns_seen : (before after : S) (ts : List Turn) → AreTurns rules before ts after

@@ -120,7 +120,7 @@ module _ {S : Type 0} (rules : Rules S) where
       → ((rest : List ℕ) → Holds rest held → line ≡ heard (rest ++ chunk)) → Holds [] held'
       → HasRun rules.made (rules.seen before).logins line who who' before mid text changed
       → crowded ≡ is_crowded most others (claim_in line who') → last ≡ unless_crowded crowded who' → said ≡ (if crowded then crowded_answer else text)
-      → rules.noted mid line said after
+      → rules.noted mid last line said after
       → answers' ≡ answers ++ said → quit ≡ is_quit line
       → line ≡ heard_bare bare → names ≡ (rules.seen before).names → journal' ≡ noted_by (records_of changed names last bare) journal
       → (turn : Turn) × AreLimited most others (turn ∷ []) × Steps rules (chunk ++ 10 ∷ []) (turn ∷ []) quit held held' who last before after answers answers' journal journal'
@@ -154,7 +154,7 @@ module _ {S : Type 0} (rules : Rules S) where
               speaks = left ∙ ap (unless_crowded crowded) t.speaks;
               count = t.count;
               calls = t.run;
-              noted = subst (λ w. rules.noted mid line w after) told noted;
+              noted = subst (λ w. rules.noted mid last line w after) told noted;
               recorded = subst (λ n. IsRecorded n (event_of line who) t.replies records) same
                   (subst (IsRecorded names (event_of line who) t.replies)
                   (sym (no_record names line bare who who' last t.replies changed crowded left (λ e. right e) ran.changed_is))

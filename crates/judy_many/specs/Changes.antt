@@ -1,8 +1,8 @@
--- A table that is read again while connections stay open.
+-- A table that is read again, or a tenant that is frozen or thawed, while connections stay open.
 --     IsChange before after       a change keeps or empties each tenant's arrays
 --     KeepsTenants before after   it keeps all of them
 --     is_gone admits speaker      the speaker of a connection does not go on
---     HasReloaded ..              what the server did when it was asked to read the table again
+--     HasReloaded ..              what the server did when it was asked to read the table again, or to freeze or thaw a tenant
 --     IsAlone before turns after  over these lines each tenant's replies are those that it would get alone
 --     IsAloneFor t ..             so are those of this tenant
 --     Chain P before runs after   P holds of each run of lines, and changes join them
@@ -31,8 +31,8 @@ pub record KeepsTenants (before after : Seen) : Type 0 where
   pub states : (t : ℕ) → after.states t ≡ before.states t
   pub names : (t : ℕ) → (before.names t ≡ []) ⊎ (after.names t ≡ before.names t)
 
--- The file of the table was read, and its table was put in force. Or it was not read, or its table was
--- not put in force; then nothing has changed.
+-- The file of the table was read, and its table was put in force; or an order was carried out. Or it was not
+-- read, or not put in force or carried out; then nothing has changed.
 abbrev pub HasChanged : {S : Type 0} → Rules S → Bool → Acts → Acts → S → S → Type 0
 HasChanged rules true log log' before after = (text : List ℕ) × DidLog log (Tabled text ∷ []) log' × rules.changed before text after
 HasChanged rules false log log' before after = (after ≡ before) × (DidLog log (Untabled ∷ []) log' ⊎ ((text : List ℕ) × DidLog log (Tabled text ∷ []) log'))
@@ -62,9 +62,10 @@ abbrev pub AreClosed : Bool → List Act → Type 0
 AreClosed true acts = AreGone acts
 AreClosed false acts = acts ≡ []
 
--- What the server did, in this order: it read the table, closed the connections whose speakers are gone,
--- answered, and told the operator.
+-- What the server did, in this order: it read the table or the order, closed the connections whose speakers are
+-- gone, answered, and told the operator.
 pub record HasReloaded {S : Type 0} (rules : Rules S) (log log' : Acts) (before after : S) : Type 0 where
+  pub order : Bool
   pub changed : Bool
   pub tabled : Acts
   pub closed : Acts
@@ -75,7 +76,7 @@ pub record HasReloaded {S : Type 0} (rules : Rules S) (log log' : Acts) (before 
   pub closes : DidLog tabled gone closed
   pub are_gone : AreClosed changed gone
   pub replied : BeginsWith (reply_head changed) reply
-  pub told : BeginsWith (told_head changed) line
+  pub told : BeginsWith (told_head order changed) line
   pub last : DidLog closed (Replied reply ∷ Warned line ∷ []) log'
 
 -- Over these lines each tenant's replies are those that it would get alone, without the calls that were

@@ -67,7 +67,7 @@ pub data Act : Type 0 where
   Reported : List ℕ → Act
   -- this line was told to the operator
   Warned : List ℕ → Act
-  -- the file of the table was read again, and this is its text; or it was not
+  -- the file of the table was read again, or an order was asked for, and this is the text; or it was not
   Tabled : List ℕ → Act
   Untabled : Act
   -- the question named this tenant

@@ -15,8 +15,8 @@ use Rattle.judy_many.specs.Nets.Act.{Came, Refused, Read, Dry, Ended, Broke, Wro
 use Rattle.judy_many.specs.Stories.{Moment, Story}
 use Rattle.judy_many.specs.Stories.Moment.{Changed, Did, Ran}
 
--- nothing is asked; this is asked; then the file of the table was read, or could not be; then a new table
--- was put in force; or a tenant was named
+-- nothing is asked; this is asked; then the file of the table or the order was read, or could not be; then a
+-- new table was put in force, or the order was carried out; or a tenant was named
 pub data Stage : Type 0 where
   Unasked : Stage
   Asks : Question → Stage
@@ -24,7 +24,8 @@ pub data Stage : Type 0 where
   Renewed : Stage
   Chosen : Stage
 
--- it is asked that the table is read again, and that connections of a tenant are closed
+-- it is asked that the table is read again or a tenant is frozen or thawed, and that connections of a tenant
+-- are closed
 abbrev pub asks_reload : Stage
 asks_reload = Stage.Asks question.Reload
 
@@ -51,7 +52,7 @@ abbrev pub stage_since : Stage → Story → Stage
 stage_since stage [] = stage
 stage_since stage (m ∷ story) = stage_since (stage_after stage m) story
 
--- the file of the table was read, and its table was put in force, or was not
+-- the text was read, and it was put in force, or was not
 abbrev pub read_stage : Bool → Stage
 read_stage true = Stage.Renewed
 read_stage false = Stage.Fetched

@@ -5,9 +5,9 @@ use Rattle.judy_model.specs.Speakers.{Speaker}
 use Rattle.judy_model.specs.Stream.{Heard}
 use Rattle.judy_protocol.specs.Services.{Made, Seen}
 
--- the step of counting a line that was run: what it asked for, and its answer
+-- the step of counting a line that was run: who speaks after it, what it asked for, and its answer
 abbrev pub Noted : Type 0 → Type 1
-Noted S = S → Heard → List ℕ → S → Type 0
+Noted S = S → Option Speaker → Heard → List ℕ → S → Type 0
 
 pub record Rules (S : Type 0) : Type 1 where
   -- the step of a call, with its reply

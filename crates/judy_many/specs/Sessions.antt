@@ -76,8 +76,8 @@ unless_crowded crowded who = if crowded then None else who
 
 -- One line was run: its speaker may speak, by the table in force; its speaker afterwards is by the names
 -- and tokens in force, unless its tenant has enough connections. Only a log-in with a right name and token
--- is refused for that. Its call was made, if it makes one, and then it was counted, with its answer. Its
--- record is that of its call, if that may have changed arrays.
+-- is refused for that. Its call was made, if it makes one, and then it was counted, with its answer, for
+-- its speaker afterwards. Its record is that of its call, if that may have changed arrays.
 pub record IsTurn {S : Type 0} (rules : Rules S) (before : S) (t : Turn) (after : S) : Type 0 where
   pub mid : S
   pub known : HasLoggedIn (rules.seen before).speakers t.who
@@ -86,7 +86,7 @@ pub record IsTurn {S : Type 0} (rules : Rules S) (before : S) (t : Turn) (after 
   pub speaks : t.after ≡ unless_crowded t.crowded (speaker_after (rules.seen before).logins t.who t.line)
   pub count : length t.replies ≡ length (event_of t.line t.who)
   pub calls : AreMade rules.made before (zip (event_of t.line t.who) t.replies) mid
-  pub noted : rules.noted mid t.line (text_of t) after
+  pub noted : rules.noted mid t.after t.line (text_of t) after
   pub recorded : IsRecorded (rules.seen before).names (event_of t.line t.who) t.replies t.records
 
 -- the lines were run, one after another; they may be lines of many sessions

@@ -22,7 +22,7 @@ use Rattle.judy_many.specs.Nets.Act.{Came, Refused, Read, Dry, Ended, Broke, Wro
 use Rattle.judy_many.specs.Sessions.{Turn}
 
 -- an answer of the system, or lines of one connection that were run one after another, or the table of
--- this text was put in force
+-- this text was put in force, or the order that this text is was carried out
 pub data Moment : Type 0 where
   Did : Act → Moment
   Ran : ℕ → List Turn → Moment
@@ -210,16 +210,18 @@ IsAllowed limits other = Unit {0}
 abbrev pub BeginsWith : List ℕ → List ℕ → Type 0
 BeginsWith head text = (rest : List ℕ) × (text ≡ head ++ rest)
 
--- what is told of a table that was asked for on the status socket: whether it was put in force
-abbrev pub told_head : Bool → List ℕ
-told_head true = codes "table read again: "
-told_head false = codes "table not read again: "
+-- what is told of an order or of a table that was asked for: whether it was carried out or put in force
+abbrev pub told_head : Bool → Bool → List ℕ
+told_head true true = codes "tenant "
+told_head true false = codes "no tenant frozen or thawed: "
+told_head false true = codes "table read again: "
+told_head false false = codes "table not read again: "
 
--- The operator is told of refused log-ins, of requests that were refused for memory, and of tables that
--- were read again.
+-- The operator is told of refused log-ins, of requests that were refused for memory, of tables that were read
+-- again, and of orders.
 abbrev pub IsWarning : Limits → List ℕ → Type 0
 IsWarning limits text = BeginsWith (codes "log-in refused: ") text ⊎ BeginsWith (codes "out of memory: ") text
-    ⊎ ((limits.status ≡ true) × ((changed : Bool) × BeginsWith (told_head changed) text))
+    ⊎ ((limits.status ≡ true) × ((order : Bool) × (changed : Bool) × BeginsWith (told_head order changed) text))
 
 -- Connections were closed for lack of bytes or for their age only where a limit was given. Questions
 -- were answered only where there is a status socket, and bytes were kept only where there is a journal.
@@ -245,14 +247,14 @@ abbrev pub AreWithin : Limits → List Act → Type 0
 AreWithin limits [] = Unit {0}
 AreWithin limits (a ∷ acts) = IsWithin limits a × AreWithin limits acts
 
--- the tables that were put in force
+-- the tables that were put in force and the orders that were carried out
 abbrev pub changes_in : Story → List (List ℕ)
 changes_in [] = []
 changes_in (Did a ∷ story) = changes_in story
 changes_in (Ran n turns ∷ story) = changes_in story
 changes_in (Changed text ∷ story) = text ∷ changes_in story
 
--- the text of the table that was just read, if one was
+-- the text of the table or the order that was just read, if one was
 abbrev pub just_read : Act → Option (List ℕ)
 just_read (Tabled text) = Some text
 just_read _ = None

@@ -52,7 +52,7 @@ fn make<S: Shows, N: Network>(
 pub enum Next {
     /// With the next round.
     Round,
-    /// The table is read again first.
+    /// The table is read again first, or a tenant is frozen or thawed.
     Reload,
     /// Connections of a tenant are closed first.
     Kick,

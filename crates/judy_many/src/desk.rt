@@ -2,6 +2,7 @@
 
 use crate::limits::{ASKERS_LIMIT, QUESTION_LIMIT};
 use crate::network::Question;
+use crate::orders::is_order;
 use crate::times::is_past;
 use arrayvec::ArrayVec;
 use itoa::Buffer;
@@ -130,7 +131,7 @@ fn read_command(line: &[u8]) -> Meaning {
     if line == b"STOP".as_slice() {
         return Meaning::Asks(Question::Stop);
     }
-    if line == b"RELOAD".as_slice() {
+    if line == b"RELOAD".as_slice() || is_order(line) {
         return Meaning::Asks(Question::Reload);
     }
     if kicked(line).is_some() {
@@ -413,6 +414,14 @@ impl Desk {
             return nobody;
         };
         kicked(without_return(line)).unwrap_or(nobody)
+    }
+
+    /// The line of the last question, if it asks to freeze or thaw a tenant.
+    pub fn order(&self) -> Option<&[u8]> {
+        let asker = self.current.as_ref()?;
+        let (line, _rest) = cut_line(asker.asked.as_slice())?;
+        let line = without_return(line);
+        if is_order(line) { Some(line) } else { None }
     }
 
     /// Answers with these texts, and closes the connection. What it does not take at once is dropped.

@@ -14,6 +14,7 @@ mod laws;
 mod limits;
 mod lines;
 mod network;
+mod orders;
 mod others;
 mod queue;
 mod record;

@@ -62,7 +62,8 @@ pub enum How {
     Over,
     /// There is no memory for its buffers.
     Memory,
-    /// Its tenant or its token is not in the table that was put in force.
+    /// Its tenant or its token is not in the table that was put in force, or the token has another right
+    /// since its tenant is frozen or thawed.
     Gone,
     /// The operator asked that the connections of its tenant are closed.
     Kicked,
@@ -77,13 +78,13 @@ pub enum Question {
     Status,
     /// That the server ends.
     Stop,
-    /// That the table is read again.
+    /// That the table is read again, or that a tenant is frozen or thawed.
     Reload,
     /// That the connections of a tenant are closed.
     Kick,
 }
 
-/// Why the file of the table was not read again.
+/// Why the file of the table, or an order, was not read.
 #[derive(Clone, Copy, Debug, PartialEq, Eq)]
 pub enum Unread {
     /// It cannot be opened, or a read of it failed.
@@ -168,7 +169,8 @@ pub trait Network {
     fn warn(&mut self, text: &[u8])
         ensures { DidLog (log self.old) (Warned text.now ∷ []) (log self.new) };
 
-    /// Reads the file of the table again, into an empty text.
+    /// Reads what is to be put in force into an empty text: the file of the table, or the line that asked
+    /// to freeze or thaw a tenant.
     fn table(&mut self, text: &mut Vec<u8>) -> Result<(), Unread>
         ensures { DidLog (log self.old) (table_acts result text.new.items) (log self.new) };
 

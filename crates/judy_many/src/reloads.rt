@@ -1,4 +1,4 @@
-//! A table that is read again while connections stay open.
+//! A table that is read again, or a tenant that is frozen or thawed, while connections stay open.
 ghost use Rattle.std.specs.Prelude.{◌≡◌, ◌⊎◌, ℕ, List, [], Some, true, false, is_some, MatchBool, option_map};
 ghost use Rattle.judy_model.specs.Speakers.{Speaker};
 ghost use Rattle.judy_protocol.specs.Services.{HasLoggedIn};
@@ -19,6 +19,7 @@ use crate::client::Client;
 use crate::clients::Clients;
 use crate::limits::TOLD_LIMIT;
 use crate::network::{How, Network, Unread};
+use crate::orders::is_order;
 use crate::shows::Shows;
 use crate::warnings::{add, begin};
 use arrayvec::ArrayVec;
@@ -34,8 +35,8 @@ fn name_of(unread: Unread) -> &'static [u8] {
     }
 }
 
-/// Puts the table of a text in force; with a journal only if each tenant stays. False if nothing was
-/// changed. Puts what is said of it into `told`.
+/// Puts the table of a text in force, or carries out its order; with a journal only if each tenant
+/// stays. False if nothing was changed. Puts what is said of it into `told`.
 fn change_to<S: Shows>(
     alloc: Global,
     service: &mut S,
@@ -53,8 +54,8 @@ fn change_to<S: Shows>(
     service.change(alloc, text, told)
 }
 
-/// Reads the file of the table again, and puts its table in force. False if nothing was changed. Puts
-/// what is said of it into `told`.
+/// Reads the file of the table again, and puts its table in force; or carries out the order that was
+/// asked for. False if nothing was changed. Puts what is said of it into `told`.
 fn change_table<S: Shows, N: Network>(
     alloc: Global,
     network: &mut N,
@@ -140,7 +141,7 @@ fn close_gone<S: Shows, N: Network>(network: &mut N, service: &S, clients: &mut 
     }
 }
 
-/// The same, if the table was changed.
+/// The same, if something was changed.
 fn close_after<S: Shows, N: Network>(
     changed: bool,
     network: &mut N,
@@ -185,9 +186,23 @@ fn reply_line(changed: bool, told: &[u8]) -> ArrayVec<u8, TOLD_LIMIT>
     line
 }
 
-/// What the operator is told.
-fn told_line(changed: bool, told: &[u8]) -> ArrayVec<u8, TOLD_LIMIT>
-    ensures { BeginsWith (told_head changed) result.items }
+/// What the operator is told of an order.
+fn order_line(changed: bool, told: &[u8]) -> ArrayVec<u8, TOLD_LIMIT>
+    ensures { BeginsWith (told_head true changed) result.items }
+{
+    if changed {
+        let mut line = begin(b"tenant ");
+        add(&mut line, told);
+        return line;
+    }
+    let mut line = begin(b"no tenant frozen or thawed: ");
+    add(&mut line, told);
+    line
+}
+
+/// What the operator is told of a table.
+fn table_line(changed: bool, told: &[u8]) -> ArrayVec<u8, TOLD_LIMIT>
+    ensures { BeginsWith (told_head false changed) result.items }
 {
     if changed {
         let mut line = begin(b"table read again: ");
@@ -199,7 +214,19 @@ fn told_line(changed: bool, told: &[u8]) -> ArrayVec<u8, TOLD_LIMIT>
     line
 }
 
-/// Reads the table again, closes the clients whose speakers may not go on, and says so.
+/// What the operator is told of an order or of a table.
+fn told_line(order: bool, changed: bool, told: &[u8]) -> ArrayVec<u8, TOLD_LIMIT>
+    ensures { BeginsWith (told_head order changed) result.items }
+{
+    if order {
+        order_line(changed, told)
+    } else {
+        table_line(changed, told)
+    }
+}
+
+/// Reads the table again or carries out an order, closes the clients whose speakers may not go on, and
+/// says so.
 pub fn reload<S: Shows, N: Network>(
     alloc: Global,
     network: &mut N,
@@ -229,5 +256,6 @@ pub fn reload<S: Shows, N: Network>(
     let changed = change_table(alloc, network, service, keep, text, &mut told);
     close_after(changed, network, &*service, clients);
     network.reply(reply_line(changed, told.as_slice()).as_slice());
-    network.warn(told_line(changed, told.as_slice()).as_slice());
+    let order = is_order(text.as_slice());
+    network.warn(told_line(order, changed, told.as_slice()).as_slice());
 }

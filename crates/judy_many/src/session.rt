@@ -160,7 +160,7 @@ pub fn run_line<S: Shows, N: Network>(
         most,
         &mut rooms.reply,
     );
-    service.note(&asked, rooms.reply.as_slice());
+    service.note(session.speaker, &asked, rooms.reply.as_slice());
     note_line(keeper, &*service, session.speaker, line, changed);
     append(answers, rooms.reply.as_slice());
     let quit = asks_to_quit(&asked);

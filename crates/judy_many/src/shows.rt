@@ -19,10 +19,10 @@ pub trait Shows: Served {
     /// The text of the status, with who speaks on each open connection.
     ghost status: { Self → List (Option Speaker) → List ℕ };
 
-    /// A line that was run was counted: what it asked for, and its answer.
-    ghost noted: { Self → Heard → List ℕ → Self → Type 0 };
+    /// A line that was run was counted: who speaks after it, what it asked for, and its answer.
+    ghost noted: { Self → Option Speaker → Heard → List ℕ → Self → Type 0 };
 
-    /// The table of this text was put in force.
+    /// The table of this text was put in force, or the order that it is was carried out.
     ghost changed: { Self → List ℕ → Self → Type 0 };
 
     /// The token with which a speaker logged in gives its right by the table in force.
@@ -33,9 +33,14 @@ pub trait Shows: Served {
         ensures { OnOk result (text.new.items ≡ text.old.items
             ++ status self.now (map (option_map Self.who) speakers.now)) };
 
-    /// Counts a line that was run.
-    fn note(&mut self, asked: &Result<Line<'_>, Refusal>, answer: &[u8])
-        ensures { noted self.old (as_heard asked.now) answer.now self.new };
+    /// Counts a line that was run, for the tenant that speaks after it, if one does.
+    fn note(
+        &mut self,
+        speaker: Option<Self::Speaker>,
+        asked: &Result<Line<'_>, Refusal>,
+        answer: &[u8],
+    )
+        ensures { noted self.old (option_map Self.who speaker) (as_heard asked.now) answer.now self.new };
 
     /// How many log-ins were refused.
     fn refused_logins(&self) -> u64;
@@ -47,12 +52,14 @@ pub trait Shows: Served {
     /// How many requests were refused for memory.
     fn refused_requests(&self) -> u64;
 
-    /// Puts the table of this text in force. False if it is not, and then nothing has changed. Appends to
-    /// `told` what is said of it: how many tenants there are, as `3 tenants`, or the fault.
+    /// Puts the table of this text in force, or carries out the order that it is: `FREEZE TENANT DIGEST` or
+    /// `THAW TENANT`. False if it does not, and then nothing has changed. Appends to `told` what is said of
+    /// it: how many tenants there are, as `3 tenants`, or what an order did, as `alice frozen`; or the fault.
     fn change(&mut self, alloc: Global, text: &[u8], told: &mut Vec<u8>) -> bool
         ensures { MatchBool result (changed self.old text.now self.new) (self.new ≡ self.old) };
 
-    /// Whether the table of this text has each tenant that is in force, so that its arrays stay.
+    /// Whether the table of this text has each tenant that is in force, so that its arrays stay. True for an
+    /// order.
     fn keeps(&self, alloc: Global, text: &[u8]) -> bool
         ensures { result ≡ true → (after : Self) → changed self.now text.now after
             → KeepsTenants (Self.seen self.now) (Self.seen after) };
@@ -73,8 +80,8 @@ pub trait Shows: Served {
         ensures no { result ≡ false → HasName (Self.seen self.now).names name.now → name.now ≡ [] };
 
     /// Counting changes nothing that a connection relies on.
-    ghost unseen: { (before after : Self) (line : Heard) (answer : List ℕ)
-        → noted before line answer after → Self.seen after ≡ Self.seen before };
+    ghost unseen: { (before after : Self) (who : Option Speaker) (line : Heard) (answer : List ℕ)
+        → noted before who line answer after → Self.seen after ≡ Self.seen before };
 
     /// A new table keeps or empties each tenant's arrays.
     ghost stays: { (before after : Self) (text : List ℕ)

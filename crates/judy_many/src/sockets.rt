@@ -376,6 +376,11 @@ impl<'a, F: Files + Net + Clock + Eprint> Sockets<'a, F> {
         }
     }
 
+    /// The line of the last question, if it asks to freeze or thaw a tenant.
+    pub fn order(&self) -> Option<&[u8]> {
+        self.control.as_ref()?.order()
+    }
+
     /// Answers what was asked last, with this text alone.
     pub fn reply(&mut self, text: &[u8]) {
         if let Some(desk) = &mut self.control {

@@ -170,6 +170,20 @@ impl<'a, F: Locks + Net + Clock + Eprint + Clone + Drop> System<'a, F> {
         }
     }
 
+    /// The line that asked to freeze or thaw a tenant, if the last question did; otherwise the file of the
+    /// table, read again.
+    fn fetch(&mut self, text: &mut Vec<u8>) -> Result<(), Unread>
+        ensures log { self.new.notes ≡ self.old.notes }
+    {
+        let Some(sockets) = &self.sockets else {
+            return self.read_again(text);
+        };
+        match sockets.order() {
+            Some(line) => text.extend_from_slice(line).map_err(|_| Unread::Memory),
+            None => self.read_again(text),
+        }
+    }
+
     /// Makes the status socket. False if it cannot be made.
     fn watch_at(&mut self, path: &str) -> bool
         ensures log { self.new.notes ≡ self.old.notes }
@@ -314,7 +328,7 @@ impl<'a, F: Locks + Net + Clock + Eprint + Clone + Drop> Network for System<'a, 
     }
 
     fn table(&mut self, text: &mut Vec<u8>) -> Result<(), Unread> {
-        let read = self.read_again(text);
+        let read = self.fetch(text);
         self.notes.tabled(&read, text.as_slice());
         read
     }

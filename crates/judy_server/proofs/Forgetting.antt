@@ -4,7 +4,6 @@ use Rattle.std.specs.Prelude.{slice_get, slice_set}
 use Rattle.judy_table.specs.declared.tenant.Tenant.{Tenant}
 use Rattle.judy_table.specs.Tenants.{is_vacant}
 use Rattle.judy_server.specs.Reloads.{forgotten}
-use Rattle.judy_server.specs.declared.tally.Tally.{Tally}
 
 forgotten-step : (from place : ℕ) (rows : List Tenant) (vacant : Bool) (counts : List ℕ) → slice_get (map is_vacant rows) place ≡ Some vacant
     → forgotten from (drop place rows) counts ≡ forgotten (suc from) (drop (suc place) rows) (cond vacant (slice_set counts from 0) counts)
@@ -32,9 +31,3 @@ forgotten_on place next rows vacant counts counts' all after is set so =
 -- all places
 pub forgotten_all : (place : ℕ) (rows : List Tenant) (counts all : List ℕ) → length rows ≡ place → forgotten place (drop place rows) counts ≡ all → counts ≡ all
 forgotten_all place rows counts all e so = sym (forgotten-none place place rows counts e) ∙ so
-
--- the other counts stay
-pub only_refused : (first t t' : Tally) (counts : List ℕ) → t ≡ record first { refused = t.refused } → t' ≡ record t { refused = counts }
-    → t' ≡ record first { refused = t'.refused }
-only_refused first t t' counts h k =
-    k ∙ ap (λ (x : Tally). record x { refused = counts }) h ∙ ap (λ (cs : List ℕ). record first { refused = cs }) (sym (ap (λ (x : Tally). x.refused) k))

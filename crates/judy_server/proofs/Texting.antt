@@ -47,13 +47,13 @@ pub samples_all : (m : Metric) (label : List ℕ) (number : ℕ → ℕ) (place 
 samples_all m label number place values t all e so =
     sym (append-nil t) ∙ ap (λ l. t ++ l) (sym (samples-none m label number place place values e)) ∙ so
 
--- eight parts, one after another
-pub eight-parts : (p q r s t u v w a b c d e f g h i : List ℕ) → b ≡ a ++ p → c ≡ b ++ q → d ≡ c ++ r → e ≡ d ++ s → f ≡ e ++ t → g ≡ f ++ u → h ≡ g ++ v → i ≡ h ++ w
-    → i ≡ a ++ (p ++ (q ++ (r ++ (s ++ (t ++ (u ++ (v ++ w)))))))
-eight-parts p q r s t u v w a b c d e f g h i hb hc hd he hf hg hh hi =
-    adds-then a p (q ++ (r ++ (s ++ (t ++ (u ++ (v ++ w)))))) b i hb (adds-then b q (r ++ (s ++ (t ++ (u ++ (v ++ w))))) c i hc
-    (adds-then c r (s ++ (t ++ (u ++ (v ++ w)))) d i hd (adds-then d s (t ++ (u ++ (v ++ w))) e i he
-    (adds-then e t (u ++ (v ++ w)) f i hf (adds-then f u (v ++ w) g i hg (adds-then g v w h i hh hi))))))
+-- nine parts, one after another
+pub nine-parts : (p q r s t u v w x a b c d e f g h i j : List ℕ) → b ≡ a ++ p → c ≡ b ++ q → d ≡ c ++ r → e ≡ d ++ s → f ≡ e ++ t → g ≡ f ++ u → h ≡ g ++ v → i ≡ h ++ w → j ≡ i ++ x
+    → j ≡ a ++ (p ++ (q ++ (r ++ (s ++ (t ++ (u ++ (v ++ (w ++ x))))))))
+nine-parts p q r s t u v w x a b c d e f g h i j hb hc hd he hf hg hh hi hj =
+    adds-then a p (q ++ (r ++ (s ++ (t ++ (u ++ (v ++ (w ++ x))))))) b j hb (adds-then b q (r ++ (s ++ (t ++ (u ++ (v ++ (w ++ x)))))) c j hc
+    (adds-then c r (s ++ (t ++ (u ++ (v ++ (w ++ x))))) d j hd (adds-then d s (t ++ (u ++ (v ++ (w ++ x)))) e j he
+    (adds-then e t (u ++ (v ++ (w ++ x))) f j hf (adds-then f u (v ++ (w ++ x)) g j hg (adds-then g v (w ++ x) h j hh (adds-then h w x i j hi hj)))))))
 
 -- one item of a list more
 pub items_on : {A : Type 0} (f : A → List ℕ) (xs : List A) (i : ℕ) (d : A) (t t' all : List ℕ) → i < length xs → t' ≡ t ++ f (get_or xs i d)

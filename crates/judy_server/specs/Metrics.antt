@@ -1,7 +1,7 @@
 -- The metrics of the status: their names, what they tell, and what kind of number they are.
 use Rattle.std.specs.Prelude.{ℕ, List, codes}
 use Rattle.judy_server.specs.declared.metrics.Metric.{Metric}
-use Rattle.judy_server.specs.declared.metrics.Metric.TheVariants.{Total as Totals, Share as Shares, Connections, Strangers, Lines, Replies}
+use Rattle.judy_server.specs.declared.metrics.Metric.TheVariants.{Total as Totals, Share as Shares, Connections, Strangers, Lines, Replies, Build}
 use Rattle.judy_server.specs.declared.metrics.Share.{Share}
 use Rattle.judy_server.specs.declared.metrics.Share.TheVariants as share
 use Rattle.judy_server.specs.declared.metrics.Total.{Total}
@@ -22,6 +22,8 @@ share_name share.EntriesQuota = codes "judyd_tenant_quota_entries"
 share_name share.Pieces = codes "judyd_tenant_pieces"
 share_name share.PiecesQuota = codes "judyd_tenant_quota_pieces"
 share_name share.RefusedLogins = codes "judyd_logins_refused_total"
+share_name share.SpokenLines = codes "judyd_tenant_lines_total"
+share_name share.FullReplies = codes "judyd_tenant_full_total"
 
 abbrev pub name_of : Metric → List ℕ
 name_of (Totals t) = total_name t
@@ -30,6 +32,7 @@ name_of Connections = codes "judyd_tenant_connections"
 name_of Strangers = codes "judyd_connections_without_tenant"
 name_of Lines = codes "judyd_lines_total"
 name_of Replies = codes "judyd_replies_total"
+name_of Build = codes "judyd_build_info"
 
 abbrev pub total_help : Total → List ℕ
 total_help total.LiveWords = codes "Words in the blocks of all arrays."
@@ -46,6 +49,8 @@ share_help share.EntriesQuota = codes "The most entries of a tenant."
 share_help share.Pieces = codes "Pieces of a tenant."
 share_help share.PiecesQuota = codes "The most pieces of a tenant."
 share_help share.RefusedLogins = codes "Refused log-ins by tenant."
+share_help share.SpokenLines = codes "Lines by tenant."
+share_help share.FullReplies = codes "FULL replies by tenant."
 
 abbrev pub help_of : Metric → List ℕ
 help_of (Totals t) = total_help t
@@ -54,6 +59,7 @@ help_of Connections = codes "Connections on which a tenant is logged in."
 help_of Strangers = codes "Connections on which nobody is logged in."
 help_of Lines = codes "Lines by what they ask for."
 help_of Replies = codes "Replies by kind."
+help_of Build = codes "The version of the program."
 
 -- a counter never falls; a gauge may
 abbrev pub kind_of : Metric → List ℕ
@@ -69,7 +75,10 @@ kind_of (Shares share.EntriesQuota) = codes "gauge"
 kind_of (Shares share.Pieces) = codes "gauge"
 kind_of (Shares share.PiecesQuota) = codes "gauge"
 kind_of (Shares share.RefusedLogins) = codes "counter"
+kind_of (Shares share.SpokenLines) = codes "counter"
+kind_of (Shares share.FullReplies) = codes "counter"
 kind_of Connections = codes "gauge"
 kind_of Strangers = codes "gauge"
 kind_of Lines = codes "counter"
 kind_of Replies = codes "counter"
+kind_of Build = codes "gauge"

@@ -1,12 +1,13 @@
 -- A table that is put in force while the service goes on.
 --     forgotten place rows counts    the counts of places without those that have no tenant
+--     without_gone rows tally        so are all counts by tenant
 --     IsReload old text new          the table of this text was put in force
 --     rows_with rows text            the rows in force after the table of this text
 --     rows_after rows texts          those after the tables of these texts, one after another
 --     has_all rows table             the table has the name of each tenant of these rows
 --     TellsAll rows text all         whether the table of this text does
 --     AllStay old new                each tenant keeps its arrays and its name
-use Rattle.std.specs.Prelude.{◌≡◌, ◌⊎◌, ◌||◌, ℕ, Bool, suc, List, [], ◌∷◌, Result, Ok, Err, if◌then◌else◌, slice_set}
+use Rattle.std.specs.Prelude.{◌≡◌, ◌⊎◌, ◌||◌, ℕ, Bool, suc, List, [], ◌∷◌, Result, Ok, Err}
 use Rattle.std.specs.List.{list_all}
 use Rattle.judy_table.specs.declared.fault.TableFault.{TableFault}
 use Rattle.judy_table.specs.declared.tenant.Tenant.{Tenant}
@@ -14,16 +15,25 @@ use Rattle.judy_table.specs.Seats.{AreRows, has_name, name_at, seated}
 use Rattle.judy_table.specs.Tenants.{is_vacant, read_table}
 use Rattle.judy_tenants.specs.Changes.{HasChanged}
 use Rattle.judy_tenants.specs.Held.{IsSoundService, states_of}
-use Rattle.judy_server.specs.Tally.{Tallied}
+use Rattle.judy_server.specs.Tally.{Tallied, cleared}
+use Rattle.judy_server.specs.declared.tally.Tally.{Tally}
 
 -- The first of the rows has this place. The count of a place without a tenant is 0, for the tenant that it is
 -- given to next.
 unfoldable pub forgotten : ℕ → List Tenant → List ℕ → List ℕ
 forgotten place [] counts = counts
-forgotten place (row ∷ rows) counts = forgotten (suc place) rows (if is_vacant row then slice_set counts place 0 else counts)
+forgotten place (row ∷ rows) counts = forgotten (suc place) rows (cleared (is_vacant row) place counts)
 
--- The table of the text was put in force: a tenant that stays keeps its place, its arrays and its count of
--- refused log-ins, and a place whose tenant is gone has none. All other counts stay.
+-- what is counted by tenant is forgotten of places without one
+abbrev pub without_gone : List Tenant → Tally → Tally
+without_gone rows tally = record tally {
+  refused = forgotten 0 rows tally.refused;
+  spoken = forgotten 0 rows tally.spoken;
+  full = forgotten 0 rows tally.full;
+}
+
+-- The table of the text was put in force: a tenant that stays keeps its place, its arrays and its counts of
+-- refused log-ins, lines and `FULL`, and a place whose tenant is gone has none. All other counts stay.
 pub record IsReload (old : Tallied) (text : List ℕ) (new : Tallied) : Type 0 where
   pub table : List Tenant
   pub reads : read_table text ≡ Ok table
@@ -31,7 +41,7 @@ pub record IsReload (old : Tallied) (text : List ℕ) (new : Tallied) : Type 0 w
   pub rows : AreRows new.held.tenants
   pub held : HasChanged old.held new.held
   pub sound : IsSoundService new.held
-  pub tally : new.tally ≡ record old.tally { refused = forgotten 0 new.held.tenants old.tally.refused }
+  pub tally : new.tally ≡ without_gone new.held.tenants old.tally
 
 -- ---- the rows in force
 

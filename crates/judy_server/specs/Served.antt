@@ -4,13 +4,13 @@
 --     IsServedStep old event reply new   a call: its tenant gets the reply that it would get alone,
 --                                        a refusal for memory has its cause, and all blocks have
 --                                        few words
---     IsNoted old line answer new        a line and its answer were counted, and nothing else changed
+--     IsNoted old who line answer new    a line and its answer were counted, and nothing else changed
 --     IsTaken reserve region room        so many megabytes were taken for the arrays, if any were
 --     IsNewService secret reserve tenants tallied   a service of these tenants, none of whom has an
 --                                        entry, that has counted nothing
 use Rattle.std.specs.Prelude.{◌≡◌, ◌≤◌, ◌*◌, ℕ, List, Option, Some, None}
 use Rattle.judy_model.specs.declared.replies.Reply.{Reply}
-use Rattle.judy_model.specs.Speakers.{Event}
+use Rattle.judy_model.specs.Speakers.{Event, Speaker}
 use Rattle.judy_model.specs.Stream.{Heard}
 use Rattle.judy_model.specs.Tenant.{no_arrays}
 use Rattle.judy_protocol.specs.Services.{IsCalled, Seen}
@@ -51,10 +51,10 @@ pub record IsServedStep (old : Tallied) (event : Event) (reply : Reply) (new : T
   -- a call counts nothing; its line does
   pub tally : new.tally ≡ old.tally
 
--- A line and its answer were counted: its call, the kind of its answer, and, if it is a log-in that was
--- refused, its tenant. Nothing else changed.
-abbrev pub IsNoted : Tallied → Heard → List ℕ → Tallied → Type 0
-IsNoted old line answer new = new ≡ record old { tally = counted old.held.tenants line answer old.tally }
+-- A line and its answer were counted: its call, the kind of its answer, both of them for the tenant that
+-- speaks after it, and, if it is a log-in that was refused, the tenant of its name. Nothing else changed.
+abbrev pub IsNoted : Tallied → Option Speaker → Heard → List ℕ → Tallied → Type 0
+IsNoted old who line answer new = new ≡ record old { tally = counted old.held.tenants who line answer old.tally }
 
 -- nothing was taken from the machine, and there is room for 256 names; or this many megabytes were
 -- taken, of 131,072 words, and there is room for 64 names for each of them

@@ -5,6 +5,7 @@
 --     number_of t share   a number of the tenant at each place
 --     status_of t who     the text, with these speakers of the open connections
 use Rattle.std.specs.Prelude.{ℕ, suc, List, [], ◌∷◌, ◌++◌, Option, codes, count_by, decimal, flat_map, map, slice_index}
+use Rattle.judy_command.specs.declared.commands.TheConstants.{VERSION}
 use Rattle.judy_model.specs.Speakers.{Speaker}
 use Rattle.judy_model.specs.Tenant.{pieces, used}
 use Rattle.judy_tenants.specs.Held.{quotas_of, states_of}
@@ -69,6 +70,8 @@ number_of t share.EntriesQuota place = (quotas_of t.held.tenants place).entries
 number_of t share.Pieces place = pieces (states_of t.held place)
 number_of t share.PiecesQuota place = (quotas_of t.held.tenants place).pieces
 number_of t share.RefusedLogins place = slice_index t.tally.refused place
+number_of t share.SpokenLines place = slice_index t.tally.spoken place
+number_of t share.FullReplies place = slice_index t.tally.full place
 
 -- one number
 unfoldable pub one_total : Tallied → Total → List ℕ
@@ -92,6 +95,10 @@ by_call tally = group metrics.Lines (codes "call") (slice_index tally.lines) cal
 unfoldable pub by_kind : Tally → List ℕ
 by_kind tally = group metrics.Replies (codes "kind") (slice_index tally.replies) reply_kinds
 
+-- the version of the program, with the number 1
+unfoldable pub by_build : List ℕ
+by_build = heading metrics.Build ++ labelled (name_of metrics.Build) (codes "version") VERSION.now 1
+
 -- ---- the text
 
 abbrev pub first_totals : List Total
@@ -100,6 +107,9 @@ first_totals = total.LiveWords ∷ total.MachineWords ∷ total.PeakWords ∷ to
 abbrev pub first_shares : List Share
 first_shares = share.Entries ∷ share.EntriesQuota ∷ share.Pieces ∷ share.PiecesQuota ∷ []
 
+abbrev pub last_shares : List Share
+last_shares = share.RefusedLogins ∷ share.SpokenLines ∷ share.FullReplies ∷ []
+
 -- No entry, no name of an array and no token is in it.
 abbrev pub status_of : Tallied → List (Option Speaker) → List ℕ
 status_of t who =
@@ -107,4 +117,4 @@ status_of t who =
     ++ (flat_map (by_tenant t) first_shares
     ++ (by_speaker t who
     ++ (by_nobody who
-    ++ (by_call t.tally ++ (by_kind t.tally ++ (by_tenant t share.RefusedLogins ++ one_total t total.UnknownLogins))))))
+    ++ (by_call t.tally ++ (by_kind t.tally ++ (flat_map (by_tenant t) last_shares ++ (one_total t total.UnknownLogins ++ by_build)))))))

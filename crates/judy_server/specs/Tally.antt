@@ -1,14 +1,16 @@
--- What a service counts: lines by what they ask for, replies by their kind, and refused log-ins by tenant.
+-- What a service counts: lines by what they ask for, replies by their kind, and refused log-ins, lines and
+-- `FULL` by tenant.
 --     call_names, call_place line      what a line can ask for, and the place of its name there
 --     reply_kinds, reply_place answer  the kinds of replies, and the place of an answer's kind there
 --     refused_name line answer         the name of a log-in, if the line is one that was refused
 --     no_counts                        nothing was counted yet
---     counted tenants line answer t    the counts after one more line
+--     counted tenants who line answer t   the counts after one more line; this tenant speaks after it
 --     Tallied                          a service with its counts
-use Rattle.std.specs.Prelude.{◌||◌, ℕ, Bool, List, [], ◌∷◌, Option, Some, None, codes, if◌then◌else◌, replicate, slice_index, slice_set, unwrap_or, ◌==◌}
+use Rattle.std.specs.Prelude.{◌||◌, ℕ, Bool, List, [], ◌∷◌, Option, Some, None, codes, if◌then◌else◌, option_map, replicate, slice_index, slice_set, unwrap_or, ◌==◌}
 use Rattle.judy_arena.specs.Blocks.{count_up}
 use Rattle.judy_model.specs.Grammar.{at_command}
 use Rattle.judy_model.specs.Replies.{line}
+use Rattle.judy_model.specs.Speakers.{Speaker}
 use Rattle.judy_model.specs.Stream.{Heard}
 use Rattle.judy_model.specs.Stream.Heard.{Asked, TooLong, Unclear}
 use Rattle.judy_model.specs.declared.calls.BytesCall.{BytesCall}
@@ -119,13 +121,14 @@ call_place TooLong = 48
 
 -- each refusal is a kind, and any other reply is `ok`
 unfoldable pub reply_kinds : List (List ℕ)
-reply_kinds = codes "ok" ∷ codes "full" ∷ codes "memory" ∷ codes "auth" ∷ codes "readonly" ∷ codes "syntax" ∷ codes "long" ∷ codes "clients" ∷ []
+reply_kinds = codes "ok" ∷ codes "full" ∷ codes "memory" ∷ codes "auth" ∷ codes "readonly" ∷ codes "syntax" ∷ codes "long" ∷ codes "clients" ∷ codes "frozen" ∷ []
 
 -- the answers of the refusals, and the places of their kinds there
 abbrev pub refusal_places : List (List ℕ × ℕ)
 refusal_places =
     (line (codes "FULL"), 1) ∷ (line (codes "ERR MEMORY"), 2) ∷ (line (codes "ERR AUTH"), 3)
-    ∷ (line (codes "ERR READONLY"), 4) ∷ (line (codes "ERR SYNTAX"), 5) ∷ (line (codes "ERR LONG"), 6) ∷ (line (codes "ERR CLIENTS"), 7) ∷ []
+    ∷ (line (codes "ERR READONLY"), 4) ∷ (line (codes "ERR SYNTAX"), 5) ∷ (line (codes "ERR LONG"), 6) ∷ (line (codes "ERR CLIENTS"), 7)
+    ∷ (line (codes "ERR FROZEN"), 8) ∷ []
 
 unfoldable pub reply_place : List ℕ → ℕ
 reply_place answer = unwrap_or (at_command answer refusal_places) 0
@@ -150,11 +153,27 @@ refused_name TooLong answer = None
 
 -- nothing was counted yet; there is a counter for each call, for each kind of reply, and for each place of a tenant
 unfoldable pub no_counts : Tally
-no_counts = record { lines = replicate 49 0; replies = replicate 8 0; refused = replicate 128 0; unknown = 0 }
+no_counts = record {
+  lines = replicate 49 0;
+  replies = replicate 9 0;
+  refused = replicate 128 0;
+  unknown = 0;
+  spoken = replicate 128 0;
+  full = replicate 128 0;
+}
 
 -- the counter at a place goes up, unless it is at its most
 abbrev pub bumped : List ℕ → ℕ → List ℕ
 bumped counts place = slice_set counts place (count_up (slice_index counts place))
+
+-- the counter of a tenant goes up, if there is one
+abbrev pub bumped_for : Option ℕ → List ℕ → List ℕ
+bumped_for None counts = counts
+bumped_for (Some place) counts = bumped counts place
+
+-- the counter of a place is forgotten, if no tenant has it
+abbrev pub cleared : Bool → ℕ → List ℕ → List ℕ
+cleared vacant place counts = if vacant then slice_set counts place 0 else counts
 
 -- after a refused log-in with the name of the tenant at this place, or with a name that no tenant has
 abbrev pub refused_at : Option ℕ → Tally → Tally
@@ -170,9 +189,22 @@ refused_to tenants None tally = tally
 abbrev pub with_line : Heard → List ℕ → Tally → Tally
 with_line line answer tally = record tally { lines = bumped tally.lines (call_place line); replies = bumped tally.replies (reply_place answer) }
 
--- The counts after a line: its call, the kind of its answer, and, if it is a log-in that was refused, its tenant.
-abbrev pub counted : List Tenant → Heard → List ℕ → Tally → Tally
-counted tenants line answer tally = refused_to tenants (refused_name line answer) (with_line line answer tally)
+-- they were counted for the tenant that speaks after the line, if one does: the line, and the answer `FULL`
+abbrev pub with_share : Option ℕ → List ℕ → Tally → Tally
+with_share who answer tally = record tally {
+  spoken = bumped_for who tally.spoken;
+  full = (if reply_place answer == 1 then bumped_for who tally.full else tally.full);
+}
+
+-- the tenant of a speaker
+abbrev pub tenant_of : Option Speaker → Option ℕ
+tenant_of who = option_map (λ speaker. speaker.tenant) who
+
+-- The counts after a line: its call, the kind of its answer, both of them for the tenant that speaks after it,
+-- and, if it is a log-in that was refused, the tenant of its name.
+abbrev pub counted : List Tenant → Option Speaker → Heard → List ℕ → Tally → Tally
+counted tenants who line answer tally =
+    refused_to tenants (refused_name line answer) (with_share (tenant_of who) answer (with_line line answer tally))
 
 -- ---- a service with its counts
 

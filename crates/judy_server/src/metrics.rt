@@ -34,9 +34,13 @@ pub enum Share {
     PiecesQuota,
     /// Its refused log-ins.
     RefusedLogins,
+    /// Lines of its connections.
+    SpokenLines,
+    /// Those that were answered `FULL`.
+    FullReplies,
 }
 
-/// A metric: one number, a number of each tenant, or a number of each call or kind of reply.
+/// A metric: one number, a number of each tenant, a number of each call or kind of reply, or the version.
 #[derive(Clone, Copy, Debug, PartialEq, Eq)]
 pub enum Metric {
     /// One number.
@@ -51,6 +55,8 @@ pub enum Metric {
     Lines,
     /// Replies, by their kind.
     Replies,
+    /// What the program is: always 1, with its version.
+    Build,
 }
 
 /// The name of a number of the whole service.
@@ -78,6 +84,8 @@ fn share_name(share: Share) -> &'static str
         Share::Pieces => "judyd_tenant_pieces",
         Share::PiecesQuota => "judyd_tenant_quota_pieces",
         Share::RefusedLogins => "judyd_logins_refused_total",
+        Share::SpokenLines => "judyd_tenant_lines_total",
+        Share::FullReplies => "judyd_tenant_full_total",
     }
 }
 
@@ -92,6 +100,7 @@ pub fn name_of(metric: Metric) -> &'static str
         Metric::Strangers => "judyd_connections_without_tenant",
         Metric::Lines => "judyd_lines_total",
         Metric::Replies => "judyd_replies_total",
+        Metric::Build => "judyd_build_info",
     }
 }
 
@@ -120,6 +129,8 @@ fn share_help(share: Share) -> &'static str
         Share::Pieces => "Pieces of a tenant.",
         Share::PiecesQuota => "The most pieces of a tenant.",
         Share::RefusedLogins => "Refused log-ins by tenant.",
+        Share::SpokenLines => "Lines by tenant.",
+        Share::FullReplies => "FULL replies by tenant.",
     }
 }
 
@@ -134,6 +145,7 @@ pub fn help_of(metric: Metric) -> &'static str
         Metric::Strangers => "Connections on which nobody is logged in.",
         Metric::Lines => "Lines by what they ask for.",
         Metric::Replies => "Replies by kind.",
+        Metric::Build => "The version of the program.",
     }
 }
 
@@ -154,9 +166,12 @@ pub fn kind_of(metric: Metric) -> &'static str
         Metric::Share(Share::Pieces) => "gauge",
         Metric::Share(Share::PiecesQuota) => "gauge",
         Metric::Share(Share::RefusedLogins) => "counter",
+        Metric::Share(Share::SpokenLines) => "counter",
+        Metric::Share(Share::FullReplies) => "counter",
         Metric::Connections => "gauge",
         Metric::Strangers => "gauge",
         Metric::Lines => "counter",
         Metric::Replies => "counter",
+        Metric::Build => "gauge",
     }
 }

@@ -2,8 +2,19 @@
 ghost use Rattle.std.specs.Prelude.{◌≡◌, count_by, map, option_map};
 ghost use Rattle.judy_table.specs.Shown.{seen};
 ghost use Rattle.judy_server.specs.Present.{is_nobody, speaks_for};
+ghost use Rattle.judy_server.specs.Tally.{tenant_of};
 
 use judy_table::{Speaker, TenantId};
+
+/// The tenant of a speaker.
+pub fn tenant_of(speaker: Option<Speaker>) -> Option<TenantId>
+    ensures { result ≡ tenant_of (option_map seen speaker) }
+{
+    match speaker {
+        Some(speaker) => Some(speaker.tenant),
+        None => None,
+    }
+}
 
 /// Whether a tenant is logged in.
 fn speaks_for(speaker: Option<Speaker>, tenant: TenantId) -> bool

@@ -1,10 +1,10 @@
 //! Another table is put in force, and what is told of it.
 ghost use Rattle.std.specs.Prelude.{◌≡◌, ◌⊎◌, ◌<◌, IfErr, IfOk, Err, MatchBool, Some, length, map, slice_get};
 ghost use Rattle.judy_table.specs.Tenants.{read_table};
-ghost use Rattle.judy_server.specs.Reloads.{IsReload, TellsAll, forgotten, has_all, is_kept};
+ghost use Rattle.judy_server.specs.Reloads.{IsReload, TellsAll, forgotten, has_all, is_kept, without_gone};
 ghost use Rattle.judy_server.specs.Tally.{tallied};
 
-use crate::tally::Tally;
+use crate::tally::{Tally, clear_if};
 use itoa::Buffer;
 use judy_programs::fault_name;
 use judy_table::{Blame, Table, TableFault, TenantId};
@@ -60,14 +60,23 @@ fn tell_reason<H: KeyHash>(told: &mut Vec<u8>, service: &Service<H>, why: Unchan
     }
 }
 
-/// Forgets the refused log-ins of places that have no tenant.
-fn forget<H: KeyHash>(service: &Service<H>, tally: &mut Tally)
-    ensures { tally.new ≡ record tally.old { refused = forgotten 0 service.now.tenants tally.old.refused } }
+/// Forgets the counts of places that have no tenant.
+fn forget_in<H: KeyHash>(service: &Service<H>, counts: &mut [u64])
+    ensures { counts.new ≡ forgotten 0 service.now.tenants counts.old }
 {
     for place in 0..service.tenants() {
         let tenant = service.tenant(place);
-        tally.forget_if(tenant, service.is_vacant(tenant));
+        clear_if(counts, tenant, service.is_vacant(tenant));
     }
+}
+
+/// Forgets what is counted of places that have no tenant.
+fn forget<H: KeyHash>(service: &Service<H>, tally: &mut Tally)
+    ensures { tally.new ≡ without_gone service.now.tenants tally.old }
+{
+    forget_in(service, &mut tally.refused);
+    forget_in(service, &mut tally.spoken);
+    forget_in(service, &mut tally.full);
 }
 
 /// Puts the table of a text in force. False if it is not, and then nothing has changed. Tells how many

@@ -17,6 +17,7 @@ ghost use Rattle.judy_server.specs.Status.{status_of};
 ghost use Rattle.judy_server.specs.Tally.{Tallied};
 
 use crate::limits::{lift, limit};
+use crate::present::tenant_of;
 use crate::records::{Halt, replay, replay_all};
 use crate::reload::{change, keeps_all};
 use crate::status::add_status;
@@ -156,8 +157,9 @@ impl<H: Chosen> Shows for Server<H> {
         add_status(text, &self.service, &self.tally, speakers)
     }
 
-    fn note(&mut self, asked: &Result<Line<'_>, Refusal>, answer: &[u8]) {
+    fn note(&mut self, speaker: Option<Speaker>, asked: &Result<Line<'_>, Refusal>, answer: &[u8]) {
         self.tally.count(asked, answer);
+        self.tally.count_for(tenant_of(speaker), answer);
         if let Some(name) = refused_name(asked, answer) {
             self.tally.refuse(self.service.find(name));
             self.logins.refuse(self.service.find(name));
@@ -206,7 +208,7 @@ impl<H: Chosen> Shows for Server<H> {
     ghost stays = { λ before after text changed.
         keeps-or-empties changed.table before.held after.held changed.tenants changed.held };
 
-    ghost unseen = { λ before after line answer noted. ap seen_of noted };
+    ghost unseen = { λ before after who line answer noted. ap seen_of noted };
 }
 
 impl<H: Chosen> Opens for Server<H> {

@@ -3,7 +3,7 @@ ghost use Rattle.std.specs.Prelude.{◌≡◌, ◌<◌, ◌++◌, OnOk, count_by
 ghost use Rattle.judy_table.specs.Shown.{seen};
 ghost use Rattle.judy_server.specs.Metrics.{name_of};
 ghost use Rattle.judy_server.specs.Present.{speaks_for};
-ghost use Rattle.judy_server.specs.Status.{by_call, by_kind, by_nobody, by_speaker, by_tenant, first_shares, first_totals, heading, labelled_if};
+ghost use Rattle.judy_server.specs.Status.{by_build, by_call, by_kind, by_nobody, by_speaker, by_tenant, first_shares, first_totals, heading, labelled_if, last_shares};
 ghost use Rattle.judy_server.specs.Status.{labelled, number_of, one_total, sample, samples, single, status_of, total_of};
 ghost use Rattle.judy_server.specs.Tally.{call_names, reply_kinds, tallied};
 
@@ -12,6 +12,7 @@ use crate::metrics::{Metric, Share, Total, help_of, kind_of, name_of};
 use crate::present::{count_nobody, count_tenant};
 use crate::tally::{CALLS, KINDS, Tally, count_at};
 use itoa::Buffer;
+use judy_command::VERSION;
 use judy_table::{Speaker, TenantId};
 use judy_tenants::{KeyHash, Service};
 use std::alloc::AllocError;
@@ -33,6 +34,9 @@ const SHARES: [Share; 4] = [
     Share::Pieces,
     Share::PiecesQuota,
 ];
+
+/// The numbers of each tenant that come last.
+const LAST_SHARES: [Share; 3] = [Share::RefusedLogins, Share::SpokenLines, Share::FullReplies];
 
 /// Appends bytes.
 fn push(text: &mut Vec<u8>, part: &[u8]) -> Result<(), AllocError>
@@ -168,6 +172,8 @@ fn number<H: KeyHash>(service: &Service<H>, tally: &Tally, share: Share, tenant:
         Share::Pieces => service.pieces(tenant),
         Share::PiecesQuota => service.most(tenant),
         Share::RefusedLogins => count_at(&tally.refused, tenant.place() as usize),
+        Share::SpokenLines => count_at(&tally.spoken, tenant.place() as usize),
+        Share::FullReplies => count_at(&tally.full, tenant.place() as usize),
     }
 }
 
@@ -219,6 +225,21 @@ fn add_by_tenants<H: KeyHash>(
         ++ flat_map (by_tenant (tallied service.now tally.now)) first_shares) }
 {
     for share in SHARES {
+        add_by_tenant(text, service, tally, share)?;
+    }
+    Ok(())
+}
+
+/// Appends the numbers of each tenant that come last.
+fn add_last_by_tenants<H: KeyHash>(
+    text: &mut Vec<u8>,
+    service: &Service<H>,
+    tally: &Tally,
+) -> Result<(), AllocError>
+    ensures { OnOk result (text.new.items ≡ text.old.items
+        ++ flat_map (by_tenant (tallied service.now tally.now)) last_shares) }
+{
+    for share in LAST_SHARES {
         add_by_tenant(text, service, tally, share)?;
     }
     Ok(())
@@ -320,6 +341,16 @@ fn add_by_kind(text: &mut Vec<u8>, tally: &Tally) -> Result<(), AllocError>
     add_kinds(text, tally)
 }
 
+/// Appends the version of the program.
+#[tactic(auto, unfolding(crate::specs::Status::by_build))]
+fn add_build(text: &mut Vec<u8>) -> Result<(), AllocError>
+    ensures { OnOk result (text.new.items ≡ text.old.items ++ by_build) }
+{
+    add_heading(text, Metric::Build)?;
+    let name = name_of(Metric::Build).as_bytes();
+    add_labelled(text, name, b"version", VERSION.as_bytes(), 1)
+}
+
 /// Appends the status of a service with these counts and these speakers of the open connections.
 pub fn add_status<H: KeyHash>(
     text: &mut Vec<u8>,
@@ -336,6 +367,7 @@ pub fn add_status<H: KeyHash>(
     add_by_nobody(text, speakers)?;
     add_by_call(text, tally)?;
     add_by_kind(text, tally)?;
-    add_by_tenant(text, service, tally, Share::RefusedLogins)?;
-    add_total(text, service, tally, Total::UnknownLogins)
+    add_last_by_tenants(text, service, tally)?;
+    add_total(text, service, tally, Total::UnknownLogins)?;
+    add_build(text)
 }

@@ -1,11 +1,12 @@
-//! What a service counts: lines by what they ask for, replies by their kind, and refused log-ins by
-//! tenant. The counts saturate.
+//! What a service counts: lines by what they ask for, replies by their kind, and refused log-ins, lines
+//! and `FULL` by tenant. The counts saturate.
 ghost use Rattle.std.specs.Prelude.{◌≡◌, ◌<◌, if◌then◌else◌, option_map, slice_index, slice_set};
 ghost use Rattle.std.specs.Ordering.{eq_by_cmp};
 ghost use Rattle.judy_arena.specs.Blocks.{count_up};
 ghost use Rattle.judy_model.specs.Contents.{string_order};
 ghost use Rattle.judy_protocol.specs.Talks.{as_heard};
-ghost use Rattle.judy_server.specs.Tally.{bumped, call_place, no_counts, refused_at, refused_name, refuses_login, reply_place, with_line};
+ghost use Rattle.judy_server.specs.Tally.{bumped, bumped_for, call_place, cleared, no_counts, refused_at, refused_name, refuses_login, reply_place, with_line};
+ghost use Rattle.judy_server.specs.Tally.{with_share};
 
 use crate::calls::place_of_call;
 use judy_protocol::{Line, Refusal};
@@ -16,7 +17,7 @@ use judy_table::TenantId;
 pub const CALLS: usize = 49;
 
 /// How many kinds of replies there are.
-pub const KINDS: usize = 8;
+pub const KINDS: usize = 9;
 
 /// How many places for tenants there are.
 pub const PLACES: usize = 128;
@@ -32,6 +33,10 @@ pub struct Tally {
     pub refused: [u64; PLACES],
     /// Refused log-ins with a name that no tenant has.
     pub unknown: u64,
+    /// Lines of connections on which a tenant is logged in after them, by the tenant's place.
+    pub spoken: [u64; PLACES],
+    /// Those that were answered `FULL`, by the tenant's place.
+    pub full: [u64; PLACES],
 }
 
 /// One more, unless the count is at its most.
@@ -61,12 +66,31 @@ fn bump(counts: &mut [u64], place: usize)
     }
 }
 
+/// Counts for a tenant, if there is one.
+fn bump_for(counts: &mut [u64], tenant: Option<TenantId>)
+    ensures { counts.new ≡ bumped_for tenant counts.old }
+{
+    match tenant {
+        Some(tenant) => bump(counts, tenant.place() as usize),
+        None => {}
+    }
+}
+
 /// Sets the count at a place to 0, if it is one.
 fn clear(counts: &mut [u64], place: usize)
     ensures { counts.new ≡ slice_set counts.old place 0 }
 {
     if place < counts.len() {
         counts[place] = 0;
+    }
+}
+
+/// Forgets the count of a tenant's place, if it is vacant.
+pub fn clear_if(counts: &mut [u64], tenant: TenantId, vacant: bool)
+    ensures { counts.new ≡ cleared vacant tenant counts.old }
+{
+    if vacant {
+        clear(counts, tenant.place() as usize);
     }
 }
 
@@ -118,6 +142,9 @@ fn reply_place(answer: &[u8]) -> usize
     if is_text(answer, b"ERR CLIENTS\n") {
         return 7;
     }
+    if is_text(answer, b"ERR FROZEN\n") {
+        return 8;
+    }
     0
 }
 
@@ -159,6 +186,8 @@ impl Tally {
             replies: [0; KINDS],
             refused: [0; PLACES],
             unknown: 0,
+            spoken: [0; PLACES],
+            full: [0; PLACES],
         }
     }
 
@@ -170,15 +199,13 @@ impl Tally {
         bump(&mut self.replies, reply_place(answer));
     }
 
-    /// Forgets the refused log-ins of a place, if it is vacant.
-    pub fn forget_if(&mut self, tenant: TenantId, vacant: bool)
-        ensures { self.new ≡ record self.old {
-          refused =
-              (if vacant then slice_set self.old.refused tenant 0 else self.old.refused);
-        } }
+    /// Counts a line and its answer for the tenant that speaks after it, if one does.
+    pub fn count_for(&mut self, tenant: Option<TenantId>, answer: &[u8])
+        ensures { self.new ≡ with_share tenant answer.now self.old }
     {
-        if vacant {
-            clear(&mut self.refused, tenant.place() as usize);
+        bump_for(&mut self.spoken, tenant);
+        if reply_place(answer) == 1 {
+            bump_for(&mut self.full, tenant);
         }
     }
 

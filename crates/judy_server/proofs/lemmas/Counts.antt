@@ -3,9 +3,10 @@
 --     replies-counted    by the kinds of their answers
 --     logins-counted     refused log-ins, by tenant
 --     unknown-counted    refused log-ins with a name that no tenant has
+--     spoken-rise, full-rise   lines, and `FULL`, by the tenant that speaks
 --     story-counted      so it is over new tables, which forget the refused log-ins of places without a tenant
 --     counted-from-start so it is for a server since its start, from 0
-use Rattle.std.specs.Prelude.{◌≡◌, ◌+◌, ◌-◌, ◌^◌, ◌<◌, ◌≤◌, ◌==◌, ℕ, zero, suc, Bool, true, false, cond, List, [], ◌∷◌, ◌++◌, Option, Some, None, count_by, length, replicate, slice_index, slice_set}
+use Rattle.std.specs.Prelude.{◌≡◌, ◌+◌, ◌-◌, ◌^◌, ◌<◌, ◌≤◌, ◌==◌, ◌&&◌, ℕ, zero, suc, Bool, true, false, cond, List, [], ◌∷◌, ◌++◌, Option, Some, None, count_by, length, replicate, slice_index, slice_set}
 use Rattle.std.proofs.Common.{◌∙◌, ap, arith, refl, subst, sym}
 use Rattle.std.proofs.lemmas.Bool.Decides.{nat_tests}
 use Rattle.std.proofs.lemmas.List.Sums.{sum_by-append, sum_by-cons}
@@ -17,18 +18,19 @@ use Rattle.judy_many.specs.Stories.{Story, turns_in}
 use Rattle.judy_many.specs.Stories.Moment.{Changed, Did, Ran}
 use Rattle.judy_many.specs.declared.serve.Ending.{Ending}
 use Rattle.judy_many.specs.declared.serve.Limits.{Limits}
-use Rattle.judy_model.specs.Speakers.{Event}
+use Rattle.judy_model.specs.Speakers.{Event, Speaker}
 use Rattle.judy_model.specs.declared.replies.Reply.{Reply}
 use Rattle.judy_programs.specs.Asking.{Log}
 use Rattle.judy_programs.specs.Hosting.{Desks}
 use Rattle.judy_protocol.specs.Services.{AreMade}
 use Rattle.judy_table.specs.Tenants.{is_vacant, place_of}
 use Rattle.judy_table.specs.declared.tenant.Tenant.{Tenant}
-use Rattle.judy_server.specs.Counts.{AreCounted, answers, asks, counted_over, is_place, is_refused_to, is_vacant_at, kept_at, refused_over, refuses, risen, unknown_over}
+use Rattle.judy_server.specs.Counts.{AreCounted, answers, asks, counted_over, fills, full_over, is_place, is_refused_to, is_vacant_at, kept_at, refused_over, refuses, risen, speaks_at, spoken_over, unknown_over}
+use Rattle.judy_server.specs.Present.{speaks_for}
 use Rattle.judy_server.specs.Reloads.{IsReload, forgotten, rows_with}
 use Rattle.judy_server.specs.Rules.{server_rules}
 use Rattle.judy_server.specs.Served.{IsServedStep}
-use Rattle.judy_server.specs.Tally.{Tallied, bumped, call_place, counted, no_counts, refused_at, refused_name, refused_to, reply_place, with_line}
+use Rattle.judy_server.specs.Tally.{Tallied, bumped, bumped_for, call_place, counted, no_counts, refused_at, refused_name, refused_to, reply_place, tenant_of, with_line, with_share}
 use Rattle.judy_server.specs.declared.tally.Tally.{Tally}
 use Rattle.judy_server.proofs.lemmas.Space.{rows-of}
 use Rattle.judy_server.proofs.lemmas.Starting.{HasServedAny, started-keeps}
@@ -57,8 +59,8 @@ bumped-at counts i place few = by (i == place) refl
 -- a counter that a line makes rise where the test says so
 abbrev Rises : (Tally → ℕ) → (Tally → Type 0) → (List Tenant → Turn → Bool) → Type 0
 Rises count fits test = (tenants : List Tenant) (t : Turn) (tally : Tally) → fits tally
-    → (count (counted tenants t.line (text_of t) tally) ≡ cond (test tenants t) (count_up (count tally)) (count tally))
-    × fits (counted tenants t.line (text_of t) tally)
+    → (count (counted tenants t.after t.line (text_of t) tally) ≡ cond (test tenants t) (count_up (count tally)) (count tally))
+    × fits (counted tenants t.after t.line (text_of t) tally)
 
 -- calls keep the table and count nothing
 calls-kept : (before : Tallied) (ps : List (Event × Reply)) (after : Tallied) → AreMade IsServedStep before ps after
@@ -69,12 +71,12 @@ calls-kept before (p ∷ ps) after (mid, made, run) =
 
 -- a line keeps the table, and is counted
 line-counted : (before : Tallied) (t : Turn) (after : Tallied) → IsTurn server_rules before t after
-    → (after.held.tenants ≡ before.held.tenants) × (after.tally ≡ counted before.held.tenants t.line (text_of t) before.tally)
+    → (after.held.tenants ≡ before.held.tenants) × (after.tally ≡ counted before.held.tenants t.after t.line (text_of t) before.tally)
 line-counted before t after one =
     let kept = calls-kept before _ one.mid one.calls in (
       ap (λ (s : Tallied). s.held.tenants) one.noted ∙ kept.0,
-      ap (λ (s : Tallied). s.tally) one.noted ∙ ap (λ ts. counted ts t.line (text_of t) one.mid.tally) kept.0
-          ∙ ap (λ c. counted before.held.tenants t.line (text_of t) c) kept.1,
+      ap (λ (s : Tallied). s.tally) one.noted ∙ ap (λ ts. counted ts t.after t.line (text_of t) one.mid.tally) kept.0
+          ∙ ap (λ c. counted before.held.tenants t.after t.line (text_of t) c) kept.1,
     )
 
 -- ---- many lines
@@ -128,6 +130,22 @@ refused-replies tenants (Some name) tally = at (place_of name tenants)
     at None = refl
     at (Some place) = refl
 
+refused-spoken : (tenants : List Tenant) (o : Option (List ℕ)) (tally : Tally) → (refused_to tenants o tally).spoken ≡ tally.spoken
+refused-spoken tenants None tally = refl
+refused-spoken tenants (Some name) tally = at (place_of name tenants)
+  where
+    at : (o : Option ℕ) → (refused_at o tally).spoken ≡ tally.spoken
+    at None = refl
+    at (Some place) = refl
+
+refused-full : (tenants : List Tenant) (o : Option (List ℕ)) (tally : Tally) → (refused_to tenants o tally).full ≡ tally.full
+refused-full tenants None tally = refl
+refused-full tenants (Some name) tally = at (place_of name tenants)
+  where
+    at : (o : Option ℕ) → (refused_at o tally).full ≡ tally.full
+    at None = refl
+    at (Some place) = refl
+
 refused-refused : (tenants : List Tenant) (o : Option (List ℕ)) (tally : Tally) (place : ℕ) → place < length tally.refused
     → (slice_index (refused_to tenants o tally).refused place
     ≡ cond (is_refused_to tenants (Some place) o) (count_up (slice_index tally.refused place)) (slice_index tally.refused place))
@@ -150,27 +168,62 @@ refused-unknown tenants (Some name) tally = at (place_of name tenants)
     at None = refl
     at (Some p) = refl
 
+-- a counter of the tenant that speaks, if one does
+bumped-for : (who : Option Speaker) (counts : List ℕ) (place : ℕ) → place < length counts
+    → (slice_index (bumped_for (tenant_of who) counts) place ≡ cond (speaks_for place who) (count_up (slice_index counts place)) (slice_index counts place))
+    × (length (bumped_for (tenant_of who) counts) ≡ length counts)
+bumped-for None counts place few = (refl, refl)
+bumped-for (Some speaker) counts place few = (bumped-at counts speaker.tenant place few, bumped-length counts speaker.tenant)
+
+-- so it is if a test holds
+bumped-if : (test : Bool) (who : Option Speaker) (counts : List ℕ) (place : ℕ) → place < length counts
+    → (slice_index (cond test (bumped_for (tenant_of who) counts) counts) place
+    ≡ cond (test && speaks_for place who) (count_up (slice_index counts place)) (slice_index counts place))
+    × (length (cond test (bumped_for (tenant_of who) counts) counts) ≡ length counts)
+bumped-if true who counts place few = bumped-for who counts place few
+bumped-if false who counts place few = (refl, refl)
+
+-- the counts after a line, before a refused log-in is counted
+abbrev shared : Turn → Tally → Tally
+shared t tally = with_share (tenant_of t.after) (text_of t) (with_line t.line (text_of t) tally)
+
 lines-rise : (place : ℕ) → Rises (λ tally. slice_index tally.lines place) (λ tally. place < length tally.lines) (λ tenants. asks place)
 lines-rise place tenants t tally few =
-    let same = refused-lines tenants (refused_name t.line (text_of t)) (with_line t.line (text_of t) tally) in (
+    let same = refused-lines tenants (refused_name t.line (text_of t)) (shared t tally) in (
       ap (λ xs. slice_index xs place) same ∙ bumped-at tally.lines (call_place t.line) place few,
       subst (λ xs. place < length xs) (sym same) (subst (λ n. place < n) (sym (bumped-length tally.lines (call_place t.line))) few),
     )
 
 replies-rise : (place : ℕ) → Rises (λ tally. slice_index tally.replies place) (λ tally. place < length tally.replies) (λ tenants. answers place)
 replies-rise place tenants t tally few =
-    let same = refused-replies tenants (refused_name t.line (text_of t)) (with_line t.line (text_of t) tally) in (
+    let same = refused-replies tenants (refused_name t.line (text_of t)) (shared t tally) in (
       ap (λ xs. slice_index xs place) same ∙ bumped-at tally.replies (reply_place (text_of t)) place few,
       subst (λ xs. place < length xs) (sym same) (subst (λ n. place < n) (sym (bumped-length tally.replies (reply_place (text_of t)))) few),
     )
 
 logins-rise : (place : ℕ) → Rises (λ tally. slice_index tally.refused place) (λ tally. place < length tally.refused) (λ tenants. refuses tenants (Some place))
 logins-rise place tenants t tally few =
-    let here = refused-refused tenants (refused_name t.line (text_of t)) (with_line t.line (text_of t) tally) place few in
+    let here = refused-refused tenants (refused_name t.line (text_of t)) (shared t tally) place few in
     (here.0, subst (λ n. place < n) (sym here.1) few)
 
 unknown-rise : Rises (λ tally. tally.unknown) (λ tally. Unit {0}) (λ tenants. refuses tenants None)
-unknown-rise tenants t tally few = (refused-unknown tenants (refused_name t.line (text_of t)) (with_line t.line (text_of t) tally), tt)
+unknown-rise tenants t tally few = (refused-unknown tenants (refused_name t.line (text_of t)) (shared t tally), tt)
+
+spoken-rise : (place : ℕ) → Rises (λ tally. slice_index tally.spoken place) (λ tally. place < length tally.spoken) (λ tenants. speaks_at place)
+spoken-rise place tenants t tally few =
+    let same = refused-spoken tenants (refused_name t.line (text_of t)) (shared t tally) in
+    let here = bumped-for t.after tally.spoken place few in (
+      ap (λ xs. slice_index xs place) same ∙ here.0,
+      subst (λ xs. place < length xs) (sym same) (subst (λ n. place < n) (sym here.1) few),
+    )
+
+full-rise : (place : ℕ) → Rises (λ tally. slice_index tally.full place) (λ tally. place < length tally.full) (λ tenants. fills place)
+full-rise place tenants t tally few =
+    let same = refused-full tenants (refused_name t.line (text_of t)) (shared t tally) in
+    let here = bumped-if (reply_place (text_of t) == 1) t.after tally.full place few in (
+      ap (λ xs. slice_index xs place) same ∙ here.0,
+      subst (λ xs. place < length xs) (sym same) (subst (λ n. place < n) (sym here.1) few),
+    )
 
 -- ---- over the lines of a server
 
@@ -211,12 +264,14 @@ zeros (suc n) (suc place) = zeros n place
 
 none-yet : ((place : ℕ) → slice_index no_counts.lines place ≡ 0) × ((place : ℕ) → slice_index no_counts.replies place ≡ 0)
     × ((place : ℕ) → slice_index no_counts.refused place ≡ 0) × (no_counts.unknown ≡ 0)
+    × ((place : ℕ) → slice_index no_counts.spoken place ≡ 0) × ((place : ℕ) → slice_index no_counts.full place ≡ 0)
 unfolding no_counts
-none-yet = (zeros 49, zeros 8, zeros 128, refl)
+none-yet = (zeros 49, zeros 9, zeros 128, refl, zeros 128, zeros 128)
 
-counters : (length no_counts.lines ≡ 49) × (length no_counts.replies ≡ 8) × (length no_counts.refused ≡ 128)
+counters : (length no_counts.lines ≡ 49) × (length no_counts.replies ≡ 9) × (length no_counts.refused ≡ 128)
+    × (length no_counts.spoken ≡ 128) × (length no_counts.full ≡ 128)
 unfolding no_counts
-counters = (refl, refl, refl)
+counters = (refl, refl, refl, refl, refl)
 
 -- ---- over new tables
 
@@ -335,6 +390,24 @@ logins-keep place old text new r fits =
       λ rows n small. small-kept (is_vacant_at rows place) n small,
     )
 
+spoken-keep : (place : ℕ) → Keeps (λ tally. slice_index tally.spoken place) (λ tally. place < length tally.spoken) (kept_at place)
+spoken-keep place old text new r fits =
+    let same = ap (λ (t : Tally). t.spoken) r.tally in (
+      ap (λ xs. slice_index xs place) same ∙ forgotten-at 0 new.held.tenants old.tally.spoken place place (omega arith) fits,
+      subst (λ xs. place < length xs) (sym same)
+          (subst (λ n. place < n) (sym (forgotten-length 0 new.held.tenants old.tally.spoken)) fits),
+      λ rows n small. small-kept (is_vacant_at rows place) n small,
+    )
+
+full-keep : (place : ℕ) → Keeps (λ tally. slice_index tally.full place) (λ tally. place < length tally.full) (kept_at place)
+full-keep place old text new r fits =
+    let same = ap (λ (t : Tally). t.full) r.tally in (
+      ap (λ xs. slice_index xs place) same ∙ forgotten-at 0 new.held.tenants old.tally.full place place (omega arith) fits,
+      subst (λ xs. place < length xs) (sym same)
+          (subst (λ n. place < n) (sym (forgotten-length 0 new.held.tenants old.tally.full)) fits),
+      λ rows n small. small-kept (is_vacant_at rows place) n small,
+    )
+
 unknown-keep : Keeps (λ tally. tally.unknown) (λ tally. Unit {0}) (λ rows n. n)
 unknown-keep old text new r fits = (ap (λ (t : Tally). t.unknown) r.tally, tt, λ rows n small. small)
 
@@ -376,4 +449,20 @@ counted-from-start secret config socket watch reserve limits how log log' h =
           story-counted (λ tally. tally.unknown) (λ tally. Unit {0}) (λ rows. refuses rows None) (λ rows n. n) unknown-rise unknown-keep []
           h.before story h.after tt (low _ zero) h.hosted.told
           ∙ ap (λ c. counted_over (λ rows. refuses rows None) (λ rows n. n) c rows story) zero ∙ ap (λ ts. unknown_over ts story) tenants;
+      spoken = λ place few.
+          let count : Tally → ℕ = λ tally. slice_index tally.spoken place in
+          let test : List Tenant → Turn → Bool = λ rows. speaks_at place in
+          let zero = none count (none-yet.4 place) in
+          let fits : place < length h.before.tally.spoken = omega (arith, few, ap (λ (c : Tally). length c.spoken) counts, counters.3) in
+          story-counted count (λ tally. place < length tally.spoken) test (kept_at place) (spoken-rise place) (spoken-keep place) []
+          h.before story h.after fits (low _ zero) h.hosted.told
+          ∙ ap (λ c. counted_over test (kept_at place) c rows story) zero ∙ ap (λ ts. spoken_over place ts story) tenants;
+      full = λ place few.
+          let count : Tally → ℕ = λ tally. slice_index tally.full place in
+          let test : List Tenant → Turn → Bool = λ rows. fills place in
+          let zero = none count (none-yet.5 place) in
+          let fits : place < length h.before.tally.full = omega (arith, few, ap (λ (c : Tally). length c.full) counts, counters.4) in
+          story-counted count (λ tally. place < length tally.full) test (kept_at place) (full-rise place) (full-keep place) []
+          h.before story h.after fits (low _ zero) h.hosted.told
+          ∙ ap (λ c. counted_over test (kept_at place) c rows story) zero ∙ ap (λ ts. full_over place ts story) tenants;
     }

@@ -26,9 +26,9 @@ returns-clause-crowd g c = λ limits first start past e same asked h.
     let read = at_stage (read_stage c.change_table-changed.result) past in
     has_replied (λ b. view_of g.S.Served.who g.N.Network.number b.value) (rules_of g.S.Served.made g.S.Served.seen g.S.Shows.noted g.S.Shows.status g.S.Shows.changed) limits first start Sweeps (nobody c.close_after.new.clients.queue) read (g.N.Network.log c.close_after.new.network) (g.N.Network.log c.warn.new.self)
     c.close_after.new.clients.slots.items c.close_after.new.clients.accepted c.change_table-changed.new.service
-    c.change_table-changed.result c.reply_line.result.items c.told_line.result.items e (may_reply c.change_table-changed.result) c.told_line.ensures
+    c.is_order-order.result c.change_table-changed.result c.reply_line.result.items c.told_line.result.items e (may_reply c.change_table-changed.result) c.told_line.ensures
     (then_log (g.N.Network.log c.close_after.new.network) _ _ (Replied c.reply_line.result.items ∷ []) (Warned c.told_line.result.items ∷ [])
-    (rw c.as_slice-2.ensures.value at c.reply.ensures) (rw c.as_slice-4.ensures.value at c.warn.ensures))
+    (rw c.as_slice-2.ensures.value at c.reply.ensures) (rw c.as_slice-5.ensures.value at c.warn.ensures))
     (c.close_after.ensures.crowd limits first start read e refl
     (has_changed (λ b. view_of g.S.Served.who g.N.Network.number b.value) (rules_of g.S.Served.made g.S.Served.seen g.S.Shows.noted g.S.Shows.status g.S.Shows.changed) limits first start Sweeps (nobody c.args.clients.now.queue) past _ _ _ _ c.args.service.now c.change_table-changed.new.service
     c.change_table-changed.result e asked (λ yes with. c.change_table-changed.ensures.keeps yes (same ∙ with)) c.change_table-changed.ensures.changed h))
@@ -37,6 +37,7 @@ pub returns-clause-reloaded : goal.returns-clause-reloaded
 returns-clause-reloaded g c =
     let (gone, log, are) = c.close_after.ensures.gone in
     record {
+      order = c.is_order-order.result;
       changed = c.change_table-changed.result;
       tabled = g.N.Network.log c.change_table-changed.new.network;
       closed = g.N.Network.log c.close_after.new.network;
@@ -49,7 +50,7 @@ returns-clause-reloaded g c =
       replied = c.reply_line.ensures;
       told = c.told_line.ensures;
       last = then_log (g.N.Network.log c.close_after.new.network) _ _ (Replied c.reply_line.result.items ∷ []) (Warned c.told_line.result.items ∷ [])
-          (rw c.as_slice-2.ensures.value at c.reply.ensures) (rw c.as_slice-4.ensures.value at c.warn.ensures);
+          (rw c.as_slice-2.ensures.value at c.reply.ensures) (rw c.as_slice-5.ensures.value at c.warn.ensures);
     }
 
 pub returns-clause-admitted : goal.returns-clause-admitted

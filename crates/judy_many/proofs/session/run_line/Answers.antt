@@ -15,16 +15,16 @@ returns-clause-steps g c =
     (λ rest h. heard ∙ bare_heard (λ b. b.now) (rest ++ c.args.chunk.now) c.whole_line-line.result (c.whole_line-line.ensures.bare (rest ++ c.args.chunk.now) (c.join_line-joined.ensures.joined rest h)))
     c.clear.ensures c.run-changed.ensures.turn c.limit_login.ensures.crowded c.limit_login.ensures.speaker c.limit_login.ensures.answer (rw c.as_slice.ensures.value at c.note.ensures)
     (c.append.ensures ∙ ap (λ v. c.args.answers.now.items ++ v) c.as_slice-2.ensures.value) c.asks_to_quit-quit.ensures
-    heard (ap (λ s. s.names) (g.met.S.Shows.unseen _ _ _ _ c.note.ensures) ∙ c.run-changed.ensures.names) c.note_line.ensures
+    heard (ap (λ s. s.names) (g.met.S.Shows.unseen _ _ _ _ _ c.note.ensures) ∙ c.run-changed.ensures.names) c.note_line.ensures
 
 pub note_line-requires-clause-known : goal.note_line-requires-clause-known
-note_line-requires-clause-known g c = subst (λ s. HasLoggedIn s.speakers (option_map g.S.Served.who c.limit_login.new.speaker)) (sym (g.met.S.Shows.unseen _ _ _ _ c.note.ensures)) (known_unless _ _ _ _ c.limit_login.ensures.speaker c.run-changed.ensures.known)
+note_line-requires-clause-known g c = subst (λ s. HasLoggedIn s.speakers (option_map g.S.Served.who c.limit_login.new.speaker)) (sym (g.met.S.Shows.unseen _ _ _ _ _ c.note.ensures)) (known_unless _ _ _ _ c.limit_login.ensures.speaker c.run-changed.ensures.known)
 
 pub returns-clause-logins : goal.returns-clause-logins
-returns-clause-logins g c = ap (λ s. s.logins) (g.met.S.Shows.unseen _ _ _ _ c.note.ensures) ∙ c.run-changed.ensures.logins
+returns-clause-logins g c = ap (λ s. s.logins) (g.met.S.Shows.unseen _ _ _ _ _ c.note.ensures) ∙ c.run-changed.ensures.logins
 
 pub returns-clause-speakers : goal.returns-clause-speakers
-returns-clause-speakers g c = ap (λ s. s.speakers) (g.met.S.Shows.unseen _ _ _ _ c.note.ensures) ∙ c.run-changed.ensures.speakers
+returns-clause-speakers g c = ap (λ s. s.speakers) (g.met.S.Shows.unseen _ _ _ _ _ c.note.ensures) ∙ c.run-changed.ensures.speakers
 
 pub returns-clause-known : goal.returns-clause-known
-returns-clause-known g c = subst (λ s. HasLoggedIn s.speakers (option_map g.S.Served.who c.limit_login.new.speaker)) (sym (g.met.S.Shows.unseen _ _ _ _ c.note.ensures)) (known_unless _ _ _ _ c.limit_login.ensures.speaker c.run-changed.ensures.known)
+returns-clause-known g c = subst (λ s. HasLoggedIn s.speakers (option_map g.S.Served.who c.limit_login.new.speaker)) (sym (g.met.S.Shows.unseen _ _ _ _ _ c.note.ensures)) (known_unless _ _ _ _ c.limit_login.ensures.speaker c.run-changed.ensures.known)

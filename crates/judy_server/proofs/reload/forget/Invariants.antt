@@ -1,9 +1,0 @@
-use Rattle.std.proofs.Common.{◌≡◌, drop}
-use Rattle.judy_server.specs.Reloads.{forgotten}
-use Rattle.judy_server.proofs.reload.forget.Given as goal
-
-abbrev pub invariant-loop-place : goal.invariant-loop-place
-invariant-loop-place g l = record {
-  others : l.tally ≡ record l.fn.tally { refused = l.tally.refused };
-  counts : forgotten l.place (drop l.place l.fn.service.tenants) l.tally.refused ≡ forgotten 0 l.fn.service.tenants l.fn.tally.refused;
-}
