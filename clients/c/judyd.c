@@ -520,6 +520,7 @@ const char *jd_strerror(int code)
     case JD_CLIENTS: return "the tenant has as many connections as it may have";
     case JD_REFUSED: return "the server refuses the line for another reason";
     case JD_LINE: return "a line has a line feed, or more than 4096 bytes";
+    case JD_FROZEN: return "the tenant is frozen: its arrays are being restored";
     default: return "not a code of this library";
     }
 }
@@ -690,3 +691,7 @@ int jd_jh_get(jd *c, const char *name, const void *key, size_t length, uint64_t 
 
 int jd_jh_del(jd *c, const char *name, const void *key, size_t length) { return call_key(c, "JHSD", name, key, length, FLAG, NULL); }
 int jd_jh_free_array(jd *c, const char *name, uint64_t *count) { return free_array(c, "JHSFA", name, count); }
+
+/* ---- scans ---- */
+
+#include "scans.h" /* a part of this file: it uses the functions above */

@@ -49,10 +49,13 @@ enum {
 
     /* Refused by the server, as those above. */
     JD_CLIENTS = -16, /* the tenant has as many connections as it may have; nobody is logged in now */
-    JD_REFUSED = -17, /* to jd_line: ERR and a reason that this library does not know */
+    JD_REFUSED = -17, /* ERR and a reason that this library does not know */
 
     /* Refused by this library, as those above. */
-    JD_LINE = -18 /* a line of jd_line has a line feed, or more than JD_LINE_LIMIT bytes */
+    JD_LINE = -18, /* a line of jd_line has a line feed, or more than JD_LINE_LIMIT bytes */
+
+    /* Refused by the server, as those above. */
+    JD_FROZEN = -19 /* the tenant is frozen: its arrays are being restored */
 };
 
 /* A connection. One thread may use it at a time. Different threads may use different connections. */
@@ -62,6 +65,11 @@ typedef struct jd jd;
 struct jd_usage {
     uint64_t used, quota, pieces, most;
 };
+
+/* What a scan calls for each entry. Another result than 0 ends the scan. */
+typedef int jd_j1_visit(uint64_t index, void *context);
+typedef int jd_jl_visit(uint64_t index, uint64_t value, void *context);
+typedef int jd_js_visit(const char *key, uint64_t value, void *context);
 
 /* A shared library has these names and no others. */
 #ifdef __GNUC__
@@ -101,6 +109,7 @@ int jd_j1_next_empty(jd *connection, const char *name, uint64_t *index);
 int jd_j1_last_empty(jd *connection, const char *name, uint64_t *index);
 int jd_j1_prev_empty(jd *connection, const char *name, uint64_t *index);
 int jd_j1_free_array(jd *connection, const char *name, uint64_t *count);
+int jd_j1_scan(jd *connection, const char *name, uint64_t from, jd_j1_visit *visit, void *context);
 
 /* JudyL: maps from words to words. */
 int jd_jl_ins(jd *connection, const char *name, uint64_t index, uint64_t value, uint64_t *before);
@@ -119,6 +128,7 @@ int jd_jl_next_empty(jd *connection, const char *name, uint64_t *index);
 int jd_jl_last_empty(jd *connection, const char *name, uint64_t *index);
 int jd_jl_prev_empty(jd *connection, const char *name, uint64_t *index);
 int jd_jl_free_array(jd *connection, const char *name, uint64_t *count);
+int jd_jl_scan(jd *connection, const char *name, uint64_t from, jd_jl_visit *visit, void *context);
 
 /* JudySL: ordered maps from strings to words. A search has a buffer of JD_KEY_ROOM bytes. */
 int jd_js_ins(jd *connection, const char *name, const char *key, uint64_t value, uint64_t *before);
@@ -131,6 +141,7 @@ int jd_js_next(jd *connection, const char *name, char *key, uint64_t *value);
 int jd_js_last(jd *connection, const char *name, char *key, uint64_t *value);
 int jd_js_prev(jd *connection, const char *name, char *key, uint64_t *value);
 int jd_js_free_array(jd *connection, const char *name, uint64_t *count);
+int jd_js_scan(jd *connection, const char *name, const char *from, jd_js_visit *visit, void *context);
 
 /* JudyHS: maps from byte keys to words. */
 int jd_jh_ins(jd *connection, const char *name, const void *key, size_t length, uint64_t value, uint64_t *before);

@@ -95,6 +95,7 @@ static bool read_key(struct text t, char key[JD_KEY_ROOM])
     return true;
 }
 
+/* The code of a refusal, or JD_REPLY for any other reply. */
 static int code_of_refusal(struct text t)
 {
     static const struct {
@@ -103,12 +104,12 @@ static int code_of_refusal(struct text t)
     } refusals[] = {
         {"FULL", JD_FULL},     {"ERR MEMORY", JD_MEMORY}, {"ERR READONLY", JD_READONLY},
         {"ERR AUTH", JD_AUTH}, {"ERR SYNTAX", JD_SYNTAX}, {"ERR LONG", JD_LONG},
-        {"ERR CLIENTS", JD_CLIENTS},
+        {"ERR CLIENTS", JD_CLIENTS}, {"ERR FROZEN", JD_FROZEN},
     };
     for (size_t i = 0; i < sizeof refusals / sizeof *refusals; i++)
         if (is_text(t, refusals[i].reply))
             return refusals[i].code;
-    return JD_REPLY;
+    return skip(&t, "ERR ") ? JD_REFUSED : JD_REPLY;
 }
 
 /* Reads a value, or a value and what follows it. Returns 1, or JD_REPLY. */
@@ -170,9 +171,7 @@ static int read_line(struct text t, char *place)
         memcpy(place, t.at, (size_t)(t.end - t.at));
         place[t.end - t.at] = 0;
     }
-    if (code == JD_REPLY)
-        code = skip(&t, "ERR ") ? JD_REFUSED : 1;
-    return code;
+    return code == JD_REPLY ? 1 : code;
 }
 
 /* Reads a reply, and stores its values. Returns 1, 0, or JD_REPLY, which stands for a refusal too, but that

@@ -1,0 +1,373 @@
+/* jd_j1_scan, jd_jl_scan and jd_js_scan. Ends with status 1 and a line for the first that is wrong.
+ *
+ * usage: scans all PATH SEED COUNT      a judyd with the tenant alice (token abc); arrays of about COUNT entries,
+ *                                       alone and beside a writer
+ *        scans plain PATH COUNT         one scan of a JudyL with the entries 0 to COUNT - 1, and nothing else
+ *        scans odd PATH                 a server that replies `V 1 5` to each line
+ *        scans refused PATH             one that replies `ERR FROZEN`, `ERR NEW`, `V 1 5` */
+#define _POSIX_C_SOURCE 200809L
+
+#include <inttypes.h>
+#include <pthread.h>
+#include <stdatomic.h>
+#include <stdbool.h>
+#include <stdio.h>
+#include <stdlib.h>
+#include <string.h>
+
+#include "../judyd.h"
+#include "checks.h"
+
+enum { FAR = 7 /* the value of an index is FAR times it, modulo 2^64 */ };
+
+/* What a scan of words has to visit: sorted indexes from some place on. */
+struct wanted {
+    jd *c;
+    const uint64_t *index;
+    size_t count, at, last; /* the visit of place `last` ends the scan */
+};
+
+static uint64_t draw(uint64_t *state)
+{
+    uint64_t z = (*state += 0x9e3779b97f4a7c15u);
+    z = (z ^ (z >> 30)) * 0xbf58476d1ce4e5b9u;
+    z = (z ^ (z >> 27)) * 0x94d049bb133111ebu;
+    return z ^ (z >> 31);
+}
+
+static int visit_one(uint64_t index, void *context)
+{
+    struct wanted *w = context;
+    CHECK(1, w->at < w->count && w->index[w->at] == index);
+    return w->at++ == w->last;
+}
+
+static int visit_long(uint64_t index, uint64_t value, void *context)
+{
+    CHECK(1, value == FAR * index);
+    return visit_one(index, context);
+}
+
+static int visit_none(uint64_t index, void *context)
+{
+    (void)index, (void)context;
+    exit(1);
+}
+
+/* Leaves a queue open. */
+static int visit_and_begin(uint64_t index, void *context)
+{
+    (void)index;
+    return jd_begin(context, NULL, 0) - 1;
+}
+
+static int compare(const void *a, const void *b)
+{
+    uint64_t left = *(const uint64_t *)a, right = *(const uint64_t *)b;
+    return left < right ? -1 : left > right;
+}
+
+/* Sorted indexes without doubles, in dense runs and anywhere, with both edges. Returns how many. */
+static size_t draw_indexes(uint64_t *index, size_t count, uint64_t *state)
+{
+    size_t kept = 0;
+    for (size_t i = 0; i < count; i++)
+        index[i] = i == 0 ? 0 : i == 1 ? UINT64_MAX : draw(state) % 4 ? index[i - 1] + 1 + draw(state) % 2 : draw(state);
+    qsort(index, count, sizeof *index, compare);
+    for (size_t i = 0; i < count; i++)
+        if (i == 0 || index[i] != index[kept - 1])
+            index[kept++] = index[i];
+    return kept;
+}
+
+/* Scans of both kinds that begin at an index, and end at their end or at a visit. */
+static void check_from(jd *c, const uint64_t *index, size_t count, uint64_t from, size_t visits)
+{
+    size_t at = 0;
+    while (at < count && index[at] < from)
+        at++;
+    size_t last = visits > 0 ? at + visits - 1 : SIZE_MAX;
+    for (int kind = 0; kind < 2; kind++) {
+        struct wanted w = {c, index, count, at, last};
+        bool is_ended = last < count;
+        CHECK(is_ended ? 0 : 1, kind ? jd_jl_scan(c, "l", from, visit_long, &w) : jd_j1_scan(c, "one", from, visit_one, &w));
+        CHECK(1, w.at == (is_ended ? last + 1 : count));
+    }
+}
+
+static void check_words(jd *c, size_t count, uint64_t *state)
+{
+    uint64_t *index = malloc((count + 1) * sizeof *index), freed;
+    if (!index)
+        exit(1);
+    count = draw_indexes(index, count, state);
+    CHECK(1, jd_begin(c, NULL, 0));
+    for (size_t i = 0; i < count; i++) {
+        jd_j1_set(c, "one", index[i]);
+        jd_jl_ins(c, "l", index[i], FAR * index[i], NULL);
+    }
+    CHECK(1, jd_end(c));
+    check_from(c, index, count, 0, 0);
+    check_from(c, index, count, UINT64_MAX, 0);
+    for (size_t visits = 1; visits < 2 * count; visits *= 5)
+        check_from(c, index, count, 0, visits);
+    for (int i = 0; i < 8; i++) {
+        uint64_t from = count > 0 ? index[draw(state) % count] + draw(state) % 3 : 5;
+        check_from(c, index, count, from, 0);
+        check_from(c, index, count, from, 1 + draw(state) % 40);
+    }
+    CHECK(1, jd_j1_free_array(c, "one", &freed));
+    CHECK(1, jd_jl_free_array(c, "l", &freed));
+    CHECK(1, freed == count);
+    free(index);
+}
+
+/* ---- strings ---- */
+
+struct strings {
+    char before[JD_KEY_ROOM];
+    uint64_t sum, count, last;
+};
+
+static int visit_string(const char *key, uint64_t value, void *context)
+{
+    struct strings *w = context;
+    CHECK(1, w->count == 0 || strcmp(w->before, key) < 0);
+    strcpy(w->before, key);
+    w->sum += value;
+    return ++w->count == w->last;
+}
+
+static void check_strings(jd *c, size_t count)
+{
+    char key[JD_KEY_ROOM];
+    uint64_t freed, sum = 0;
+    CHECK(1, jd_begin(c, NULL, 0));
+    for (size_t i = 0; i < count; i++, sum += i) {
+        snprintf(key, sizeof key, "%.*s%zu", (int)(i % 3), "\xff\xff\xff", i);
+        jd_js_ins(c, "words", key, i + 1, NULL);
+    }
+    CHECK(1, jd_end(c));
+    memset(key, 'k', JD_KEY_LIMIT);
+    key[JD_KEY_LIMIT] = 0;
+    CHECK(1, jd_js_ins(c, "words", key, 0, NULL));
+    struct strings all = {.last = 0}, some = {.last = 3}, late = {.last = 0};
+    CHECK(1, jd_js_scan(c, "words", "", visit_string, &all));
+    CHECK(1, all.count == count + 1 && all.sum == sum);
+    CHECK(0, jd_js_scan(c, "words", "", visit_string, &some));
+    CHECK(1, some.count == 3);
+    CHECK(1, jd_js_scan(c, "words", "k", visit_string, &late));
+    CHECK(1, late.count > 0 && late.count < all.count);
+    CHECK(1, jd_js_free_array(c, "words", &freed));
+}
+
+/* ---- beside a writer ---- */
+
+enum { STAYS = 3 /* an index stays if STAYS divides it; the others come and go */ };
+
+struct writer {
+    const char *path;
+    uint64_t state, most;
+    atomic_bool ends;
+};
+
+static void *write_on(void *context)
+{
+    struct writer *w = context;
+    jd *c = open_at(w->path);
+    CHECK(1, jd_auth(c, "alice", "abc"));
+    while (!atomic_load(&w->ends)) {
+        CHECK(1, jd_begin(c, NULL, 0));
+        for (int i = 0; i < 500; i++) {
+            uint64_t index = draw(&w->state) % w->most;
+            if (index % STAYS == 0)
+                continue;
+            if (draw(&w->state) % 2)
+                jd_jl_ins(c, "l", index, FAR * index, NULL);
+            else
+                jd_jl_del(c, "l", index);
+        }
+        CHECK(1, jd_end(c));
+    }
+    jd_close(c);
+    return NULL;
+}
+
+struct seen {
+    uint64_t next; /* the least index that may come */
+    uint64_t stays; /* the next one of those that stay */
+};
+
+static int visit_beside(uint64_t index, uint64_t value, void *context)
+{
+    struct seen *seen = context;
+    CHECK(1, index >= seen->next && value == FAR * index && index <= seen->stays);
+    seen->next = index + 1;
+    if (index == seen->stays)
+        seen->stays += STAYS;
+    return 0;
+}
+
+/* Each entry that stays comes exactly once, and the indexes rise. */
+static void check_beside(const char *path, jd *c, size_t count, uint64_t seed)
+{
+    struct writer w = {.path = path, .state = seed, .most = STAYS * count};
+    uint64_t freed;
+    pthread_t thread;
+    CHECK(1, jd_begin(c, NULL, 0));
+    for (uint64_t index = 0; index < w.most; index += STAYS)
+        jd_jl_ins(c, "l", index, FAR * index, NULL);
+    CHECK(1, jd_end(c));
+    CHECK(0, pthread_create(&thread, NULL, write_on, &w));
+    for (int i = 0; i < 10; i++) {
+        struct seen seen = {0, 0};
+        CHECK(1, jd_jl_scan(c, "l", 0, visit_beside, &seen));
+        CHECK(1, seen.stays == w.most);
+    }
+    atomic_store(&w.ends, true);
+    CHECK(0, pthread_join(thread, NULL));
+    CHECK(1, jd_jl_free_array(c, "l", &freed));
+}
+
+/* ---- visits that call ---- */
+
+struct mover {
+    jd *c;
+    uint64_t count;
+    struct wanted inner;
+};
+
+/* Removes what it visits, and scans another array meanwhile. */
+static int visit_and_remove(uint64_t index, uint64_t value, void *context)
+{
+    struct mover *m = context;
+    m->inner.at = 0;
+    CHECK(1, value == FAR * index);
+    CHECK(1, jd_jl_del(m->c, "l", index));
+    if (m->count++ % 100 == 0)
+        CHECK(1, jd_j1_scan(m->c, "one", 0, visit_one, &m->inner));
+    return 0;
+}
+
+static void check_calls(jd *c, uint64_t count)
+{
+    static const uint64_t few[] = {3, 4, 9};
+    struct mover m = {.c = c, .inner = {c, few, 3, 0, SIZE_MAX}};
+    CHECK(1, jd_begin(c, NULL, 0));
+    for (uint64_t i = 0; i < count; i++)
+        jd_jl_ins(c, "l", 2 * i, FAR * 2 * i, NULL);
+    for (int i = 0; i < 3; i++)
+        jd_j1_set(c, "one", few[i]);
+    CHECK(1, jd_end(c));
+    CHECK(1, jd_jl_scan(c, "l", 0, visit_and_remove, &m));
+    CHECK(1, m.count == count);
+    CHECK(1, jd_jl_count(c, "l", 0, UINT64_MAX, &m.count));
+    CHECK(1, m.count == 0);
+    CHECK(1, jd_j1_free_array(c, "one", &m.count));
+}
+
+static void check_refused(jd *c)
+{
+    char key[JD_KEY_LIMIT + 2];
+    int codes[2];
+    memset(key, 'k', sizeof key - 1);
+    key[sizeof key - 1] = 0;
+    CHECK(JD_NAME, jd_j1_scan(c, "no name", 0, visit_none, NULL));
+    CHECK(JD_KEY, jd_js_scan(c, "words", key, NULL, NULL));
+    CHECK(1, jd_begin(c, codes, 2));
+    CHECK(JD_USE, jd_j1_scan(c, "one", 0, visit_none, NULL));
+    CHECK(JD_USE, jd_jl_scan(c, "l", 0, NULL, NULL));
+    CHECK(JD_USE, jd_js_scan(c, "words", "", NULL, NULL));
+    CHECK(JD_QUEUED, jd_j1_set(c, "one", 5));
+    CHECK(1, jd_end(c));
+    CHECK(1, codes[0]);
+    CHECK(JD_USE, jd_j1_scan(c, "one", 0, visit_and_begin, c));
+    CHECK(1, jd_end(c));
+    CHECK(JD_AUTH, jd_auth(c, "alice", "wrong"));
+    CHECK(JD_AUTH, jd_j1_scan(c, "one", 0, visit_none, NULL));
+    CHECK(1, jd_auth(c, "alice", "abc"));
+    CHECK(1, jd_j1_unset(c, "one", 5));
+    CHECK(1, jd_j1_scan(c, "one", 0, visit_none, NULL));
+}
+
+static void check_all(const char *path, uint64_t seed, size_t count)
+{
+    uint64_t state = seed;
+    jd *c = open_at(path);
+    CHECK(1, jd_auth(c, "alice", "abc"));
+    check_refused(c);
+    for (size_t some = 0; some < 20; some++)
+        check_words(c, some, &state);
+    check_words(c, 1 + draw(&state) % 2000, &state);
+    check_words(c, count, &state);
+    check_strings(c, count / 10);
+    check_calls(c, count / 4);
+    check_beside(path, c, count / 4, seed);
+    jd_close(c);
+}
+
+/* ---- other servers ---- */
+
+static int visit_five(uint64_t index, uint64_t value, void *context)
+{
+    (void)context;
+    CHECK(5, (int)index);
+    CHECK(1, (int)value);
+    return 0;
+}
+
+/* The same entry again and again is no next entry. */
+static void check_odd(const char *path)
+{
+    jd *c = open_at(path);
+    CHECK(JD_REPLY, jd_jl_scan(c, "l", 0, visit_five, NULL));
+    CHECK(JD_CLOSED, jd_jl_scan(c, "l", 0, visit_five, NULL));
+    CHECK(-1, jd_fd(c));
+    jd_close(c);
+}
+
+/* A refusal leaves the connection open. One that the library does not know is a refusal too. */
+static void check_unknown(const char *path)
+{
+    uint64_t index = 5, value = 0;
+    jd *c = open_at(path);
+    CHECK(JD_FROZEN, jd_jl_scan(c, "l", 0, visit_five, NULL));
+    CHECK(JD_REFUSED, jd_jl_scan(c, "l", 0, visit_five, NULL));
+    CHECK(1, jd_jl_first(c, "l", &index, &value));
+    jd_close(c);
+}
+
+static int visit_numbers(uint64_t index, uint64_t value, void *context)
+{
+    uint64_t *next = context;
+    CHECK(1, index == *next && value == index);
+    ++*next;
+    return 0;
+}
+
+static void check_plain(const char *path, uint64_t count)
+{
+    uint64_t next = 0;
+    jd *c = open_at(path);
+    CHECK(1, jd_auth(c, "alice", "abc"));
+    CHECK(1, jd_jl_scan(c, "numbers", 0, visit_numbers, &next));
+    CHECK(1, next == count);
+    jd_close(c);
+}
+
+int main(int count, char **words)
+{
+    if (count == 5 && !strcmp(words[1], "all"))
+        check_all(words[2], strtoull(words[3], NULL, 10), strtoul(words[4], NULL, 10));
+    else if (count == 4 && !strcmp(words[1], "plain"))
+        check_plain(words[2], strtoull(words[3], NULL, 10));
+    else if (count == 3 && !strcmp(words[1], "odd"))
+        check_odd(words[2]);
+    else if (count == 3 && !strcmp(words[1], "refused"))
+        check_unknown(words[2]);
+    else {
+        fprintf(stderr, "usage: scans all PATH SEED COUNT, scans plain PATH COUNT, scans odd|refused PATH\n");
+        return 2;
+    }
+    return 0;
+}
