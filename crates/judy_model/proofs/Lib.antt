@@ -11,5 +11,6 @@ mod GrammarLemmas
 mod QueryLemmas
 mod ServiceLaws
 mod RefusalLaws
+mod UnchangedLaws
 mod GrowthLaws
 mod AnswerLaws

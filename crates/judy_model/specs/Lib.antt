@@ -12,3 +12,4 @@ pub mod Grammar
 pub mod Reading
 pub mod Stream
 pub mod WellFormed
+pub mod Unchanged

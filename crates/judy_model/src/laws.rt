@@ -3,6 +3,7 @@ ghost use Rattle.judy_model.specs.Gaps.{GapsAreFound, GapsHaveOneAnswer};
 ghost use Rattle.judy_model.specs.Service.{IdleTenantsRest, ServingGoesOn, ServingIsDetermined, ServingIsStepwise};
 ghost use Rattle.judy_model.specs.Solo.{MemoryIsForNew, SoloGoesOn, SoloIsDetermined, SoloIsStepwise, StepHasMemory};
 ghost use Rattle.judy_model.specs.Tenant.{AloneGoesOn};
+ghost use Rattle.judy_model.specs.Unchanged.{UnchangedAreTold};
 ghost use Rattle.judy_model.specs.WellFormed.{AnswersKeepAll, CallsKeepOthers, FullIsForNew, LooksKeepAll, QueriesKeepAll, StepKeepsForm, StepKeepsQuota};
 ghost use Rattle.judy_model.specs.Reading.{SpellsAtMostOne};
 
@@ -81,6 +82,11 @@ pub fn looks_keep_all()
 /// A call that cannot change arrays leaves well-formed arrays unchanged.
 pub fn queries_keep_all()
     ensures { QueriesKeepAll }
+{}
+
+/// A reply that says that the call changed nothing is right: well-formed arrays are as they were.
+pub fn unchanged_are_told()
+    ensures { UnchangedAreTold }
 {}
 
 /// A call leaves arrays of other names and other kinds unchanged.

@@ -12,6 +12,7 @@ pub mod quotas;
 pub mod replies;
 pub mod requests;
 pub mod tokens;
+mod unchanged;
 
 pub use calls::{BytesCall, Call, Given, LongCall, OneCall, StrCall};
 pub use grammar::{is_name_letter, is_string, name_ok, token_ok};

@@ -1,0 +1,201 @@
+-- A reply that says that a call changed nothing is right.
+use Rattle.std.proofs.Common.{◌≡◌, ℕ, ◌+◌, ◌%◌, ◌^◌, arith, Bool, true, false, not, cond, ◌&&◌, List, [], ◌∷◌, refl, sym, ◌∙◌, ap, subst, Option, Some, None}
+use Rattle.std.specs.Prelude.{◌==◌, is_some, length, nat_lt}
+use Rattle.std.specs.Cmp.{IsTotalOrder, nat_cmp_total}
+use Rattle.std.specs.Cmp.Lexicographic.{nat_list_cmp_total}
+use Rattle.std.specs.Ordering.{eq_by_cmp}
+use Rattle.std.specs.FinMap.{find, put, is_sorted, IsAntisymmetric, slice_cmp-IsAntisymmetric, nat_cmp-IsAntisymmetric}
+use Rattle.std.specs.FinMap.Entries.{is_sorted-put, is_sorted-where_key, find-put, find-where_key, same_entries}
+use Rattle.std.proofs.lemmas.Bool.{eqb-true}
+use Rattle.std.proofs.lemmas.Bool.Decides.{nat_tests}
+use Rattle.judy_model.specs.declared.calls.Call.{Call}
+use Rattle.judy_model.specs.declared.calls.Call.TheVariants.{One, Long, Str, Bytes, Used}
+use Rattle.judy_model.specs.declared.calls.OneCall.{OneCall}
+use Rattle.judy_model.specs.declared.calls.OneCall.TheVariants as one
+use Rattle.judy_model.specs.declared.calls.LongCall.{LongCall}
+use Rattle.judy_model.specs.declared.calls.LongCall.TheVariants as long
+use Rattle.judy_model.specs.declared.calls.StrCall.{StrCall}
+use Rattle.judy_model.specs.declared.calls.StrCall.TheVariants as str
+use Rattle.judy_model.specs.declared.calls.BytesCall.{BytesCall}
+use Rattle.judy_model.specs.declared.calls.BytesCall.TheVariants as bytes
+use Rattle.judy_model.specs.declared.calls.Given.{Given}
+use Rattle.judy_model.specs.declared.calls.Given.TheVariants.{Nothing, Value, Plus}
+use Rattle.judy_model.specs.declared.quotas.Quota.{Quota}
+use Rattle.judy_model.specs.declared.quotas.Right.{Right}
+use Rattle.judy_model.specs.declared.quotas.Right.TheVariants.{Change, Look, Frozen}
+use Rattle.judy_model.specs.declared.replies.Reply.{Reply}
+use Rattle.judy_model.specs.declared.replies.Reply.TheVariants as reply
+use Rattle.judy_model.specs.Grammar.{are_bytes, is_string, is_byte_key}
+use Rattle.judy_model.specs.Contents.{Order, Entries, word_order, string_order, has_key, with_entry, without_key}
+use Rattle.judy_model.specs.Tenant.{State, content_of, with_content, value_after, value_replied, insert_over, insert, delete, free}
+use Rattle.judy_model.specs.Tenant.{one_step, long_step, string_step, bytes_step, changes, has_room, allowed_step, step}
+use Rattle.judy_model.specs.Unchanged.{keeps, insertion_leaves, says_no, says_none, one_leaves, long_leaves, string_leaves, bytes_leaves, leaves, UnchangedAreTold}
+use Rattle.judy_model.specs.WellFormed.{is_word, is_one_entry, is_long_entry, is_string_entry, is_bytes_entry, is_content, IsWellFormed}
+use Rattle.judy_model.proofs.lemmas.FormLemmas.{content_form, found_passes, names_apart, with_content_same}
+use Rattle.judy_model.proofs.lemmas.StateLemmas.{and_left, and_right, is_Equal}
+use Rattle.judy_model.proofs.lemmas.TestLemmas.{to_T}
+
+-- ---- the content of an array
+
+module _ {K : Type 0} (order : Order K) (total : IsTotalOrder order) (same : IsAntisymmetric order) where
+  -- an entry that gets the value that it has
+  put_same : (l : Entries K) (k : K) (v : ℕ) → is_sorted order l ≡ true → find order k l ≡ Some v → with_entry order l k v ≡ l
+  put_same l k v rises is = same_entries order total same (with_entry order l k v) l
+      (is_sorted-put order total k v l (to_T _ rises)) (to_T _ rises)
+      (λ q. find-put order total q k v l ∙ by (eq_by_cmp order q k) q refl)
+    where
+      by : (b : Bool) (q : K) → eq_by_cmp order q k ≡ b → cond b (Some v) (find order q l) ≡ find order q l
+      by true q tie = sym is ∙ ap (λ n. find order n l) (sym (same q k (is_Equal (order q k) tie)))
+      by false q tie = refl
+
+  -- a key that is not there is removed
+  less_same : (l : Entries K) (k : K) → is_sorted order l ≡ true → has_key order l k ≡ false → without_key order l k ≡ l
+  less_same l k rises lacks = same_entries order total same (without_key order l k) l
+      (is_sorted-where_key order (λ n. not (eq_by_cmp order k n)) l (to_T _ rises)) (to_T _ rises)
+      (λ q. find-where_key order (λ n. not (eq_by_cmp order k n)) q (λ x e. ap (λ n. not (eq_by_cmp order k n)) (sym (same q x e))) l
+      ∙ by (eq_by_cmp order k q) q refl)
+    where
+      none : (had : Option ℕ) → find order k l ≡ had → is_some had ≡ false → find order k l ≡ None
+      none (Some v) is h = cc
+      none None is h = is
+
+      by : (b : Bool) (q : K) → eq_by_cmp order k q ≡ b → cond (not b) (find order q l) None ≡ find order q l
+      by true q tie = sym (none (find order k l) refl lacks) ∙ ap (λ n. find order n l) (same k q (is_Equal (order k q) tie))
+      by false q tie = refl
+
+  -- the value that an insertion leaves is the one that was there
+  value_kept : (given : Given) (v : ℕ) → is_word v ≡ true → keeps given (value_replied given v) ≡ true → value_after given v ≡ v
+  value_kept Nothing v word h = refl
+  value_kept (Value w) v word h = eqb-true w v (and_right (nat_lt 0 v) _ h)
+  value_kept (Plus n) v word h =
+      let nothing : n ≡ 0 = eqb-true n 0 (and_right (nat_lt 0 ((v + n) % 2 ^ 64)) _ h) in
+      ap (λ m. (v + m) % 2 ^ 64) nothing ∙ grind (arith, nat_tests, word)
+
+  -- a new entry is no entry that was there
+  new_told : (given : Given) → keeps given (value_replied given 0) ≡ false
+  new_told Nothing = refl
+  new_told (Value w) = refl
+  new_told (Plus n) = by (n == 0) refl
+    where
+      by : (b : Bool) → (n == 0) ≡ b → (nat_lt 0 ((0 + n) % 2 ^ 64) && b) ≡ false
+      by true is = ap (λ m. nat_lt 0 ((0 + m) % 2 ^ 64) && true) (eqb-true n 0 is)
+      by false is = never (nat_lt 0 ((0 + n) % 2 ^ 64))
+        where
+          never : (c : Bool) → (c && false) ≡ false
+          never true = refl
+          never false = refl
+
+  insert_left : (test : K × ℕ → Bool) → ((k : K) (v : ℕ) → test (k, v) ≡ true → is_word v ≡ true) → (room : Bool) (l : Entries K) (k : K) (given : Given)
+      → is_content order test l ≡ true → insertion_leaves given (insert order room l k given).0 ≡ true → (insert order room l k given).1 ≡ l
+  insert_left test words room l k given form h = by (find order k l) room refl h
+    where
+      rises : is_sorted order l ≡ true
+      rises = and_left (is_sorted order l) _ form
+
+      by : (had : Option ℕ) (r : Bool) → find order k l ≡ had → insertion_leaves given (insert_over order r l k given had).0 ≡ true
+          → (insert_over order r l k given had).1 ≡ l
+      by (Some v) r is e =
+          let word = words k v (found_passes order same test k v l (and_right (is_sorted order l) _ form) is) in
+          ap (with_entry order l k) (value_kept given v word e) ∙ put_same l k v rises is
+      by None true is e = let no = sym (new_told given) ∙ e in cc
+      by None false is e = cc
+
+  delete_left : (test : K × ℕ → Bool) (l : Entries K) (k : K) → is_content order test l ≡ true → says_no (delete order l k).0 ≡ true
+      → (delete order l k).1 ≡ l
+  delete_left test l k form h = by (has_key order l k) refl h
+    where
+      by : (b : Bool) → has_key order l k ≡ b → not b ≡ true → without_key order l k ≡ l
+      by true is e = cc
+      by false is e = less_same l k (and_left (is_sorted order l) _ form) is
+
+free_left : {K : Type 0} (l : Entries K) → says_none (free l).0 ≡ true → (free l).1 ≡ l
+free_left [] h = refl
+free_left (e ∷ es) h = let no = eqb-true (length (e ∷ es)) 0 h in absurd (omega (arith, no))
+
+-- ---- the calls of each kind
+
+one_left : (room : Bool) (l : Entries ℕ) (c : OneCall) → is_content word_order is_one_entry l ≡ true → one_leaves c (one_step room l c).0 ≡ true
+    → (one_step room l c).1 ≡ l
+one_left room l (one.Set x) form h = by (has_key word_order l x) room h
+  where
+    by : (b r : Bool) → says_no (cond {A = Reply × Entries ℕ} b (reply.Int false, l)
+        (cond r (reply.Int true, with_entry word_order l x 0) (reply.Full, l))).0 ≡ true
+        → (cond {A = Reply × Entries ℕ} b (reply.Int false, l) (cond r (reply.Int true, with_entry word_order l x 0) (reply.Full, l))).1 ≡ l
+    by true r e = refl
+    by false true e = cc
+    by false false e = refl
+one_left room l (one.Unset x) form h = delete_left word_order nat_cmp_total nat_cmp-IsAntisymmetric is_one_entry l x form h
+one_left room l one.Free form h = free_left l h
+one_left room l _ form h = refl
+
+-- an entry's value is a word
+word_in_long : (k v : ℕ) → is_long_entry (k, v) ≡ true → is_word v ≡ true
+word_in_long k v h = and_right (is_word k) _ h
+
+word_in_string : (k : List ℕ) (v : ℕ) → is_string_entry (k, v) ≡ true → is_word v ≡ true
+word_in_string k v h = and_right (is_string k && are_bytes k) _ h
+
+word_in_bytes : (k : List ℕ) (v : ℕ) → is_bytes_entry (k, v) ≡ true → is_word v ≡ true
+word_in_bytes k v h = and_right (is_byte_key k && are_bytes k) _ h
+
+long_left : (room : Bool) (l : Entries ℕ) (c : LongCall) → is_content word_order is_long_entry l ≡ true → long_leaves c (long_step room l c).0 ≡ true
+    → (long_step room l c).1 ≡ l
+long_left room l (long.Insert k given) form h =
+    insert_left word_order nat_cmp_total nat_cmp-IsAntisymmetric is_long_entry word_in_long room l k given form h
+long_left room l (long.Delete k) form h = delete_left word_order nat_cmp_total nat_cmp-IsAntisymmetric is_long_entry l k form h
+long_left room l long.Free form h = free_left l h
+long_left room l _ form h = refl
+
+string_left : (room : Bool) (l : Entries (List ℕ)) (c : StrCall) → is_content string_order is_string_entry l ≡ true
+    → string_leaves c (string_step room l c).0 ≡ true → (string_step room l c).1 ≡ l
+string_left room l (str.Insert k given) form h =
+    insert_left string_order nat_list_cmp_total names_apart is_string_entry word_in_string room l k given form h
+string_left room l (str.Delete k) form h = delete_left string_order nat_list_cmp_total names_apart is_string_entry l k form h
+string_left room l str.Free form h = free_left l h
+string_left room l _ form h = refl
+
+byte_left : (room : Bool) (l : Entries (List ℕ)) (c : BytesCall) → is_content string_order is_bytes_entry l ≡ true
+    → bytes_leaves c (bytes_step room l c).0 ≡ true → (bytes_step room l c).1 ≡ l
+byte_left room l (bytes.Insert k given) form h =
+    insert_left string_order nat_list_cmp_total names_apart is_bytes_entry word_in_bytes room l k given form h
+byte_left room l (bytes.Delete k) form h = delete_left string_order nat_list_cmp_total names_apart is_bytes_entry l k form h
+byte_left room l bytes.Free form h = free_left l h
+byte_left room l _ form h = refl
+
+-- ---- a call of a tenant
+
+allowed_left : (quota : Quota) (s : State) (call : Call) → IsWellFormed s → leaves call (allowed_step quota s call).0 ≡ true
+    → (allowed_step quota s call).1 ≡ s
+allowed_left quota s (One name c) h e =
+    ap (λ l. record s { one = with_content s.one name l })
+    (one_left (has_room quota s (One name c)) (content_of s.one name) c (content_form word_order is_one_entry s.one name h.one) e)
+    ∙ ap (λ arrays. record s { one = arrays }) (with_content_same word_order is_one_entry s.one name h.one)
+allowed_left quota s (Long name c) h e =
+    ap (λ l. record s { long = with_content s.long name l })
+    (long_left (has_room quota s (Long name c)) (content_of s.long name) c (content_form word_order is_long_entry s.long name h.long) e)
+    ∙ ap (λ arrays. record s { long = arrays }) (with_content_same word_order is_long_entry s.long name h.long)
+allowed_left quota s (Str name c) h e =
+    ap (λ l. record s { string = with_content s.string name l })
+    (string_left (has_room quota s (Str name c)) (content_of s.string name) c (content_form string_order is_string_entry s.string name h.string) e)
+    ∙ ap (λ arrays. record s { string = arrays }) (with_content_same string_order is_string_entry s.string name h.string)
+allowed_left quota s (Bytes name c) h e =
+    ap (λ l. record s { bytes = with_content s.bytes name l })
+    (byte_left (has_room quota s (Bytes name c)) (content_of s.bytes name) c (content_form string_order is_bytes_entry s.bytes name h.bytes) e)
+    ∙ ap (λ arrays. record s { bytes = arrays }) (with_content_same string_order is_bytes_entry s.bytes name h.bytes)
+allowed_left quota s Used h e = refl
+
+-- under a right that forbids each change
+forbidden_left : (r : Reply) (quota : Quota) (s : State) (call : Call) → IsWellFormed s
+    → leaves call (cond {A = Reply × State} (changes call) (r, s) (allowed_step quota s call)).0 ≡ true
+    → (cond {A = Reply × State} (changes call) (r, s) (allowed_step quota s call)).1 ≡ s
+forbidden_left r quota s call h = by (changes call)
+  where
+    by : (b : Bool) → leaves call (cond {A = Reply × State} b (r, s) (allowed_step quota s call)).0 ≡ true
+        → (cond {A = Reply × State} b (r, s) (allowed_step quota s call)).1 ≡ s
+    by true e = refl
+    by false e = allowed_left quota s call h e
+
+pub unchanged_are_told : UnchangedAreTold
+unchanged_are_told Change quota s call h e = allowed_left quota s call h e
+unchanged_are_told Look quota s call h e = forbidden_left reply.ReadOnly quota s call h e
+unchanged_are_told Frozen quota s call h e = forbidden_left reply.Frozen quota s call h e
