@@ -13,7 +13,7 @@ use Rattle.judy_model.specs.Speakers.{Speaker}
 use Rattle.judy_model.specs.Stream.{Login, heard, heard_request}
 use Rattle.judy_model.specs.Stream.Heard.{Asked}
 use Rattle.judy_model.specs.Tenant.{changes}
-use Rattle.judy_protocol.specs.Plain.{is_refused}
+use Rattle.judy_protocol.specs.Plain.{says_unchanged}
 use Rattle.judy_protocol.specs.Services.{Made}
 use Rattle.judy_protocol.specs.Talks.{HasRun, heard_bare}
 
@@ -21,7 +21,7 @@ use Rattle.judy_protocol.specs.Talks.{HasRun, heard_bare}
 pub called : {S P : Type 0} (made : Made S) (login : Login) (who : P → Speaker) (speaker : Option P) (p : P) (call : Call)
     (reply : Reply) (before after : S) (text : List ℕ) (changed : Bool)
     → speaker ≡ Some p → made before (record { speaker = who p; call = call }) reply after → text ≡ text_of reply
-    → changed ≡ (changes call && not (is_refused reply))
+    → changed ≡ (changes call && not (says_unchanged call reply))
     → HasRun made login (Asked (request.Call call)) (option_map who speaker) (option_map who speaker) before after text changed
 called made login who speaker p call reply before after text changed is done e f =
     subst (λ o. HasRun made login (Asked (request.Call call)) (option_map who o) (option_map who o) before after text changed) (sym is) (record {

@@ -3,3 +3,4 @@ pub mod Worlds
 pub mod SendingLaws
 pub mod Endings
 pub mod Greets
+pub mod ShortLines

@@ -18,6 +18,7 @@ mod replies;
 mod requests;
 mod sending;
 mod service;
+mod squeezing;
 mod turns;
 
 pub use connection::{End, PULL_LIMIT, READS_LIMIT, serve, serve_after, serve_up_to};
@@ -30,4 +31,5 @@ pub use replies::write_reply;
 pub use requests::{Syntax, read_line};
 pub use sending::send;
 pub use service::Served;
+pub use squeezing::squeeze;
 pub use turns::{Refusal, asks_to_quit, hear_line, join_line, run, whole_line};

@@ -7,7 +7,7 @@ ghost use Rattle.judy_model.specs.Replies.{line};
 ghost use Rattle.judy_model.specs.Stream.{greeting, heard, is_quit, welcome};
 ghost use Rattle.judy_model.specs.Stream.Heard.{Asked};
 ghost use Rattle.judy_model.specs.Tenant.{changes};
-ghost use Rattle.judy_protocol.specs.Plain.{is_refused as is_refused_lem};
+ghost use Rattle.judy_protocol.specs.Plain.{is_refused as is_refused_lem, says_unchanged as says_unchanged_lem};
 ghost use Rattle.judy_protocol.specs.Services.{HasLoggedIn, IsAsked};
 ghost use Rattle.judy_protocol.specs.Talks.{HasNoLf, HasRun, Holds, IsJoined, as_heard, heard_bare};
 
@@ -166,7 +166,7 @@ fn let_in<S: Served>(
     }
 }
 
-/// Whether the reply says that nothing changed.
+/// Whether the reply refuses the call.
 fn is_refused(reply: &Reply<'_>) -> bool
     ensures { result ≡ is_refused_lem reply.now }
 {
@@ -176,11 +176,18 @@ fn is_refused(reply: &Reply<'_>) -> bool
     )
 }
 
-/// Whether a call with this reply may have changed arrays: it is one that changes them, and was not refused.
-fn counts(call: &Call<'_>, reply: &Reply<'_>) -> bool
-    ensures { result ≡ (changes call.now && not (is_refused_lem reply.now)) }
+/// Whether the reply says that nothing changed: it refuses the call, or all was so before.
+fn says_unchanged(call: &Call<'_>, reply: &Reply<'_>) -> bool
+    ensures { result ≡ says_unchanged_lem call.now reply.now }
 {
-    call.changes() && !is_refused(reply)
+    is_refused(reply) || call.leaves(reply)
+}
+
+/// Whether a call with this reply may have changed arrays.
+fn counts(call: &Call<'_>, reply: &Reply<'_>) -> bool
+    ensures { result ≡ (changes call.now && not (says_unchanged_lem call.now reply.now)) }
+{
+    call.changes() && !says_unchanged(call, reply)
 }
 
 /// Makes a call for the speaker, and writes the answer. Without a speaker the answer is `ERR AUTH`.
