@@ -17,7 +17,7 @@ use Rattle.judy_model.specs.declared.calls.Call.{Call}
 use Rattle.judy_model.specs.declared.quotas.Quota.{Quota}
 use Rattle.judy_model.specs.declared.quotas.Right.TheVariants.{Change}
 use Rattle.judy_model.specs.declared.replies.Reply.{Reply}
-use Rattle.judy_model.specs.declared.replies.Reply.TheVariants.{Full, ReadOnly, Memory}
+use Rattle.judy_model.specs.declared.replies.Reply.TheVariants.{Full, ReadOnly, Frozen, Memory}
 use Rattle.judy_protocol.specs.Plain.{counts}
 use Rattle.judy_model.specs.declared.requests.Line.{Line}
 use Rattle.judy_model.specs.declared.requests.Line.TheVariants as request
@@ -156,10 +156,11 @@ abbrev pub event_told : Places → List ℕ → Result Event Unplayed
 event_told places bytes = event_for places (told bytes)
 
 -- What the reply to this call says of the record. The right to change arrays is never refused, so
--- `ReadOnly` does not come.
+-- `ReadOnly` and `Frozen` do not come.
 abbrev pub outcome : Reply → Result (Unit {0}) Unplayed
 outcome Full = Err unplayed.Full
 outcome ReadOnly = Err unplayed.Full
+outcome Frozen = Err unplayed.Full
 outcome Memory = Err unplayed.Memory
 outcome _ = Ok tt
 

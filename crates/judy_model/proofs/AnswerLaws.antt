@@ -11,7 +11,7 @@ use Rattle.judy_model.specs.declared.replies.Reply.{Reply}
 use Rattle.judy_model.specs.declared.replies.Reply.TheVariants as reply
 use Rattle.judy_model.specs.Contents.{Entries, string_order}
 use Rattle.judy_model.specs.Tenant.{Arrays, State, content_of, with_content, used, pieces, one_step, long_step, string_step}
-use Rattle.judy_model.specs.Tenant.{bytes_step, is_read_only, new_pieces, has_room, allowed_step, attempt_step}
+use Rattle.judy_model.specs.Tenant.{bytes_step, is_read_only, refusal_of, new_pieces, has_room, allowed_step, attempt_step}
 use Rattle.judy_model.specs.Solo.{is_memory, MayLackMemory, MemoryIsForNew}
 use Rattle.judy_model.specs.WellFormed.{IsWellFormed, IsWithin, OthersOfKindStay, OtherArraysStay, CallsKeepOthers, AnswersKeepAll}
 use Rattle.judy_model.proofs.lemmas.StateLemmas.{equal_names, content_of-with_content_other}
@@ -83,7 +83,7 @@ same_others s Used = refl
 pub calls_keep_others : CallsKeepOthers
 calls_keep_others right quota s call = by (is_read_only right call)
   where
-    by : (b : Bool) → OtherArraysStay call s (cond {A = Reply × State} b (reply.ReadOnly, s) (allowed_step quota s call)).1
+    by : (b : Bool) → OtherArraysStay call s (cond {A = Reply × State} b (refusal_of right, s) (allowed_step quota s call)).1
     by true = same_others s call
     by false = allowed_keeps_others quota s call
 

@@ -14,7 +14,7 @@ use Rattle.judy_model.specs.declared.calls.BytesCall.TheVariants as bytes
 use Rattle.judy_model.specs.declared.calls.Given.{Given}
 use Rattle.judy_model.specs.declared.quotas.Quota.{Quota}
 use Rattle.judy_model.specs.declared.quotas.Right.{Right}
-use Rattle.judy_model.specs.declared.quotas.Right.TheVariants.{Change, Look}
+use Rattle.judy_model.specs.declared.quotas.Right.TheVariants.{Change, Look, Frozen}
 use Rattle.judy_model.specs.Contents.{Entries, word_order, string_order}
 use Rattle.judy_model.specs.Pieces.{word_pieces, string_pieces, pieces_of}
 use Rattle.judy_model.specs.Tenant.{State, content_of, used, pieces, one_step, long_step, string_step, bytes_step}
@@ -23,7 +23,7 @@ use Rattle.judy_model.specs.Tenant.{asks_for_new, new_pieces, has_room, allowed_
 use Rattle.judy_model.specs.WellFormed.{is_one_entry, is_long_entry, is_string_entry, is_bytes_entry, IsWellFormed, Grows, IsWithin, StepKeepsQuota}
 use Rattle.judy_model.proofs.lemmas.StateLemmas.{total, total-with_content}
 use Rattle.judy_model.proofs.lemmas.FormLemmas.{names_apart, names_rise, content_form}
-use Rattle.judy_model.proofs.RefusalLaws.{looks_keep_all}
+use Rattle.judy_model.proofs.RefusalLaws.{look_keeps, frozen_keeps}
 use Rattle.judy_model.proofs.lemmas.TestLemmas.{and_left, and_right}
 use Rattle.judy_model.proofs.lemmas.GrowthLemmas.{Measure, lengths, sizes, one_grows, long_grows, string_grows, byte_grows, lifted}
 use Rattle.judy_model.proofs.lemmas.GapLemmas.{le_of}
@@ -83,7 +83,8 @@ module _ (words : Entries ℕ → ℕ) (word : ℕ → ℕ) (of_words : Measure 
   step_grows : (right : Right) (quota : Quota) (s : State) (call : Call) (n : ℕ) → IsWellFormed s → Weighs call n
       → Grows (asks_for_new right s call) (has_room quota s call) n (whole s) (whole (step right quota s call).1)
   step_grows Change quota s call n h w = allowed_grows quota s call n h w
-  step_grows Look quota s call n h w = let e = ap whole ((looks_keep_all Look quota s call).1 h) in omega (arith, e)
+  step_grows Look quota s call n h w = let e = ap whole (look_keeps quota s call h) in omega (arith, e)
+  step_grows Frozen quota s call n h w = let e = ap whole (frozen_keeps quota s call h) in omega (arith, e)
 
 -- ---- entries and pieces, each
 

@@ -8,7 +8,7 @@ use Rattle.judy_model.specs.declared.calls.Call.TheVariants.{One, Long, Used}
 use Rattle.judy_model.specs.declared.calls.OneCall.TheVariants as one
 use Rattle.judy_model.specs.declared.calls.LongCall.TheVariants as long
 use Rattle.judy_model.specs.declared.calls.Given.TheVariants.{Plus}
-use Rattle.judy_model.specs.declared.quotas.Right.TheVariants.{Change, Look}
+use Rattle.judy_model.specs.declared.quotas.Right.TheVariants.{Change, Look, Frozen}
 use Rattle.judy_model.specs.declared.replies.Reply.{Reply}
 use Rattle.judy_model.specs.declared.replies.Reply.TheVariants as reply
 use Rattle.judy_model.specs.Pieces.{string_pieces, entries_quota}
@@ -104,13 +104,33 @@ looking_at_quota : talk (entries_quota 0) (codes "AUTH alice hello\nJ1S a 1\nAUT
     ≡ codes "OK\nERR READONLY\nOK\nFULL\n"
 looking_at_quota = refl
 
+-- ---- the right of a frozen tenant
+
+-- the calls of each kind that can change an array, also where they would change nothing; then those
+-- that cannot
+frozen_changes : alice
+    (codes "AUTH alice ice\nJ1S a 1\nJ1U a 1\nJ1FA a\nJLI l 1 2\nJLA l 1 2\nJLD l 1\nJLFA l\nJSLI s x61\nJSLD s x61\nJSLFA s\nJHSI h x61\nJHSD h x61\nJHSFA h\nUSED\n")
+    ≡ codes "OK\nOK\nERR FROZEN\nERR FROZEN\nERR FROZEN\nERR FROZEN\nERR FROZEN\nERR FROZEN\nERR FROZEN\nERR FROZEN\nERR FROZEN\nERR FROZEN\nERR FROZEN\nERR FROZEN\nERR FROZEN\nQ 0 4 0 504\n"
+unfolding digits decode_pairs
+frozen_changes = refl
+
+frozen_asks : alice (codes "J1S a 1\nJLI l 1 2\nAUTH alice ice\nJ1C a 0 9\nJ1F a 0\nJLG l 1\nJLA l 1 1\nJLG l 1\nAUTH alice abc\nJLA l 1 1\n")
+    ≡ codes "OK\n1\nV 0\nOK\nN 1\n1 1\nV 2\nERR FROZEN\nV 2\nOK\nV 3\n"
+unfolding digits
+frozen_asks = refl
+
+-- the right is checked before the quota, and a read-only one is told as such
+frozen_at_quota : talk (entries_quota 0) (codes "AUTH alice ice\nJ1S a 1\nAUTH alice hello\nJ1S a 1\nAUTH alice abc\nJ1S a 1\n")
+    ≡ codes "OK\nERR FROZEN\nOK\nERR READONLY\nOK\nFULL\n"
+frozen_at_quota = refl
+
 -- ---- out of memory
 
 no : false ≡ true → ⊥
 no e = cc
 
 -- the reply is not `ERR MEMORY` at the quota of entries, at that of pieces, for a present index, or
--- under a read-only right
+-- under a read-only right or that of a frozen tenant
 no_memory_at_entries : MayLackMemory (entries_quota 0) no_arrays (record { right = Change; call = One (codes "a") (one.Set 1) }) → ⊥
 no_memory_at_entries h = no h.1
 
@@ -123,6 +143,9 @@ no_memory_when_present h = no h.0
 
 no_memory_to_look : MayLackMemory (entries_quota 4) no_arrays (record { right = Look; call = One (codes "a") (one.Set 1) }) → ⊥
 no_memory_to_look h = no h.0
+
+no_memory_when_frozen : MayLackMemory (entries_quota 4) no_arrays (record { right = Frozen; call = One (codes "a") (one.Set 1) }) → ⊥
+no_memory_when_frozen h = no h.0
 
 -- an addition to the word 1 in the JudyL `l`, with a quota of 4 entries
 abbrev addition : ℕ → Attempt

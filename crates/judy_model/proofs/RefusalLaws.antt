@@ -16,7 +16,7 @@ use Rattle.judy_model.specs.declared.calls.BytesCall.TheVariants as bytes
 use Rattle.judy_model.specs.declared.calls.Given.{Given}
 use Rattle.judy_model.specs.declared.quotas.Quota.{Quota}
 use Rattle.judy_model.specs.declared.quotas.Right.{Right}
-use Rattle.judy_model.specs.declared.quotas.Right.TheVariants.{Change, Look}
+use Rattle.judy_model.specs.declared.quotas.Right.TheVariants.{Change, Look, Frozen}
 use Rattle.judy_model.specs.declared.replies.Reply.{Reply}
 use Rattle.judy_model.specs.declared.replies.Reply.TheVariants as reply
 use Rattle.judy_model.specs.Contents.{Order, Entries, word_order, string_order, value_of, has_key, with_entry, nth, first, next, last, prev}
@@ -25,16 +25,18 @@ use Rattle.judy_model.specs.Tenant.{State, Attempt, content_of, with_content, in
 use Rattle.judy_model.specs.Tenant.{value_at_or_null, value_key_or_null, value_or_null, absent_or_no, one_step, long_step}
 use Rattle.judy_model.specs.Tenant.{string_step, bytes_step, one_changes, long_changes, string_changes, bytes_changes}
 use Rattle.judy_model.specs.Tenant.{one_asks_for_new, long_asks_for_new, string_asks_for_new, bytes_asks_for_new, changes}
-use Rattle.judy_model.specs.Tenant.{is_read_only, asks_for_new, has_room, allowed_step, step, attempt_step}
+use Rattle.judy_model.specs.Tenant.{is_read_only, refusal_of, asks_for_new, has_room, allowed_step, step, attempt_step}
 use Rattle.judy_model.specs.Solo.{is_memory, IsAnswered, StepHasMemory}
 use Rattle.judy_model.specs.WellFormed.{is_one_entry, is_long_entry, is_string_entry, is_bytes_entry, IsWellFormed, FullIsForNew, LooksKeepAll, QueriesKeepAll}
 use Rattle.judy_model.proofs.lemmas.FormLemmas.{with_content_same}
 
--- which refusal a reply is: 1 for a missing right, 2 for the quota, 3 for memory; 0 for no refusal
+-- which refusal a reply is: 1 for the read-only right, 2 for the quota, 3 for memory, 4 for that of a frozen
+-- tenant; 0 for no refusal
 abbrev refusal : Reply → ℕ
 refusal reply.ReadOnly = 1
 refusal reply.Full = 2
 refusal reply.Memory = 3
+refusal reply.Frozen = 4
 refusal _ = 0
 
 -- the refusal of a call without room for a new entry
@@ -224,20 +226,28 @@ queries_ask_nothing s (Bytes name (bytes.Insert k given)) h = cc
 queries_ask_nothing s (Bytes name _) h = refl
 queries_ask_nothing s Used h = refl
 
--- the refusal of a call, under any right
-step_refusal : (right : Right) (quota : Quota) (s : State) (call : Call)
-    → refusal (step right quota s call).0 ≡ cond (is_read_only right call) 1 (at_quota (asks_for_new right s call) (has_room quota s call))
-step_refusal Change quota s call = allowed_refusal quota s call
-step_refusal Look quota s call = by (changes call) refl
+-- the refusal of a call under a right that forbids each change
+forbidden_refusal : (r : Reply) (quota : Quota) (s : State) (call : Call)
+    → refusal (cond {A = Reply × State} (changes call) (r, s) (allowed_step quota s call)).0 ≡ cond (changes call) (refusal r) 0
+forbidden_refusal r quota s call = by (changes call) refl
   where
-    by : (b : Bool) → changes call ≡ b → refusal (cond {A = Reply × State} b (reply.ReadOnly, s) (allowed_step quota s call)).0 ≡ cond b 1 0
+    by : (b : Bool) → changes call ≡ b → refusal (cond {A = Reply × State} b (r, s) (allowed_step quota s call)).0 ≡ cond b (refusal r) 0
     by true is = refl
     by false is = allowed_refusal quota s call ∙ ap (λ a. at_quota a (has_room quota s call)) (queries_ask_nothing s call is)
+
+-- the refusal of a call, under any right
+step_refusal : (right : Right) (quota : Quota) (s : State) (call : Call)
+    → refusal (step right quota s call).0
+    ≡ cond (is_read_only right call) (refusal (refusal_of right)) (at_quota (asks_for_new right s call) (has_room quota s call))
+step_refusal Change quota s call = allowed_refusal quota s call
+step_refusal Look quota s call = forbidden_refusal reply.ReadOnly quota s call
+step_refusal Frozen quota s call = forbidden_refusal reply.Frozen quota s call
 
 -- a call that its right forbids asks for no new entry
 asks_is_allowed : (right : Right) (s : State) (call : Call) → asks_for_new right s call ≡ true → is_read_only right call ≡ false
 asks_is_allowed Change s call h = refl
 asks_is_allowed Look s call h = cc
+asks_is_allowed Frozen s call h = cc
 
 -- the replies, by their refusals
 memory_is : (r : Reply) → is_memory r ≡ (refusal r == 3)
@@ -248,13 +258,22 @@ full_is : (r : Reply) → refusal r ≡ 2 → r ≡ reply.Full
 full_is reply.Full h = refl
 full_is reply.ReadOnly h = cc
 full_is reply.Memory h = cc
+full_is reply.Frozen h = cc
 full_is _ h = cc
 
 read_only_is : (r : Reply) → refusal r ≡ 1 → r ≡ reply.ReadOnly
 read_only_is reply.ReadOnly h = refl
 read_only_is reply.Full h = cc
 read_only_is reply.Memory h = cc
+read_only_is reply.Frozen h = cc
 read_only_is _ h = cc
+
+frozen_is : (r : Reply) → refusal r ≡ 4 → r ≡ reply.Frozen
+frozen_is reply.Frozen h = refl
+frozen_is reply.ReadOnly h = cc
+frozen_is reply.Full h = cc
+frozen_is reply.Memory h = cc
+frozen_is _ h = cc
 
 -- ---- the laws
 
@@ -262,62 +281,111 @@ read_only_is _ h = cc
 pub step_has_memory : StepHasMemory
 step_has_memory right quota s call =
     memory_is (step right quota s call).0 ∙ ap (λ n. n == 3) (step_refusal right quota s call)
-    ∙ never (is_read_only right call) (asks_for_new right s call && not (has_room quota s call))
+    ∙ never (is_read_only right call) (asks_for_new right s call && not (has_room quota s call)) right
   where
-    never : (b a : Bool) → (cond {A = ℕ} b 1 (cond a 2 0) == 3) ≡ false
-    never true a = refl
-    never false true = refl
-    never false false = refl
+    never : (b a : Bool) (r : Right) → (cond {A = ℕ} b (refusal (refusal_of r)) (cond a 2 0) == 3) ≡ false
+    never true a Change = refl
+    never true a Look = refl
+    never true a Frozen = refl
+    never false true r = refl
+    never false false r = refl
 
--- under the read-only right nothing changes
-look_keeps : (quota : Quota) (s : State) (call : Call) → IsWellFormed s → (step Look quota s call).1 ≡ s
-look_keeps quota s call h = by (changes call) refl
+-- under a right that forbids each change nothing changes
+forbidden_keeps : (r : Reply) (quota : Quota) (s : State) (call : Call) → IsWellFormed s
+    → (cond {A = Reply × State} (changes call) (r, s) (allowed_step quota s call)).1 ≡ s
+forbidden_keeps r quota s call h = by (changes call) refl
   where
-    by : (b : Bool) → changes call ≡ b → (cond {A = Reply × State} b (reply.ReadOnly, s) (allowed_step quota s call)).1 ≡ s
+    by : (b : Bool) → changes call ≡ b → (cond {A = Reply × State} b (r, s) (allowed_step quota s call)).1 ≡ s
     by true is = refl
     by false is = allowed_kept quota s call h (inl (ap not is))
 
+pub look_keeps : (quota : Quota) (s : State) (call : Call) → IsWellFormed s → (step Look quota s call).1 ≡ s
+look_keeps quota s call h = forbidden_keeps reply.ReadOnly quota s call h
+
+pub frozen_keeps : (quota : Quota) (s : State) (call : Call) → IsWellFormed s → (step Frozen quota s call).1 ≡ s
+frozen_keeps quota s call h = forbidden_keeps reply.Frozen quota s call h
+
 pub looks_keep_all : LooksKeepAll
-looks_keep_all right quota s call = ((told, tells), look_keeps quota s call)
+looks_keep_all right quota s call = (
+  (told right, tells),
+  (told_frozen right, tells_frozen),
+  λ h. (look_keeps quota s call h, frozen_keeps quota s call h),
+)
   where
-    from : (b a : Bool) → ◌≡◌ {A = ℕ} (cond b 1 (cond a 2 0)) 1 → b ≡ true
-    from true a h = refl
-    from false true h = cc
-    from false false h = cc
+    told : (r : Right) → (step r quota s call).0 ≡ reply.ReadOnly → (r ≡ Look) × IsTrue (changes call)
+    told Change e = never (asks_for_new Change s call && not (has_room quota s call)) (sym (allowed_refusal quota s call) ∙ ap refusal e)
+      where
+        never : (a : Bool) → ◌≡◌ {A = ℕ} (cond a 2 0) 1 → (Change ≡ Look) × IsTrue (changes call)
+        never true h = absurd (let no : 2 ≡ 1 = h in cc)
+        never false h = absurd (let no : 0 ≡ 1 = h in cc)
+    told Look e = (refl, from (changes call) (sym (step_refusal Look quota s call) ∙ ap refusal e))
+      where
+        from : (b : Bool) → ◌≡◌ {A = ℕ} (cond b 1 0) 1 → b ≡ true
+        from true h = refl
+        from false h = absurd (let no : 0 ≡ 1 = h in cc)
+    told Frozen e = never (changes call) (sym (step_refusal Frozen quota s call) ∙ ap refusal e)
+      where
+        never : (b : Bool) → ◌≡◌ {A = ℕ} (cond b 4 0) 1 → (Frozen ≡ Look) × IsTrue (changes call)
+        never true h = absurd (let no : 4 ≡ 1 = h in cc)
+        never false h = absurd (let no : 0 ≡ 1 = h in cc)
 
-    told : (step right quota s call).0 ≡ reply.ReadOnly → IsTrue (is_read_only right call)
-    told e = from (is_read_only right call) (asks_for_new right s call && not (has_room quota s call)) (sym (step_refusal right quota s call) ∙ ap refusal e)
+    tells : (right ≡ Look) × IsTrue (changes call) → (step right quota s call).0 ≡ reply.ReadOnly
+    tells (e, h) =
+        ap (λ r. (step r quota s call).0) e
+        ∙ read_only_is (step Look quota s call).0 (step_refusal Look quota s call ∙ ap (λ b. cond {A = ℕ} b 1 0) h)
 
-    tells : IsTrue (is_read_only right call) → (step right quota s call).0 ≡ reply.ReadOnly
-    tells h = read_only_is (step right quota s call).0
-        (step_refusal right quota s call ∙ ap (λ b. cond b 1 (at_quota (asks_for_new right s call) (has_room quota s call))) h)
+    told_frozen : (r : Right) → (step r quota s call).0 ≡ reply.Frozen → (r ≡ Frozen) × IsTrue (changes call)
+    told_frozen Change e = never (asks_for_new Change s call && not (has_room quota s call)) (sym (allowed_refusal quota s call) ∙ ap refusal e)
+      where
+        never : (a : Bool) → ◌≡◌ {A = ℕ} (cond a 2 0) 4 → (Change ≡ Frozen) × IsTrue (changes call)
+        never true h = absurd (let no : 2 ≡ 4 = h in cc)
+        never false h = absurd (let no : 0 ≡ 4 = h in cc)
+    told_frozen Look e = never (changes call) (sym (step_refusal Look quota s call) ∙ ap refusal e)
+      where
+        never : (b : Bool) → ◌≡◌ {A = ℕ} (cond b 1 0) 4 → (Look ≡ Frozen) × IsTrue (changes call)
+        never true h = absurd (let no : 1 ≡ 4 = h in cc)
+        never false h = absurd (let no : 0 ≡ 4 = h in cc)
+    told_frozen Frozen e = (refl, from (changes call) (sym (step_refusal Frozen quota s call) ∙ ap refusal e))
+      where
+        from : (b : Bool) → ◌≡◌ {A = ℕ} (cond b 4 0) 4 → b ≡ true
+        from true h = refl
+        from false h = absurd (let no : 0 ≡ 4 = h in cc)
+
+    tells_frozen : (right ≡ Frozen) × IsTrue (changes call) → (step right quota s call).0 ≡ reply.Frozen
+    tells_frozen (e, h) =
+        ap (λ r. (step r quota s call).0) e
+        ∙ frozen_is (step Frozen quota s call).0 (step_refusal Frozen quota s call ∙ ap (λ b. cond {A = ℕ} b 4 0) h)
 
 -- a call that changes nothing leaves the arrays unchanged, under any right
 pub queries_keep_all : QueriesKeepAll
 queries_keep_all Change quota s call h query = allowed_kept quota s call h (inl (ap not query))
 queries_keep_all Look quota s call h query = look_keeps quota s call h
+queries_keep_all Frozen quota s call h query = frozen_keeps quota s call h
 
 -- the reply is `FULL` exactly for a new entry without room, and then nothing changes
 pub full_is_for_new : FullIsForNew
 full_is_for_new right quota s call = ((told, tells), kept right)
   where
-    from : (b a r : Bool) → ◌≡◌ {A = ℕ} (cond b 1 (at_quota a r)) 2 → IsTrue a × IsTrue (not r)
-    from true a r h = absurd (let no : 1 ≡ 2 = h in cc)
-    from false true true h = absurd (let no : 0 ≡ 2 = h in cc)
-    from false true false h = (refl, refl)
-    from false false r h = absurd (let no : 0 ≡ 2 = h in cc)
+    from : (b a r : Bool) (right : Right) → ◌≡◌ {A = ℕ} (cond b (refusal (refusal_of right)) (at_quota a r)) 2 → IsTrue a × IsTrue (not r)
+    from true a r Change h = absurd (let no : 1 ≡ 2 = h in cc)
+    from true a r Look h = absurd (let no : 1 ≡ 2 = h in cc)
+    from true a r Frozen h = absurd (let no : 4 ≡ 2 = h in cc)
+    from false true true right h = absurd (let no : 0 ≡ 2 = h in cc)
+    from false true false right h = (refl, refl)
+    from false false r right h = absurd (let no : 0 ≡ 2 = h in cc)
 
     told : (step right quota s call).0 ≡ reply.Full → IsTrue (asks_for_new right s call) × IsTrue (not (has_room quota s call))
-    told e = from (is_read_only right call) (asks_for_new right s call) (has_room quota s call) (sym (step_refusal right quota s call) ∙ ap refusal e)
+    told e = from (is_read_only right call) (asks_for_new right s call) (has_room quota s call) right (sym (step_refusal right quota s call) ∙ ap refusal e)
 
     tells : IsTrue (asks_for_new right s call) × IsTrue (not (has_room quota s call)) → (step right quota s call).0 ≡ reply.Full
     tells (a, m) = full_is (step right quota s call).0
         (step_refusal right quota s call
-        ∙ ap (λ b. cond b 1 (at_quota (asks_for_new right s call) (has_room quota s call))) (asks_is_allowed right s call a)
+        ∙ ap (λ b. cond b (refusal (refusal_of right)) (at_quota (asks_for_new right s call) (has_room quota s call))) (asks_is_allowed right s call a)
         ∙ ap (λ b. cond b 2 0) (and_from (asks_for_new right s call) _ a m))
 
     kept : (r : Right) → IsWellFormed s → (step r quota s call).0 ≡ reply.Full → (step r quota s call).1 ≡ s
     kept Look h e = look_keeps quota s call h
+    kept Frozen h e = frozen_keeps quota s call h
     kept Change h e =
         let (a, m) = from false (asks_for_new Change s call) (has_room quota s call) (sym (allowed_refusal quota s call) ∙ ap refusal e) in
         allowed_kept quota s call h (inr (and_from (asks_for_new Change s call) _ a m))

@@ -263,6 +263,10 @@ text_read_only : text reply.ReadOnly
     ≡ codes "ERR READONLY\n"
 text_read_only = refl
 
+text_frozen : text reply.Frozen
+    ≡ codes "ERR FROZEN\n"
+text_frozen = refl
+
 text_memory : text reply.Memory
     ≡ codes "ERR MEMORY\n"
 text_memory = refl

@@ -2,18 +2,20 @@
 use Rattle.std.specs.Prelude.{ℕ, List, ◌++◌, map, codes, ◌&&◌, if◌then◌else◌, Some, None}
 use Rattle.std.specs.Ordering.{eq_by_cmp}
 use Rattle.judy_model.specs.declared.quotas.Quota.{Quota}
-use Rattle.judy_model.specs.declared.quotas.Right.TheVariants.{Change, Look}
+use Rattle.judy_model.specs.declared.quotas.Right.TheVariants.{Change, Look, Frozen}
 use Rattle.judy_model.specs.Contents.{string_order}
 use Rattle.judy_model.specs.Pieces.{entries_quota}
 use Rattle.judy_model.specs.Speakers.{attempt_of}
 use Rattle.judy_model.specs.Tenant.{no_arrays, replies_alone}
 use Rattle.judy_model.specs.Stream.{Login, events, answer}
 
--- alice with the token `abc`, and the read-only token `hello`; bob with the token `hello`
+-- alice with the token `abc`, the read-only token `hello`, and the token `ice` that is frozen; bob with the
+-- token `hello`
 abbrev pub door : Login
 door name token =
     if eq_by_cmp string_order name (codes "alice") && eq_by_cmp string_order token (codes "abc") then Some (record { tenant = 0; right = Change })
     else if eq_by_cmp string_order name (codes "alice") && eq_by_cmp string_order token (codes "hello") then Some (record { tenant = 0; right = Look })
+    else if eq_by_cmp string_order name (codes "alice") && eq_by_cmp string_order token (codes "ice") then Some (record { tenant = 0; right = Frozen })
     else if eq_by_cmp string_order name (codes "bob") && eq_by_cmp string_order token (codes "hello") then Some (record { tenant = 1; right = Change })
     else None
 

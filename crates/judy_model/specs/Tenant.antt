@@ -16,7 +16,7 @@ use Rattle.judy_model.specs.declared.calls.Given.{Given}
 use Rattle.judy_model.specs.declared.calls.Given.TheVariants.{Nothing, Value, Plus}
 use Rattle.judy_model.specs.declared.quotas.Quota.{Quota}
 use Rattle.judy_model.specs.declared.quotas.Right.{Right}
-use Rattle.judy_model.specs.declared.quotas.Right.TheVariants.{Change, Look}
+use Rattle.judy_model.specs.declared.quotas.Right.TheVariants.{Change, Look, Frozen}
 use Rattle.judy_model.specs.declared.replies.Reply.{Reply}
 use Rattle.judy_model.specs.declared.replies.Reply.TheVariants as reply
 use Rattle.judy_model.specs.Contents.{Order, Entries, word_order, string_order, value_of, has_key, with_entry, without_key, first, next, last, prev, count, nth}
@@ -235,11 +235,19 @@ changes Used = false
 -- whether the right forbids the call
 abbrev pub is_read_only : Right → Call → Bool
 is_read_only Look call = changes call
+is_read_only Frozen call = changes call
 is_read_only Change call = false
+
+-- the reply to a call that the right forbids; the right to change forbids none
+abbrev pub refusal_of : Right → Reply
+refusal_of Look = reply.ReadOnly
+refusal_of Frozen = reply.Frozen
+refusal_of Change = reply.ReadOnly
 
 -- whether the call asks for a new entry; only a right to change allows this
 abbrev pub asks_for_new : Right → State → Call → Bool
 asks_for_new Look s call = false
+asks_for_new Frozen s call = false
 asks_for_new Change s (One name c) = one_asks_for_new (content_of s.one name) c
 asks_for_new Change s (Long name c) = long_asks_for_new (content_of s.long name) c
 asks_for_new Change s (Str name c) = string_asks_for_new (content_of s.string name) c
@@ -276,7 +284,7 @@ allowed_step quota s Used = (reply.Used (used s) quota.entries (pieces s) quota.
 
 -- the reply to a call, and the tenant's arrays afterwards
 abbrev pub step : Right → Quota → State → Call → Reply × State
-step right quota s call = if is_read_only right call then (reply.ReadOnly, s) else allowed_step quota s call
+step right quota s call = if is_read_only right call then (refusal_of right, s) else allowed_step quota s call
 
 -- ---- calls in a row
 

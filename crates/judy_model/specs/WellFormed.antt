@@ -10,9 +10,9 @@ use Rattle.judy_model.specs.declared.calls.StrCall.TheVariants as str
 use Rattle.judy_model.specs.declared.calls.BytesCall.TheVariants as bytes
 use Rattle.judy_model.specs.declared.quotas.Quota.{Quota}
 use Rattle.judy_model.specs.declared.quotas.Right.{Right}
-use Rattle.judy_model.specs.declared.quotas.Right.TheVariants.{Look}
+use Rattle.judy_model.specs.declared.quotas.Right.TheVariants.{Look, Frozen}
 use Rattle.judy_model.specs.declared.replies.Reply.{Reply}
-use Rattle.judy_model.specs.declared.replies.Reply.TheVariants.{Full, ReadOnly}
+use Rattle.judy_model.specs.declared.replies.Reply.TheVariants as reply
 use Rattle.judy_model.specs.Contents.{Order, Entries, word_order, string_order, max_word}
 use Rattle.judy_model.specs.Grammar.{are_bytes, is_string, is_byte_key}
 use Rattle.judy_model.specs.Solo.{IsAnswered}
@@ -94,15 +94,17 @@ StepKeepsQuota = (right : Right) (quota : Quota) (s : State) (call : Call) → I
 -- the reply is `FULL` exactly if the call asks for a new entry without room; then nothing changes
 abbrev pub FullIsForNew : Type 0
 FullIsForNew = (right : Right) (quota : Quota) (s : State) (call : Call) → let answered = step right quota s call in
-    (answered.0 ≡ Full ↔ (IsTrue (asks_for_new right s call) × IsTrue (not (has_room quota s call))))
-    × (IsWellFormed s → answered.0 ≡ Full → answered.1 ≡ s)
+    (answered.0 ≡ reply.Full ↔ (IsTrue (asks_for_new right s call) × IsTrue (not (has_room quota s call))))
+    × (IsWellFormed s → answered.0 ≡ reply.Full → answered.1 ≡ s)
 
--- the reply is `ERR READONLY` exactly if the call can change arrays and its right does not allow
--- it; under the read-only right nothing ever changes
+-- the reply is `ERR READONLY` exactly if the call can change arrays and its right is the read-only one,
+-- and `ERR FROZEN` exactly if it can and its right is that of a frozen tenant; under these two rights
+-- nothing ever changes
 abbrev pub LooksKeepAll : Type 0
-LooksKeepAll = (right : Right) (quota : Quota) (s : State) (call : Call) →
-    ((step right quota s call).0 ≡ ReadOnly ↔ IsTrue (is_read_only right call))
-    × (IsWellFormed s → (step Look quota s call).1 ≡ s)
+LooksKeepAll = (right : Right) (quota : Quota) (s : State) (call : Call) → let answered = step right quota s call in
+    (answered.0 ≡ reply.ReadOnly ↔ ((right ≡ Look) × IsTrue (changes call)))
+    × (answered.0 ≡ reply.Frozen ↔ ((right ≡ Frozen) × IsTrue (changes call)))
+    × (IsWellFormed s → ((step Look quota s call).1 ≡ s) × ((step Frozen quota s call).1 ≡ s))
 
 -- a call that cannot change arrays leaves all arrays unchanged, under any right
 abbrev pub QueriesKeepAll : Type 0

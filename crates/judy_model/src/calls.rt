@@ -158,7 +158,7 @@ impl<'a> Call<'a> {
     {
         match right {
             Right::Change => false,
-            Right::Look => self.changes(),
+            Right::Look | Right::Frozen => self.changes(),
         }
     }
 

@@ -116,6 +116,7 @@ impl OwnedReply {
             Reply::Null => Reply::Null,
             Reply::Used(used, quota, pieces, most) => Reply::Used(*used, *quota, *pieces, *most),
             Reply::ReadOnly => Reply::ReadOnly,
+            Reply::Frozen => Reply::Frozen,
             Reply::Full => Reply::Full,
             Reply::Memory => Reply::Memory,
         };
@@ -136,6 +137,7 @@ impl OwnedReply {
             Reply::Null => Reply::Null,
             Reply::Used(used, quota, pieces, most) => Reply::Used(*used, *quota, *pieces, *most),
             Reply::ReadOnly => Reply::ReadOnly,
+            Reply::Frozen => Reply::Frozen,
             Reply::Full => Reply::Full,
             Reply::Memory => Reply::Memory,
         }

@@ -1,5 +1,9 @@
 //! A tenant's quota and right.
+ghost use Rattle.std.specs.Prelude.{◌≡◌};
+ghost use Rattle.judy_model.specs.Tenant.{refusal_of};
+
 use crate::names::KEY_LIMIT;
+use crate::replies::Reply;
 
 /// How many bytes of a key make one piece.
 pub const PIECE: u64 = 8;
@@ -31,4 +35,18 @@ pub enum Right {
     Change,
     /// Only calls that change nothing.
     Look,
+    /// Only calls that change nothing: the tenant is frozen for this connection's token.
+    Frozen,
+}
+
+impl Right {
+    /// The reply to a call that the right forbids. The right to change forbids none.
+    pub fn refusal(self) -> Reply<'static>
+        ensures { result ≡ refusal_of self }
+    {
+        match self {
+            Right::Change | Right::Look => Reply::ReadOnly,
+            Right::Frozen => Reply::Frozen,
+        }
+    }
 }

@@ -23,6 +23,9 @@ pub enum Reply<'a> {
     Used(u64, u64, u64, u64),
     /// Refused: the call can change arrays, and the right is read-only. Nothing changed.
     ReadOnly,
+    /// Refused: the call can change arrays, and the tenant is frozen for the connection's token. Nothing
+    /// changed.
+    Frozen,
     /// Refused: a new entry, or its pieces, would exceed the quota. Nothing changed.
     Full,
     /// Refused: there is no memory for a new entry. Nothing changed.

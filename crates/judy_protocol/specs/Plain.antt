@@ -6,7 +6,7 @@
 use Rattle.std.specs.Prelude.{ℕ, Bool, true, false, not, ◌&&◌, ◌==◌, List, [], ◌∷◌}
 use Rattle.std.specs.List.{list_all}
 use Rattle.judy_model.specs.declared.replies.Reply.{Reply}
-use Rattle.judy_model.specs.declared.replies.Reply.TheVariants.{Full, ReadOnly, Memory}
+use Rattle.judy_model.specs.declared.replies.Reply.TheVariants.{Full, ReadOnly, Frozen, Memory}
 use Rattle.judy_model.specs.Speakers.{Event}
 use Rattle.judy_model.specs.Tenant.{changes}
 
@@ -17,6 +17,7 @@ is_plain bytes = list_all (λ b. not (b == 10)) bytes
 abbrev pub is_refused : Reply → Bool
 is_refused Full = true
 is_refused ReadOnly = true
+is_refused Frozen = true
 is_refused Memory = true
 is_refused _ = false
 

@@ -83,6 +83,7 @@ fn put_words(line: &mut ArrayVec<u8, REPLY_LIMIT>, reply: &Reply<'_>)
             put_number(line, *most);
         }
         Reply::ReadOnly => put(line, b"ERR READONLY"),
+        Reply::Frozen => put(line, b"ERR FROZEN"),
         Reply::Full => put(line, b"FULL"),
         Reply::Memory => put(line, b"ERR MEMORY"),
     }

@@ -157,7 +157,10 @@ fn let_in<S: Served>(
 fn is_refused(reply: &Reply<'_>) -> bool
     ensures { result ≡ is_refused_lem reply.now }
 {
-    matches!(reply, Reply::Full | Reply::ReadOnly | Reply::Memory)
+    matches!(
+        reply,
+        Reply::Full | Reply::ReadOnly | Reply::Frozen | Reply::Memory
+    )
 }
 
 /// Whether a call with this reply may have changed arrays: it is one that changes them, and was not refused.

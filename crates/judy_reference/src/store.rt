@@ -94,7 +94,7 @@ impl Store {
             (MayLackMemory quota self.old (record { right = right; call = call.now })) }
     {
         if call.is_read_only(right) {
-            return Ok(Reply::ReadOnly);
+            return Ok(right.refusal());
         }
         self.allowed_step(alloc, quota, call, found)
     }

@@ -58,7 +58,7 @@ fn outcome(reply: &Reply<'_>) -> Result<(), Unplayed>
     ensures { result ≡ outcome reply.now }
 {
     match reply {
-        Reply::Full | Reply::ReadOnly => Err(Unplayed::Full),
+        Reply::Full | Reply::ReadOnly | Reply::Frozen => Err(Unplayed::Full),
         Reply::Memory => Err(Unplayed::Memory),
         Reply::Int(_) => Ok(()),
         Reply::Index(_) => Ok(()),

@@ -7,7 +7,7 @@
 --     distinct-placed            no two rows have one name
 --     length-placed, few-placed  how many rows there are
 --     named-placed               how many tenants
-use Rattle.std.proofs.Common.{◌≡◌, ◌≢◌, ℕ, suc, ◌+◌, ◌-◌, ◌≤◌, ◌<◌, ◌==◌, ◌&&◌, ◌||◌, Bool, true, false, not, cond, List, [], ◌∷◌, length, Some, None}
+use Rattle.std.proofs.Common.{◌≡◌, ◌≢◌, ℕ, Option, suc, ◌+◌, ◌-◌, ◌≤◌, ◌<◌, ◌==◌, ◌&&◌, ◌||◌, Bool, true, false, not, cond, List, [], ◌∷◌, length, Some, None}
 use Rattle.std.proofs.Common.{ap, ap₂, sym, ◌∙◌, refl, get_or, drop, count_by, slice_get, option_map, nat_lt, arith}
 use Rattle.std.proofs.Common.{lt-ltb, le-ltb, ltb-true, ltb-false}
 use Rattle.std.proofs.lemmas.Bool.{eqb-true, or_parts, or_right, and_parts, and_from, false_from_ne_true, not-true, not-false}
@@ -19,7 +19,7 @@ use Rattle.std.specs.List.{AllByRecursion, position_or_len}
 use Rattle.std.specs.Str.{bytes_eq}
 use Rattle.judy_table.specs.declared.tenant.Tenant.{Tenant}
 use Rattle.judy_table.specs.Tenants.{is_vacant, vacant, place_of}
-use Rattle.judy_table.specs.Seats.{has_name, row_of, is_fresh, fresh_in, placed, seated, named, are_distinct}
+use Rattle.judy_table.specs.Seats.{has_name, row_of, keeping, seat_of, is_fresh, fresh_in, placed, seated, named, are_distinct}
 
 -- ---- names
 
@@ -82,6 +82,33 @@ row-other r name ts n h = by (has_name r ts) refl
     by : (b : Bool) → has_name r ts ≡ b → bytes_eq (row_of r ts).name name ≡ false
     by true g = ap (λ x. bytes_eq x name) (row-named r ts g) ∙ h
     by false g = ap (λ (t : Tenant). bytes_eq t.name name) (row-absent r ts g) ∙ other-name [] name (λ e. n (sym e))
+
+-- ---- the row of a tenant that stays, with its freeze
+
+pub keeping-name : (frozen : Option (List ℕ)) (t : Tenant) → (keeping frozen t).name ≡ t.name
+keeping-name frozen t = by (is_vacant t)
+  where
+    by : (b : Bool) → (cond b t (record t { frozen = frozen })).name ≡ t.name
+    by true = refl
+    by false = refl
+
+pub keeping-vacant : (frozen : Option (List ℕ)) (t : Tenant) → is_vacant (keeping frozen t) ≡ is_vacant t
+keeping-vacant frozen t = ap (λ (n : List ℕ). length n == 0) (keeping-name frozen t)
+
+pub seat-named : (r : Tenant) (table : List Tenant) → has_name r.name table ≡ true → (seat_of r table).name ≡ r.name
+seat-named r table h = keeping-name r.frozen (row_of r.name table) ∙ row-named r.name table h
+
+pub seat-absent : (r : Tenant) (table : List Tenant) → has_name r.name table ≡ false → seat_of r table ≡ vacant
+seat-absent r table h = ap (keeping r.frozen) (row-absent r.name table h)
+
+-- it is vacant exactly if there is none
+pub seat-vacant : (r : Tenant) (table : List Tenant) → r.name ≢ [] → is_vacant (seat_of r table) ≡ not (has_name r.name table)
+seat-vacant r table n = keeping-vacant r.frozen (row_of r.name table) ∙ row-vacant r.name table n
+
+-- it has another name only if that one is the same
+pub seat-other : (r : Tenant) (name : List ℕ) (table : List Tenant) → name ≢ [] → bytes_eq r.name name ≡ false
+    → bytes_eq (seat_of r table).name name ≡ false
+seat-other r name table n h = ap (λ m. bytes_eq m name) (keeping-name r.frozen (row_of r.name table)) ∙ row-other r.name name table n h
 
 -- what holds of each row and of a vacant one holds of the row of a name
 pub row-each : (P : Tenant → Type 0) → P vacant → (name : List ℕ) (ts : List Tenant) → AllByRecursion P ts → P (row_of name ts)
@@ -247,17 +274,17 @@ distinct-fresh rows (t ∷ ts) h =
 
 -- ---- all rows after the table is read
 
--- what holds of the table's rows, of the fresh tenants and of a vacant row holds of each
-pub placed-each : (P : Tenant → Type 0) (table : List Tenant) → P vacant → AllByRecursion P table → (rows fresh : List Tenant)
-    → AllByRecursion P fresh → AllByRecursion P (placed table rows fresh)
-placed-each P table v h [] fresh f = f
-placed-each P table v h (r ∷ rows) fresh f = by (placed-each P table v h rows) (is_vacant r) fresh f
+-- what holds of the table's rows, whatever their freezes, of the fresh tenants and of a vacant row holds of each
+pub placed-each : (P : Tenant → Type 0) → ((frozen : Option (List ℕ)) (t : Tenant) → P t → P (keeping frozen t)) → (table : List Tenant)
+    → P vacant → AllByRecursion P table → (rows fresh : List Tenant) → AllByRecursion P fresh → AllByRecursion P (placed table rows fresh)
+placed-each P k table v h [] fresh f = f
+placed-each P k table v h (r ∷ rows) fresh f = by (placed-each P k table v h rows) (is_vacant r) fresh f
   where
     by : ((gs : List Tenant) → AllByRecursion P gs → AllByRecursion P (placed table rows gs)) → (b : Bool) (fs : List Tenant) → AllByRecursion P fs
-        → AllByRecursion P (cond b (get_or fs 0 vacant ∷ placed table rows (drop 1 fs)) (row_of r.name table ∷ placed table rows fs))
+        → AllByRecursion P (cond b (get_or fs 0 vacant ∷ placed table rows (drop 1 fs)) (seat_of r table ∷ placed table rows fs))
     by rest true [] g = (v, rest [] tt)
     by rest true (t ∷ ts) g = (g.0, rest ts g.1)
-    by rest false fs g = (row-each P v r.name table h, rest fs g)
+    by rest false fs g = (k r.frozen (row_of r.name table) (row-each P v r.name table h), rest fs g)
 
 -- the names that they have
 pub has-placed : (name : List ℕ) (table rows fresh : List Tenant) → name ≢ []
@@ -281,9 +308,9 @@ has-placed name table (r ∷ rows) fresh n = by (λ fs. has-placed name table ro
     apart : is_vacant r ≡ true → bytes_eq r.name name ≡ false
     apart = vacant-other r name n
 
-    here : (e : Bool) → bytes_eq r.name name ≡ e → bytes_eq (row_of r.name table).name name ≡ (e && has_name name table)
-    here false p = row-other r.name name table n p
-    here true p = at (has_name name table) refl
+    here : (e : Bool) → bytes_eq r.name name ≡ e → bytes_eq (seat_of r table).name name ≡ (e && has_name name table)
+    here false p = seat-other r name table n p
+    here true p = ap (λ m. bytes_eq m name) (keeping-name r.frozen (row_of r.name table)) ∙ at (has_name name table) refl
       where
         at : (b : Bool) → has_name name table ≡ b → bytes_eq (row_of r.name table).name name ≡ b
         at true q = one-name (row_of r.name table).name name
@@ -295,7 +322,7 @@ has-placed name table (r ∷ rows) fresh n = by (λ fs. has-placed name table ro
     Names fs = has_name name (placed table rows fs) ≡ ((has_name name rows && has_name name table) || has_name name fs)
 
     by : ((fs : List Tenant) → Names fs) → (b : Bool) → is_vacant r ≡ b → (fs : List Tenant)
-        → has_name name (cond b (get_or fs 0 vacant ∷ placed table rows (drop 1 fs)) (row_of r.name table ∷ placed table rows fs))
+        → has_name name (cond b (get_or fs 0 vacant ∷ placed table rows (drop 1 fs)) (seat_of r table ∷ placed table rows fs))
         ≡ (((bytes_eq r.name name || has_name name rows) && has_name name table) || has_name name fs)
     by rest true v [] =
         ap (λ b. b || has_name name (placed table rows [])) (other-name [] name (λ e. n (sym e)))
@@ -318,46 +345,53 @@ row-placed-new name table (r ∷ rows) fresh n h =
     by (λ fs. row-placed-new name table rows fs n parts.1) parts.0 (is_vacant r) fresh
   where
     by : ((fs : List Tenant) → row_of name (placed table rows fs) ≡ row_of name fs) → bytes_eq r.name name ≡ false → (b : Bool) (fs : List Tenant)
-        → row_of name (cond b (get_or fs 0 vacant ∷ placed table rows (drop 1 fs)) (row_of r.name table ∷ placed table rows fs)) ≡ row_of name fs
+        → row_of name (cond b (get_or fs 0 vacant ∷ placed table rows (drop 1 fs)) (seat_of r table ∷ placed table rows fs)) ≡ row_of name fs
     by rest p true [] =
         ap (λ b. cond b vacant (row_of name (placed table rows []))) (other-name [] name (λ e. n (sym e)))
         ∙ rest []
     by rest p true (t ∷ ts) = ap (cond (bytes_eq t.name name) t) (rest ts)
     by rest p false fs =
-        ap (λ b. cond b (row_of r.name table) (row_of name (placed table rows fs))) (row-other r.name name table n p)
+        ap (λ b. cond b (seat_of r table) (row_of name (placed table rows fs))) (seat-other r name table n p)
         ∙ rest fs
 
--- a name that a row had has the table's row
+-- a name that a row had has the table's row, with the freeze of that row
 pub row-placed-old : (name : List ℕ) (table rows fresh : List Tenant) → name ≢ [] → has_name name rows ≡ true → has_name name fresh ≡ false
-    → row_of name (placed table rows fresh) ≡ row_of name table
+    → row_of name (placed table rows fresh) ≡ keeping (row_of name rows).frozen (row_of name table)
 row-placed-old name table [] fresh n h f = cc
 row-placed-old name table (r ∷ rows) fresh n h f =
     by (λ fs. row-placed-old name table rows fs n) (bytes_eq r.name name) refl h (is_vacant r) refl fresh f
   where
-    Goal : Bool → List Tenant → Type 0
-    Goal b fs = row_of name (cond b (get_or fs 0 vacant ∷ placed table rows (drop 1 fs)) (row_of r.name table ∷ placed table rows fs)) ≡ row_of name table
+    -- the row that the name had, by whether it is the first
+    before : Bool → Tenant
+    before e = cond e r (row_of name rows)
+
+    Goal : Bool → Bool → List Tenant → Type 0
+    Goal e b fs =
+        row_of name (cond b (get_or fs 0 vacant ∷ placed table rows (drop 1 fs)) (seat_of r table ∷ placed table rows fs))
+        ≡ keeping (before e).frozen (row_of name table)
 
     own : (fs : List Tenant) → bytes_eq r.name name ≡ true → has_name name fs ≡ false → (b : Bool) → has_name name table ≡ b
-        → row_of name (row_of r.name table ∷ placed table rows fs) ≡ row_of name table
+        → row_of name (seat_of r table ∷ placed table rows fs) ≡ keeping r.frozen (row_of name table)
     own fs e g true q =
-        ap (λ m. row_of name (row_of m table ∷ placed table rows fs)) (same-name r.name name e)
-        ∙ ap (λ b. cond b (row_of name table) (row_of name (placed table rows fs)))
-        (one-name (row_of name table).name name (row-named name table q))
+        ap (λ m. row_of name (keeping r.frozen (row_of m table) ∷ placed table rows fs)) (same-name r.name name e)
+        ∙ ap (λ b. cond b (keeping r.frozen (row_of name table)) (row_of name (placed table rows fs)))
+        (one-name (keeping r.frozen (row_of name table)).name name (keeping-name r.frozen (row_of name table) ∙ row-named name table q))
     own fs e g false q =
-        ap (λ m. row_of name (row_of m table ∷ placed table rows fs)) (same-name r.name name e)
-        ∙ ap (λ (t : Tenant). row_of name (t ∷ placed table rows fs)) (row-absent name table q)
+        ap (λ m. row_of name (keeping r.frozen (row_of m table) ∷ placed table rows fs)) (same-name r.name name e)
+        ∙ ap (λ (t : Tenant). row_of name (keeping r.frozen t ∷ placed table rows fs)) (row-absent name table q)
         ∙ ap (λ b. cond b vacant (row_of name (placed table rows fs))) (other-name [] name (λ i. n (sym i)))
         ∙ row-absent name (placed table rows fs) (has-placed name table rows fs n
         ∙ ap₂ (λ x y. (has_name name rows && x) || y) q g ∙ nothing (has_name name rows))
-        ∙ sym (row-absent name table q)
+        ∙ sym (ap (keeping r.frozen) (row-absent name table q))
       where
         nothing : (b : Bool) → ((b && false) || false) ≡ false
         nothing true = refl
         nothing false = refl
 
-    by : ((fs : List Tenant) → has_name name rows ≡ true → has_name name fs ≡ false → row_of name (placed table rows fs) ≡ row_of name table)
+    by : ((fs : List Tenant) → has_name name rows ≡ true → has_name name fs ≡ false
+        → row_of name (placed table rows fs) ≡ keeping (row_of name rows).frozen (row_of name table))
         → (e : Bool) → bytes_eq r.name name ≡ e → (e || has_name name rows) ≡ true → (b : Bool) → is_vacant r ≡ b
-        → (fs : List Tenant) → has_name name fs ≡ false → Goal b fs
+        → (fs : List Tenant) → has_name name fs ≡ false → Goal e b fs
     by rest true p q true v fs g = absurd (both_ways (bytes_eq r.name name) (vacant-other r name n v) p)
     by rest true p q false v fs g = own fs p g (has_name name table) refl
     by rest false p q true v [] g =
@@ -367,7 +401,7 @@ row-placed-old name table (r ∷ rows) fresh n h f =
         let parts = or_parts (bytes_eq t.name name) (has_name name ts) g in
         ap (λ b. cond b t (row_of name (placed table rows ts))) parts.0 ∙ rest ts q parts.1
     by rest false p q false v fs g =
-        ap (λ b. cond b (row_of r.name table) (row_of name (placed table rows fs))) (row-other r.name name table n p)
+        ap (λ b. cond b (seat_of r table) (row_of name (placed table rows fs))) (seat-other r name table n p)
         ∙ rest fs q g
 
 -- a name that a row had and the table has keeps its place
@@ -386,12 +420,12 @@ place-kept name table (r ∷ rows) fresh n h there f =
     by : ((fs : List Tenant) → has_name name rows ≡ true → has_name name fs ≡ false → place_of name (placed table rows fs) ≡ place_of name rows)
         → (e : Bool) → bytes_eq r.name name ≡ e → (e || has_name name rows) ≡ true → (b : Bool) → is_vacant r ≡ b
         → (fs : List Tenant) → has_name name fs ≡ false
-        → place_of name (cond b (get_or fs 0 vacant ∷ placed table rows (drop 1 fs)) (row_of r.name table ∷ placed table rows fs))
+        → place_of name (cond b (get_or fs 0 vacant ∷ placed table rows (drop 1 fs)) (seat_of r table ∷ placed table rows fs))
         ≡ place_of name (r ∷ rows)
     by rest true p q true v fs g = absurd (both_ways (bytes_eq r.name name) (vacant-other r name n v) p)
     by rest true p q false v fs g =
-        first (row_of r.name table) (placed table rows fs) (one-name (row_of r.name table).name name
-        (ap (λ m. (row_of m table).name) (same-name r.name name p) ∙ row-named name table there))
+        first (seat_of r table) (placed table rows fs) (one-name (seat_of r table).name name
+        (keeping-name r.frozen (row_of r.name table) ∙ ap (λ m. (row_of m table).name) (same-name r.name name p) ∙ row-named name table there))
         ∙ sym (first r rows p)
     by rest false p q true v [] g =
         next vacant (placed table rows []) (other-name [] name (λ i. n (sym i)))
@@ -400,7 +434,7 @@ place-kept name table (r ∷ rows) fresh n h there f =
         let parts = or_parts (bytes_eq t.name name) (has_name name ts) g in
         next t (placed table rows ts) parts.0 ∙ ap (option_map suc) (rest ts q parts.1) ∙ sym (next r rows p)
     by rest false p q false v fs g =
-        next (row_of r.name table) (placed table rows fs) (row-other r.name name table n p)
+        next (seat_of r table) (placed table rows fs) (seat-other r name table n p)
         ∙ ap (option_map suc) (rest fs q g) ∙ sym (next r rows p)
 
 -- ---- no two tenants have one name
@@ -447,17 +481,17 @@ distinct-placed table (r ∷ rows) fresh d f a =
         or_first e = ap (λ b. b || has_name t.name fs) e
 
     own : (fs : List Tenant) → is_vacant r ≡ false → not (has_name r.name rows) ≡ true → Apart (r ∷ rows) fs
-        → is_vacant (row_of r.name table) ≡ false → has_name (row_of r.name table).name (placed table rows fs) ≡ false
+        → is_vacant (seat_of r table) ≡ false → has_name (seat_of r table).name (placed table rows fs) ≡ false
     own fs v p g w =
         let there : has_name r.name table ≡ true =
-        not-false (has_name r.name table) (sym (row-vacant r.name table (tenant-name r v)) ∙ w) in
-        ap (λ m. has_name m (placed table rows fs)) (row-named r.name table there)
+        not-false (has_name r.name table) (sym (seat-vacant r table (tenant-name r v)) ∙ w) in
+        ap (λ m. has_name m (placed table rows fs)) (seat-named r table there)
         ∙ absent r fs v (not-true (has_name r.name rows) p) (g r.name (tenant-name r v) (ap (λ b. b || has_name r.name rows) (one-name r.name r.name refl)))
 
     by : ((fs : List Tenant) → are_distinct fs ≡ true → Apart rows fs → are_distinct (placed table rows fs) ≡ true)
         → (b : Bool) → is_vacant r ≡ b → (b || not (has_name r.name rows)) ≡ true → (fs : List Tenant)
         → are_distinct fs ≡ true → Apart (r ∷ rows) fs
-        → are_distinct (cond b (get_or fs 0 vacant ∷ placed table rows (drop 1 fs)) (row_of r.name table ∷ placed table rows fs)) ≡ true
+        → are_distinct (cond b (get_or fs 0 vacant ∷ placed table rows (drop 1 fs)) (seat_of r table ∷ placed table rows fs)) ≡ true
     by rest true v p [] f g = rest [] f (apart-tail r rows [] g)
     by rest true v p (t ∷ ts) f g =
         let fs = and_parts (is_vacant t || not (has_name t.name ts)) (are_distinct ts) f in
@@ -467,7 +501,7 @@ distinct-placed table (r ∷ rows) fresh d f a =
         alone : (t : Tenant) (ts : List Tenant) → is_vacant t ≡ false → (is_vacant t || not (has_name t.name ts)) ≡ true → has_name t.name ts ≡ false
         alone t ts w h = not-true (has_name t.name ts) (sym (ap (λ b. b || not (has_name t.name ts)) w) ∙ h)
     by rest false v p fs f g =
-        both (row_of r.name table) (placed table rows fs) (own fs v p g) (rest fs f (apart-tail r rows fs g))
+        both (seat_of r table) (placed table rows fs) (own fs v p g) (rest fs f (apart-tail r rows fs g))
 
 -- ---- how many rows there are
 
@@ -495,7 +529,7 @@ length-placed table (r ∷ rows) fresh = by (length-placed table rows) (is_vacan
   where
     by : ((fs : List Tenant) → length (placed table rows fs) ≡ length rows + (length fs - spare rows)) → (b : Bool) (fs : List Tenant)
         → spare (r ∷ rows) ≡ cond {A = ℕ} b 1 0 + spare rows
-        → length (cond b (get_or fs 0 vacant ∷ placed table rows (drop 1 fs)) (row_of r.name table ∷ placed table rows fs))
+        → length (cond b (get_or fs 0 vacant ∷ placed table rows (drop 1 fs)) (seat_of r table ∷ placed table rows fs))
         ≡ suc (length rows) + (length fs - spare (r ∷ rows))
     by rest true [] e = let more = rest [] in omega (arith, e, more)
     by rest true (t ∷ ts) e = let more = rest ts in omega (arith, e, more)
@@ -529,9 +563,9 @@ named-placed table (r ∷ rows) fresh f = by (named-placed table rows) (is_vacan
     count : (t : Tenant) (ts : List Tenant) → named (t ∷ ts) ≡ cond {A = ℕ} (not (is_vacant t)) 1 0 + named ts
     count t ts = sum_by-cons (λ u. cond (not (is_vacant u)) 1 0) t ts
 
-    own : is_vacant r ≡ false → ◌≡◌ {A = ℕ} (cond (not (is_vacant (row_of r.name table))) 1 0) (cond (not (is_vacant r) && has_name r.name table) 1 0)
+    own : is_vacant r ≡ false → ◌≡◌ {A = ℕ} (cond (not (is_vacant (seat_of r table))) 1 0) (cond (not (is_vacant r) && has_name r.name table) 1 0)
     own v =
-        ap (λ b. cond (not b) 1 0) (row-vacant r.name table (tenant-name r v)) ∙ twice (has_name r.name table)
+        ap (λ b. cond (not b) 1 0) (seat-vacant r table (tenant-name r v)) ∙ twice (has_name r.name table)
         ∙ ap (λ b. cond (not b && has_name r.name table) 1 0) (sym v)
       where
         twice : (b : Bool) → ◌≡◌ {A = ℕ} (cond (not (not b)) 1 0) (cond (true && b) 1 0)
@@ -541,7 +575,7 @@ named-placed table (r ∷ rows) fresh f = by (named-placed table rows) (is_vacan
     by : ((fs : List Tenant) → all-named fs → named (placed table rows fs) ≡ kept rows table + length fs)
         → (b : Bool) → is_vacant r ≡ b → (fs : List Tenant) → all-named fs
         → kept (r ∷ rows) table ≡ cond {A = ℕ} (not (is_vacant r) && has_name r.name table) 1 0 + kept rows table
-        → named (cond b (get_or fs 0 vacant ∷ placed table rows (drop 1 fs)) (row_of r.name table ∷ placed table rows fs))
+        → named (cond b (get_or fs 0 vacant ∷ placed table rows (drop 1 fs)) (seat_of r table ∷ placed table rows fs))
         ≡ kept (r ∷ rows) table + length fs
     by rest true v [] g e =
         let none : ◌≡◌ {A = ℕ} (cond (not (is_vacant r) && has_name r.name table) 1 0) 0 = ap (λ b. cond (not b && has_name r.name table) 1 0) v in
@@ -554,7 +588,7 @@ named-placed table (r ∷ rows) fresh f = by (named-placed table rows) (is_vacan
         let one : ◌≡◌ {A = ℕ} (cond (not (is_vacant t)) 1 0) 1 = ap (λ b. cond (not b) 1 0) g.0 in
         let more = rest ts g.1 in omega (arith, e, none, c, one, more)
     by rest false v fs g e =
-        let c = count (row_of r.name table) (placed table rows fs) in
+        let c = count (seat_of r table) (placed table rows fs) in
         let o = own v in
         let more = rest fs g in omega (arith, e, c, o, more)
 

@@ -41,6 +41,7 @@ alice : read_table (codes "[alice]\nsha256 = \"BA7816bf8f01cfea414140de5dae2223b
       ∷ 122 ∷ 156 ∷ 180 ∷ 16 ∷ 255 ∷ 97 ∷ 242 ∷ 0 ∷ 21 ∷ 173 ∷ [];
   others = record { look = None; former = None; former_look = None };
   quota = record { entries = 4; pieces = 504 };
+  frozen = None;
 } ∷ [])
 unfolding toml_on_literals is_utf8 chars encode_utf8 decode_pairs
 alice = refl
@@ -83,6 +84,7 @@ old_digests : read_table
           ∷ 122 ∷ 156 ∷ 180 ∷ 16 ∷ 255 ∷ 97 ∷ 242 ∷ 0 ∷ 21 ∷ 173 ∷ [];
       others = record { look = None; former = Some (replicate 32 0); former_look = Some (replicate 32 1) };
       quota = record { entries = 0; pieces = 0 };
+      frozen = None;
     } ∷ [])
 unfolding toml_on_literals is_utf8 chars encode_utf8 decode_pairs
 old_digests = refl

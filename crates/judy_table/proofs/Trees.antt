@@ -95,7 +95,7 @@ names_in (member k d ms) = k ∷ names_in ms
 name-with_pieces : (name digest : List ℕ) (others : Others) (entries : ℕ) (pieces : Option ℕ) (t : Tenant) → with_pieces
     name digest others entries pieces ≡ Ok t → t.name ≡ name
 name-with_pieces name digest others entries (Some pieces) t e =
-    let p : record { name = name; digest = digest; others = others; quota = record { entries = entries; pieces = pieces } } ≡ t = cc in
+    let p : record { name = name; digest = digest; others = others; quota = record { entries = entries; pieces = pieces }; frozen = None } ≡ t = cc in
     ap (λ (u : Tenant). u.name) (sym p)
 name-with_pieces name digest others entries None t e = cc
 
@@ -170,7 +170,7 @@ limited-pieces_for entries (Some z) n h e = limited-up_to 2113929216 z n e
 limited-with_pieces : (name digest : List ℕ) (others : Others) (entries : ℕ) (pieces : Option ℕ) (t : Tenant) → entries ≤ 16777216
     → ((n : ℕ) → pieces ≡ Some n → n ≤ 2113929216) → with_pieces name digest others entries pieces ≡ Ok t → IsLimited t
 limited-with_pieces name digest others entries (Some pieces) t h g e =
-    let p : record { name = name; digest = digest; others = others; quota = record { entries = entries; pieces = pieces } } ≡ t = cc in
+    let p : record { name = name; digest = digest; others = others; quota = record { entries = entries; pieces = pieces }; frozen = None } ≡ t = cc in
     subst IsLimited p (record { entries = h; pieces = g pieces refl })
 limited-with_pieces name digest others entries None t h g e = cc
 

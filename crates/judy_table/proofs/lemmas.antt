@@ -3,3 +3,4 @@ pub mod Meaning
 pub mod Faults
 pub mod Seats
 pub mod Unlimited
+pub mod Freezes

@@ -5,3 +5,4 @@ pub mod Meaning
 pub mod Faults
 pub mod Unlimited
 pub mod Blames
+pub mod Freezes

@@ -47,6 +47,8 @@ pub record HasValues (name : List ℕ) (n : ℕ) (sha256 : Option (List ℕ)) (q
   pub look_is : HasDigest look t.others.look
   pub former_is : HasDigest former t.others.former
   pub former_look_is : HasDigest former_look t.others.former_look
+  -- the tenant is not frozen
+  pub thawed : t.frozen ≡ None
   -- no other key is
   pub only : n ≡ 2 + if_there pieces + (if_there look + if_there former + if_there former_look)
 

@@ -1,9 +1,12 @@
 -- The rows in force after another table is read. A tenant that stays keeps its place. The place of
--- one that is gone is vacant, and the next table may give it away.
+-- one that is gone is vacant, and the next table may give it away. A tenant that is frozen stays so.
 --     has_name name ts     some row has this name
 --     row_of name ts       the first row of this name, or a vacant one
+--     keeping frozen t     the row of the same tenant with this freeze, or none
+--     seat_of row ts       the first row of its name, with its freeze, or a vacant one
 --     fresh_in rows ts     the tenants of a table whose names no row has
 --     seated rows ts       the rows after the table is read
+--     row_after name rows ts   the row of a name after the table is read
 --     named ts             how many rows have a tenant
 --     name_at ts place     the name of the tenant at a place, or none
 --     AreRows ts           what holds of the rows of every table
@@ -18,10 +21,10 @@ use Rattle.std.specs.Str.{bytes_eq}
 use Rattle.judy_model.specs.Grammar.{is_name}
 use Rattle.judy_model.specs.Speakers.{Speaker}
 use Rattle.judy_model.specs.declared.quotas.Right.{Right}
-use Rattle.judy_model.specs.declared.quotas.Right.TheVariants.{Change, Look}
+use Rattle.judy_model.specs.declared.quotas.Right.TheVariants.{Change, Look, Frozen}
 use Rattle.judy_table.specs.declared.table.TheConstants.{TENANTS_LIMIT, ROWS_LIMIT}
 use Rattle.judy_table.specs.declared.tenant.Tenant.{Tenant}
-use Rattle.judy_table.specs.Tenants.{is_vacant, vacant, may_change, may_look, login_of, AreLimited}
+use Rattle.judy_table.specs.Tenants.{is_vacant, vacant, may_change, is_kept_out, may_look, login_of, AreLimited}
 
 -- some row has this name
 abbrev pub has_name : List ℕ → List Tenant → Bool
@@ -32,6 +35,14 @@ abbrev pub row_of : List ℕ → List Tenant → Tenant
 row_of name [] = vacant
 row_of name (t ∷ ts) = if bytes_eq t.name name then t else row_of name ts
 
+-- the row of the same tenant with this freeze, or none; a vacant row stays as it is
+abbrev pub keeping : Option (List ℕ) → Tenant → Tenant
+keeping frozen t = if is_vacant t then t else record t { frozen = frozen }
+
+-- the first row with the name of this one, which is frozen as this one is, or a vacant one
+abbrev pub seat_of : Tenant → List Tenant → Tenant
+seat_of r ts = keeping r.frozen (row_of r.name ts)
+
 -- a row with a tenant whose name none of the others has
 abbrev pub is_fresh : List Tenant → Tenant → Bool
 is_fresh rows t = not (is_vacant t) && not (has_name t.name rows)
@@ -41,15 +52,21 @@ abbrev pub fresh_in : List Tenant → List Tenant → List Tenant
 fresh_in rows table = filter (is_fresh rows) table
 
 -- The rows, one after another: a vacant one takes the next fresh tenant, if there is one; another
--- one becomes the table's row of its name, or vacant. The other fresh tenants come after all rows.
+-- one becomes the table's row of its name with its freeze, or vacant. The other fresh tenants come after
+-- all rows.
 abbrev pub placed : List Tenant → List Tenant → List Tenant → List Tenant
 placed table [] fresh = fresh
 placed table (r ∷ rows) fresh =
-    if is_vacant r then get_or fresh 0 vacant ∷ placed table rows (drop 1 fresh) else row_of r.name table ∷ placed table rows fresh
+    if is_vacant r then get_or fresh 0 vacant ∷ placed table rows (drop 1 fresh) else seat_of r table ∷ placed table rows fresh
 
 -- the rows after the table is read
 abbrev pub seated : List Tenant → List Tenant → List Tenant
 seated rows table = placed table rows (fresh_in rows table)
+
+-- the row of a name after the table is read: the table's, with the freeze of the row that had the name
+abbrev pub row_after : List ℕ → List Tenant → List Tenant → Tenant
+row_after name rows table =
+    if has_name name rows then keeping (row_of name rows).frozen (row_of name table) else row_of name table
 
 -- how many rows have a tenant
 abbrev pub named : List Tenant → ℕ
@@ -91,6 +108,7 @@ right_in name token ts = option_map (λ (s : Speaker). s.right) (login_of name t
 -- whether a tenant has a token for this right
 abbrev pub has_token : Right → Tenant → Bool
 has_token Change t = true
+has_token Frozen t = is_some t.frozen
 has_token Look t = is_some t.others.look || is_some t.others.former_look
 
 -- whether there is a tenant at a place, with a token for this right
@@ -105,6 +123,7 @@ knows ts who = knows_row (slice_get ts who.tenant) who.right
 -- whether a token with this SHA-256 gives a tenant's speaker this right
 abbrev pub gives : Right → List ℕ → Tenant → Bool
 gives Change shown t = may_change shown t
+gives Frozen shown t = is_kept_out shown t
 gives Look shown t = may_look shown t
 
 -- whether there is a tenant at a place, and the token gives this right there

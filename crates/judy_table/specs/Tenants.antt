@@ -16,7 +16,7 @@ use Rattle.judy_model.specs.Grammar.{is_name}
 use Rattle.judy_model.specs.Speakers.{Speaker}
 use Rattle.judy_model.specs.declared.quotas.Right.{Right}
 use Rattle.judy_model.specs.declared.quotas.TheConstants.{ENTRIES_LIMIT, PIECES_LIMIT}
-use Rattle.judy_model.specs.declared.quotas.Right.TheVariants.{Change, Look}
+use Rattle.judy_model.specs.declared.quotas.Right.TheVariants.{Change, Look, Frozen}
 use Rattle.judy_table.specs.declared.fault.TableFault.{TableFault}
 use Rattle.judy_table.specs.declared.fault.TableFault.TheVariants as fault
 use Rattle.judy_table.specs.declared.table.TheConstants.{TENANTS_LIMIT}
@@ -109,7 +109,7 @@ pieces_for entries (Some written) = up_to PIECES_LIMIT written
 
 abbrev pub with_pieces : List ℕ → List ℕ → Others → ℕ → Option ℕ → Result Tenant TableFault
 with_pieces name digest others entries (Some pieces) =
-    Ok (record { name = name; digest = digest; others = others; quota = record { entries = entries; pieces = pieces } })
+    Ok (record { name = name; digest = digest; others = others; quota = record { entries = entries; pieces = pieces }; frozen = None })
 with_pieces name digest others entries None = Err fault.Pieces
 
 abbrev pub with_entries : List ℕ → List ℕ → Others → Option ℕ → Option ℤ → Result Tenant TableFault
@@ -199,19 +199,34 @@ no_others = record { look = None; former = None; former_look = None }
 
 -- the row of a place without a tenant
 abbrev pub vacant : Tenant
-vacant = record { name = []; digest = replicate 32 0; others = no_others; quota = record { entries = 0; pieces = 0 } }
+vacant = record { name = []; digest = replicate 32 0; others = no_others; quota = record { entries = 0; pieces = 0 }; frozen = None }
 
--- whether a token with this SHA-256 gives the right to read and write: it is the tenant's, or its old one
+-- whether a token with this SHA-256 is the tenant's, or its old one
+abbrev pub owns : List ℕ → Tenant → Bool
+owns shown t = bytes_eq t.digest shown || is_digest t.others.former shown
+
+-- whether it gives the right to read and write: it is one of these two, or, while the tenant is frozen,
+-- the token of the freeze
 abbrev pub may_change : List ℕ → Tenant → Bool
-may_change shown t = bytes_eq t.digest shown || is_digest t.others.former shown
+may_change shown t = if is_some t.frozen then is_digest t.frozen shown else owns shown t
+
+-- whether it gives the right of a frozen tenant: it is one of these two, and the tenant is frozen
+abbrev pub is_kept_out : List ℕ → Tenant → Bool
+is_kept_out shown t = is_some t.frozen && owns shown t
 
 -- whether it gives the right to read: it is the read-only token, or the old one
 abbrev pub may_look : List ℕ → Tenant → Bool
 may_look shown t = is_digest t.others.look shown || is_digest t.others.former_look shown
 
--- the right of a token with this SHA-256: to read and write, or only to read. A vacant row gives none.
+-- the right of a token with this SHA-256: to read and write, that of a frozen tenant, or only to read. A
+-- vacant row gives none.
 abbrev pub right_of : List ℕ → Tenant → Option Right
-right_of shown t = if is_vacant t then None else if may_change shown t then Some Change else if may_look shown t then Some Look else None
+right_of shown t =
+    if is_vacant t then None
+    else if may_change shown t then Some Change
+    else if is_kept_out shown t then Some Frozen
+    else if may_look shown t then Some Look
+    else None
 
 -- the speaker at this place, with this right
 abbrev pub speaker_at : ℕ → Option Right → Option Speaker

@@ -13,4 +13,4 @@ pub use blames::{Blame, Cause, Key};
 pub use fault::TableFault;
 pub use judy_model::{Name, Quota, Right, name_ok};
 pub use table::Table;
-pub use tenant::{Others, Speaker, Tenant, TenantId};
+pub use tenant::{Others, Speaker, Tenant, TenantId, read_digest};

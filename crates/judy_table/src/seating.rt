@@ -2,6 +2,7 @@
 ghost use Rattle.std.specs.Prelude.{◌≡◌, ◌∷◌, List, IfOk};
 ghost use Rattle.std.specs.Vec.Iter.{into_iter_items};
 ghost use Rattle.judy_table.specs.declared.tenant.Tenant.{Tenant as TheTenant};
+ghost use Rattle.judy_table.specs.Freezes.{has_tenant_of, with_freeze};
 ghost use Rattle.judy_table.specs.Seats.{has_name, row_of, is_fresh, fresh_in, placed};
 ghost use Rattle.judy_table.specs.Unlimited.{unlimited};
 
@@ -48,14 +49,14 @@ pub fn fresh_in(alloc: Global, rows: &[Tenant], table: &[Tenant]) -> Result<Vec<
     Ok(fresh)
 }
 
-/// The row after the table is read, at the place of this one.
+/// The row after the table is read, at the place of this one. A tenant that stays is frozen as before.
 fn seat(row: &Tenant, table: &[Tenant], fresh: &mut IntoIter<Tenant>) -> Tenant
     ensures { (rows : List TheTenant)
         → placed table.now (row.now ∷ rows) (into_iter_items fresh.old)
         ≡ result ∷ placed table.now rows (into_iter_items fresh.new) }
 {
     if !row.is_vacant() {
-        return row_of(table, row.name.as_bytes());
+        return row_of(table, row.name.as_bytes()).keeping(row.frozen);
     }
     fresh.next().unwrap_or(Tenant::vacant())
 }
@@ -87,4 +88,18 @@ pub fn unlimited(alloc: Global, rows: &[Tenant]) -> Result<Vec<Tenant>, AllocErr
         free.push(row.unlimited())?;
     }
     Ok(free)
+}
+
+/// Gives the tenant of this name this freeze, or none. False if no row has the tenant, and then nothing
+/// has changed.
+pub fn freeze(rows: &mut [Tenant], name: &[u8], frozen: Option<[u8; 32]>) -> bool
+    ensures known { result ≡ has_tenant_of name.now rows.old }
+    ensures rows { rows.new ≡ with_freeze name.now frozen rows.old }
+{
+    let mut known = false;
+    for row in rows.iter_mut() {
+        let here = row.freeze(name, frozen);
+        known = known || here;
+    }
+    known
 }

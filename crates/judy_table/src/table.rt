@@ -1,14 +1,15 @@
 //! The table of tenants.
-ghost use Rattle.std.specs.Prelude.{◌≡◌, ◌⊎◌, ◌≤◌, ◌<◌, ◌&&◌, nat_le, IfOk, IfErr, IfSome, Some, true, option_map, length, map, slice_get};
+ghost use Rattle.std.specs.Prelude.{◌≡◌, ◌⊎◌, ◌≤◌, ◌<◌, ◌&&◌, nat_le, IfOk, IfErr, IfSome, Some, None, true, option_map, length, map, slice_get};
 ghost use Rattle.toml.specs.View.{table_view};
 ghost use Rattle.judy_table.specs.Tenants.{size, have_shape, tenants_in, read_table, read_tree, place_of, login_of, HasRisingNames, is_vacant};
+ghost use Rattle.judy_table.specs.Freezes.{has_tenant_of, with_freeze};
 ghost use Rattle.judy_table.specs.Seats.{seated, AreRows, knows, goes_on};
 ghost use Rattle.judy_table.specs.Shown.{seen};
 ghost use Rattle.judy_table.specs.Unlimited.{unlimited};
 ghost use Rattle.sha2.specs.Sha256.{sha256};
 
 use crate::fault::TableFault;
-use crate::seating::{fresh_in, placed, unlimited};
+use crate::seating::{freeze, fresh_in, placed, unlimited};
 use crate::tenant::{Speaker, Tenant, TenantId, digest_of};
 use crate::written::{is_written, read_written, size};
 use judy_model::{ENTRIES_LIMIT, PIECES_LIMIT, Quota};
@@ -168,8 +169,9 @@ impl Table {
     }
 
     /// The tenant of this name and its right: to read and write with its own token, or only to read
-    /// with its read-only token, and so with the old token of either. None if no tenant has the name,
-    /// or if the token is none of its tokens. The token is hashed once in any case.
+    /// with its read-only token, and so with the old token of either; while it is frozen, as `freeze`
+    /// says. None if no tenant has the name, or if the token is none of its tokens. The token is hashed
+    /// once in any case.
     pub fn login(&self, name: &[u8], token: &[u8]) -> Option<Speaker>
         ensures who { option_map seen result ≡ login_of name.now token.now self.now }
         ensures digest { IfSome result (λ s. s.digest ≡ sha256 token.now) }
@@ -212,9 +214,31 @@ impl Table {
         row.is_some_and(|row| !row.is_vacant() && row.gives(speaker.right, &speaker.digest))
     }
 
-    /// The rows in force, `self`, after another table is read. A tenant that stays keeps its place.
-    /// The place of one that is gone becomes vacant. The other tenants of the table take the places
-    /// that were vacant before, and then new ones.
+    /// Freezes a tenant. From now on a token with this SHA-256 gives the right to change its arrays, and
+    /// its own token and its old one give the right of a frozen tenant. Its read-only tokens stay. A
+    /// second freeze replaces the first.
+    ///
+    /// False: no tenant has the name, and nothing changed.
+    pub fn freeze(&mut self, name: &[u8], digest: &[u8; 32]) -> bool
+        ensures known { result ≡ has_tenant_of name.now self.old }
+        ensures rows { self.new ≡ with_freeze name.now (Some digest.now) self.old }
+    {
+        freeze(&mut self.tenants, name, Some(*digest))
+    }
+
+    /// Thaws a tenant: its tokens give the rights that the table gives them. It need not be frozen.
+    ///
+    /// False: no tenant has the name, and nothing changed.
+    pub fn thaw(&mut self, name: &[u8]) -> bool
+        ensures known { result ≡ has_tenant_of name.now self.old }
+        ensures rows { self.new ≡ with_freeze name.now None self.old }
+    {
+        freeze(&mut self.tenants, name, None)
+    }
+
+    /// The rows in force, `self`, after another table is read. A tenant that stays keeps its place, and
+    /// is frozen if it was. The place of one that is gone becomes vacant. The other tenants of the table
+    /// take the places that were vacant before, and then new ones.
     ///
     /// Err: out of memory.
     pub fn seated(&self, alloc: Global, table: &Table) -> Result<Table, AllocError>

@@ -3,8 +3,9 @@ ghost use Rattle.std.specs.Prelude.{◌≡◌, ◌<◌, ◌≤◌, ◌^◌, opti
 ghost use Rattle.std.specs.Str.{bytes_eq};
 ghost use Rattle.judy_table.specs.Shown.{others_told, told_of};
 ghost use Rattle.judy_table.specs.Tenants.{tenant_of, up_to, pieces_for, optional_digest, others_of};
-ghost use Rattle.judy_table.specs.Tenants.{right_of, may_change, may_look, is_digest, is_vacant, vacant, no_others};
-ghost use Rattle.judy_table.specs.Seats.{gives};
+ghost use Rattle.judy_table.specs.Tenants.{right_of, owns, may_change, is_kept_out, may_look, is_digest, is_vacant, vacant, no_others};
+ghost use Rattle.judy_table.specs.Freezes.{digest_in, frozen_row, is_tenant_of};
+ghost use Rattle.judy_table.specs.Seats.{gives, keeping};
 ghost use Rattle.judy_table.specs.Unlimited.{unlimited_row};
 ghost use Rattle.sha2.specs.Sha256.{sha256};
 
@@ -33,6 +34,9 @@ pub struct Tenant {
     pub digest: [u8; 32],
     pub others: Others,
     pub quota: Quota,
+    /// The SHA-256 of the only token that changes its arrays, while it is frozen. No text of a table
+    /// has it.
+    pub frozen: Option<[u8; 32]>,
 }
 
 /// A tenant, by its place in the table of tenants. Only a table makes one.
@@ -110,6 +114,17 @@ pub(crate) fn optional_digest(text: Option<&str>) -> Result<Option<[u8; 32]>, Fr
     Ok(Some(bytes))
 }
 
+/// The 32 bytes of 64 hexadecimal digits. None for other bytes.
+pub fn read_digest(text: &[u8]) -> Option<[u8; 32]>
+    ensures { result ≡ digest_in text.now }
+{
+    let mut bytes = [0u8; 32];
+    match hex::decode_to_slice(text, &mut bytes) {
+        Ok(()) => Some(bytes),
+        Err(_) => None,
+    }
+}
+
 /// The digests of these texts.
 fn others_of(texts: OtherTexts<'_>) -> Result<Others, FromHexError>
     ensures { result ≡ others_of (others_told texts.entry) }
@@ -182,6 +197,7 @@ impl Tenant {
             digest,
             others,
             quota: Quota { entries, pieces },
+            frozen: None,
         })
     }
 
@@ -197,6 +213,7 @@ impl Tenant {
                 entries: 0,
                 pieces: 0,
             },
+            frozen: None,
         }
     }
 
@@ -216,6 +233,7 @@ impl Tenant {
             digest: self.digest,
             others: self.others,
             quota: self.quota,
+            frozen: self.frozen,
         }
     }
 
@@ -233,14 +251,56 @@ impl Tenant {
         row
     }
 
+    /// The row of the same tenant with this freeze, or none. A vacant row stays as it is.
+    pub(crate) fn keeping(mut self, kept: Option<[u8; 32]>) -> Tenant
+        ensures { result ≡ keeping kept self }
+    {
+        let vacant = self.is_vacant();
+        if !vacant {
+            self.frozen = kept;
+        }
+        self
+    }
+
+    /// Gives the row this freeze, or none, if it has the tenant of this name. Whether it has.
+    pub(crate) fn freeze(&mut self, name: &[u8], frozen: Option<[u8; 32]>) -> bool
+        ensures known { result ≡ is_tenant_of name.now self.old }
+        ensures row { self.new ≡ frozen_row name.now frozen self.old }
+    {
+        if self.is_vacant() || self.name.as_bytes() != name {
+            return false;
+        }
+        self.frozen = frozen;
+        true
+    }
+
     /// Whether the token with this digest is the tenant's, or its old one. Both are compared in any
     /// case.
-    fn may_change(&self, shown: &[u8; 32]) -> bool
-        ensures { result ≡ may_change shown.now self.now }
+    fn owns(&self, shown: &[u8; 32]) -> bool
+        ensures { result ≡ owns shown.now self.now }
     {
         let now = is_same(&self.digest, shown);
         let before = is_digest(&self.others.former, shown);
         now || before
+    }
+
+    /// Whether the token with this digest gives the right to change: it is the tenant's, or its old
+    /// one, or, while the tenant is frozen, that of the freeze. All are compared in any case.
+    fn may_change(&self, shown: &[u8; 32]) -> bool
+        ensures { result ≡ may_change shown.now self.now }
+    {
+        let owns = self.owns(shown);
+        let thaws = is_digest(&self.frozen, shown);
+        if self.frozen.is_some() { thaws } else { owns }
+    }
+
+    /// Whether the token with this digest is the tenant's, or its old one, and the tenant is frozen.
+    /// Both are compared in any case.
+    fn is_kept_out(&self, shown: &[u8; 32]) -> bool
+        ensures { result ≡ is_kept_out shown.now self.now }
+    {
+        let owns = self.owns(shown);
+        self.frozen.is_some() && owns
     }
 
     /// Whether the token with this digest is the read-only one, or the old one. Both are compared in
@@ -259,23 +319,29 @@ impl Tenant {
     {
         match right {
             Right::Change => self.may_change(shown),
+            Right::Frozen => self.is_kept_out(shown),
             Right::Look => self.may_look(shown),
         }
     }
 
     /// The right of the token with this digest: to read and write with the tenant's own token or its
-    /// old one, or only to read with its read-only token or its old one. A vacant row gives none. All
-    /// digests are compared in any case.
+    /// old one, or only to read with its read-only token or its old one. While the tenant is frozen,
+    /// the token of the freeze gives the right to read and write, and the first two give that of a
+    /// frozen tenant. A vacant row gives none. All digests are compared in any case.
     pub(crate) fn right(&self, shown: &[u8; 32]) -> Option<Right>
         ensures { result ≡ right_of shown.now self.now }
     {
         let changes = self.may_change(shown);
+        let waits = self.is_kept_out(shown);
         let looks = self.may_look(shown);
         if self.is_vacant() {
             return None;
         }
         if changes {
             return Some(Right::Change);
+        }
+        if waits {
+            return Some(Right::Frozen);
         }
         if looks {
             return Some(Right::Look);

@@ -5,10 +5,10 @@ use Rattle.judy_model.specs.declared.calls.Call.{Call}
 use Rattle.judy_model.specs.declared.calls.Call.TheVariants as call
 use Rattle.judy_model.specs.declared.quotas.Quota.{Quota}
 use Rattle.judy_model.specs.declared.quotas.Right.{Right}
-use Rattle.judy_model.specs.declared.quotas.Right.TheVariants.{Change, Look}
+use Rattle.judy_model.specs.declared.quotas.Right.TheVariants.{Change, Look, Frozen}
 use Rattle.judy_model.specs.declared.replies.Reply.{Reply}
 use Rattle.judy_model.specs.declared.replies.Reply.TheVariants as reply
-use Rattle.judy_model.specs.Tenant.{State, changes, is_read_only, asks_for_new, has_room, allowed_step, attempt_step, step}
+use Rattle.judy_model.specs.Tenant.{State, changes, is_read_only, refusal_of, asks_for_new, has_room, allowed_step, attempt_step, step}
 use Rattle.judy_model.specs.WellFormed.{FullIsForNew, LooksKeepAll}
 use Rattle.judy_model.specs.Solo.{IsAnswered, MayLackMemory, StepHasMemory, is_memory}
 use Rattle.judy_kinds.specs.Calls.{is_of_array}
@@ -19,7 +19,7 @@ use Rattle.judy_tenants.proofs.Steps.{HasWay}
 pub answered-allowed : StepHasMemory → (quota : Quota) (s new : State) (right : Right) (c : Call) (r : Reply) → is_read_only right c ≡ false
     → allowed_step quota s c ≡ (r, new) → IsAnswered quota s (record { right = right; call = c }) r new
 answered-allowed memory quota s new right c r allowed e =
-    let steps : step right quota s c ≡ (r, new) = ap (λ b. if b then (reply.ReadOnly, s) else allowed_step quota s c) allowed ∙ e in
+    let steps : step right quota s c ≡ (r, new) = ap (λ b. if b then (refusal_of right, s) else allowed_step quota s c) allowed ∙ e in
     let quiet : is_memory r ≡ false = sym (ap (λ z. is_memory z.0) steps) ∙ memory right quota s c in
     subst (λ b. MatchBool b (MayLackMemory quota s (record { right = right; call = c }) × (new ≡ s))
     (attempt_step quota s (record { right = right; call = c }) ≡ (r, new))) (sym quiet) steps
@@ -41,11 +41,13 @@ pub asks-under : (right : Right) (s : State) (c : Call) → is_read_only right c
     c ≡ true → asks_for_new right s c ≡ true
 asks-under Change s c allowed h e = e
 asks-under Look s c allowed h e = cc
+asks-under Frozen s c allowed h e = cc
 
 -- a refusal is for the quota or for the right
-refusal_cases : (r : Reply) → is_refusal r ≡ true → (r ≡ reply.Full) ⊎ (r ≡ reply.ReadOnly)
+refusal_cases : (r : Reply) → is_refusal r ≡ true → (r ≡ reply.Full) ⊎ (r ≡ reply.ReadOnly) ⊎ (r ≡ reply.Frozen)
 refusal_cases reply.Full h = inl refl
-refusal_cases reply.ReadOnly h = inr refl
+refusal_cases reply.ReadOnly h = inr (inl refl)
+refusal_cases reply.Frozen h = inr (inr refl)
 refusal_cases _ h = cc
 
 -- an allowed call that asks for nothing new, or has room, gets no such refusal
@@ -54,7 +56,7 @@ pub not-refused : FullIsForNew → LooksKeepAll → (quota : Quota) (s new : Sta
 not-refused full looks quota s new right c r allowed e way h = by (refusal_cases r h)
   where
     steps : step right quota s c ≡ (r, new)
-    steps = ap (λ b. if b then (reply.ReadOnly, s) else allowed_step quota s c) allowed ∙ e
+    steps = ap (λ b. if b then (refusal_of right, s) else allowed_step quota s c) allowed ∙ e
 
     given : (step right quota s c).0 ≡ r
     given = ap (λ z. z.0) steps
@@ -65,11 +67,28 @@ not-refused full looks quota s new right c r allowed e way h = by (refusal_cases
     asks-more : (right : Right) → asks_for_new right s c ≡ true → asks_for_new Change s c ≡ true
     asks-more Change i = i
     asks-more Look i = cc
+    asks-more Frozen i = cc
 
     no_way : (asks room : Bool) → HasWay asks room → asks ≡ true → not room ≡ true → ⊥
     no_way asks room (inl i) j k = unlike (sym i ∙ j)
     no_way asks room (inr i) j k = unlike (sym (ap not i) ∙ k)
 
-    by : (r ≡ reply.Full) ⊎ (r ≡ reply.ReadOnly) → ⊥
+    -- the right forbids no such call
+    forbids : (other : Right) → (right ≡ other) × (changes c ≡ true) → is_read_only other c ≡ changes c → ⊥
+    forbids other (i, j) k = unlike (sym allowed ∙ ap (λ z. is_read_only z c) i ∙ k ∙ j)
+
+    by : (r ≡ reply.Full) ⊎ (r ≡ reply.ReadOnly) ⊎ (r ≡ reply.Frozen) → ⊥
     by (inl i) = let f = (full right quota s c).0.0 (given ∙ i) in no_way (asks_for_new Change s c) (has_room quota s c) way (asks-more right f.0) f.1
-    by (inr i) = unlike (sym allowed ∙ (looks right quota s c).0.0 (given ∙ i))
+    by (inr (inl i)) = forbids Look ((looks right quota s c).0.0 (given ∙ i)) refl
+    by (inr (inr i)) = forbids Frozen ((looks right quota s c).1.0 (given ∙ i)) refl
+
+-- what a right answers to a call that it forbids is a refusal, and not for memory
+pub forbidden-quiet : (right : Right) → is_memory (refusal_of right) ≡ false
+forbidden-quiet Change = refl
+forbidden-quiet Look = refl
+forbidden-quiet Frozen = refl
+
+pub forbidden-refused : (right : Right) → is_refusal (refusal_of right) ≡ true
+forbidden-refused Change = refl
+forbidden-refused Look = refl
+forbidden-refused Frozen = refl

@@ -21,4 +21,5 @@ mod Frees
 mod Marked
 mod Carried
 mod Lifted
+mod Freezing
 pub mod lemmas

@@ -225,10 +225,11 @@ pub record IsUnplaced (event : Event) (old new : Held) : Type 0 where
 abbrev pub HasCause : Event → Held → Reply → Held → Type 0
 HasCause event old reply new = MatchBool (is_memory reply) (IsShortService old new ⊎ IsUnplaced event old new) (IsQuiet old new)
 
--- the refusals for the right and for the quota
+-- the refusals for the right, read-only or frozen, and for the quota
 abbrev pub is_refusal : Reply → Bool
 is_refusal reply.Full = true
 is_refusal reply.ReadOnly = true
+is_refusal reply.Frozen = true
 is_refusal _ = false
 
 -- the blocks that a call takes at most: a number of its kind, and none unless it asks for a new entry

@@ -1,11 +1,12 @@
 //! Many tenants, their arrays and their quotas.
-ghost use Rattle.std.specs.Prelude.{◌≡◌, ◌<◌, ◌≤◌, ℕ, IfErr, IfOk, IfSome, IsTrue, Some, true, nat_lt, length, map, slice_get, option_map, OnOk, OnErr, max, ◌+◌};
+ghost use Rattle.std.specs.Prelude.{◌≡◌, ◌<◌, ◌≤◌, ℕ, IfErr, IfOk, IfSome, IsTrue, None, Some, true, nat_lt, length, map, slice_get, option_map, OnOk, OnErr, max, ◌+◌};
 ghost use Rattle.judy_model.specs.Tenant.{used, pieces, no_arrays};
 ghost use Rattle.judy_model.specs.Service.{IsServed};
 ghost use Rattle.judy_model.specs.Solo.{is_memory};
 ghost use Rattle.judy_directory.specs.Secrets.{start_of};
 ghost use Rattle.judy_kinds.specs.Calls.{has_string};
 ghost use Rattle.judy_table.specs.Shown.{seen};
+ghost use Rattle.judy_table.specs.Freezes.{has_tenant_of, with_freeze};
 ghost use Rattle.judy_table.specs.Seats.{AreRows, goes_on, knows, seated};
 ghost use Rattle.judy_table.specs.Tenants.{is_vacant, login_of, place_of};
 ghost use Rattle.sha2.specs.Sha256.{sha256};
@@ -207,8 +208,8 @@ impl<H: KeyHash> Service<H> {
         self.table.knows(speaker)
     }
 
-    /// Puts another table in force. A tenant that stays keeps its place and its arrays. The arrays of
-    /// one that is gone are freed, and its place becomes vacant. The other tenants of the table take
+    /// Puts another table in force. A tenant that stays keeps its place, its arrays and its freeze. The
+    /// arrays of one that is gone are freed, and its place becomes vacant. The other tenants of the table take
     /// the places that were vacant before, and then new ones.
     ///
     /// Err: out of memory, or the new quota of a tenant is less than what it holds. Nothing changed.
@@ -229,6 +230,39 @@ impl<H: KeyHash> Service<H> {
         }
         self.is_at_all_times();
         changed
+    }
+
+    /// Freezes a tenant. From now on a token with this SHA-256 logs in as this tenant with the right to
+    /// change its arrays. Its own token and its old one log in with the right of a frozen tenant, and its
+    /// read-only tokens as ever. A second freeze replaces the first. Nothing else changes.
+    ///
+    /// False: no tenant has the name, and nothing changed.
+    pub fn freeze(&mut self, name: &[u8], digest: &[u8; 32]) -> bool
+        ensures known { result ≡ has_tenant_of name.now self.old.tenants }
+        ensures frozen { self.new ≡ record self.old {
+          tenants = with_freeze name.now (Some digest.now) self.old.tenants;
+        } }
+        ensures sound { IsSoundService self.new }
+    {
+        let known = self.table.freeze(name, digest);
+        self.is_at_all_times();
+        known
+    }
+
+    /// Thaws a tenant: its tokens log in with the rights that the table gives them. It need not be frozen.
+    /// Nothing else changes.
+    ///
+    /// False: no tenant has the name, and nothing changed.
+    pub fn thaw(&mut self, name: &[u8]) -> bool
+        ensures known { result ≡ has_tenant_of name.now self.old.tenants }
+        ensures thawed { self.new ≡ record self.old {
+          tenants = with_freeze name.now None self.old.tenants;
+        } }
+        ensures sound { IsSoundService self.new }
+    {
+        let known = self.table.thaw(name);
+        self.is_at_all_times();
+        known
     }
 
     /// Gives each tenant the greatest quota, so that each call that was ever admitted has room. Returns
@@ -264,8 +298,8 @@ impl<H: KeyHash> Service<H> {
     /// Answers a call as if its tenant were alone, with one exception: `Memory`, if a new entry is
     /// within the quota but gets no memory.
     ///
-    /// The order of refusals is `ReadOnly`, `Full`, `Memory`. After each of them every array is
-    /// unchanged. `Memory` has one of two causes: the arena refused a block, or the directory had
+    /// The order of refusals is `ReadOnly` or `Frozen`, by the right, `Full`, `Memory`. After each of
+    /// them every array is unchanged. `Memory` has one of two causes: the arena refused a block, or the directory had
     /// no place for the name of an array without entries while as many arrays as it has room for have
     /// entries.
     pub fn call<'a>(

@@ -52,7 +52,7 @@ pub fn serve<'a, H: KeyHash>(
     judy_model::laws::looks_keep_all();
     stock.arena.the_region_is_bounded();
     if call.is_read_only(speaker.right) {
-        return Reply::ReadOnly;
+        return speaker.right.refusal();
     }
     let tenant = speaker.tenant;
     let account = account_of(&stock.accounts, tenant);

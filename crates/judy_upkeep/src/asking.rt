@@ -46,7 +46,7 @@ fn came_of(reply: &Reply<'_>) -> Result<Came, Reason> {
         Reply::ValueKey(_, _) => Ok(Came::Other),
         Reply::Used(_, _, _, _) => Ok(Came::Other),
         Reply::Full => Err(Reason::Full),
-        Reply::ReadOnly => Err(Reason::Full),
+        Reply::ReadOnly | Reply::Frozen => Err(Reason::Full),
         Reply::Memory => Err(Reason::Memory),
     }
 }

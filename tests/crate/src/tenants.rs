@@ -4,6 +4,7 @@
 mod changes;
 mod dice;
 mod directories;
+mod freezes;
 mod house;
 mod kinds;
 mod lines;

@@ -25,7 +25,7 @@ use Rattle.judy_model.specs.declared.replies.Reply.{Reply}
 use Rattle.judy_model.specs.declared.replies.Reply.TheVariants as reply
 use Rattle.judy_model.specs.Contents.{Order, Entries, word_order, string_order, value_of, has_key, with_entry}
 use Rattle.judy_model.specs.Tenant.{State, Attempt, content_of, with_content, insert_over, insert, set, used, pieces, new_pieces, one_step, long_step}
-use Rattle.judy_model.specs.Tenant.{string_step, bytes_step, changes, is_read_only, has_room, allowed_step, attempt_step}
+use Rattle.judy_model.specs.Tenant.{string_step, bytes_step, changes, is_read_only, refusal_of, has_room, allowed_step, attempt_step}
 use Rattle.judy_model.specs.Solo.{is_memory, IsAnswered, MayLackMemory}
 use Rattle.judy_model.specs.Service.{States}
 use Rattle.judy_model.specs.Speakers.{Event, attempt_of}
@@ -33,7 +33,8 @@ use Rattle.judy_model.specs.WellFormed.{IsWellFormed}
 use Rattle.judy_journal.specs.Replays.{ample, after_call, after_calls, HasAnswered, call_recorded, recorded_calls}
 use Rattle.judy_protocol.specs.Plain.{is_refused, counts}
 use Rattle.judy_journal.specs.Replays.{Told, record_of, parts_of, told_in, told, change_in, change_of, call_told, calls_named}
-use Rattle.judy_model.specs.declared.quotas.Right.TheVariants.{Change}
+use Rattle.judy_model.specs.declared.quotas.Right.{Right}
+use Rattle.judy_model.specs.declared.quotas.Right.TheVariants.{Change, Look, Frozen}
 use Rattle.judy_journal.specs.Replays.{HaveAnswered, Places, outcome, event_at, event_for, event_told, again, event_recorded, AreRecords, IsNamed}
 use Rattle.judy_journal.specs.declared.replays.Unplayed.{Unplayed}
 use Rattle.judy_journal.specs.Replays.{OthersKeepAll, RecordedCallsTellAll, ReplaysAreExact, RecordsTellAll, RecordsTellOneChange}
@@ -122,12 +123,14 @@ allowed_same quota s Used h = refl
 -- under any right
 attempt_same : (quota : Quota) (s : State) (a : Attempt) → is_refused (attempt_step quota s a).0 ≡ false
     → (attempt_step quota s a).1 ≡ after_call s a.call
-attempt_same quota s a = by (is_read_only a.right a.call)
+attempt_same quota s a = by (is_read_only a.right a.call) a.right
   where
-    by : (b : Bool) → is_refused (cond {A = Reply × State} b (reply.ReadOnly, s) (allowed_step quota s a.call)).0 ≡ false
-        → (cond {A = Reply × State} b (reply.ReadOnly, s) (allowed_step quota s a.call)).1 ≡ after_call s a.call
-    by true h = cc
-    by false h = allowed_same quota s a.call h
+    by : (b : Bool) (right : Right) → is_refused (cond {A = Reply × State} b (refusal_of right, s) (allowed_step quota s a.call)).0 ≡ false
+        → (cond {A = Reply × State} b (refusal_of right, s) (allowed_step quota s a.call)).1 ≡ after_call s a.call
+    by true Change h = cc
+    by true Look h = cc
+    by true Frozen h = cc
+    by false right h = allowed_same quota s a.call h
 
 -- a refusal for memory is a refusal
 memory_refused : (r : Reply) → is_refused r ≡ false → is_memory r ≡ false
@@ -146,11 +149,12 @@ answered_same quota s a given new answered h = by (is_memory given) (memory_refu
 
 -- ---- a call that is refused or changes nothing leaves all as it was
 
--- the three refusals
-refusal_is : (r : Reply) → is_refused r ≡ true → (r ≡ reply.Full) ⊎ (r ≡ reply.ReadOnly) ⊎ (is_memory r ≡ true)
+-- the four refusals
+refusal_is : (r : Reply) → is_refused r ≡ true → (r ≡ reply.Full) ⊎ (r ≡ reply.ReadOnly) ⊎ (r ≡ reply.Frozen) ⊎ (is_memory r ≡ true)
 refusal_is reply.Full h = inl refl
 refusal_is reply.ReadOnly h = inr (inl refl)
-refusal_is reply.Memory h = inr (inr refl)
+refusal_is reply.Frozen h = inr (inr (inl refl))
+refusal_is reply.Memory h = inr (inr (inr refl))
 refusal_is _ h = cc
 
 -- calls a ++ b are a, then b
@@ -183,15 +187,21 @@ module _ (full_is_for_new : FullIsForNew) (looks_keep_all : LooksKeepAll) (queri
       → (attempt_step quota s a).1 ≡ s
   refused_step quota s a form h = by (refusal_is (attempt_step quota s a).0 h)
     where
-      unread : (b : Bool) → b ≡ true → (cond {A = Reply × State} b (reply.ReadOnly, s) (allowed_step quota s a.call)).1 ≡ s
+      unread : (b : Bool) → b ≡ true → (cond {A = Reply × State} b (refusal_of a.right, s) (allowed_step quota s a.call)).1 ≡ s
       unread true is = refl
       unread false is = cc
 
-      by : ((attempt_step quota s a).0 ≡ reply.Full) ⊎ ((attempt_step quota s a).0 ≡ reply.ReadOnly) ⊎ (is_memory (attempt_step quota s a).0 ≡ true)
+      forbidden : (right : Right) → is_read_only right a.call ≡ changes a.call → (a.right ≡ right) × (changes a.call ≡ true)
+          → (attempt_step quota s a).1 ≡ s
+      forbidden right same (is, turns) = unread (is_read_only a.right a.call) (ap (λ r. is_read_only r a.call) is ∙ same ∙ turns)
+
+      by : ((attempt_step quota s a).0 ≡ reply.Full) ⊎ ((attempt_step quota s a).0 ≡ reply.ReadOnly) ⊎ ((attempt_step quota s a).0 ≡ reply.Frozen)
+          ⊎ (is_memory (attempt_step quota s a).0 ≡ true)
           → (attempt_step quota s a).1 ≡ s
       by (inl full) = (full_is_for_new a.right quota s a.call).1 form full
-      by (inr (inl look)) = unread (is_read_only a.right a.call) ((looks_keep_all a.right quota s a.call).0.0 look)
-      by (inr (inr memory)) = absurd (not_both (is_memory (attempt_step quota s a).0) memory (step_has_memory a.right quota s a.call))
+      by (inr (inl look)) = forbidden Look refl ((looks_keep_all a.right quota s a.call).0.0 look)
+      by (inr (inr (inl frozen))) = forbidden Frozen refl ((looks_keep_all a.right quota s a.call).1.0 frozen)
+      by (inr (inr (inr memory))) = absurd (not_both (is_memory (attempt_step quota s a).0) memory (step_has_memory a.right quota s a.call))
 
   -- nor does one that is not recorded
   uncounted_step : (quota : Quota) (s : State) (a : Attempt) → IsWellFormed s → (changes a.call && not (is_refused (attempt_step quota s a).0)) ≡ false
@@ -480,6 +490,7 @@ records_tell_one_change bytes change = (
 pub outcome_is : (r : Reply) → outcome r ≡ Ok tt → is_refused r ≡ false
 outcome_is reply.Full h = cc
 outcome_is reply.ReadOnly h = cc
+outcome_is reply.Frozen h = cc
 outcome_is reply.Memory h = cc
 outcome_is _ h = refl
 

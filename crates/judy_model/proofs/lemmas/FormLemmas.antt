@@ -30,7 +30,7 @@ use Rattle.judy_model.specs.declared.replies.Reply.TheVariants as reply
 use Rattle.judy_model.specs.Grammar.{are_bytes, is_string, is_byte_key}
 use Rattle.judy_model.specs.Contents.{Order, Entries, IsWordArray, word_order, string_order, has_key, with_entry, without_key}
 use Rattle.judy_model.specs.Tenant.{Arrays, State, no_arrays, content_of, with_content, value_after, insert_over, insert, one_step}
-use Rattle.judy_model.specs.Tenant.{long_step, string_step, bytes_step, has_room, allowed_step, is_read_only}
+use Rattle.judy_model.specs.Tenant.{long_step, string_step, bytes_step, has_room, allowed_step, is_read_only, refusal_of}
 use Rattle.judy_model.specs.WellFormed.{is_word, is_one_entry, is_long_entry, is_string_entry, is_bytes_entry, is_content}
 use Rattle.judy_model.specs.WellFormed.{has_entries, are_arrays, IsWellFormed, writes_entry, StepKeepsForm}
 use Rattle.judy_model.proofs.lemmas.TestLemmas.{to_T, from_T}
@@ -262,7 +262,7 @@ allowed_keeps_form quota s Used h w = h
 pub step_keeps_form : StepKeepsForm
 step_keeps_form right quota s call h w = by (is_read_only right call)
   where
-    by : (b : Bool) → IsWellFormed (cond {A = Reply × State} b (reply.ReadOnly, s) (allowed_step quota s call)).1
+    by : (b : Bool) → IsWellFormed (cond {A = Reply × State} b (refusal_of right, s) (allowed_step quota s call)).1
     by true = h
     by false = allowed_keeps_form quota s call h w
 

@@ -3,25 +3,24 @@
 --     keeps-all    each tenant keeps its arrays and its name when it is put in force
 --     keeps-if     so they do where a look at its text said so
 --     name-of      the name of a place, by its row
-use Rattle.std.proofs.Common.{◌≡◌, ◌∙◌, ◌⊎◌, inl, inr, ◌||◌, ℕ, zero, suc, Bool, true, false, cond, not, List, [], ◌∷◌}
+use Rattle.std.proofs.Common.{◌≡◌, ◌∙◌, ◌⊎◌, inl, inr, ◌||◌, ℕ, zero, suc, Bool, true, false, not, List, [], ◌∷◌}
 use Rattle.std.proofs.Common.{length, Option, Some, None, Result, Ok, Err, ap, arith, refl, subst, sym}
 use Rattle.std.specs.Prelude.{IfOk, map, option_map, slice_get, unwrap_or}
 use Rattle.std.specs.List.{AllByRecursion}
 use Rattle.std.specs.FinMap.{is_sorted}
 use Rattle.std.specs.Result.{result_unwrap_or}
-use Rattle.std.specs.Str.{bytes_eq}
 use Rattle.std.proofs.lemmas.Bool.{and_parts}
 use Rattle.std.proofs.lemmas.List.Elements.{recursion_from_All}
 use Rattle.std.proofs.lemmas.List.Sums.{sum_by-cons}
 use Rattle.std.proofs.lemmas.Option.{slice_get-map, unwrap_or-slice_get}
-use Rattle.std.proofs.lemmas.Slice.Eq.{bytes_eq-Decides}
 use Rattle.judy_model.specs.Contents.{Order, string_order, word_order}
 use Rattle.judy_model.specs.Tenant.{Arrays, State, entries_in, no_arrays}
 use Rattle.judy_model.specs.WellFormed.{IsWellFormed, IsWithin, are_arrays, is_bytes_entry, is_long_entry, is_one_entry, is_string_entry}
 use Rattle.judy_model.specs.declared.quotas.Quota.{Quota}
 use Rattle.judy_table.specs.declared.fault.TableFault.{TableFault}
 use Rattle.judy_table.specs.declared.tenant.Tenant.{Tenant}
-use Rattle.judy_table.specs.Seats.{AreRows, has_name, name_at, row_of, seated}
+use Rattle.judy_table.specs.Seats.{AreRows, has_name, name_at, seat_of, seated}
+use Rattle.judy_table.proofs.lemmas.Seats.{seat-name}
 use Rattle.judy_table.specs.Tenants.{is_vacant, read_table, vacant}
 use Rattle.judy_tenants.specs.Changes.{HasChanged, has_tenant}
 use Rattle.judy_tenants.specs.Held.{Held, IsSoundService, no_quota, quotas_of, states_of}
@@ -83,16 +82,6 @@ kept-row table (s ∷ rows) zero r all h =
     let same : s ≡ r = cc in ap (is_kept table) (sym same) ∙ (and_parts (is_kept table s) (has_all rows table) all).0
 kept-row table (s ∷ rows) (suc t) r all h = kept-row table rows t r (and_parts (is_kept table s) (has_all rows table) all).1 h
 
--- the row of a name has this name
-row-named : (name : List ℕ) (ts : List Tenant) → has_name name ts ≡ true → (row_of name ts).name ≡ name
-row-named name [] h = cc
-row-named name (t ∷ ts) h = by (row-named name ts) (bytes_eq t.name name) refl h
-  where
-    by : (has_name name ts ≡ true → (row_of name ts).name ≡ name) → (b : Bool) → bytes_eq t.name name ≡ b → (b || has_name name ts) ≡ true
-        → (cond b t (row_of name ts)).name ≡ name
-    by rest true e i = (bytes_eq-Decides t.name name).0 e
-    by rest false e i = rest i
-
 -- ---- all places
 
 -- a place keeps its arrays and its name
@@ -119,7 +108,7 @@ module _ (table : List Tenant) (old new : Held) (sound : IsSoundService old) (ro
       let named : has_name r.name table ≡ true = sym (ap (λ b. b || has_name r.name table) v) ∙ kept-row table old.tenants t r all here in
       let (row, states, sizes) = stays-named table old new seats changed t r here v named in (
         states,
-        inr (name-of new.tenants t (Some (row_of r.name table)) row ∙ row-named r.name table named ∙ sym (name-of old.tenants t (Some r) here)),
+        inr (name-of new.tenants t (Some (seat_of r table)) row ∙ seat-name r table named ∙ sym (name-of old.tenants t (Some r) here)),
       )
 
   pub place-stays : (t : ℕ) (o : Option Tenant) → slice_get old.tenants t ≡ o → KeepsPlace old new t

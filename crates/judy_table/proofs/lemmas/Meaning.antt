@@ -1,6 +1,6 @@
 -- A text is read as a list of tenants exactly if it is their table.
 use Rattle.std.proofs.Common.{◌≡◌, ℕ, ℤ, pos, negsuc, ◌+◌, ◌*◌, ◌≤◌, ◌==◌, ◌&&◌, Bool, true, false, List, [], ◌∷◌, Option, Some, None, is_some, Ok, Err}
-use Rattle.std.proofs.Common.{ap, sym, ◌∙◌, refl, subst, nat_le, if◌then◌else◌, le-leb, eq-eqb}
+use Rattle.std.proofs.Common.{ap, ap₂, sym, ◌∙◌, refl, subst, nat_le, if◌then◌else◌, le-leb, eq-eqb}
 use Rattle.std.specs.Prelude.{Result, option_map, option_and_then}
 use Rattle.std.proofs.lemmas.Bool.{leb-true, eqb-true, and_parts, and_from}
 use Rattle.std.specs.Str.{is_utf8}
@@ -113,6 +113,7 @@ pub record AreParts (name : List ℕ) (w : Written) (t : Tenant) : Type 0 where
   pub others : others_of w.others ≡ Ok t.others
   pub entries : up_to 16777216 w.entries ≡ Some t.quota.entries
   pub pieces : pieces_for t.quota.entries w.pieces ≡ Some t.quota.pieces
+  pub thawed : t.frozen ≡ None
 
 parts-of : (name : List ℕ) (w : Written) (t : Tenant) → tenant_of name w ≡ Ok t → AreParts name w t
 parts-of name w t = by_name (is_name name) refl
@@ -121,8 +122,8 @@ parts-of name w t = by_name (is_name name) refl
         → others_of w.others ≡ Ok others → up_to 16777216 w.entries ≡ Some n → pieces_for n w.pieces ≡ o
         → with_pieces name digest others n o ≡ Ok t → AreParts name w t
     by_pieces digest others n (Some p) a b c d f e =
-        let same : record { name = name; digest = digest; others = others; quota = record { entries = n; pieces = p } } ≡ t = cc in
-        subst (AreParts name w) same (record { spelled = a; name_is = refl; digest = b; others = c; entries = d; pieces = f })
+        let same : record { name = name; digest = digest; others = others; quota = record { entries = n; pieces = p }; frozen = None } ≡ t = cc in
+        subst (AreParts name w) same (record { spelled = a; name_is = refl; digest = b; others = c; entries = d; pieces = f; thawed = refl })
     by_pieces digest others n None a b c d f e = cc
 
     by_entries : (digest : List ℕ) (others : Others) (o : Option ℕ) → is_name name ≡ true → decode_sized w.digest 32 ≡ Ok digest
@@ -149,7 +150,7 @@ tenant-from name w t p =
     ap (λ b. if b then with_digest name (decode_sized w.digest 32) w else Err fault.Name) p.spelled
     ∙ ap (λ r. with_digest name r w) p.digest ∙ ap (λ r. with_others name t.digest r w) p.others
     ∙ ap (λ o. with_entries name t.digest t.others o w.pieces) p.entries ∙ ap (with_pieces name t.digest t.others t.quota.entries) p.pieces
-    ∙ ap (λ m. Ok (record { name = m; digest = t.digest; others = t.others; quota = t.quota })) (sym p.name_is)
+    ∙ ap₂ (λ m f. Ok (record { name = m; digest = t.digest; others = t.others; quota = t.quota; frozen = f })) (sym p.name_is) (sym p.thawed)
 
 -- the values of the keys
 abbrev values_of : List ℕ → ℤ → Option ℤ → OtherTexts → Written
@@ -216,6 +217,7 @@ has-values name n sha256 quota p a b c t e =
       look_is = look.0;
       former_is = former.0;
       former_look_is = former_look.0;
+      thawed = parts.thawed;
       only = v.5 ∙ counted w.pieces p w.others a b c pieces.1 look.1 former.1 former_look.1;
     }
 
@@ -258,6 +260,7 @@ read-from name n sha256 quota p a b c t h =
       others = others-from others t.others (record { look = look.2; former = former.2; former_look = former_look.2 });
       entries = up_to-from 16777216 t.quota.entries h.most;
       pieces = pieces.2;
+      thawed = h.thawed;
     })
 
 -- ---- all tenants

@@ -17,9 +17,10 @@ use Rattle.judy_model.specs.Grammar.{is_name}
 use Rattle.judy_table.specs.declared.table.TheConstants.{TENANTS_LIMIT, ROWS_LIMIT}
 use Rattle.judy_table.specs.declared.tenant.Tenant.{Tenant}
 use Rattle.judy_table.specs.Tenants.{is_vacant, vacant, place_of, IsLimited}
-use Rattle.judy_table.specs.Seats.{has_name, row_of, is_fresh, fresh_in, placed, seated, named, are_distinct, AreRows, IsSpelled}
+use Rattle.judy_table.specs.Seats.{has_name, row_of, keeping, seat_of, is_fresh, fresh_in, placed, seated, named, are_distinct, AreRows, IsSpelled}
 use Rattle.judy_table.specs.Unlimited.{most_quota, unlimited_row, unlimited}
 use Rattle.judy_table.proofs.Placing.{one-name, other-name, tenant-name, vacant-other, place-more}
+use Rattle.judy_table.proofs.lemmas.Seats.{keeping-own}
 
 -- ---- one row
 
@@ -32,6 +33,13 @@ unlimited-name t = by (is_vacant t)
 
 pub unlimited-vacant : (t : Tenant) → is_vacant (unlimited_row t) ≡ is_vacant t
 unlimited-vacant t = ap (λ (n : List ℕ). length n == 0) (unlimited-name t)
+
+unlimited-frozen : (t : Tenant) → (unlimited_row t).frozen ≡ t.frozen
+unlimited-frozen t = by (is_vacant t)
+  where
+    by : (b : Bool) → (cond b t (record t { quota = most_quota })).frozen ≡ t.frozen
+    by true = refl
+    by false = refl
 
 limited-row : (t : Tenant) → IsLimited t → IsLimited (unlimited_row t)
 limited-row t h = by (is_vacant t)
@@ -158,14 +166,17 @@ own-rows rows (t ∷ ts) h d =
 placed-own : (rows ts : List Tenant) → AllByRecursion IsAlike ts → AllByRecursion (IsOwn rows) ts → placed rows (unlimited ts) [] ≡ ts
 placed-own rows [] e o = refl
 placed-own rows (t ∷ ts) e o =
-    ap₂ (λ (n : List ℕ) (b : Bool). cond b (vacant ∷ placed rows (unlimited ts) []) (row_of n rows ∷ placed rows (unlimited ts) []))
+    ap₂ (λ (n : List ℕ) (b : Bool).
+    cond b (vacant ∷ placed rows (unlimited ts) []) (keeping (unlimited_row t).frozen (row_of n rows) ∷ placed rows (unlimited ts) []))
     (unlimited-name t) (unlimited-vacant t)
     ∙ by (placed-own rows ts e.1 o.1) (is_vacant t) refl
   where
     by : placed rows (unlimited ts) [] ≡ ts → (b : Bool) → is_vacant t ≡ b
-        → cond b (vacant ∷ placed rows (unlimited ts) []) (row_of t.name rows ∷ placed rows (unlimited ts) []) ≡ t ∷ ts
+        → cond b (vacant ∷ placed rows (unlimited ts) []) (keeping (unlimited_row t).frozen (row_of t.name rows) ∷ placed rows (unlimited ts) []) ≡ t ∷ ts
     by rest true v = ap₂ (λ (x : Tenant) xs. x ∷ xs) (sym (e.0 v)) rest
-    by rest false v = ap₂ (λ (x : Tenant) xs. x ∷ xs) (o.0 v) rest
+    by rest false v =
+        ap₂ (λ (x : Tenant) xs. x ∷ xs)
+        (ap (keeping (unlimited_row t).frozen) (o.0 v) ∙ keeping-own (unlimited_row t).frozen t (sym (unlimited-frozen t))) rest
 
 -- they are as they were
 pub seated-unlimited : (rows : List Tenant) → AreRows rows → seated (unlimited rows) rows ≡ rows

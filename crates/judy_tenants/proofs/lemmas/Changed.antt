@@ -1,34 +1,24 @@
 -- What becomes of the tenants when a table is put in force, in the words of the table.
 --     keeps-or-empties   each tenant keeps its arrays, or has none
---     log-ins-are        a log-in gives the right that the table gives
+--     log-ins-are        a log-in gives the right that the table gives, for a tenant that is frozen as before
+--     log-ins-stay       so it gives the right that the table gives, if the tenant is not frozen
 --     stays-named        a tenant whose name the table has keeps its place, its arrays and their words
 --     gone-named         the place of a tenant whose name it does not have is vacant, and has no arrays
 --     new-has-none       a place that had no tenant has no arrays
 --     vacant-has-none    a place that has no tenant has no arrays
 --     granted-rises      what the quotas allow never falls
-use Rattle.std.proofs.Common.{◌≡◌, ◌⊎◌, inl, inr, ℕ, ◌≤◌, ◌==◌, ◌&&◌, ◌||◌, Bool, true, false, not, List, [], ◌∷◌, length, Option, Some, ap, ◌∙◌, refl, arith, cond}
+use Rattle.std.proofs.Common.{◌≡◌, ◌⊎◌, inl, inr, ℕ, ◌≤◌, ◌==◌, ◌&&◌, ◌||◌, Bool, true, false, not, List, [], ◌∷◌, length, Option, Some, None, ap, ◌∙◌, refl, arith, cond}
 use Rattle.std.specs.Prelude.{option_map, unwrap_or}
 use Rattle.std.specs.List.{slice_get}
-use Rattle.std.specs.Str.{bytes_eq}
 use Rattle.std.proofs.lemmas.Option.{slice_get-map}
-use Rattle.std.proofs.lemmas.Slice.Eq.{bytes_eq-Decides}
 use Rattle.judy_model.specs.Tenant.{no_arrays}
 use Rattle.judy_table.specs.declared.tenant.Tenant.{Tenant}
-use Rattle.judy_table.specs.Tenants.{is_vacant, vacant}
-use Rattle.judy_table.specs.Seats.{has_name, row_of, seated, right_in}
-use Rattle.judy_table.proofs.lemmas.Seats.{same-right, stays-at, left-vacant}
+use Rattle.sha2.specs.Sha256.{sha256}
+use Rattle.judy_table.specs.Tenants.{is_vacant, vacant, right_of}
+use Rattle.judy_table.specs.Seats.{has_name, row_of, keeping, seat_of, row_after, seated, right_in}
+use Rattle.judy_table.proofs.lemmas.Seats.{right-after, same-right, seat-name, stays-at, left-vacant}
 use Rattle.judy_tenants.specs.Held.{Held, states_of, sizes_of, words_for}
 use Rattle.judy_tenants.specs.Changes.{has_tenant, stays_at, HasChanged}
-
--- the row of a name has this name
-row-named : (name : List ℕ) (ts : List Tenant) → has_name name ts ≡ true → (row_of name ts).name ≡ name
-row-named name [] h = cc
-row-named name (t ∷ ts) h = by (row-named name ts) (bytes_eq t.name name) refl h
-  where
-    by : (has_name name ts ≡ true → (row_of name ts).name ≡ name) → (b : Bool) → bytes_eq t.name name ≡ b → (b || has_name name ts) ≡ true
-        → (cond b t (row_of name ts)).name ≡ name
-    by rest true e i = (bytes_eq-Decides t.name name).0 e
-    by rest false e i = rest i
 
 -- whether the tenant of a row has its place
 tenant-at : (ts : List Tenant) (t : ℕ) (r : Tenant) → slice_get ts t ≡ Some r → has_tenant ts t ≡ not (is_vacant r)
@@ -48,21 +38,26 @@ module _ (table : List Tenant) (old new : Held) (rows : new.tenants ≡ seated o
       by true e = inl (changed.stays t e).0
       by false e = inr (changed.gone t e)
 
-  -- a log-in gives the right that the table gives
-  pub log-ins-are : (name token : List ℕ) → right_in name token new.tenants ≡ right_in name token table
-  log-ins-are name token = ap (right_in name token) rows ∙ same-right name token old.tenants table
+  -- a log-in gives the right that the table gives, for a tenant that is frozen as before
+  pub log-ins-are : (name token : List ℕ) → right_in name token new.tenants ≡ right_of (sha256 token) (row_after name old.tenants table)
+  log-ins-are name token = ap (right_in name token) rows ∙ right-after name token old.tenants table
+
+  -- so it gives the right that the table gives, if the tenant is not frozen
+  pub log-ins-stay : (name token : List ℕ) → (row_of name old.tenants).frozen ≡ None → (row_of name table).frozen ≡ None
+      → right_in name token new.tenants ≡ right_in name token table
+  log-ins-stay name token e f = ap (right_in name token) rows ∙ same-right name token old.tenants table e f
 
   module _ (t : ℕ) (r : Tenant) (here : slice_get old.tenants t ≡ Some r) (some : is_vacant r ≡ false) where
-    row : slice_get new.tenants t ≡ Some (row_of r.name table)
+    row : slice_get new.tenants t ≡ Some (seat_of r table)
     row = ap (λ ts. slice_get ts t) rows ∙ stays-at old.tenants table t r here some
 
     -- a tenant whose name the table has keeps its place, its arrays and their words
     pub stays-named : has_name r.name table ≡ true
-        → (slice_get new.tenants t ≡ Some (row_of r.name table)) × (states_of new t ≡ states_of old t) × (sizes_of new t ≡ sizes_of old t)
+        → (slice_get new.tenants t ≡ Some (seat_of r table)) × (states_of new t ≡ states_of old t) × (sizes_of new t ≡ sizes_of old t)
     stays-named named =
         let before : has_tenant old.tenants t ≡ true = tenant-at old.tenants t r here ∙ ap not some in
         let after : has_tenant new.tenants t ≡ true
-        = tenant-at new.tenants t (row_of r.name table) row ∙ ap not (ap (λ n. length n == 0) (row-named r.name table named) ∙ some) in
+        = tenant-at new.tenants t (seat_of r table) row ∙ ap not (ap (λ n. length n == 0) (seat-name r table named) ∙ some) in
         let both : stays_at old.tenants new.tenants t ≡ true = ap (λ b. b && has_tenant new.tenants t) before ∙ after in
         (row, (changed.stays t both).0, (changed.stays t both).1)
 

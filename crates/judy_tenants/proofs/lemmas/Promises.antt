@@ -69,13 +69,14 @@ module _ (old : Held) (event : Event) (r : Reply) (new : Held) (call_of : IsCall
         subst (λ b. MatchBool b (IsShortService old new ⊎ IsUnplaced event old new) (IsQuiet old new)) served call_of.cause,
       )
 
-  -- `FULL` and `ERR READONLY` change no array, and take no words from the machine
-  pub refusals-keep : (r ≡ reply.Full) ⊎ (r ≡ reply.ReadOnly) → ((t : ℕ) → states_of new t ≡ states_of old t) × (new.region ≡ old.region) × (new ≡ old)
+  -- `FULL`, `ERR READONLY` and `ERR FROZEN` change no array, and take no words from the machine
+  pub refusals-keep : (r ≡ reply.Full) ⊎ (r ≡ reply.ReadOnly) ⊎ (r ≡ reply.Frozen) → ((t : ℕ) → states_of new t ≡ states_of old t) × (new.region ≡ old.region) × (new ≡ old)
   refusals-keep h = let same : new ≡ old = by h in (λ t. ap (λ (s : Held). states_of s t) same, ap (λ (s : Held). s.region) same, same)
     where
-      by : (r ≡ reply.Full) ⊎ (r ≡ reply.ReadOnly) → new ≡ old
+      by : (r ≡ reply.Full) ⊎ (r ≡ reply.ReadOnly) ⊎ (r ≡ reply.Frozen) → new ≡ old
       by (inl e) = call_of.keeps.refused (ap is_refusal e)
-      by (inr e) = call_of.keeps.refused (ap is_refusal e)
+      by (inr (inl e)) = call_of.keeps.refused (ap is_refusal e)
+      by (inr (inr e)) = call_of.keeps.refused (ap is_refusal e)
 
   -- nor does a call that asks for the counts
   pub counts-keep : event.call ≡ call.Used → ((t : ℕ) → states_of new t ≡ states_of old t) × (new.region ≡ old.region) × (new ≡ old)

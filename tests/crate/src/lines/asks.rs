@@ -100,6 +100,8 @@ pub enum Want {
     Full,
     /// The right is to look.
     ReadOnly,
+    /// The tenant is frozen.
+    Frozen,
     /// Out of memory.
     Memory,
 }
@@ -117,6 +119,7 @@ pub fn reply_of(want: Want) -> Reply<'static> {
         Want::Used(entries, quota, pieces, most) => Reply::Used(entries, quota, pieces, most),
         Want::Full => Reply::Full,
         Want::ReadOnly => Reply::ReadOnly,
+        Want::Frozen => Reply::Frozen,
         Want::Memory => Reply::Memory,
     }
 }

@@ -29,6 +29,7 @@ fn replies(rt: HostRuntime) -> Result<(), Fail> {
         Reply::Null,
         Reply::Used(7, 8, 9, 10),
         Reply::ReadOnly,
+        Reply::Frozen,
         Reply::Full,
         Reply::Memory,
     ];

@@ -4,7 +4,7 @@ use crate::lines::asks::{Want, reply_of};
 use arrayvec::ArrayVec;
 use judy_protocol::write_reply;
 
-static LINES: [(Want, &[u8]); 13] = [
+static LINES: [(Want, &[u8]); 14] = [
     (Want::Int(true), b"1\n"),
     (Want::Int(false), b"0\n"),
     (Want::Index(0), b"1 0\n"),
@@ -16,6 +16,7 @@ static LINES: [(Want, &[u8]); 13] = [
     (Want::Null, b"NULL\n"),
     (Want::Used(0, 4, 0, 504), b"Q 0 4 0 504\n"),
     (Want::ReadOnly, b"ERR READONLY\n"),
+    (Want::Frozen, b"ERR FROZEN\n"),
     (Want::Full, b"FULL\n"),
     (Want::Memory, b"ERR MEMORY\n"),
 ];

@@ -364,3 +364,13 @@ fn a_right_to_look(rt: HostRuntime) {
     compare_under(&rt, &mut alice, Right::Change, &[(set, Want::Full)]);
     compare_under(&rt, &mut alice, Right::Look, &[(test, Want::Int(false))]);
 }
+
+#[test]
+fn a_frozen_tenant(rt: HostRuntime) {
+    let mut alice = Tenant::new(rt.alloc(), 0);
+    let set = Ask::Set(OneCall::Set(1));
+    let test = Ask::Set(OneCall::Test(1));
+    compare_under(&rt, &mut alice, Right::Frozen, &[(set, Want::Frozen)]);
+    compare_under(&rt, &mut alice, Right::Change, &[(set, Want::Full)]);
+    compare_under(&rt, &mut alice, Right::Frozen, &[(test, Want::Int(false))]);
+}

@@ -161,7 +161,10 @@ fn ask(
     };
     let reply = service.call(alloc, speaker, &call, &mut found);
     write_reply(&reply, text);
-    let refused = matches!(reply, Reply::Full | Reply::ReadOnly | Reply::Memory);
+    let refused = matches!(
+        reply,
+        Reply::Full | Reply::ReadOnly | Reply::Frozen | Reply::Memory
+    );
     Ok(call.changes() && !refused)
 }
 

@@ -2,6 +2,7 @@
 use crate::checks::{holds_at, same, same_at};
 use arrayvec::ArrayVec;
 use judy_model::{Call, OwnedReply, Reply};
+use judy_table::read_digest;
 use judy_tenants::{
     Event, Service, Sha256Hash, Speaker, Table, TableFault, Unchanged, is_callable,
 };
@@ -84,6 +85,17 @@ impl House {
         }
         let second = table(rt, self.alloc, text)?;
         Ok(self.service.change(self.alloc, second).is_ok())
+    }
+
+    /// Freezes a tenant with the digest of these digits. False if nobody has the name.
+    pub(crate) fn freeze(&mut self, name: &str, digits: &str) -> Result<bool, Fail> {
+        let digest = read_digest(digits.as_bytes()).ok_or("64 digits")?;
+        Ok(self.service.freeze(name.as_bytes(), &digest))
+    }
+
+    /// Thaws a tenant. False if nobody has the name.
+    pub(crate) fn thaw(&mut self, name: &str) -> bool {
+        self.service.thaw(name.as_bytes())
     }
 
     /// How many entries a tenant has.
