@@ -173,6 +173,8 @@ class Restores(RestoreTest):
         self.assertEqual(self.restore(tenant="a/b")[:2], (1, ""))
         status, _, wrong = run_judy(b"", "restore", "--control", self.path("none"), "alice", self.dump, path=self.own.path)
         self.assertEqual((status, "no server has made that socket" in wrong, "frozen" in wrong), (4, True, False), wrong)
+        status, _, wrong = run_judy(b"", "restore", "--control", "/nowhere/control", "alice", self.dump, path=self.own.path)
+        self.assertEqual((status, "no server has made that socket" in wrong), (4, True), wrong)
         status, _, wrong = run_judy(b"", *self.words(), path=self.path("none"))
         self.assertEqual((status, self.path("none") in wrong, "begin again" in wrong), (4, True, False), wrong)
         self.assertEqual((self.entries(), self.may_write()), (before, True))
@@ -210,6 +212,12 @@ class Restores(RestoreTest):
         judy = start_judy(*self.words(large), path=self.own.path)
         self.told_until(judy.stdout.fileno(), b"entries freed\n")
         return judy
+
+    def test_two_at_once(self):
+        judy = self.begun()
+        self.assertEqual(self.restore(), (1, "", "judy: another judy restore runs at %s\n" % self.own.control))
+        said, wrong = judy.communicate(timeout=60)
+        self.assertEqual((judy.returncode, said.endswith(b"alike\n"), wrong), (0, True, b""))
 
     def test_signals(self):
         for number, wanted in ((signal.SIGINT, 130), (signal.SIGTERM, 143), (signal.SIGHUP, 129)):

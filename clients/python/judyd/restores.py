@@ -5,6 +5,7 @@ clients that may change an array are refused with `ERR FROZEN`; those that only 
 end the tenant is thawed, whatever came between.
 """
 
+import fcntl
 import hashlib
 import os
 import secrets
@@ -19,7 +20,7 @@ from .backups import Server
 from .client import Client
 from .copies import ArrayName, all_arrays, check, open_input, read_name
 from .dumpfile import Reader, is_regular, verify
-from .errors import Closed, ConnectionLost, Error, JudyError, NotAuthorized, TooManyClients, checked
+from .errors import Closed, ConnectionLost, Error, JudyError, NoServer, NotAuthorized, TooManyClients, checked
 from .fields import count_of, used_of
 from .session import complain, reason
 from .transfer import load_blocks
@@ -55,6 +56,23 @@ class Dump:
         """The lines of its entries, in blocks, each with the number of its first line."""
         os.lseek(self._file, 0, os.SEEK_SET)
         return Reader(self._file, self._name).blocks()
+
+
+@contextmanager
+def alone(control: Control) -> Iterator[None]:
+    """No other restore runs at this server meanwhile: it would freeze the tenant for a token of its own."""
+    try:
+        folder = os.open(os.path.dirname(os.path.abspath(control.path)), os.O_RDONLY | os.O_DIRECTORY)
+    except FileNotFoundError:
+        raise NoServer("no server has made that socket (judyd serve --control %s)" % control.path) from None
+    try:
+        try:
+            fcntl.flock(folder, fcntl.LOCK_EX | fcntl.LOCK_NB)
+        except BlockingIOError:
+            raise Error("another judy restore runs at %s" % control.path) from None
+        yield
+    finally:
+        os.close(folder)
 
 
 @contextmanager
@@ -156,7 +174,7 @@ def restore(server: Server, control: Control, tenant: str, paths: List[str], is_
     going = Restore(server, tenant, token, dumps)
     status = 1
     try:
-        with frozen(control, tenant, token):
+        with alone(control), frozen(control, tenant, token):
             status = going.run(is_all)
     except Closed as e:
         if not going.is_connected:
