@@ -23,34 +23,37 @@ BAR, LINE = "#4c78a8", "#333333"
 
 
 def cpu_ratios(loads, peer, mode):
-    """For each load the peer's CPU time of a line over judyd's: above 1 judyd is faster."""
+    """For each load the peer's CPU time of a line and judyd's, in nanoseconds, and the first over the second:
+    above 1 judyd is faster."""
     times = {(it["load"], it["subject"]): it["cpu"] / it["lines"] for it in loads if it["mode"] == mode}
     names = list(dict.fromkeys(it["load"] for it in loads))
-    return [(name, times[name, peer] / times[name, "judyd"]) for name in names if (name, peer) in times and (name, "judyd") in times]
+    both = [(name, times[name, peer], times[name, "judyd"]) for name in names if (name, peer) in times and (name, "judyd") in times]
+    return [(name, peers / ours, "%s / %s ns" % tuple("{:,.0f}".format(1e9 * time) for time in (peers, ours))) for name, peers, ours in both]
 
 
 def rate_ratios(clients):
-    """For each number of clients and of calls in flight judyd's calls a second over redis's."""
+    """For each number of clients and of calls in flight judyd's calls a second and redis's, and the first over
+    the second."""
     rates = {(it["clients"], it["inflight"], it["subject"]): it["rate"] for it in clients}
     shapes = list(dict.fromkeys((it["clients"], it["inflight"]) for it in clients))
+    both = [(shape, rates[(*shape, "judyd")], rates[(*shape, "redis")]) for shape in shapes if (*shape, "redis") in rates]
     return [
-        ("%d client%s, %d in flight" % (shape[0], "s"[: shape[0] > 1], shape[1]), rates[(*shape, "judyd")] / rates[(*shape, "redis")])
-        for shape in shapes
-        if (*shape, "redis") in rates
+        ("%d client%s, %d in flight" % (shape[0], "s"[: shape[0] > 1], shape[1]), ours / redis, "{:,.0f} / {:,.0f}".format(ours, redis))
+        for shape, ours, redis in both
     ]  # fmt: skip
 
 
 def panel(axes, title, ratios):
-    """Bars of the ratios, the first on top, each with its number; a line stands at 1."""
+    """Bars of the ratios, the first on top, each with its number and the two measured ones; a line stands at 1."""
     places = range(len(ratios))
-    values = [ratio for _, ratio in ratios]
+    values = [ratio for _, ratio, _ in ratios]
     axes.barh(places, values, height=0.55, color=BAR)
     axes.axvline(1.0, color=LINE, linewidth=1)
-    for place, value in zip(places, values):
-        axes.text(value, place, " %.2f" % value, va="center", color=LINE, bbox={"facecolor": "white", "edgecolor": "none", "pad": 0.6})
-    axes.set_yticks(list(places), [name for name, _ in ratios])
+    for place, (_, value, measured) in zip(places, ratios):
+        axes.text(value, place, " %.2f = %s" % (value, measured), va="center", color=LINE, bbox={"facecolor": "white", "edgecolor": "none", "pad": 0.6})
+    axes.set_yticks(list(places), [name for name, _, _ in ratios])
     axes.invert_yaxis()
-    axes.set_xlim(0, 1.15 * max([1.0, *values]))
+    axes.set_xlim(0, 1.6 * max([1.0, *values]))
     axes.set_title(title, loc="left", fontsize=10)
     axes.spines[["top", "right"]].set_visible(False)
 

@@ -1,6 +1,7 @@
 #!/usr/bin/env python3
 """Draws the pictures of the pages into a folder, by default docs: architecture.svg, the crates of crates.txt in their
-layers; line.svg, the way of a line; memory.svg, the bytes for each entry, from the table of bench/README.md.
+layers; line.svg, the way of a line; memory.svg, the bytes for each entry, from the table of bench/README.md; restart.svg,
+what a start with a journal does, with the times of docs/SPEED.md.
 
 usage: docs/pictures.py [FOLDER]
 
@@ -45,6 +46,17 @@ WAY = [
     ("judy_journal, judy_disk", "with --journal: the round's records, then one sync", SAND),
     ("judy_many", "the replies of a connection are written at once", PALE),
     ("client", "reads its reply", SAND),
+]
+
+# What a start with a journal does, in its order: with what, and what becomes of it. It waits for no client before the sockets.
+START = [
+    ("the table", "is read, and the memory of --reserve is taken", PALE),
+    ("the directory", "is taken: no second server; a compaction is waited for", SAND),
+    ("the snapshot, the segments", "are read, and each record is played, without quotas", SAND),
+    ("the quotas of the table", "are put in force; a tenant that holds more: status 3", GREEN),
+    ("the last segment", "loses a torn end, and is opened; or the next one begins", SAND),
+    ("the sockets", "are made, and the clients that waited connect", PALE),
+    ("the first round", "answers", PALE),
 ]
 
 
@@ -160,12 +172,41 @@ def memory():
     return picture(760, 390, "Bytes for each random key in judyd and libjudy, against the number of keys", parts)
 
 
+def start_times():
+    """The published seconds from a start to the first answer: the heads of the columns, and the rows."""
+    head, rows = re.search(r"(?m)^\| from a start to the first answer, s \| (.*) \|\n\|[-|]+\n((?:\|.*\n)+)", read("docs/SPEED.md")).groups()
+    table = [[cell.strip() for cell in row.strip("|").split("|")] for row in rows.splitlines()]
+    return head.split(" | "), [(name, [float(cell) for cell in cells]) for name, *cells in table]
+
+
+def restart():
+    """The steps of a start, and the seconds that it takes."""
+    parts, row, left = [], 44, 232
+    for at, (what, how, colour) in enumerate(START):
+        y = 12 + at * row
+        parts += [box(12, y, 200, 30, colour), text(112, y + 19, what, 12, anchor="middle"), text(left, y + 19, how, colour=GREY)]
+        if at:
+            parts.append(arrow(112, y - row + 30, y - 1))
+    heads, rows = start_times()
+    top, most = 12 + len(START) * row + 24, max(max(times) for _, times in rows)
+    parts.append(text(12, top, "Seconds from a start to the first answer, measured", 14, GREY))
+    y = top + 12
+    for column, head in enumerate(heads):
+        for name, times in rows:
+            width = 400 * times[column] / most
+            parts += [box(left, y, width, 16, ORANGE if name == "judyd" else SAND), text(left + width + 8, y + 13, "%s: %.2f" % (name, times[column]), 12, GREY)]
+            y += 20
+        parts.append(text(left - 10, y - 20 * len(rows) / 2 + 4, head, 12, GREY, "end"))
+        y += 10
+    return picture(800, y + 4, "What a start with a journal does, and how long it takes", parts)
+
+
 def main():
     """Draws all."""
     if len(sys.argv) > 2 or any(word.startswith("-") for word in sys.argv[1:]):
         sys.exit(__doc__)
     folder = sys.argv[1] if len(sys.argv) == 2 else os.path.join(TOP, "docs")
-    for name, draw in (("architecture.svg", architecture), ("line.svg", way), ("memory.svg", memory)):
+    for name, draw in (("architecture.svg", architecture), ("line.svg", way), ("memory.svg", memory), ("restart.svg", restart)):
         with open(os.path.join(folder, name), "w", encoding="utf-8") as file:
             file.write(draw())
 

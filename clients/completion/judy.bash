@@ -1,7 +1,7 @@
 # Completion of the command line judy in bash. ./install puts it where bash-completion finds it; otherwise
 # source it.
 
-_judy_commands="add status top stop reload kick wait dump load check backup compact move table digest help"
+_judy_commands="add status top stop reload kick thaw wait dump load check backup restore compact move table digest help"
 _judy_calls="AUTH HELLO J1BC J1C J1F J1FA J1FE J1L J1LE J1N J1NE J1P J1PE J1S J1T J1U JHSA JHSD JHSFA JHSG JHSI \
 JLA JLBC JLC JLD JLF JLFA JLFE JLG JLI JLL JLLE JLN JLNE JLP JLPE JSLA JSLD JSLF JSLFA JSLG JSLI \
 JSLL JSLN JSLP PING QUIT USED"
@@ -28,11 +28,12 @@ _judy_words() {
         add) echo "JL: JSL: JHS: $_judy_options --help" ;;
         status | wait) echo "$_judy_options --help" ;;
         top) echo "--once --timeout --help" ;;
-        stop | reload | kick) echo "--timeout --help" ;;
+        stop | reload | kick | thaw) echo "--timeout --help" ;;
         dump) echo "J1: JL: JSL: JHS: -o --output --all --empty $_judy_options --help" ;;
         load) echo "--unchecked $_judy_options --help" ;;
         check) echo "--unchecked --whole $_judy_options --help" ;;
         backup) echo "--folder $_judy_options --help" ;;
+        restore) echo "--control --all $_judy_options --help" ;;
         compact) echo "--when --help" ;;
         move) echo "J1: JL: JSL: JHS: --to --new-token-file --free --part --all $_judy_options --help" ;;
         table) echo "add set drop-old remove --quota --pieces --token --look --keep-old --help" ;;
@@ -44,7 +45,7 @@ _judy() {
     local current=${COMP_WORDS[COMP_CWORD]} before=${COMP_WORDS[COMP_CWORD - 1]} command words
     COMPREPLY=()
     case $before in
-        -s | --socket | --ca | --token-file | --to | --new-token-file | --folder | -o | --output)
+        -s | --socket | --ca | --control | --token-file | --to | --new-token-file | --folder | -o | --output)
             mapfile -t COMPREPLY < <(compgen -f -- "$current")
             return
             ;;
@@ -57,11 +58,11 @@ _judy() {
     # A path comes next, and no word, if this is no option.
     case $command:$before:$current in
         *:*:-*) ;;
-        table:table:* | status:* | top:* | stop:* | reload:* | kick:* | load:* | check:* | backup:* | compact:*) words= ;;
+        table:table:* | status:* | top:* | stop:* | reload:* | kick:* | thaw:* | load:* | check:* | backup:* | restore:* | compact:*) words= ;;
     esac
     mapfile -t COMPREPLY < <(compgen -W "$words" -- "$current")
     case $command in
-        '' | status | top | stop | reload | kick | load | check | backup | compact | table)
+        '' | status | top | stop | reload | kick | thaw | load | check | backup | restore | compact | table)
             [ ${#COMPREPLY[@]} -gt 0 ] || mapfile -t COMPREPLY < <(compgen -f -- "$current")
             ;;
     esac

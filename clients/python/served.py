@@ -16,7 +16,7 @@ import time
 import traceback
 import unittest
 from contextlib import contextmanager, suppress
-from typing import Callable, Iterator, Optional
+from typing import Callable, Iterator, Optional, Sequence
 
 HERE = os.path.dirname(os.path.abspath(__file__))
 sys.path.insert(0, HERE)
@@ -40,9 +40,10 @@ def table() -> str:
 
 class Served:
     """A server with a folder of its own. Its table is the one above, or the given text. It serves so
-    many clients at once; with None as many as the program does by itself."""
+    many clients at once; with None as many as the program does by itself. With `control` it has a control
+    socket on this path too; `more` are further words."""
 
-    def __init__(self, text: Optional[str] = None, clients: Optional[int] = None) -> None:
+    def __init__(self, text: Optional[str] = None, clients: Optional[int] = None, control: bool = False, more: Sequence[str] = ()) -> None:
         self.folder = tempfile.TemporaryDirectory(prefix="judyd-client-")
         self.path = os.path.join(self.folder.name, "socket")
         self.config = os.path.join(self.folder.name, "tenants.toml")
@@ -50,20 +51,24 @@ class Served:
             file.write(text or table())
         self._words = [PROGRAM, "serve", "--config", self.config, "--socket", self.path]
         self._words += [] if clients is None else ["--clients", str(clients)]
+        self.control = os.path.join(self.folder.name, "control") if control else None
+        self._words += [*(["--control", self.control] if self.control else []), *more]
         self.process: "subprocess.Popen[bytes]"
         self.start()
 
     def start(self) -> None:
         """Starts the server, and waits until it serves. The program may have to be built first."""
-        if os.path.exists(self.path):
-            os.remove(self.path)
+        for path in filter(None, (self.path, self.control)):
+            if os.path.exists(path):
+                os.remove(path)
         self._said = tempfile.TemporaryFile()
         self.process = subprocess.Popen(self._words, stderr=self._said)
         until = time.monotonic() + 1800
         while True:
             try:
                 Client(self.path).close()
-                return
+                if self.control is None or os.path.exists(self.control):
+                    return
             except Closed:
                 if self.process.poll() is not None or time.monotonic() > until:
                     raise

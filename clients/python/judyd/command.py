@@ -8,7 +8,7 @@ import sys
 from difflib import get_close_matches
 from typing import Dict, List, Optional
 
-from . import backups, compactions, metrics, moves, screen, service, tablefaults, tables, transfer
+from . import backups, compactions, metrics, moves, restores, screen, service, tablefaults, tables, transfer
 from .client import Client
 from .copies import all_arrays, check, open_input, read_name
 from .dumpfile import Reader, is_regular, verify
@@ -109,6 +109,11 @@ def run_backup(options: argparse.Namespace) -> int:
     """judy backup"""
     signal.signal(signal.SIGTERM, lambda *_: sys.exit(143))  # so that no file is left beside
     gc.disable()
+    return backups.backup(server_of(options), options.list, options.folder)
+
+
+def server_of(options: argparse.Namespace) -> backups.Server:
+    """The server of the options, for log-ins of any tenant."""
     address, tls = address_of(options)
 
     def wire(tenant: str, token: str) -> Wire:
@@ -117,7 +122,16 @@ def run_backup(options: argparse.Namespace) -> int:
     def client(tenant: str, token: str) -> Client:
         return client_of(address, options.timeout or None, tls, tenant, token)
 
-    return backups.backup(backups.Server(wire, client), options.list, options.folder)
+    return backups.Server(wire, client)
+
+
+def run_restore(options: argparse.Namespace) -> int:
+    """judy restore"""
+    for number in (signal.SIGTERM, signal.SIGHUP):
+        signal.signal(number, lambda number, _: sys.exit(128 + number))  # so that the tenant is thawed
+    gc.disable()
+    control = restores.Control(options.control, options.timeout or None)
+    return restores.restore(server_of(options), control, options.tenant, options.dumps, options.all)
 
 
 def run_compact(options: argparse.Namespace) -> int:
@@ -170,6 +184,12 @@ def run_reload(options: argparse.Namespace) -> int:
 def run_kick(options: argparse.Namespace) -> int:
     """judy kick"""
     print(metrics.kick(options.path, options.tenant, options.timeout or None))
+    return 0
+
+
+def run_thaw(options: argparse.Namespace) -> int:
+    """judy thaw"""
+    metrics.thaw(options.path, options.tenant, options.timeout or None)
     return 0
 
 
@@ -271,11 +291,13 @@ SUBCOMMANDS = {
     "stop": run_stop,
     "reload": run_reload,
     "kick": run_kick,
+    "thaw": run_thaw,
     "wait": run_wait,
     "dump": run_dump,
     "load": run_load,
     "check": run_check,
     "backup": run_backup,
+    "restore": run_restore,
     "compact": run_compact,
     "move": run_move,
     "table": run_table,

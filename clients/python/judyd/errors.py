@@ -5,7 +5,7 @@ from typing import Dict, List, Sequence, Type
 
 __all__ = [
     "JudyError", "Error", "Closed", "NoServer", "ConnectionLost", "TimedOut", "Restarted",
-    "PoolEmpty", "Refused", "Full", "NoMemory", "ReadOnly", "NotAuthorized", "TooManyClients", "Syntax", "Long", "KeyTooLong",
+    "PoolEmpty", "Refused", "Full", "NoMemory", "ReadOnly", "Frozen", "NotAuthorized", "TooManyClients", "Syntax", "Long", "KeyTooLong",
 ]  # fmt: skip
 
 
@@ -85,6 +85,13 @@ class ReadOnly(Refused):
     meaning = "the read-only token may look and not change"
 
 
+class Frozen(Refused):
+    """The call may change an array, and the tenant is frozen: its arrays are being restored. Try again
+    later."""
+
+    meaning = "the tenant is frozen while its arrays are restored; try again later"
+
+
 class NotAuthorized(Refused):
     """The tenant of a log-in is unknown or its token is wrong, or nobody has logged in. The server
     gives an unknown tenant and a wrong token the same reply."""
@@ -119,28 +126,36 @@ REFUSALS: Dict[bytes, Type[Refused]] = {
     b"FULL": Full,
     b"ERR MEMORY": NoMemory,
     b"ERR READONLY": ReadOnly,
+    b"ERR FROZEN": Frozen,
     b"ERR AUTH": NotAuthorized,
     b"ERR CLIENTS": TooManyClients,
     b"ERR SYNTAX": Syntax,
     b"ERR LONG": Long,
 }
-"""The replies that are refusals."""
+"""The refusals that this client knows."""
+
+
+def is_refusal(reply: bytes) -> bool:
+    """Whether a reply is a refusal, also one of a later server."""
+    return reply == b"FULL" or reply[:4] == b"ERR "
 
 
 def refusal_of(reply: bytes) -> Refused:
-    """The exception for a reply of REFUSALS."""
-    return REFUSALS[reply](reply.decode())
+    """The exception for a refusal. One that this client does not know is a `Refused`."""
+    return REFUSALS.get(reply, Refused)(reply.decode("ascii", "replace"))
 
 
 def all_checked(replies: List[bytes]) -> List[bytes]:
     """The replies. The first refusal among them raises its exception."""
-    if not REFUSALS.keys().isdisjoint(replies):
-        raise refusal_of(next(reply for reply in replies if reply in REFUSALS))
+    joined = b"\n".join(replies)
+    if b"ERR " in joined or b"FULL" in joined:
+        for reply in filter(is_refusal, replies):
+            raise refusal_of(reply)
     return replies
 
 
 def checked(reply: bytes) -> bytes:
     """The reply. A refusal raises its exception."""
-    if reply in REFUSALS:
+    if is_refusal(reply):
         raise refusal_of(reply)
     return reply

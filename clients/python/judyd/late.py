@@ -4,7 +4,7 @@ from typing import Any, Callable, Generic, Iterable, List, Mapping, Optional, Tu
 
 from .bound import Bound
 from .calls import Judy1Calls, JudyHSCalls, JudyLCalls, JudySLCalls, MapCalls, given
-from .errors import REFUSALS, Closed, JudyError, checked
+from .errors import Closed, JudyError, checked, is_refusal
 from .fields import Used, used_of
 
 T = TypeVar("T")
@@ -140,7 +140,7 @@ class LateArrays(Bound):
     def _take(self, late: List[Later[Any]], replies: List[bytes]) -> None:
         for later, reply in zip(late, replies):
             later._reply = reply
-            if self._refusal is None and reply in REFUSALS:
+            if self._refusal is None and is_refusal(reply):
                 self._refusal = reply
 
     def _ask(self, line: bytes, read: Callable[[bytes], T], is_quiet: bool = False) -> Later[T]:

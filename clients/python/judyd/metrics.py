@@ -165,17 +165,41 @@ def reload(path: str, seconds: Optional[float]) -> None:
         raise _other(path, got)
 
 
-def kick(path: str, tenant: str, seconds: Optional[float]) -> int:
-    """Tells a server at its control socket to close the connections of a tenant. Returns how many it closed."""
+def _said_of(path: str, tenant: str, line: str, seconds: Optional[float]) -> bytes:
+    """The line that the control socket answers to a command about a tenant, which the server has."""
     if not _NAME.match(tenant):
         raise Error("no tenant has such a name: %s" % tenant)
-    got = _said(path, "KICK %s" % tenant, seconds)
+    got = _said(path, line % tenant, seconds)
     if got == b"ERR TENANT\n":
         raise Error("the server has no tenant %s" % tenant)
+    return got
+
+
+def kick(path: str, tenant: str, seconds: Optional[float]) -> int:
+    """Tells a server at its control socket to close the connections of a tenant. Returns how many it closed."""
+    got = _said_of(path, tenant, "KICK %s", seconds)
     found = _KICKED.match(got)
     if not found:
         raise _other(path, got)
     return int(found[1])
+
+
+def freeze(path: str, tenant: str, digest: str, seconds: Optional[float]) -> None:
+    """Tells a server at its control socket that only one token may change a tenant: that of this SHA-256,
+    64 hexadecimal digits."""
+    _check_frozen(path, _said_of(path, tenant, "FREEZE %%s %s" % digest, seconds))
+
+
+def thaw(path: str, tenant: str, seconds: Optional[float]) -> None:
+    """Tells a server at its control socket that a tenant is not frozen any more."""
+    _check_frozen(path, _said_of(path, tenant, "THAW %s", seconds))
+
+
+def _check_frozen(path: str, got: bytes) -> None:
+    if got == b"ERR\n":
+        raise Error("%s answers ERR: its server cannot freeze a tenant, or it is not the socket of --control" % path)
+    if got != b"OK\n":
+        raise _other(path, got)
 
 
 def _identity(path: str) -> Optional[Tuple[int, int, int]]:

@@ -24,11 +24,14 @@ and goes on. If the connection is lost it says how many lines were answered, and
   judy stop PATH                             ends that server, and waits until it has ended
   judy reload PATH                           tells it to read its table again: status 1 if it does not
   judy kick PATH TENANT                      tells it to close the connections of a tenant
+  judy thaw PATH TENANT                      lets a tenant write that a restore has left frozen
   judy wait [--timeout S]                    waits until a server answers: status 1 if none does
   judy dump [-o FILE] J1:ids JHS:keys=FILE .. arrays as lines, to a file or to standard output
   judy load [FILE]                           loads a dump, if it is whole
   judy check [FILE]                          compares a dump with the arrays: status 1 if they differ
   judy backup --folder DIR LIST              a dump of each tenant of a list, and the one before it
+  judy restore --control PATH TENANT DUMP .. frees a tenant's arrays, and loads them from dumps,
+                                             while its writers are kept out
   judy compact [--when GROWTH] DIR           makes a journal smaller, if it has grown by 100% or 1G
   judy move --to WHERE [--free] J1:ids ..    copies arrays to another server, and compares the two
   judy table FILE                            the faults of a table of tenants, with their lines: status 3 if it has any
@@ -59,11 +62,13 @@ ABOUT: Dict[str, About] = {
     "stop": About("Ends a server in order, and waits until its sockets are gone.", "judy stop /run/judyd-operator/control", "0 once it has ended, 1 if it was not seen to end, " + _CONTROLLED),
     "reload": About("Tells a server to read its table of tenants again.", "judy reload /run/judyd-operator/control", "0 if the new table is in force, 1 if nothing changed, " + _CONTROLLED),
     "kick": About("Tells a server to close the connections of a tenant, and prints how many were closed.", "judy kick /run/judyd-operator/control alice", "0 if they are closed, 1 if it has no such tenant, " + _CONTROLLED),
+    "thaw": About("Lets a tenant write again, which a restore that was killed has left frozen.", "judy thaw /run/judyd-operator/control alice", "0 if it is not frozen now, 1 if the server has no such tenant, " + _CONTROLLED),
     "wait": About("Waits until a server answers.", "judy -s judyd.sock wait --timeout 20", "0 once one answers, 1 if none did in time"),
     "dump": About("Writes arrays as lines, to a file or to standard output.", "judy -u alice dump -o alice.dump J1:ids JL:hits", "0 if the dump is whole, 1 if an array has no entries, a call was refused or it was cut short, 4 if no connection was made"),
     "load": About("Inserts the entries of a dump, if it is whole.", "judy -u alice load alice.dump", "0 if all are loaded, 1 if the dump is not whole, a call was refused or it was cut short, 4 if no connection was made"),
     "check": About("Compares a dump with the arrays of a server.", "judy -u alice check alice.dump", "0 if they are alike, 1 if they differ or the dump is not whole, 4 if no connection was made"),
     "backup": About("Writes a dump of each tenant of a list, and keeps the one before it.", "judy backup --folder /var/lib/judyd /etc/judyd/backups", "0 if each tenant was dumped, 1 if one was not, 4 if no connection was made"),
+    "restore": About("Frees a tenant's arrays, loads them from dumps and compares, while its writers are kept out.", "judy restore --control /run/judyd-operator/control alice /var/lib/judyd/alice.dump", "0 if the arrays are as in the dumps, 1 if they are not or nothing was done, 4 if no server listens at one of the two sockets"),
     "compact": About("Makes the files of a journal smaller, once it has grown by so much since the last time.", "judy compact --when 100% /var/lib/judyd/journal", "0 if it was compacted or has not grown so much, 1 if it was not compacted"),
     "move": About("Copies arrays to another server, and compares the two.", "judy -s old.sock -u alice move --to new.sock --free J1:ids", "0 if both are alike, 1 if they are not or a call was refused, 4 if a connection failed"),
     "table": About("Tells the faults of a table of tenants, or changes it if judyd takes the new one.", "judy table /etc/judyd/tenants.toml add joe --quota 1000", "0; 1 if the table was not changed or not read, 3 if it has a fault"),
@@ -115,19 +120,21 @@ def subcommand(name: str) -> argparse.ArgumentParser:
     about = ABOUT[name]
     epilog = "example:\n  %s\n\nexit status: %s, 2 if the command line is wrong." % (about.example, about.statuses)
     sub = argparse.ArgumentParser(prog="judy %s" % name, description=about.sentence, epilog=epilog, formatter_class=argparse.RawDescriptionHelpFormatter)
-    if name in ("add", "status", "wait", "dump", "load", "check", "backup", "move"):
+    if name in ("add", "status", "wait", "dump", "load", "check", "backup", "restore", "move"):
         add_options(sub, is_first=False)
-    if name in ("top", "stop", "reload", "kick"):
+    if name in ("top", "stop", "reload", "kick", "thaw"):
         add_timeout(sub, argparse.SUPPRESS)
     if name == "status":
         sub.add_argument("path", nargs="?", metavar="PATH", help="print what the socket of judyd serve --status tells")
     elif name == "top":
         sub.add_argument("--once", action="store_true", help="print one table")
         sub.add_argument("path", metavar="PATH", help="the socket of judyd serve --status")
-    elif name in ("stop", "reload", "kick"):
+    elif name in ("stop", "reload", "kick", "thaw"):
         sub.add_argument("path", metavar="PATH", help="the socket of judyd serve --control")
         if name == "kick":
             sub.add_argument("tenant", metavar="TENANT", help="whose connections are closed")
+        elif name == "thaw":
+            sub.add_argument("tenant", metavar="TENANT", help="who may write again")
     elif name == "add":
         sub.add_argument("array", metavar="ARRAY", help="JL:NAME, JSL:NAME or JHS:NAME")
         sub.add_argument("key", metavar="KEY", help="a number for JL, a text for JSL and JHS")
@@ -145,6 +152,11 @@ def subcommand(name: str) -> argparse.ArgumentParser:
     elif name == "backup":
         sub.add_argument("--folder", required=True, metavar="DIR", help="where the dumps are")
         sub.add_argument("list", metavar="LIST", help="a file with a row for each tenant: TENANT TOKEN ARRAY.. or --all")
+    elif name == "restore":
+        sub.add_argument("--control", required=True, metavar="PATH", help="the socket of judyd serve --control")
+        sub.add_argument("--all", action="store_true", help="free the other arrays of the tenant's catalogue too")
+        sub.add_argument("tenant", metavar="TENANT", help="whose arrays; it needs no token")
+        sub.add_argument("dumps", nargs="+", metavar="DUMP", help="a file of judy dump or judy backup")
     elif name == "compact":
         sub.add_argument("--when", type=grown, metavar="GROWTH", help="do nothing below this growth: 100%% of the snapshot, or 1G")
         sub.add_argument("folder", metavar="DIR", help="the directory of the journal")

@@ -11,7 +11,7 @@ from bisect import bisect_left
 from itertools import accumulate, chain, islice
 from typing import Iterable, Iterator, List, Tuple
 
-from .errors import REFUSALS, Error, refusal_of
+from .errors import Error, all_checked, checked
 from .fields import KEY_LIMIT, count_of
 from .strings import middle
 from .wire import Wire
@@ -59,9 +59,8 @@ def _columns(replies: bytes, width: int) -> List[List[bytes]]:
         return [fields[at::width] for at in range(width)]
     rows = [line.split() for line in replies.splitlines()]
     for line, row in zip(replies.splitlines(), rows):
-        if line in REFUSALS:
-            raise refusal_of(line)
         if row not in ([b"0"], [b"NULL"]) and (len(row) != width or row[0] != letter):
+            checked(line)
             raise Error("no such reply: %r" % line)
     return [[row[at] if len(row) == width else b"" for row in rows] for at in range(width)]
 
@@ -263,5 +262,5 @@ def present(wire: Wire, name: str, keys: Iterable[bytes]) -> Iterator[Block]:
         replies = _asked(wire, b"JHSG %b " % name.encode(), some).splitlines()
         entries = [key + reply[1:] for key, reply in zip(some, replies) if reply[:2] == b"V "]
         if len(entries) + replies.count(b"NULL") != len(some):
-            raise refusal_of(next(reply for reply in replies if reply in REFUSALS))
+            raise Error("no such reply: %r" % next(reply for reply in all_checked(replies) if reply[:2] != b"V " and reply != b"NULL"))
         yield _joined(b"JHSI %b " % name.encode(), entries)

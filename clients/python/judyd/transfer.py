@@ -2,7 +2,7 @@
 
 import sys
 from itertools import groupby
-from typing import Iterator, List, Optional, Tuple
+from typing import Iterable, Iterator, List, Optional, Tuple
 
 from .catalogue import ARRAYS, KEYS, read
 from .copies import SHOWN, ArrayName, Progress, keys_in
@@ -119,9 +119,15 @@ class Load:
 def load(wire: Wire, file: int, name: str, is_checked: bool) -> int:
     """Loads a dump, and returns the status. A regular file is first read to its end."""
     count = verify(file, name).count if is_checked and is_regular(file) else None
+    return load_blocks(wire, Reader(file, name).blocks() if is_checked else unchecked(file, name), count)
+
+
+def load_blocks(wire: Wire, blocks: Iterable[Tuple[int, bytes]], count: Optional[int]) -> int:
+    """Loads the lines of blocks, each with the number of its first line, and returns the status. `count` is
+    how many entries there are, if that is known."""
     going = Load(wire, count)
     try:
-        for number, lines in Reader(file, name).blocks() if is_checked else unchecked(file, name):
+        for number, lines in blocks:
             if not going.send(number, lines):
                 complain("refused: %s; what follows was not sent" % going.told())
                 return 1

@@ -6,7 +6,7 @@ import socket
 import ssl
 from typing import List, Optional, Tuple, Union
 
-from .errors import REFUSALS, Closed, refusal_of
+from .errors import Closed, checked
 
 Address = Union[str, Tuple[str, int]]
 _BUSY = (BlockingIOError, InterruptedError, ssl.SSLWantReadError, ssl.SSLWantWriteError)
@@ -33,9 +33,7 @@ class Wire:
 
     def log_in(self, line: bytes) -> None:
         """Sends an AUTH line."""
-        reply = self.ask(line + b"\n", 1)[:-1]
-        if reply in REFUSALS:
-            raise refusal_of(reply)
+        checked(self.ask(line + b"\n", 1)[:-1])
 
     def ask(self, lines: bytes, count: int) -> bytes:
         """Sends this many lines, and returns the bytes of as many replies. It reads while it writes."""

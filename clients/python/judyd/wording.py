@@ -157,6 +157,7 @@ def advice(request: str, reply: str) -> str:
         "ERR AUTH": "nobody is logged in: judy -u TENANT, or a line AUTH first",
         "ERR CLIENTS": "the tenant has as many connections as it may have: end one of them",
         "ERR READONLY": "the log-in is read-only",
+        "ERR FROZEN": "the tenant is frozen while its arrays are restored: try again later",
         "FULL": "the quota has no room: USED shows it",
         "ERR MEMORY": "the server is out of memory for a new entry",
     }

@@ -6,8 +6,10 @@ pub mod Calls
 pub mod Commands
 pub mod Counts
 pub mod Crashes
+pub mod Freezing
 pub mod Halves
 pub mod Keeping
+pub mod Orders
 pub mod Recorded
 pub mod Space
 pub mod Starting

@@ -3,6 +3,7 @@ pub mod Crashes
 pub mod Jobs
 pub mod Limits
 pub mod Metrics
+pub mod Orders
 pub mod Present
 pub mod Reloads
 pub mod Replays

@@ -1,20 +1,24 @@
--- A table that is put in force while the service goes on.
+-- A table that is put in force, or an order that is carried out, while the service goes on.
 --     forgotten place rows counts    the counts of places without those that have no tenant
 --     without_gone rows tally        so are all counts by tenant
---     IsReload old text new          the table of this text was put in force
---     rows_with rows text            the rows in force after the table of this text
---     rows_after rows texts          those after the tables of these texts, one after another
+--     IsSeated old text new          the table of this text was put in force
+--     IsOrdered old order new        the order was carried out
+--     IsReload old text new          either of them, by the text
+--     rows_with rows text            the rows in force after the table or the order of this text
+--     rows_after rows texts          those after these texts, one after another
 --     has_all rows table             the table has the name of each tenant of these rows
 --     TellsAll rows text all         whether the table of this text does
 --     AllStay old new                each tenant keeps its arrays and its name
-use Rattle.std.specs.Prelude.{◌≡◌, ◌⊎◌, ◌||◌, ℕ, Bool, suc, List, [], ◌∷◌, Result, Ok, Err}
+use Rattle.std.specs.Prelude.{◌≡◌, ◌⊎◌, ◌||◌, ℕ, Bool, true, suc, List, [], ◌∷◌, Option, Some, None, Result, Ok, Err}
 use Rattle.std.specs.List.{list_all}
 use Rattle.judy_table.specs.declared.fault.TableFault.{TableFault}
 use Rattle.judy_table.specs.declared.tenant.Tenant.{Tenant}
+use Rattle.judy_table.specs.Freezes.{has_tenant_of, with_freeze}
 use Rattle.judy_table.specs.Seats.{AreRows, has_name, name_at, seated}
 use Rattle.judy_table.specs.Tenants.{is_vacant, read_table}
 use Rattle.judy_tenants.specs.Changes.{HasChanged}
-use Rattle.judy_tenants.specs.Held.{IsSoundService, states_of}
+use Rattle.judy_tenants.specs.Held.{Held, IsSoundService, states_of}
+use Rattle.judy_server.specs.Orders.{Freeze, order_in}
 use Rattle.judy_server.specs.Tally.{Tallied, cleared}
 use Rattle.judy_server.specs.declared.tally.Tally.{Tally}
 
@@ -32,9 +36,31 @@ without_gone rows tally = record tally {
   full = forgotten 0 rows tally.full;
 }
 
+-- ---- the rows in force
+
+abbrev pub rows_by : List Tenant → Result (List Tenant) TableFault → List Tenant
+rows_by rows (Ok table) = seated rows table
+rows_by rows (Err fault) = rows
+
+abbrev pub rows_for : List Tenant → List ℕ → Option Freeze → List Tenant
+rows_for rows text (Some order) = with_freeze order.name order.frozen rows
+rows_for rows text None = rows_by rows (read_table text)
+
+-- after the order that this text is is carried out, or its table is put in force; a text that has no table
+-- changes nothing
+unfoldable pub rows_with : List Tenant → List ℕ → List Tenant
+rows_with rows text = rows_for rows text (order_in text)
+
+-- after these texts, one after another
+abbrev pub rows_after : List Tenant → List (List ℕ) → List Tenant
+rows_after rows [] = rows
+rows_after rows (text ∷ texts) = rows_after (rows_with rows text) texts
+
+-- ---- changes
+
 -- The table of the text was put in force: a tenant that stays keeps its place, its arrays and its counts of
 -- refused log-ins, lines and `FULL`, and a place whose tenant is gone has none. All other counts stay.
-pub record IsReload (old : Tallied) (text : List ℕ) (new : Tallied) : Type 0 where
+pub record IsSeated (old : Tallied) (text : List ℕ) (new : Tallied) : Type 0 where
   pub table : List Tenant
   pub reads : read_table text ≡ Ok table
   pub tenants : new.held.tenants ≡ seated old.held.tenants table
@@ -43,20 +69,35 @@ pub record IsReload (old : Tallied) (text : List ℕ) (new : Tallied) : Type 0 w
   pub sound : IsSoundService new.held
   pub tally : new.tally ≡ without_gone new.held.tenants old.tally
 
--- ---- the rows in force
+-- The order was carried out: the tenant of its name is frozen, or is not. Arrays, quotas, names and places stay.
+pub record IsOrdered (old : Tallied) (order : Freeze) (new : Tallied) : Type 0 where
+  pub known : has_tenant_of order.name old.held.tenants ≡ true
+  pub tenants : new.held.tenants ≡ with_freeze order.name order.frozen old.held.tenants
+  pub only : new.held ≡ record old.held { tenants = new.held.tenants }
+  pub rows : AreRows new.held.tenants
+  pub sound : IsSoundService new.held
+  pub tally : new.tally ≡ without_gone new.held.tenants old.tally
 
-abbrev pub rows_by : List Tenant → Result (List Tenant) TableFault → List Tenant
-rows_by rows (Ok table) = seated rows table
-rows_by rows (Err fault) = rows
+-- an order names a tenant in force, and any other text has a table
+abbrev pub IsMeant : List Tenant → List ℕ → Option Freeze → Type 0
+IsMeant rows text (Some order) = has_tenant_of order.name rows ≡ true
+IsMeant rows text None = (table : List Tenant) × (read_table text ≡ Ok table)
 
--- after the table of this text is put in force; a text that has no table changes nothing
-unfoldable pub rows_with : List Tenant → List ℕ → List Tenant
-rows_with rows text = rows_by rows (read_table text)
+-- an order changes nothing but the rows
+abbrev pub KeepsRest : Option Freeze → Held → Held → Type 0
+KeepsRest (Some order) old new = new ≡ record old { tenants = new.tenants }
+KeepsRest None old new = Unit {0}
 
--- after the tables of these texts are put in force, one after another
-abbrev pub rows_after : List Tenant → List (List ℕ) → List Tenant
-rows_after rows [] = rows
-rows_after rows (text ∷ texts) = rows_after (rows_with rows text) texts
+-- The text was put in force: the table that it has, or the order that it is. What is counted of places without a
+-- tenant is forgotten.
+pub record IsReload (old : Tallied) (text : List ℕ) (new : Tallied) : Type 0 where
+  pub meant : IsMeant old.held.tenants text (order_in text)
+  pub tenants : new.held.tenants ≡ rows_with old.held.tenants text
+  pub only : KeepsRest (order_in text) old.held new.held
+  pub rows : AreRows new.held.tenants
+  pub held : HasChanged old.held new.held
+  pub sound : IsSoundService new.held
+  pub tally : new.tally ≡ without_gone new.held.tenants old.tally
 
 -- ---- a table that has all tenants in force
 

@@ -7,6 +7,7 @@ mod jobs;
 mod laws;
 mod limits;
 mod metrics;
+mod orders;
 mod present;
 mod records;
 mod reload;

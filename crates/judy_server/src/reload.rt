@@ -1,9 +1,10 @@
-//! Another table is put in force, and what is told of it.
+//! Another table is put in force, or an order is carried out, and what is told of it.
 ghost use Rattle.std.specs.Prelude.{◌≡◌, ◌⊎◌, ◌<◌, IfErr, IfOk, Err, MatchBool, Some, length, map, slice_get};
 ghost use Rattle.judy_table.specs.Tenants.{read_table};
-ghost use Rattle.judy_server.specs.Reloads.{IsReload, TellsAll, forgotten, has_all, is_kept, without_gone};
+ghost use Rattle.judy_server.specs.Reloads.{IsReload, IsSeated, TellsAll, forgotten, has_all, is_kept, without_gone};
 ghost use Rattle.judy_server.specs.Tally.{tallied};
 
+use crate::orders::{carry_out, read_order};
 use crate::tally::{Tally, clear_if};
 use itoa::Buffer;
 use judy_programs::fault_name;
@@ -12,7 +13,7 @@ use judy_tenants::{KeyHash, Service, Unchanged};
 use std::alloc::Global;
 
 /// Appends bytes. Without memory for them nothing is told.
-fn tell(told: &mut Vec<u8>, part: &[u8]) {
+pub fn tell(told: &mut Vec<u8>, part: &[u8]) {
     let _ = told.extend_from_slice(part);
 }
 
@@ -71,7 +72,7 @@ fn forget_in<H: KeyHash>(service: &Service<H>, counts: &mut [u64])
 }
 
 /// Forgets what is counted of places that have no tenant.
-fn forget<H: KeyHash>(service: &Service<H>, tally: &mut Tally)
+pub fn forget<H: KeyHash>(service: &Service<H>, tally: &mut Tally)
     ensures { tally.new ≡ without_gone service.now.tenants tally.old }
 {
     forget_in(service, &mut tally.refused);
@@ -81,7 +82,7 @@ fn forget<H: KeyHash>(service: &Service<H>, tally: &mut Tally)
 
 /// Puts the table of a text in force. False if it is not, and then nothing has changed. Tells how many
 /// tenants it has, or why it is not put in force.
-pub fn change<H: KeyHash>(
+fn change_table<H: KeyHash>(
     alloc: Global,
     service: &mut Service<H>,
     tally: &mut Tally,
@@ -89,7 +90,7 @@ pub fn change<H: KeyHash>(
     told: &mut Vec<u8>,
 ) -> bool
     ensures { MatchBool result
-        (IsReload (tallied service.old tally.old) text.now (tallied service.new tally.new))
+        (IsSeated (tallied service.old tally.old) text.now (tallied service.new tally.new))
         (tallied service.new tally.new ≡ tallied service.old tally.old) }
 {
     let table = match Table::parse(alloc, text) {
@@ -112,6 +113,25 @@ pub fn change<H: KeyHash>(
             tell_reason(told, &*service, why);
             false
         }
+    }
+}
+
+/// Puts the table of a text in force, or carries out the order that the text is. False if it does not,
+/// and then nothing has changed. Tells what it did, or why it did nothing.
+pub fn change<H: KeyHash>(
+    alloc: Global,
+    service: &mut Service<H>,
+    tally: &mut Tally,
+    text: &[u8],
+    told: &mut Vec<u8>,
+) -> bool
+    ensures { MatchBool result
+        (IsReload (tallied service.old tally.old) text.now (tallied service.new tally.new))
+        (tallied service.new tally.new ≡ tallied service.old tally.old) }
+{
+    match read_order(text) {
+        Some(order) => carry_out(service, tally, &order, told),
+        None => change_table(alloc, service, tally, text, told),
     }
 }
 

@@ -6,7 +6,7 @@ ghost use Rattle.judy_table.specs.Shown.{seen};
 ghost use Rattle.judy_protocol.specs.Sending.{MaySend};
 ghost use Rattle.judy_protocol.specs.Serving.{wire};
 ghost use Rattle.judy_programs.specs.Program.{HasRun, IsSent, MayPullScript, is_refused};
-ghost use Rattle.judy_tenants.proofs.lemmas.Changed.{keeps-or-empties};
+ghost use Rattle.judy_server.proofs.lemmas.Orders.{change-keeps};
 ghost use Rattle.judy_server.specs.Limits.{IsLifted, IsLimited};
 ghost use Rattle.judy_server.specs.Reloads.{AllStay, IsReload};
 ghost use Rattle.judy_server.specs.Served.{IsServedStep, IsNewService, IsNoted, seen_of, held_words};
@@ -17,6 +17,7 @@ ghost use Rattle.judy_server.specs.Status.{status_of};
 ghost use Rattle.judy_server.specs.Tally.{Tallied};
 
 use crate::limits::{lift, limit};
+use crate::orders::read_order;
 use crate::present::tenant_of;
 use crate::records::{Halt, replay, replay_all};
 use crate::reload::{change, keeps_all};
@@ -97,12 +98,16 @@ impl<H: Chosen> Model for Server<H> {
 }
 
 impl<H: Chosen> Server<H> {
-    /// Whether the table of this text has each tenant that is in force, so that its arrays stay. True
-    /// for a text with a fault, whose table is never put in force. False if there is no memory to tell.
+    /// Whether the table of this text has each tenant that is in force, so that its arrays stay. True for
+    /// an order, and for a text with a fault, whose table is never put in force. False if there is no
+    /// memory to tell.
     pub fn keeps_table(&self, alloc: Global, text: &[u8]) -> bool
         ensures { result ≡ true → (after : Tallied) → IsReload self.now text.now after
             → AllStay self.now after }
     {
+        if read_order(text).is_some() {
+            return true;
+        }
         self.service.is_at_all_times();
         self.service.rows_are_sound();
         match keeps_all(alloc, &self.service, text) {
@@ -206,7 +211,7 @@ impl<H: Chosen> Shows for Server<H> {
     }
 
     ghost stays = { λ before after text changed.
-        keeps-or-empties changed.table before.held after.held changed.tenants changed.held };
+        change-keeps before.held after.held changed.held };
 
     ghost unseen = { λ before after who line answer noted. ap seen_of noted };
 }

@@ -110,7 +110,7 @@ fn call_place(asked: &Result<Line<'_>, Refusal>) -> usize
 }
 
 /// Whether an answer is this text.
-fn is_text(answer: &[u8], text: &'static [u8]) -> bool
+pub fn is_text(answer: &[u8], text: &'static [u8]) -> bool
     ensures { result ≡ eq_by_cmp string_order answer.now text.now }
 {
     answer == text

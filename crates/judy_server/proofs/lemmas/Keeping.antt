@@ -2,7 +2,7 @@
 --     place-stays  a place keeps its arrays and its name when a table that has all tenants is put in force
 --     keeps-all    each tenant keeps its arrays and its name when it is put in force
 --     keeps-if     so they do where a look at its text said so
---     name-of      the name of a place, by its row
+--     name-of      the name of a place, by its row; quota-of, tenant-of, so are its quota and whether it has a tenant
 use Rattle.std.proofs.Common.{◌≡◌, ◌∙◌, ◌⊎◌, inl, inr, ◌||◌, ℕ, zero, suc, Bool, true, false, not, List, [], ◌∷◌}
 use Rattle.std.proofs.Common.{length, Option, Some, None, Result, Ok, Err, ap, arith, refl, subst, sym}
 use Rattle.std.specs.Prelude.{IfOk, map, option_map, slice_get, unwrap_or}
@@ -25,8 +25,10 @@ use Rattle.judy_table.specs.Tenants.{is_vacant, read_table, vacant}
 use Rattle.judy_tenants.specs.Changes.{HasChanged, has_tenant}
 use Rattle.judy_tenants.specs.Held.{Held, IsSoundService, no_quota, quotas_of, states_of}
 use Rattle.judy_tenants.proofs.lemmas.Changed.{new-has-none, stays-named}
+use Rattle.judy_server.specs.Orders.{order_in}
 use Rattle.judy_server.specs.Reloads.{AllStay, IsReload, TellsAll, has_all, is_kept}
 use Rattle.judy_server.specs.Tally.{Tallied}
+use Rattle.judy_server.proofs.lemmas.Orders.{reload-seated}
 
 -- ---- a place without a tenant
 
@@ -39,7 +41,7 @@ none-in order is_entry ((name, e ∷ es) ∷ arrays) form none =
     let more = sum_by-cons (λ a. length a.1) (name, e ∷ es) arrays in absurd (omega (arith, more, none))
 
 -- a well-formed tenant with a quota of 0 has no arrays
-none-within : (quota : Quota) (s : State) → IsWellFormed s → IsWithin quota s → quota.entries ≡ 0 → s ≡ no_arrays
+pub none-within : (quota : Quota) (s : State) → IsWellFormed s → IsWithin quota s → quota.entries ≡ 0 → s ≡ no_arrays
 none-within quota s form within none =
     let most = within.0 in
     ap (λ (a : Arrays ℕ). record s { one = a }) (none-in word_order is_one_entry s.one form.one (omega (arith, most, none)))
@@ -50,7 +52,7 @@ none-within quota s form within none =
     (none-in string_order is_bytes_entry s.bytes form.bytes (omega (arith, most, none)))
 
 -- a vacant row has no quota and no name
-vacant-row : (ts : List Tenant) → AllByRecursion (λ r. is_vacant r ≡ true → r ≡ vacant) ts → (t : ℕ) (r : Tenant) → slice_get ts t ≡ Some r
+pub vacant-row : (ts : List Tenant) → AllByRecursion (λ r. is_vacant r ≡ true → r ≡ vacant) ts → (t : ℕ) (r : Tenant) → slice_get ts t ≡ Some r
     → is_vacant r ≡ true → r ≡ vacant
 vacant-row [] each t r h v = cc
 vacant-row (s ∷ ts) each zero r h v = let same : s ≡ r = cc in subst (λ u. is_vacant u ≡ true → u ≡ vacant) same each.0 v
@@ -64,14 +66,14 @@ name-of ts t o h =
     ap (λ (x : Option (List ℕ)). unwrap_or x [])
     (slice_get-map (λ (r : Tenant). r.name) ts t ∙ ap (option_map (λ (r : Tenant). r.name)) h)
 
-quota-of : (ts : List Tenant) (t : ℕ) (o : Option Tenant) → slice_get ts t ≡ o
+pub quota-of : (ts : List Tenant) (t : ℕ) (o : Option Tenant) → slice_get ts t ≡ o
     → quotas_of ts t ≡ unwrap_or (option_map (λ (r : Tenant). r.quota) o) no_quota
 quota-of ts t o h =
     sym (unwrap_or-slice_get (map (λ (r : Tenant). r.quota) ts) t no_quota)
     ∙ ap (λ (x : Option Quota). unwrap_or x no_quota)
     (slice_get-map (λ (r : Tenant). r.quota) ts t ∙ ap (option_map (λ (r : Tenant). r.quota)) h)
 
-tenant-of : (ts : List Tenant) (t : ℕ) (o : Option Tenant) → slice_get ts t ≡ o
+pub tenant-of : (ts : List Tenant) (t : ℕ) (o : Option Tenant) → slice_get ts t ≡ o
     → has_tenant ts t ≡ unwrap_or (option_map not (option_map is_vacant o)) false
 tenant-of ts t o h = ap (λ (x : Option Bool). unwrap_or (option_map not x) false) (slice_get-map is_vacant ts t ∙ ap (option_map is_vacant) h)
 
@@ -123,19 +125,18 @@ one-table : (r : Result (List Tenant) TableFault) (a b : List Tenant) → r ≡ 
 one-table r a b i j = cc
 
 -- each tenant keeps its arrays and its name when a table that has them all is put in force
-pub keeps-all : (old : Tallied) (text : List ℕ) (new : Tallied) → IsSoundService old.held → AreRows old.held.tenants → IsReload old text new
+pub keeps-all : (old : Tallied) (text : List ℕ) (new : Tallied) → IsSoundService old.held → AreRows old.held.tenants → order_in text ≡ None → IsReload old text new
     → (table : List Tenant) → read_table text ≡ Ok table → has_all old.held.tenants table ≡ true → AllStay old new
-keeps-all old text new sound rows h table reads all = ((λ t. (each t).0), (λ t. (each t).1))
-  where
-    named : has_all old.held.tenants h.table ≡ true
-    named = subst (λ ts. has_all old.held.tenants ts ≡ true) (one-table (read_table text) table h.table reads h.reads) all
-
-    each : (t : ℕ) → KeepsPlace old.held new.held t
-    each t = place-stays h.table old.held new.held sound rows h.tenants h.held named t (slice_get old.held.tenants t) refl
+keeps-all old text new sound rows is h table reads all =
+    let (read, reads', tenants) = reload-seated old text new is h in
+    let named = subst (λ ts. has_all old.held.tenants ts ≡ true) (one-table (read_table text) table read reads reads') all in
+    let each : (t : ℕ) → KeepsPlace old.held new.held t
+    = λ t. place-stays read old.held new.held sound rows tenants h.held named t (slice_get old.held.tenants t) refl in
+    ((λ t. (each t).0), (λ t. (each t).1))
 
 -- so they do where the look at the text said so
-pub keeps-if : (old : Tallied) (text : List ℕ) → IsSoundService old.held → AreRows old.held.tenants → (told : Result Bool TableFault)
+pub keeps-if : (old : Tallied) (text : List ℕ) → IsSoundService old.held → AreRows old.held.tenants → order_in text ≡ None → (told : Result Bool TableFault)
     → IfOk told (TellsAll old.held.tenants text) → result_unwrap_or told false ≡ true → (new : Tallied) → IsReload old text new → AllStay old new
-keeps-if old text sound rows (Ok true) (table, reads, all) e new h = keeps-all old text new sound rows h table reads all
-keeps-if old text sound rows (Ok false) ok e new h = cc
-keeps-if old text sound rows (Err f) ok e new h = cc
+keeps-if old text sound rows is (Ok true) (table, reads, all) e new h = keeps-all old text new sound rows is h table reads all
+keeps-if old text sound rows is (Ok false) ok e new h = cc
+keeps-if old text sound rows is (Err f) ok e new h = cc

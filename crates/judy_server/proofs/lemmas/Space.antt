@@ -35,7 +35,7 @@ use Rattle.judy_programs.specs.Program.{HasServed, tells_words}
 use Rattle.judy_programs.specs.declared.program.Ran.TheVariants as ran
 use Rattle.judy_programs.proofs.lemmas.Words.{told-words}
 use Rattle.judy_tenants.specs.Held.{Held, IsSoundService, all_arrays, states_of, words_for}
-use Rattle.judy_server.specs.Reloads.{IsReload, rows_after, rows_by, rows_with}
+use Rattle.judy_server.specs.Reloads.{IsReload, rows_after, rows_with}
 use Rattle.judy_server.specs.Rules.{server_rules}
 use Rattle.judy_server.specs.Served.{IsServedStep, IsNewService, seen_of, held_words}
 use Rattle.judy_server.specs.Space.{IsSoundAfter, IsSoundOf, IsBoundedBy, TellsFew, granted_after}
@@ -121,8 +121,7 @@ rows-stay (t ∷ turns) before after (mid, one, rest) =
 
 -- the rows of a service after a change are those of the table's text
 pub rows-of : (old : Tallied) (text : List ℕ) (new : Tallied) → IsReload old text new → new.held.tenants ≡ rows_with old.held.tenants text
-unfolding rows_with
-rows-of old text new r = r.tenants ∙ sym (ap (rows_by old.held.tenants) r.reads)
+rows-of old text new r = r.tenants
 
 -- a new table keeps the invariant
 pub sound-change : (old : Tallied) (text : List ℕ) (new : Tallied) → IsReload old text new → IsSoundAfter (text ∷ []) old.held new.held
