@@ -3,6 +3,7 @@ ghost use Rattle.judy_journal.specs.Replays.{OthersKeepAll, RecordedCallsTellAll
 
 use judy_model::laws::{
     a_tenant_alone_has_memory, full_is_for_new_entries, looks_keep_all, queries_keep_all,
+    unchanged_are_told,
 };
 
 /// Why a record was not played. No array changed.
@@ -26,6 +27,7 @@ pub fn unrecorded_calls_keep_all()
     full_is_for_new_entries();
     looks_keep_all();
     queries_keep_all();
+    unchanged_are_told();
     a_tenant_alone_has_memory();
 }
 
@@ -36,6 +38,7 @@ pub fn recorded_calls_tell_all()
     full_is_for_new_entries();
     looks_keep_all();
     queries_keep_all();
+    unchanged_are_told();
     a_tenant_alone_has_memory();
 }
 
@@ -47,6 +50,7 @@ pub fn replays_are_exact()
     full_is_for_new_entries();
     looks_keep_all();
     queries_keep_all();
+    unchanged_are_told();
     a_tenant_alone_has_memory();
 }
 

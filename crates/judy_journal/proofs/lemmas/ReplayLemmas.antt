@@ -1,5 +1,5 @@
 -- What is recorded of a run tells the arrays after it.
-use Rattle.std.proofs.Common.{◌≡◌, ◌≢◌, ◌⊎◌, inl, inr, ℕ, ◌+◌, Bool, true, false, not, cond, ◌&&◌, List, [], ◌∷◌, ◌++◌}
+use Rattle.std.proofs.Common.{◌≡◌, ◌≢◌, ◌⊎◌, inl, inr, ℕ, ◌+◌, Bool, true, false, not, cond, ◌&&◌, ◌||◌, List, [], ◌∷◌, ◌++◌}
 use Rattle.std.proofs.Common.{refl, sym, ◌∙◌, ap, subst, arith, map, Option, Some, None, Result, Ok, Err}
 use Rattle.std.specs.Prelude.{option_map, length, ◌==◌, MatchBool, nat_lt, nat_le}
 use Rattle.std.specs.List.{filter_map, cons_option, list_all}
@@ -31,7 +31,8 @@ use Rattle.judy_model.specs.Service.{States}
 use Rattle.judy_model.specs.Speakers.{Event, attempt_of}
 use Rattle.judy_model.specs.WellFormed.{IsWellFormed}
 use Rattle.judy_journal.specs.Replays.{ample, after_call, after_calls, HasAnswered, call_recorded, recorded_calls}
-use Rattle.judy_protocol.specs.Plain.{is_refused, counts}
+use Rattle.judy_model.specs.Unchanged.{leaves, UnchangedAreTold}
+use Rattle.judy_protocol.specs.Plain.{is_refused, says_unchanged, counts}
 use Rattle.judy_journal.specs.Replays.{Told, record_of, parts_of, told_in, told, change_in, change_of, call_told, calls_named}
 use Rattle.judy_model.specs.declared.quotas.Right.{Right}
 use Rattle.judy_model.specs.declared.quotas.Right.TheVariants.{Change, Look, Frozen}
@@ -181,7 +182,8 @@ HaveAnswered-append before mid now after (p ∷ ps) qs (next, first, rest) same 
     (next, first, HaveAnswered-append next mid now after ps qs rest same more)
 
 -- the laws of judy_model: a call that is refused, or that only looks, changes nothing
-module _ (full_is_for_new : FullIsForNew) (looks_keep_all : LooksKeepAll) (queries_keep_all : QueriesKeepAll) (step_has_memory : StepHasMemory) where
+module _ (full_is_for_new : FullIsForNew) (looks_keep_all : LooksKeepAll) (queries_keep_all : QueriesKeepAll) (step_has_memory : StepHasMemory)
+    (unchanged_are_told : UnchangedAreTold) where
   -- a step that is refused changes nothing
   refused_step : (quota : Quota) (s : State) (a : Attempt) → IsWellFormed s → is_refused (attempt_step quota s a).0 ≡ true
       → (attempt_step quota s a).1 ≡ s
@@ -204,14 +206,16 @@ module _ (full_is_for_new : FullIsForNew) (looks_keep_all : LooksKeepAll) (queri
       by (inr (inr (inr memory))) = absurd (not_both (is_memory (attempt_step quota s a).0) memory (step_has_memory a.right quota s a.call))
 
   -- nor does one that is not recorded
-  uncounted_step : (quota : Quota) (s : State) (a : Attempt) → IsWellFormed s → (changes a.call && not (is_refused (attempt_step quota s a).0)) ≡ false
-      → (attempt_step quota s a).1 ≡ s
-  uncounted_step quota s a form h = by (changes a.call) (is_refused (attempt_step quota s a).0) refl refl h
+  uncounted_step : (quota : Quota) (s : State) (a : Attempt) → IsWellFormed s
+      → (changes a.call && not (says_unchanged a.call (attempt_step quota s a).0)) ≡ false → (attempt_step quota s a).1 ≡ s
+  uncounted_step quota s a form h = by (changes a.call) (is_refused (attempt_step quota s a).0) (leaves a.call (attempt_step quota s a).0) refl refl refl h
     where
-      by : (b r : Bool) → changes a.call ≡ b → is_refused (attempt_step quota s a).0 ≡ r → (b && not r) ≡ false → (attempt_step quota s a).1 ≡ s
-      by false r query is e = queries_keep_all a.right quota s a.call form query
-      by true true query is e = refused_step quota s a form is
-      by true false query is e = cc
+      by : (b r l : Bool) → changes a.call ≡ b → is_refused (attempt_step quota s a).0 ≡ r → leaves a.call (attempt_step quota s a).0 ≡ l
+          → (b && not (r || l)) ≡ false → (attempt_step quota s a).1 ≡ s
+      by false r l query is left e = queries_keep_all a.right quota s a.call form query
+      by true true l query is left e = refused_step quota s a form is
+      by true false true query is left e = unchanged_are_told a.right quota s a.call form left
+      by true false false query is left e = cc
 
   -- an answer to a call that is not recorded leaves the arrays
   uncounted_same : (quota : Quota) (s : State) (event : Event) (given : Reply) (new : State)
@@ -223,7 +227,7 @@ module _ (full_is_for_new : FullIsForNew) (looks_keep_all : LooksKeepAll) (queri
           → new ≡ s
       by true e = e.1
       by false e = sym (ap (λ p. p.1) e)
-          ∙ uncounted_step quota s (attempt_of event) form (ap (λ p. changes event.call && not (is_refused p.0)) e ∙ h)
+          ∙ uncounted_step quota s (attempt_of event) form (ap (λ p. changes event.call && not (says_unchanged event.call p.0)) e ∙ h)
 
   -- ---- one call among many tenants
 
@@ -260,15 +264,15 @@ module _ (full_is_for_new : FullIsForNew) (looks_keep_all : LooksKeepAll) (queri
           let (quota, answered) = own_call before after event given h in
           answered_same quota (before event.speaker.tenant) (attempt_of event) given (after event.speaker.tenant) answered unrefused
 
-      unrefused_by : (b r : Bool) → (b && not r) ≡ true → r ≡ false
-      unrefused_by true true e = cc
-      unrefused_by true false e = refl
-      unrefused_by false r e = cc
+      unrefused_by : (b r l : Bool) → (b && not (r || l)) ≡ true → r ≡ false
+      unrefused_by true true l e = cc
+      unrefused_by true false l e = refl
+      unrefused_by false r l e = cc
 
       by : (c : Bool) → counts event given ≡ c → (b : Bool) → (b ≡ true → event.speaker.tenant ≡ t) × (b ≡ false → t ≢ event.speaker.tenant)
           → after t ≡ after_calls (before t) (cons_option (cond (b && c) (Some event.call) None) [])
       by true is true w =
-          subst (λ u. after u ≡ after_call (before u) event.call) (w.0 refl) (mine (unrefused_by (changes event.call) (is_refused given) is))
+          subst (λ u. after u ≡ after_call (before u) event.call) (w.0 refl) (mine (unrefused_by (changes event.call) (is_refused given) (leaves event.call given) is))
       by true is false w = h.served.others t (w.1 refl) ∙ h.same t
       by false is b w = others_keep_all before after event given h is t ∙ nothing b
         where

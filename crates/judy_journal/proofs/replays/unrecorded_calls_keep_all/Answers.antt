@@ -2,4 +2,4 @@ use Rattle.judy_journal.proofs.lemmas.ReplayLemmas.{others_keep_all}
 use Rattle.judy_journal.proofs.replays.unrecorded_calls_keep_all.Goals as goal
 
 pub returns : goal.returns
-returns c = others_keep_all c.full_is_for_new_entries.ensures c.looks_keep_all.ensures c.queries_keep_all.ensures c.a_tenant_alone_has_memory.ensures
+returns c = others_keep_all c.full_is_for_new_entries.ensures c.looks_keep_all.ensures c.queries_keep_all.ensures c.a_tenant_alone_has_memory.ensures c.unchanged_are_told.ensures
