@@ -17,7 +17,8 @@ use Rattle.judy_model.specs.Reading.{request_of}
 use Rattle.judy_model.specs.Speakers.{Speaker}
 use Rattle.judy_model.specs.Stream.{Heard, Login, event_of, heard_request, speaker_after}
 use Rattle.judy_model.specs.Stream.Heard.{TooLong, Unclear, Asked}
-use Rattle.judy_protocol.specs.Plain.{counts, has_changed}
+use Rattle.judy_protocol.specs.Plain.{counts, has_changed, short_line}
+use Rattle.judy_protocol.proofs.lemmas.ShortLines.{short-request}
 use Rattle.judy_protocol.specs.Talks.{HasNoLf, heard_bare}
 use Rattle.judy_many.specs.Books.{Journal, noted_by}
 use Rattle.judy_many.specs.Records.{IsRecord, IsRecorded, records_of}
@@ -46,7 +47,7 @@ is_record : (names : ℕ → List ℕ) (call : Call) (who : Speaker) (bare : Opt
 is_record names call who bare false e = refl
 is_record names call who bare true e =
     let (line, is, spells) = asked_line bare call e in
-    subst (λ b. IsRecord true (names who.tenant) call (records_of true names (Some who) b)) (sym is) (line, refl, spells)
+    subst (λ b. IsRecord true (names who.tenant) call (records_of true names (Some who) b)) (sym is) (short_line line, refl, short-request line ∙ spells)
 
 pub unrecorded : (names : ℕ → List ℕ) (who : Option Speaker) (bare : Option (List ℕ)) (changed : Bool) → changed ≡ false → records_of changed names who bare ≡ []
 unrecorded names who bare changed e = rw e refl

@@ -7,7 +7,7 @@ use Rattle.judy_model.specs.declared.replies.Reply.{Reply}
 use Rattle.judy_model.specs.declared.requests.Line.TheVariants as request
 use Rattle.judy_model.specs.Reading.{request_of}
 use Rattle.judy_model.specs.Speakers.{Event, Speaker}
-use Rattle.judy_protocol.specs.Plain.{counts}
+use Rattle.judy_protocol.specs.Plain.{counts, short_line}
 
 -- the record of a call, if it is recorded: the tenant's name and a line that asks for this call
 abbrev pub IsRecord : Bool → List ℕ → Call → Commit → Type 0
@@ -20,9 +20,10 @@ IsRecorded names (e ∷ events) (r ∷ replies) records = IsRecord (counts e r) 
 IsRecorded names (e ∷ events) [] records = records ≡ []
 IsRecorded names [] replies records = records ≡ []
 
--- the record that a line leaves: whether it may have changed arrays, who spoke, and its bytes
+-- the record that a line leaves: whether it may have changed arrays, who spoke, and its bytes, of which the
+-- short spelling is recorded
 abbrev pub records_of : Bool → (ℕ → List ℕ) → Option Speaker → Option (List ℕ) → Commit
-records_of true names (Some who) (Some line) = record_of (names who.tenant) line ∷ []
+records_of true names (Some who) (Some line) = record_of (names who.tenant) (short_line line) ∷ []
 records_of true names (Some who) None = []
 records_of true names None line = []
 records_of false names who line = []

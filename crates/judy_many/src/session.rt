@@ -20,16 +20,19 @@ use crate::shows::Shows;
 use arrayvec::ArrayVec;
 use judy_model::{KEY_LIMIT, LINE_LIMIT};
 use judy_protocol::{
-    ANSWERS_LIMIT, Held, REPLY_LIMIT, asks_to_quit, cut_line, hear_line, join_line, run, whole_line,
+    ANSWERS_LIMIT, Held, REPLY_LIMIT, asks_to_quit, cut_line, hear_line, join_line, run, squeeze,
+    whole_line,
 };
 use std::alloc::Global;
 
-/// Buffers for a line's key, for a key that a call finds, and for the answer to a line.
+/// Buffers for a line's key, for a key that a call finds, for the answer to a line, and for the line in its
+/// short spelling.
 #[derive(Drop)]
 pub struct Rooms {
     key: [u8; KEY_LIMIT],
     found: ArrayVec<u8, KEY_LIMIT>,
     reply: ArrayVec<u8, REPLY_LIMIT>,
+    short: ArrayVec<u8, LINE_LIMIT>,
 }
 
 impl Rooms {
@@ -39,6 +42,7 @@ impl Rooms {
             key: [0u8; KEY_LIMIT],
             found: ArrayVec::new(),
             reply: ArrayVec::new(),
+            short: ArrayVec::new(),
         }
     }
 }
@@ -84,13 +88,15 @@ fn append(answers: &mut ArrayVec<u8, ANSWERS_LIMIT>, text: &[u8])
     let _fits = answers.try_extend_from_slice(text);
 }
 
-/// Adds the record of a line that was run to those that are to be kept, if it may have changed arrays.
+/// Adds the record of a line that was run to those that are to be kept, if it may have changed arrays. The
+/// record has the line in its short spelling, which is put into `short`.
 fn note_line<S: Shows>(
     keeper: &mut Keeper,
     service: &S,
     speaker: Option<S::Speaker>,
     line: Option<&[u8]>,
     changed: bool,
+    short: &mut ArrayVec<u8, LINE_LIMIT>,
 )
     requires known { HasLoggedIn (S.seen service.now).speakers (option_map S.who speaker) }
     requires short { IfSome line (λ b. HasNoLf b.now × (length b.now ≤ LINE_LIMIT)) }
@@ -110,7 +116,8 @@ fn note_line<S: Shows>(
     let Some(line) = line else {
         return;
     };
-    keeper.note(service.name(speaker), line);
+    squeeze(line, short);
+    keeper.note(service.name(speaker), short.as_slice());
 }
 
 /// Runs the line that is held and ends with the chunk, counts it, notes its record, and appends its
@@ -161,7 +168,14 @@ pub fn run_line<S: Shows, N: Network>(
         &mut rooms.reply,
     );
     service.note(session.speaker, &asked, rooms.reply.as_slice());
-    note_line(keeper, &*service, session.speaker, line, changed);
+    note_line(
+        keeper,
+        &*service,
+        session.speaker,
+        line,
+        changed,
+        &mut rooms.short,
+    );
     append(answers, rooms.reply.as_slice());
     let quit = asks_to_quit(&asked);
     session.held.clear();
