@@ -9,7 +9,7 @@
 --     event_told places record      the call that a record asks to be made, or why none can be made
 --     outcome reply                 what the reply to that call says of the record
 --     AreRecords places ps records  these are the records of the calls
-use Rattle.std.specs.Prelude.{◌≡◌, ℕ, ◌+◌, false, ◌&&◌, List, [], ◌∷◌, ◌++◌, map, IsTrue, ◌↔◌, ◌==◌}
+use Rattle.std.specs.Prelude.{◌≡◌, ◌⊎◌, ℕ, ◌+◌, true, false, ◌&&◌, List, [], ◌∷◌, ◌++◌, map, IsTrue, ◌↔◌, ◌==◌}
 use Rattle.std.specs.Prelude.{Option, Some, None, option_map, Result, Ok, Err, if◌then◌else◌}
 use Rattle.std.specs.List.{filter_map}
 use Rattle.std.specs.Str.{bytes_eq}
@@ -18,7 +18,7 @@ use Rattle.judy_model.specs.declared.quotas.Quota.{Quota}
 use Rattle.judy_model.specs.declared.quotas.Right.TheVariants.{Change}
 use Rattle.judy_model.specs.declared.replies.Reply.{Reply}
 use Rattle.judy_model.specs.declared.replies.Reply.TheVariants.{Full, ReadOnly, Frozen, Memory}
-use Rattle.judy_protocol.specs.Plain.{counts}
+use Rattle.judy_protocol.specs.Plain.{counts, is_refused}
 use Rattle.judy_model.specs.declared.requests.Line.{Line}
 use Rattle.judy_model.specs.declared.requests.Line.TheVariants as request
 use Rattle.judy_journal.specs.declared.replays.Unplayed.{Unplayed}
@@ -170,13 +170,14 @@ outcome _ = Ok tt
 abbrev pub again : Event → Event
 again event = record { speaker = record { tenant = event.speaker.tenant; right = Change }; call = event.call }
 
--- what the record of a call asks for, if the call is recorded
-abbrev pub event_recorded : Event × Reply → Option (Result Event Unplayed)
-event_recorded p = if counts p.0 p.1 then Some (Ok (again p.0)) else None
-
--- these are the records of the calls that are recorded, in order: each asks for its call again
+-- These are the records of the calls, in order: each asks for its call again. A call that may have changed
+-- arrays has one. One that left all as it was may have one too.
 abbrev pub AreRecords : Places → List (Event × Reply) → List (List ℕ) → Type 0
-AreRecords places answered records = map (event_told places) records ≡ filter_map event_recorded answered
+AreRecords places [] records = records ≡ []
+AreRecords places (p ∷ ps) records =
+    ((bytes : List ℕ) × (more : List (List ℕ)) × (records ≡ bytes ∷ more) × (event_told places bytes ≡ Ok (again p.0))
+    × (changes p.0.call ≡ true) × (is_refused p.1 ≡ false) × AreRecords places ps more)
+    ⊎ ((counts p.0 p.1 ≡ false) × AreRecords places ps records)
 
 -- the tenant at this place has this name and no other
 abbrev pub IsNamed : Places → ℕ → List ℕ → Type 0

@@ -19,8 +19,8 @@ pub enum Unplayed {
     Memory,
 }
 
-/// A call that is not recorded, because it cannot change arrays or was refused, changes no array of
-/// any tenant.
+/// A call that is not recorded changes no array of any tenant: it cannot change arrays, was refused, or
+/// its reply says that all was so before.
 pub fn unrecorded_calls_keep_all()
     ensures { OthersKeepAll }
 {
@@ -63,5 +63,9 @@ pub fn records_tell_one_change()
 pub fn records_tell_all()
     ensures { RecordsTellAll }
 {
-    recorded_calls_tell_all();
+    full_is_for_new_entries();
+    looks_keep_all();
+    queries_keep_all();
+    unchanged_are_told();
+    a_tenant_alone_has_memory();
 }

@@ -36,7 +36,7 @@ use Rattle.judy_protocol.specs.Plain.{is_refused, says_unchanged, counts}
 use Rattle.judy_journal.specs.Replays.{Told, record_of, parts_of, told_in, told, change_in, change_of, call_told, calls_named}
 use Rattle.judy_model.specs.declared.quotas.Right.{Right}
 use Rattle.judy_model.specs.declared.quotas.Right.TheVariants.{Change, Look, Frozen}
-use Rattle.judy_journal.specs.Replays.{HaveAnswered, Places, outcome, event_at, event_for, event_told, again, event_recorded, AreRecords, IsNamed}
+use Rattle.judy_journal.specs.Replays.{HaveAnswered, Places, outcome, event_at, event_for, event_told, again, AreRecords, IsNamed}
 use Rattle.judy_journal.specs.declared.replays.Unplayed.{Unplayed}
 use Rattle.judy_journal.specs.Replays.{OthersKeepAll, RecordedCallsTellAll, ReplaysAreExact, RecordsTellAll, RecordsTellOneChange}
 use Rattle.judy_model.specs.Grammar.{is_space, is_name, is_name_byte}
@@ -254,31 +254,46 @@ module _ (full_is_for_new : FullIsForNew) (looks_keep_all : LooksKeepAll) (queri
       by true w = subst (λ u. after u ≡ before u) (w.0 refl) mine
       by false w = h.served.others t (w.1 refl) ∙ h.same t
 
-  -- the arrays after one call
-  one_told : (before after : States) (event : Event) (given : Reply) → HasAnswered before event given after
-      → (t : ℕ) → after t ≡ after_calls (before t) (recorded_calls t ((event, given) ∷ []))
-  one_told before after event given h t = by (counts event given) refl (event.speaker.tenant == t) (whose event.speaker.tenant t)
+  -- the arrays after one call that is not refused
+  one_made : (before after : States) (event : Event) (given : Reply) → HasAnswered before event given after → is_refused given ≡ false
+      → (t : ℕ) → after t ≡ after_calls (before t) (cons_option (cond (event.speaker.tenant == t) (Some event.call) None) [])
+  one_made before after event given h unrefused t = by (event.speaker.tenant == t) (whose event.speaker.tenant t)
     where
-      mine : is_refused given ≡ false → after event.speaker.tenant ≡ after_call (before event.speaker.tenant) event.call
-      mine unrefused =
+      mine : after event.speaker.tenant ≡ after_call (before event.speaker.tenant) event.call
+      mine =
           let (quota, answered) = own_call before after event given h in
           answered_same quota (before event.speaker.tenant) (attempt_of event) given (after event.speaker.tenant) answered unrefused
 
+      by : (b : Bool) → (b ≡ true → event.speaker.tenant ≡ t) × (b ≡ false → t ≢ event.speaker.tenant)
+          → after t ≡ after_calls (before t) (cons_option (cond b (Some event.call) None) [])
+      by true w = subst (λ u. after u ≡ after_call (before u) event.call) (w.0 refl) mine
+      by false w = h.served.others t (w.1 refl) ∙ h.same t
+
+  -- the arrays after one call, if it is recorded exactly where it may have changed them
+  one_told : (before after : States) (event : Event) (given : Reply) → HasAnswered before event given after
+      → (t : ℕ) → after t ≡ after_calls (before t) (recorded_calls t ((event, given) ∷ []))
+  one_told before after event given h t = by (counts event given) refl
+    where
       unrefused_by : (b r l : Bool) → (b && not (r || l)) ≡ true → r ≡ false
       unrefused_by true true l e = cc
       unrefused_by true false l e = refl
       unrefused_by false r l e = cc
 
-      by : (c : Bool) → counts event given ≡ c → (b : Bool) → (b ≡ true → event.speaker.tenant ≡ t) × (b ≡ false → t ≢ event.speaker.tenant)
-          → after t ≡ after_calls (before t) (cons_option (cond (b && c) (Some event.call) None) [])
-      by true is true w =
-          subst (λ u. after u ≡ after_call (before u) event.call) (w.0 refl) (mine (unrefused_by (changes event.call) (is_refused given) (leaves event.call given) is))
-      by true is false w = h.served.others t (w.1 refl) ∙ h.same t
-      by false is b w = others_keep_all before after event given h is t ∙ nothing b
-        where
-          nothing : (b : Bool) → before t ≡ after_calls (before t) (cons_option (cond (b && false) (Some event.call) None) [])
-          nothing true = refl
-          nothing false = refl
+      nothing : (b : Bool) → before t ≡ after_calls (before t) (cons_option (cond (b && false) (Some event.call) None) [])
+      nothing true = refl
+      nothing false = refl
+
+      same : (b : Bool) → after_calls (before t) (cons_option (cond b (Some event.call) None) [])
+          ≡ after_calls (before t) (cons_option (cond (b && true) (Some event.call) None) [])
+      same true = refl
+      same false = refl
+
+      by : (c : Bool) → counts event given ≡ c
+          → after t ≡ after_calls (before t) (cons_option (cond ((event.speaker.tenant == t) && c) (Some event.call) None) [])
+      by true is =
+          one_made before after event given h (unrefused_by (changes event.call) (is_refused given) (leaves event.call given) is) t
+          ∙ same (event.speaker.tenant == t)
+      by false is = others_keep_all before after event given h is t ∙ nothing (event.speaker.tenant == t)
 
   -- ---- runs
 
@@ -338,41 +353,27 @@ one_asked places t name named (Some change) = by (places change.name) refl
     by None is = ap (λ b. cond b (Some change.call) None) (name_apart places t name change.name named is)
     by (Some u) is = ap (λ b. cond b (Some change.call) None) (name_tells places t u name change.name named is)
 
-all_asked : (places : Places) (t : ℕ) (name : List ℕ) → IsNamed places t name → (records : List (List ℕ))
-    → calls_named name records ≡ filter_map (call_asked t) (map (event_told places) records)
-all_asked places t name named [] = refl
-all_asked places t name named (bytes ∷ records) =
-    ap (λ o. cons_option o (calls_named name records)) (one_asked places t name named (told bytes))
-    ∙ ap (cons_option (call_asked t (event_told places bytes))) (all_asked places t name named records)
+module _ (full_is_for_new : FullIsForNew) (looks_keep_all : LooksKeepAll) (queries_keep_all : QueriesKeepAll) (step_has_memory : StepHasMemory)
+    (unchanged_are_told : UnchangedAreTold) where
+  pub records_tell_all : RecordsTellAll
+  records_tell_all before after [] places records run are t name named =
+      run t ∙ ap (λ rs. after_calls (before t) (calls_named name rs)) (sym are)
+  records_tell_all before after (p ∷ ps) places records (mid, first, rest) (inl (bytes, more, is, asks, turns, unrefused, are)) t name named =
+      records_tell_all mid after ps places more rest are t name named
+      ∙ ap (λ s. after_calls s (calls_named name more)) (made ∙ ap (λ o. after_calls (before t) (cons_option o [])) (sym told_here))
+      ∙ after_more full_is_for_new looks_keep_all queries_keep_all step_has_memory unchanged_are_told (before t) (call_told name (told bytes))
+      (calls_named name more)
+      ∙ ap (λ rs. after_calls (before t) (calls_named name rs)) (sym is)
+    where
+      made : mid t ≡ after_calls (before t) (cons_option (cond (p.0.speaker.tenant == t) (Some p.0.call) None) [])
+      made = one_made full_is_for_new looks_keep_all queries_keep_all step_has_memory unchanged_are_told before mid p.0 p.1 first unrefused t
 
--- one more recorded call in front
-asked_more : (t : ℕ) (event : Event) (asked : List (Result Event Unplayed)) (calls : List Call) (mine counted : Bool)
-    → (event.speaker.tenant == t) ≡ mine → filter_map (call_asked t) asked ≡ calls
-    → filter_map (call_asked t) (cons_option (cond counted (Some (Ok (again event))) None) asked)
-    ≡ cons_option (cond (mine && counted) (Some event.call) None) calls
-asked_more t event asked calls true true is more =
-    ap (λ b. cons_option (cond b (Some event.call) None) (filter_map (call_asked t) asked)) is ∙ ap (λ cs. event.call ∷ cs) more
-asked_more t event asked calls false true is more =
-    ap (λ b. cons_option (cond b (Some event.call) None) (filter_map (call_asked t) asked)) is ∙ more
-asked_more t event asked calls true false is more = more
-asked_more t event asked calls false false is more = more
-
--- the records ask for a tenant's calls that are recorded
-recorded_asked : (t : ℕ) (answered : List (Event × Reply)) → filter_map (call_asked t) (filter_map event_recorded answered) ≡ recorded_calls t answered
-recorded_asked t [] = refl
-recorded_asked t (p ∷ ps) =
-    asked_more t p.0 (filter_map event_recorded ps) (recorded_calls t ps) (p.0.speaker.tenant == t) (counts p.0 p.1) refl (recorded_asked t ps)
-
--- so they tell the calls that are recorded of the tenant with this name
-pub told_calls : (places : Places) (t : ℕ) (name : List ℕ) → IsNamed places t name → (answered : List (Event × Reply)) (records : List (List ℕ))
-    → AreRecords places answered records → calls_named name records ≡ recorded_calls t answered
-told_calls places t name named answered records are =
-    all_asked places t name named records ∙ ap (filter_map (call_asked t)) are ∙ recorded_asked t answered
-
-pub records_tell_all : RecordedCallsTellAll → RecordsTellAll
-records_tell_all all before after answered places records run are t name named =
-    all before after answered run t
-    ∙ ap (after_calls (before t)) (sym (told_calls places t name named answered records are))
+      told_here : call_told name (told bytes) ≡ cond (p.0.speaker.tenant == t) (Some p.0.call) None
+      told_here = one_asked places t name named (told bytes) ∙ ap (call_asked t) asks
+  records_tell_all before after (p ∷ ps) places records (mid, first, rest) (inr (uncounted, are)) t name named =
+      records_tell_all mid after ps places records rest are t name named
+      ∙ ap (λ s. after_calls s (calls_named name records))
+      (others_keep_all full_is_for_new looks_keep_all queries_keep_all step_has_memory unchanged_are_told before mid p.0 p.1 first uncounted t)
 
 -- ---- the parts of a record
 
@@ -541,8 +542,8 @@ after_records-append s name records more =
 -- the records of a run, and then those of the next
 pub AreRecords-append : (places : Places) (ps qs : List (Event × Reply)) (records more : List (List ℕ)) → AreRecords places ps records
     → AreRecords places qs more → AreRecords places (ps ++ qs) (records ++ more)
-AreRecords-append places ps qs records more are also =
-    map-append (event_told places) records more
-    ∙ ap (λ asked. asked ++ map (event_told places) more) are
-    ∙ ap (λ asked. filter_map event_recorded ps ++ asked) also
-    ∙ sym (filter_map-append event_recorded ps qs)
+AreRecords-append places [] qs records more are also = subst (λ rs. AreRecords places qs (rs ++ more)) (sym are) also
+AreRecords-append places (p ∷ ps) qs records more (inl (bytes, rest, is, asks, turns, unrefused, are)) also =
+    inl (bytes, rest ++ more, ap (λ rs. rs ++ more) is, asks, turns, unrefused, AreRecords-append places ps qs rest more are also)
+AreRecords-append places (p ∷ ps) qs records more (inr (uncounted, are)) also =
+    inr (uncounted, AreRecords-append places ps qs records more are also)

@@ -33,7 +33,7 @@ use Rattle.judy_model.specs.Speakers.{Event, Speaker}
 use Rattle.judy_model.specs.Stream.{Heard, event_of}
 use Rattle.judy_model.specs.Stream.Heard.{TooLong, Unclear, Asked}
 use Rattle.judy_model.specs.Tenant.{changes}
-use Rattle.judy_protocol.specs.Plain.{counts, is_refused}
+use Rattle.judy_protocol.specs.Plain.{counts, says_unchanged}
 use Rattle.judy_protocol.specs.Services.{HasLoggedIn}
 use Rattle.judy_many.specs.Records.{IsRecord, IsRecorded}
 use Rattle.judy_many.specs.Sessions.{AreTurns, IsTurn, Turn, records_in}
@@ -158,7 +158,7 @@ call-recorded : (places : Places) (name : List ℕ) (event : Event) (reply : Rep
     → map (event_told places) records ≡ cons_option (cond b (Some (Ok (again event))) None) []
 call-recorded places name event reply records good found true is (line, one, reads) =
     ap (map (event_told places)) one
-    ∙ ap (λ asked. asked ∷ []) (asks_again places name line event good found reads (and_parts (changes event.call) (not (is_refused reply)) is).0)
+    ∙ ap (λ asked. asked ∷ []) (asks_again places name line event good found reads (and_parts (changes event.call) (not (says_unchanged event.call reply)) is).0)
 call-recorded places name event reply records good found false is none = ap (map (event_told places)) none
 
 -- the records of a line are those of its call
