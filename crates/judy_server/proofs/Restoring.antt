@@ -11,9 +11,9 @@ use Rattle.judy_journal.specs.Acts.{DiskAct, File, Goes, IsWriting, Journal as W
 use Rattle.judy_journal.specs.Acts.DiskAct.{Began as FileBegan, Kept as FileKept, Synced as FileSynced}
 use Rattle.judy_journal.specs.Crashes.{JournalIsExact}
 use Rattle.judy_journal.specs.Journals.{Commit, sum_at}
-use Rattle.judy_journal.specs.Replays.{AreRecords, HaveAnswered, Places, RecordedCallsTellAll, after_calls, calls_named, event_told}
+use Rattle.judy_journal.specs.Replays.{AreRecords, HaveAnswered, Places, RecordsTellAll, after_calls, calls_named, event_told}
 use Rattle.judy_journal.specs.Writes.{Writing, all_records}
-use Rattle.judy_journal.proofs.lemmas.ReplayLemmas.{AreRecords-append, HaveAnswered-append, records_tell_all}
+use Rattle.judy_journal.proofs.lemmas.ReplayLemmas.{AreRecords-append, HaveAnswered-append}
 use Rattle.judy_model.specs.declared.replies.Reply.{Reply}
 use Rattle.judy_model.specs.declared.requests.Line.TheVariants as request
 use Rattle.judy_model.specs.Speakers.{Event, Speaker}
@@ -185,7 +185,7 @@ found-after written exact s rule w service story restored resumed crash journale
 
 -- Where the records that are found are those of the files before and of this story, the arrays are those at
 -- its end.
-same-arrays : RecordedCallsTellAll → (s : Stock) (w : Writing) (before : Tallied) → HasResumed s w before
+same-arrays : RecordsTellAll → (s : Stock) (w : Writing) (before : Tallied) → HasResumed s w before
     → (j : Journal) (story : Story) (restored : Tallied) → (crash : HasCrashed s j story restored)
     → (d : Story) (now : Tallied) → Lasts server_rules true before d now
     → all_records crash.found ≡ all_records s.commits ++ records_in (turns_in d) → HaveSame now restored
@@ -213,7 +213,7 @@ same-arrays all s w before resumed j story restored crash d now lasts is name t 
     ∙ ap (λ rs. after_calls (states_of first.held t) (calls_named name rs))
     (ap (λ x. s.snapshot ++ x) is ∙ sym (append_assoc s.snapshot (all_records s.commits) (records_in (turns_in d))))
     ∙ sym
-    (records_tell_all all (states_of first.held) (states_of now.held) (run.answered ++ answered_in (turns_in d)) (places_in now)
+    (all (states_of first.held) (states_of now.held) (run.answered ++ answered_in (turns_in d)) (places_in now)
     (start ++ records_in (turns_in d)) calls records t name (named-by-place now.held.tenants t name here))
 
 -- ---- a story that is cut behind a record
@@ -509,7 +509,7 @@ moments-done p tail done rest story e (inr (w, later)) some lines =
 
 -- ---- the whole
 
-pub crash-restores : RecordedCallsTellAll → JournalIsExact → StoriesAreWritten → AnswersAreKept → CrashesLoseNothing
+pub crash-restores : RecordsTellAll → JournalIsExact → StoriesAreWritten → AnswersAreKept → CrashesLoseNothing
 crash-restores all exact written answers s limits rule w how log log' before after restored h keeps story later cut resumed crash =
     let (now, first, more) = lasts-split story later before after lasts in
     let found =

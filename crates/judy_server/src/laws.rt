@@ -1,7 +1,7 @@
 //! The law of a crash.
 ghost use Rattle.judy_server.specs.Crashes.{CrashesLoseNothing};
 
-use judy_journal::{journal_is_exact, recorded_calls_tell_all};
+use judy_journal::{journal_is_exact, records_tell_all};
 use judy_many::{answers_are_kept, stories_are_written};
 
 /// A server that has played its journal serves many clients, and the machine crashes at any moment. A
@@ -10,7 +10,7 @@ use judy_many::{answers_are_kept, stories_are_written};
 pub fn crashes_lose_nothing()
     ensures { CrashesLoseNothing }
 {
-    recorded_calls_tell_all();
+    records_tell_all();
     journal_is_exact();
     stories_are_written();
     answers_are_kept();

@@ -5,8 +5,8 @@ use Rattle.std.proofs.Common.{◌≡◌, ◌||◌, ℕ, Bool, true, List, [], �
 use Rattle.std.specs.List.{AllByRecursion}
 use Rattle.std.proofs.lemmas.Bool.{and_from}
 use Rattle.judy_journal.specs.Replays.{Places, Told, told, event_told, event_for, event_at, AreRecords, HaveAnswered}
-use Rattle.judy_journal.specs.Replays.{after_calls, calls_named, RecordedCallsTellAll}
-use Rattle.judy_journal.proofs.lemmas.ReplayLemmas.{HaveAnswered-append, records_tell_all}
+use Rattle.judy_journal.specs.Replays.{after_calls, calls_named, RecordsTellAll}
+use Rattle.judy_journal.proofs.lemmas.ReplayLemmas.{HaveAnswered-append}
 use Rattle.judy_model.specs.declared.replies.Reply.{Reply}
 use Rattle.judy_model.specs.Speakers.{Event}
 use Rattle.judy_table.specs.declared.tenant.Tenant.{Tenant}
@@ -98,10 +98,10 @@ begun-with places records service h asks = record {
         ∙ (place-stays h.table h.played.held h.limited.mid run.sound rows-played h.limited.tenants h.limited.changed all t _ refl).0
 
 -- the arrays of a tenant are those that the records of its name make
-pub begun-tells : RecordedCallsTellAll → (records : List (List ℕ)) (service : Tallied) → (h : HasBegunWith records service)
+pub begun-tells : RecordsTellAll → (records : List (List ℕ)) (service : Tallied) → (h : HasBegunWith records service)
     → (t : ℕ) (name : List ℕ) → place_of name service.held.tenants ≡ Some t
     → states_of service.held t ≡ after_calls (states_of h.first.held t) (calls_named name records)
 begun-tells all records service h t name found =
     let begun = begun-with (places_in h.first) records service h (λ bytes event e. e) in
-    records_tell_all all (states_of h.first.held) (states_of service.held) begun.answered (places_in h.first) records begun.run begun.are t name
+    all (states_of h.first.held) (states_of service.held) begun.answered (places_in h.first) records begun.run begun.are t name
     (named-by-place h.first.held.tenants t name (subst (λ ts. place_of name ts ≡ Some t) begun.tenants found))

@@ -3,7 +3,7 @@
 --     replayed-run      the records that were played are those of a run, which keeps the table
 --     named-by-place    the name of a place that a table has is the one that leads there
 --     replayed-tells    the arrays of a tenant are those that the records of its name make
-use Rattle.std.proofs.Common.{◌≡◌, ℕ, true, not, ◌&&◌, cond, List, [], ◌∷◌, map, Option, Some, None, Result, Ok, Err}
+use Rattle.std.proofs.Common.{◌≡◌, inl, inr, ℕ, true, false, not, ◌&&◌, cond, List, [], ◌∷◌, map, Option, Some, None, Result, Ok, Err}
 use Rattle.std.proofs.Common.{refl, sym, ◌∙◌, ap, subst, get_or}
 use Rattle.std.specs.List.{filter_map, cons_option}
 use Rattle.std.specs.Str.{bytes_eq}
@@ -12,12 +12,12 @@ use Rattle.std.proofs.lemmas.Slice.Eq.{bytes_eq-Decides}
 use Rattle.std.proofs.lemmas.Bool.{and_from}
 use Rattle.judy_journal.specs.declared.replays.Unplayed.{Unplayed}
 use Rattle.judy_journal.specs.Replays.{Places, event_told, again, HaveAnswered, AreRecords, IsNamed}
-use Rattle.judy_journal.specs.Replays.{after_calls, calls_named, event_recorded, RecordedCallsTellAll}
-use Rattle.judy_journal.proofs.lemmas.ReplayLemmas.{asked_again, outcome_is, records_tell_all}
+use Rattle.judy_journal.specs.Replays.{after_calls, calls_named, RecordsTellAll}
+use Rattle.judy_journal.proofs.lemmas.ReplayLemmas.{asked_again, outcome_is}
 use Rattle.judy_model.specs.declared.replies.Reply.{Reply}
 use Rattle.judy_model.specs.Speakers.{Event}
 use Rattle.judy_model.specs.Tenant.{changes}
-use Rattle.judy_protocol.specs.Plain.{counts}
+use Rattle.judy_protocol.specs.Plain.{is_refused}
 use Rattle.judy_table.specs.declared.tenant.Tenant.{Tenant}
 use Rattle.judy_table.specs.Tenants.{place_of, vacant}
 use Rattle.judy_tenants.specs.Held.{IsSoundService, quotas_of, states_of}
@@ -33,7 +33,8 @@ pub record IsPlayed (old : Tallied) (bytes : List ℕ) (new : Tallied) : Type 0 
   pub asked : event_told (places_in old) bytes ≡ Ok event
   pub reply : Reply
   pub made : IsServedStep old event reply new
-  pub counted : counts event reply ≡ true
+  pub turns : changes event.call ≡ true
+  pub unrefused : is_refused reply ≡ false
 
 pub played : (old new : Tallied) (bytes : List ℕ) → Plays bytes old (Ok tt) new → IsPlayed old bytes new
 played old new bytes h = by (event_told (places_in old) bytes) refl h
@@ -45,8 +46,8 @@ played old new bytes h = by (event_told (places_in old) bytes) refl h
       asked = is;
       reply = made.reply;
       made = made.made;
-      counted = and_from (changes event.call) _ (asked_again (places_in old) bytes event is).1
-          (ap not (outcome_is made.reply (sym made.result_is)));
+      turns = (asked_again (places_in old) bytes event is).1;
+      unrefused = outcome_is made.reply (sym made.result_is);
     }
 
 -- ---- records
@@ -89,18 +90,11 @@ replayed-run places (bytes ∷ records) old new s asks (mid, first, rest) =
         },
         more.run,
       );
-      are = one_more (event_told places bytes) p.event p.reply (map (event_told places) records) more.answered
-          (asks bytes p.event p.asked ∙ ap Ok (sym (asked_again (places_in old) bytes p.event p.asked).0)) p.counted more.are;
+      are = inl (bytes, records, refl, asks bytes p.event p.asked ∙ ap Ok (sym (asked_again (places_in old) bytes p.event p.asked).0),
+          p.turns, p.unrefused, more.are);
       sound = more.sound;
       tenants = more.tenants ∙ p.made.keeps.tenants;
     }
-  where
-    one_more : (r : Result Event Unplayed) (event : Event) (reply : Reply) (asked : List (Result Event Unplayed)) (answered : List (Event × Reply))
-        → r ≡ Ok (again event) → counts event reply ≡ true → asked ≡ filter_map event_recorded answered
-        → r ∷ asked ≡ filter_map event_recorded ((event, reply) ∷ answered)
-    one_more r event reply asked answered is counted more =
-        ap (λ x. x ∷ asked) is ∙ ap (λ xs. Ok (again event) ∷ xs) more
-        ∙ sym (ap (λ b. cons_option (cond b (Some (Ok (again event))) None) (filter_map event_recorded answered)) counted)
 
 -- the name of a place that a table has is the one that leads there
 pub named-by-place : (tenants : List Tenant) (t : ℕ) (name : List ℕ) → place_of name tenants ≡ Some t → IsNamed (λ n. place_of n tenants) t name
@@ -110,10 +104,10 @@ named-by-place tenants t name found = (found, λ other there. sym (reads other t
     reads n e = (bytes_eq-Decides (get_or tenants t vacant).name n).0 (position-Some (λ (r : Tenant). bytes_eq r.name n) tenants t vacant e).1
 
 -- the arrays of a tenant are those that the records of its name make of the arrays before
-pub replayed-tells : RecordedCallsTellAll → (records : List (List ℕ)) (old new : Tallied) → IsSoundService old.held → AreReplayed old records new
+pub replayed-tells : RecordsTellAll → (records : List (List ℕ)) (old new : Tallied) → IsSoundService old.held → AreReplayed old records new
     → (t : ℕ) (name : List ℕ) → place_of name old.held.tenants ≡ Some t
     → states_of new.held t ≡ after_calls (states_of old.held t) (calls_named name records)
 replayed-tells all records old new s h t name found =
     let run = replayed-run (places_in old) records old new s (λ bytes event e. e) h in
-    records_tell_all all (states_of old.held) (states_of new.held) run.answered (places_in old) records run.run run.are t name
+    all (states_of old.held) (states_of new.held) run.answered (places_in old) records run.run run.are t name
     (named-by-place old.held.tenants t name found)

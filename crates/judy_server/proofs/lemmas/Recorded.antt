@@ -10,7 +10,7 @@
 --     story-tells            each tenant has the arrays that the records of its name make
 use Rattle.std.proofs.Common.{◌≡◌, ◌⊎◌, inl, inr, ℕ, zero, suc, ◌<◌, ◌==◌, Bool, true, false, not, cond, List, [], ◌∷◌, ◌++◌, length, map, zip}
 use Rattle.std.proofs.Common.{Option, Some, None, Result, Ok, Err, refl, sym, ◌∙◌, ap, subst, get_or, arith, append_assoc, append-nil, lt-ltb}
-use Rattle.std.specs.Prelude.{IsTrue, option_map, slice_get, unwrap_or, nat_lt}
+use Rattle.std.specs.Prelude.{◌||◌, IsTrue, option_map, slice_get, unwrap_or, nat_lt}
 use Rattle.std.specs.List.{filter_map, cons_option}
 use Rattle.std.specs.Str.{bytes_eq}
 use Rattle.std.proofs.lemmas.Bool.{and_parts, eqb-true}
@@ -21,7 +21,7 @@ use Rattle.std.proofs.lemmas.Slice.Eq.{bytes_eq-Decides}
 use Rattle.judy_journal.specs.declared.replays.Unplayed.{Unplayed}
 use Rattle.judy_journal.specs.Journals.{Commit}
 use Rattle.judy_journal.specs.Replays.{Places, Told, told, event_told, event_for, event_at, again, HaveAnswered, AreRecords, IsNamed, after_calls, calls_named, event_recorded, RecordedCallsTellAll}
-use Rattle.judy_journal.proofs.lemmas.ReplayLemmas.{asks_again, records_tell_all, records_tell_one_change, AreRecords-append, HaveAnswered-append}
+use Rattle.judy_journal.proofs.lemmas.ReplayLemmas.{asks_again, records_tell_one_change, AreRecords-append, HaveAnswered-append}
 use Rattle.judy_model.specs.declared.calls.Call.{Call}
 use Rattle.judy_model.specs.declared.quotas.Right.TheVariants.{Change}
 use Rattle.judy_model.specs.declared.replies.Reply.{Reply}
@@ -33,7 +33,8 @@ use Rattle.judy_model.specs.Speakers.{Event, Speaker}
 use Rattle.judy_model.specs.Stream.{Heard, event_of}
 use Rattle.judy_model.specs.Stream.Heard.{TooLong, Unclear, Asked}
 use Rattle.judy_model.specs.Tenant.{changes}
-use Rattle.judy_protocol.specs.Plain.{counts, says_unchanged}
+use Rattle.judy_model.specs.Unchanged.{leaves}
+use Rattle.judy_protocol.specs.Plain.{counts, is_refused, says_unchanged}
 use Rattle.judy_protocol.specs.Services.{HasLoggedIn}
 use Rattle.judy_many.specs.Records.{IsRecord, IsRecorded}
 use Rattle.judy_many.specs.Sessions.{AreTurns, IsTurn, Turn, records_in}
@@ -155,20 +156,22 @@ known rows places h leads who knows-it =
 -- the record of a call
 call-recorded : (places : Places) (name : List ℕ) (event : Event) (reply : Reply) (records : Commit) → is_name name ≡ true
     → places name ≡ Some event.speaker.tenant → (b : Bool) → counts event reply ≡ b → IsRecord b name event.call records
-    → map (event_told places) records ≡ cons_option (cond b (Some (Ok (again event))) None) []
+    → AreRecords places ((event, reply) ∷ []) records
 call-recorded places name event reply records good found true is (line, one, reads) =
-    ap (map (event_told places)) one
-    ∙ ap (λ asked. asked ∷ []) (asks_again places name line event good found reads (and_parts (changes event.call) (not (says_unchanged event.call reply)) is).0)
-call-recorded places name event reply records good found false is none = ap (map (event_told places)) none
+    let (turns, told) = and_parts (changes event.call) (not (says_unchanged event.call reply)) is in
+    inl (record_of name line, [], one, asks_again places name line event good found reads turns, turns,
+        unrefused (is_refused reply) (leaves event.call reply) told, refl)
+  where
+    unrefused : (r l : Bool) → not (r || l) ≡ true → r ≡ false
+    unrefused true l e = cc
+    unrefused false l e = refl
+call-recorded places name event reply records good found false is none = inr (is, none)
 
 -- the records of a line are those of its call
 line-recorded : (places : Places) (before : Tallied) (turn : Turn) (after : Tallied) → AreRows before.held.tenants → Leads before.held.tenants places
     → IsTurn server_rules before turn after → AreRecords places (zip (event_of turn.line turn.who) turn.replies) turn.records
 line-recorded places before turn after rows leads one = by turn.line turn.who turn.replies one.known one.recorded
   where
-    none : {A : Type 0} (f : List ℕ → A) → turn.records ≡ [] → map f turn.records ≡ []
-    none f e = ap (map f) e
-
     by : (line : Heard) (who : Option Speaker) (replies : List Reply) → HasLoggedIn (knows before.held.tenants) who
         → IsRecorded (name_at before.held.tenants) (event_of line who) replies turn.records
         → AreRecords places (zip (event_of line who) replies) turn.records
@@ -176,14 +179,14 @@ line-recorded places before turn after rows leads one = by turn.line turn.who tu
         let (good, found) = known before.held.tenants places rows leads who knows-it in
         call-recorded places (name_at before.held.tenants who.tenant) (record { speaker = who; call = call }) reply turn.records good found
         (counts (record { speaker = who; call = call }) reply) refl is
-    by (Asked (request.Call call)) (Some who) [] knows-it is = none (event_told places) is
-    by (Asked (request.Call call)) None replies knows-it is = none (event_told places) is
-    by (Asked (request.Auth name token)) who replies knows-it is = none (event_told places) is
-    by (Asked request.Quit) who replies knows-it is = none (event_told places) is
-    by (Asked request.Ping) who replies knows-it is = none (event_told places) is
-    by (Asked request.Hello) who replies knows-it is = none (event_told places) is
-    by TooLong who replies knows-it is = none (event_told places) is
-    by Unclear who replies knows-it is = none (event_told places) is
+    by (Asked (request.Call call)) (Some who) [] knows-it is = is
+    by (Asked (request.Call call)) None replies knows-it is = is
+    by (Asked (request.Auth name token)) who replies knows-it is = is
+    by (Asked request.Quit) who replies knows-it is = is
+    by (Asked request.Ping) who replies knows-it is = is
+    by (Asked request.Hello) who replies knows-it is = is
+    by TooLong who replies knows-it is = is
+    by Unclear who replies knows-it is = is
 
 pub turns-recorded : (places : Places) (turns : List Turn) (before after : Tallied) → AreRows before.held.tenants → Leads before.held.tenants places
     → AreTurns server_rules before turns after → AreRecords places (answered_in turns) (records_in turns)

@@ -95,7 +95,7 @@ kept-joined a b c first more = record {
 }
 
 -- a recorded call was not refused for memory
-not-memory : (r : Reply) → not (is_refused r) ≡ true → is_memory r ≡ false
+not-memory : (r : Reply) → is_refused r ≡ false → is_memory r ≡ false
 not-memory reply.Memory h = cc
 not-memory _ h = refl
 
@@ -103,7 +103,7 @@ not-memory _ h = refl
 record-keeps : (old new : Tallied) (bytes : List ℕ) → IsPlayed old bytes new → HasKept old new
 record-keeps old new bytes p =
     let quiet : IsQuiet old.held new.held = nothing-refused old p.event p.reply new
-    (not-memory p.reply (and_parts (changes p.event.call) (not (is_refused p.reply)) p.counted).1) p.made in
+    (not-memory p.reply p.unrefused) p.made in
     record {
       sound = p.made.sound;
       counts = p.made.tally;
