@@ -8,7 +8,6 @@ use Rattle.judy_model.specs.declared.calls.Call.{Call}
 use Rattle.judy_model.specs.declared.calls.Call.TheVariants.{One, Long, Str, Bytes, Used}
 use Rattle.judy_model.specs.declared.quotas.Quota.{Quota}
 use Rattle.judy_model.specs.declared.replies.Reply.{Reply}
-use Rattle.judy_model.specs.declared.replies.Reply.TheVariants as reply
 use Rattle.judy_model.specs.Contents.{Entries, string_order}
 use Rattle.judy_model.specs.Tenant.{Arrays, State, content_of, with_content, used, pieces, one_step, long_step, string_step}
 use Rattle.judy_model.specs.Tenant.{bytes_step, is_read_only, refusal_of, new_pieces, has_room, allowed_step, attempt_step}

@@ -21,12 +21,12 @@ use Rattle.judy_model.specs.declared.replies.Reply.{Reply}
 use Rattle.judy_model.specs.declared.replies.Reply.TheVariants as reply
 use Rattle.judy_model.specs.Contents.{Order, Entries, word_order, string_order, value_of, has_key, with_entry, nth, first, next, last, prev}
 use Rattle.judy_model.specs.Gaps.{first_empty, next_empty, last_empty, prev_empty}
-use Rattle.judy_model.specs.Tenant.{State, Attempt, content_of, with_content, insert_over, insert, index_or_no}
+use Rattle.judy_model.specs.Tenant.{State, content_of, with_content, insert_over, insert, index_or_no}
 use Rattle.judy_model.specs.Tenant.{value_at_or_null, value_key_or_null, value_or_null, absent_or_no, one_step, long_step}
 use Rattle.judy_model.specs.Tenant.{string_step, bytes_step, one_changes, long_changes, string_changes, bytes_changes}
 use Rattle.judy_model.specs.Tenant.{one_asks_for_new, long_asks_for_new, string_asks_for_new, bytes_asks_for_new, changes}
-use Rattle.judy_model.specs.Tenant.{is_read_only, refusal_of, asks_for_new, has_room, allowed_step, step, attempt_step}
-use Rattle.judy_model.specs.Solo.{is_memory, IsAnswered, StepHasMemory}
+use Rattle.judy_model.specs.Tenant.{is_read_only, refusal_of, asks_for_new, has_room, allowed_step, step}
+use Rattle.judy_model.specs.Solo.{is_memory, StepHasMemory}
 use Rattle.judy_model.specs.WellFormed.{is_one_entry, is_long_entry, is_string_entry, is_bytes_entry, IsWellFormed, FullIsForNew, LooksKeepAll, QueriesKeepAll}
 use Rattle.judy_model.proofs.lemmas.FormLemmas.{with_content_same}
 
@@ -387,5 +387,5 @@ full_is_for_new right quota s call = ((told, tells), kept right)
     kept Look h e = look_keeps quota s call h
     kept Frozen h e = frozen_keeps quota s call h
     kept Change h e =
-        let (a, m) = from false (asks_for_new Change s call) (has_room quota s call) (sym (allowed_refusal quota s call) ∙ ap refusal e) in
+        let (a, m) = from false (asks_for_new Change s call) (has_room quota s call) Change (sym (allowed_refusal quota s call) ∙ ap refusal e) in
         allowed_kept quota s call h (inr (and_from (asks_for_new Change s call) _ a m))

@@ -16,7 +16,7 @@ use Rattle.judy_model.specs.declared.replies.Reply.TheVariants as reply
 use Rattle.judy_model.specs.Contents.{Order, Entries, word_order, string_order, max_word}
 use Rattle.judy_model.specs.Grammar.{are_bytes, is_string, is_byte_key}
 use Rattle.judy_model.specs.Solo.{IsAnswered}
-use Rattle.judy_model.specs.Tenant.{Arrays, State, Attempt, content_of, used, pieces, step, changes, is_read_only, asks_for_new, new_pieces, has_room, value_after}
+use Rattle.judy_model.specs.Tenant.{Arrays, State, Attempt, content_of, used, pieces, step, changes, asks_for_new, new_pieces, has_room, value_after}
 
 -- a number that fits a word
 abbrev pub is_word : ℕ → Bool

@@ -72,8 +72,9 @@ pub fn memory_is_for_new_entries()
     ensures { MemoryIsForNew }
 {}
 
-/// The reply is `ERR READONLY` exactly if the call may change arrays and the right does not allow
-/// it. Under the read-only right, every call leaves well-formed arrays unchanged.
+/// The reply is `ERR READONLY` exactly if the call may change arrays and the right is the read-only
+/// one, and `ERR FROZEN` exactly if it may and the right is that of a frozen tenant. Under these two
+/// rights, every call leaves well-formed arrays unchanged.
 pub fn looks_keep_all()
     ensures { LooksKeepAll }
 {}

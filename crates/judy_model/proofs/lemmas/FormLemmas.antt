@@ -28,8 +28,8 @@ use Rattle.judy_model.specs.declared.quotas.Quota.{Quota}
 use Rattle.judy_model.specs.declared.replies.Reply.{Reply}
 use Rattle.judy_model.specs.declared.replies.Reply.TheVariants as reply
 use Rattle.judy_model.specs.Grammar.{are_bytes, is_string, is_byte_key}
-use Rattle.judy_model.specs.Contents.{Order, Entries, IsWordArray, word_order, string_order, has_key, with_entry, without_key}
-use Rattle.judy_model.specs.Tenant.{Arrays, State, no_arrays, content_of, with_content, value_after, insert_over, insert, one_step}
+use Rattle.judy_model.specs.Contents.{Order, Entries, word_order, string_order, has_key, with_entry, without_key}
+use Rattle.judy_model.specs.Tenant.{Arrays, State, content_of, with_content, value_after, insert_over, insert, one_step}
 use Rattle.judy_model.specs.Tenant.{long_step, string_step, bytes_step, has_room, allowed_step, is_read_only, refusal_of}
 use Rattle.judy_model.specs.WellFormed.{is_word, is_one_entry, is_long_entry, is_string_entry, is_bytes_entry, is_content}
 use Rattle.judy_model.specs.WellFormed.{has_entries, are_arrays, IsWellFormed, writes_entry, StepKeepsForm}

@@ -9,7 +9,7 @@ use Rattle.judy_model.specs.Speakers.{Speaker}
 use Rattle.judy_model.specs.Stream.{lines_of, rest_of, heard, served, Login, Heard, speaker_after, is_quit, through_quit}
 use Rattle.judy_model.specs.Stream.{speaker_of, event_of, events_from, welcome, answer_from}
 use Rattle.judy_model.specs.Stream.Heard.{TooLong, Unclear, Asked}
-use Rattle.judy_model.proofs.lemmas.LineLemmas.{IsOneLine, lines_of-append, lines_of-push}
+use Rattle.judy_model.proofs.lemmas.LineLemmas.{lines_of-append}
 
 module _ (login : Login) where
   -- the speaker after the lines a ++ b

@@ -22,14 +22,13 @@ use Rattle.std.specs.List.{AllByRecursion}
 use Rattle.std.specs.Str.{bytes_eq}
 use Rattle.sha2.specs.Sha256.{sha256}
 use Rattle.judy_model.specs.Grammar.{is_name}
-use Rattle.judy_model.specs.declared.quotas.Right.{Right}
 use Rattle.judy_model.specs.declared.quotas.Right.TheVariants.{Change, Look, Frozen}
 use Rattle.judy_table.specs.declared.table.TheConstants.{TENANTS_LIMIT, ROWS_LIMIT}
 use Rattle.judy_table.specs.declared.tenant.Tenant.{Tenant}
 use Rattle.judy_table.specs.Tenants.{is_vacant, vacant, place_of, owns, may_change, is_kept_out, may_look, right_of, IsLimited}
 use Rattle.judy_table.specs.Freezes.{is_tenant_of, has_tenant_of, frozen_row, with_freeze}
 use Rattle.judy_table.specs.Seats.{has_name, row_of, named, name_at, are_distinct, right_in, AreRows, IsSpelled}
-use Rattle.judy_table.proofs.Placing.{one-name, other-name, same-name, tenant-name, vacant-name, row-named, row-absent, place-more}
+use Rattle.judy_table.proofs.Placing.{one-name, vacant-name, row-named, place-more}
 use Rattle.judy_table.proofs.lemmas.Seats.{right-of-row}
 
 -- ---- one row

@@ -17,7 +17,7 @@ use Rattle.judy_model.specs.Grammar.{is_name}
 use Rattle.judy_table.specs.declared.table.TheConstants.{TENANTS_LIMIT, ROWS_LIMIT}
 use Rattle.judy_table.specs.declared.tenant.Tenant.{Tenant}
 use Rattle.judy_table.specs.Tenants.{is_vacant, vacant, place_of, IsLimited}
-use Rattle.judy_table.specs.Seats.{has_name, row_of, keeping, seat_of, is_fresh, fresh_in, placed, seated, named, are_distinct, AreRows, IsSpelled}
+use Rattle.judy_table.specs.Seats.{has_name, row_of, keeping, is_fresh, fresh_in, placed, seated, named, are_distinct, AreRows, IsSpelled}
 use Rattle.judy_table.specs.Unlimited.{most_quota, unlimited_row, unlimited}
 use Rattle.judy_table.proofs.Placing.{one-name, other-name, tenant-name, vacant-other, place-more}
 use Rattle.judy_table.proofs.lemmas.Seats.{keeping-own}

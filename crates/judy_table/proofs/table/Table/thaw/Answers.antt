@@ -1,0 +1,19 @@
+use Rattle.std.proofs.Common.{◌≡◌, ◌++◌, None, length, take, drop, ap, sym, ◌∙◌, subst}
+use Rattle.std.proofs.Math.Seq.{take-append_seam}
+use Rattle.std.proofs.lemmas.List.{length-map}
+use Rattle.judy_table.specs.Freezes.{frozen_row, with_freeze}
+use Rattle.judy_table.specs.Seats.{AreRows}
+use Rattle.judy_table.proofs.lemmas.Freezes.{freeze-rows}
+use Rattle.judy_table.proofs.table.Table.thaw.Goals as goal
+
+pub invariant_of-self : goal.invariant_of-self
+invariant_of-self c =
+    let rows = c.self.inside.tenants.items in
+    let later = c.freeze.new.rows in
+    let is : later ≡ with_freeze c.args.name.now None rows
+    = c.freeze.ensures.rows ∙ ap (with_freeze c.args.name.now None) c.deref_mut.ensures.value in
+    let many : c.self.inside.tenants.len ≡ length later
+    = c.self.inside.tenants.ok.0 ∙ sym (ap length is ∙ length-map rows (frozen_row c.args.name.now None)) in
+    let whole : take c.self.inside.tenants.len (later ++ drop (length later) rows) ≡ later
+    = ap (λ n. take n (later ++ drop (length later) rows)) many ∙ take-append_seam later (drop (length later) rows) in
+    subst AreRows (sym (whole ∙ is)) (freeze-rows c.args.name.now None rows c.self.invariant)
