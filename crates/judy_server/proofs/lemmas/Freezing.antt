@@ -2,9 +2,11 @@
 --     ordered-changed   so each tenant keeps its arrays, as the rows say
 --     ordered-reload    an order is carried out
 --     order-stays       an order keeps all arrays and names
-use Rattle.std.proofs.Common.{◌≡◌, ◌⊎◌, inr, ◌∙◌, ◌&&◌, ℕ, Bool, true, false, not, List, Option, Some, None, ap, arith, refl, subst, sym}
-use Rattle.std.specs.Prelude.{option_map, slice_get, unwrap_or}
-use Rattle.std.specs.List.{AllByRecursion}
+--     stays-if          so it does where a look at the text found an order
+--     no-order          a text is none where it found none
+--     if-made           what follows of a step that was made
+use Rattle.std.proofs.Common.{◌≡◌, ◌⊎◌, inr, ◌∙◌, ◌&&◌, ℕ, Bool, true, false, not, List, Option, Some, None, ap, arith, is_some, refl, subst, sym}
+use Rattle.std.specs.Prelude.{MatchBool, option_map, slice_get}
 use Rattle.std.proofs.lemmas.List.Elements.{recursion_from_All}
 use Rattle.judy_model.specs.Tenant.{no_arrays}
 use Rattle.judy_model.specs.declared.quotas.Quota.{Quota}
@@ -94,3 +96,16 @@ order-stays old text order new is h =
       λ t. ap (λ (x : Held). states_of x t) only,
       λ t. inr (ap (λ (ts : List Tenant). name_at ts t) rows ∙ freeze-names order.name order.frozen old.held.tenants t),
     )
+
+pub stays-if : {A : Type 0} (f : A → Freeze) (old : Tallied) (text : List ℕ) (found : Option A) → option_map f found ≡ order_in text → is_some found ≡ true
+    → (new : Tallied) → IsReload old text new → AllStay old new
+stays-if f old text (Some order) reads there new h = order-stays old text (f order) new (sym reads) h
+stays-if f old text None reads there new h = cc
+
+pub no-order : {A : Type 0} (f : A → Freeze) (text : List ℕ) (found : Option A) → option_map f found ≡ order_in text → is_some found ≡ false → order_in text ≡ None
+no-order f text (Some order) reads none = cc
+no-order f text None reads none = sym reads
+
+pub if-made : {P Q R : Type 0} (made : Bool) → (P → Q) → MatchBool made P R → MatchBool made Q R
+if-made true f h = f h
+if-made false f h = h

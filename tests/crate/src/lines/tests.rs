@@ -404,16 +404,16 @@ fn flushes_of(rt: &impl Abort, alloc: Global, batch: Batch, step: Option<usize>)
 
 #[test]
 fn each_reply_goes_out_before_the_next_read(rt: HostRuntime) {
-    // There is exactly one flush after each of the 18 replies.
+    // There is exactly one flush after each of the 20 replies.
     for batch in BATCHES {
-        same(&rt, flushes_of(&rt, rt.alloc(), batch, None), 18);
+        same(&rt, flushes_of(&rt, rt.alloc(), batch, None), 20);
     }
     // A read may end within a line: then the replies to the lines before it go out, each with a flush,
     // or with `EachRead` all with one.
-    let until_quit = first_lines(SCRIPT, 18);
+    let until_quit = first_lines(SCRIPT, 20);
     for step in 1..SCRIPT.len() {
         let flushes = flushes_of(&rt, rt.alloc(), Batch::EachReply, Some(step));
-        same_at(&rt, flushes, 18, step);
+        same_at(&rt, flushes, 20, step);
         let flushes = flushes_of(&rt, rt.alloc(), Batch::EachRead, Some(step));
         same_at(&rt, flushes, reads_with_lines(until_quit, step), step);
     }
