@@ -24,7 +24,7 @@ sys.path.insert(0, HERE)
 from judyd import QUERIES, Client, Closed, Retry  # noqa: E402
 
 PROGRAM = os.environ.get("JUDYD") or os.path.join(HERE, "..", "..", "judyd")
-EXPECTED = re.compile(r"judyd: (\S+ started: |stopping$|log-in refused: |accept failed: )")
+EXPECTED = re.compile(r"judyd: (\S+ started: |stopping$|log-in refused: |accept failed: |tenant \S+ (frozen|thawed)$)")
 TENANTS = [("alice", "abc", 1000000, "look"), ("bob", "hello", 3, None), ("empty", "abc", 0, None)]
 
 

@@ -204,7 +204,7 @@ class Restores(RestoreTest):
             self.assertEqual(more, [b"THAW alice\n"] if answer == b"OK\n" else [])
         self.assertTrue(self.may_write())
 
-    def begun(self, count=100000):
+    def begun(self, count=50000):
         """A restore of a large dump that has freed the first array."""
         with alice(self.own.path) as client:
             client.judy1("ids").update(range(count))

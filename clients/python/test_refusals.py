@@ -15,7 +15,7 @@ sys.path.insert(0, os.path.dirname(os.path.abspath(__file__)))
 
 import judyd  # noqa: E402
 from judyd import (  # noqa: E402
-    Client, Closed, ConnectionLost, Full, Hello, KeyTooLong, Long, NoServer, NotAuthorized, ReadOnly, Refused, Syntax, TimedOut, Visitor,
+    Client, Closed, ConnectionLost, Frozen, Full, Hello, KeyTooLong, Long, NoServer, NotAuthorized, ReadOnly, Refused, Syntax, TimedOut, Visitor,
 )  # fmt: skip
 from judyd.fields import KEY_LIMIT, LINE_LIMIT, hello_of, nothing_of  # noqa: E402
 from served import WithClient, WithServer  # noqa: E402
@@ -205,6 +205,17 @@ class Odd(WithServer):
     def test_answers_that_are_none(self):
         for reply in (b"V 1\n", b"N\n", b"N x\n", b"\n", b"HTTP/1.1 400 Bad Request\n"):
             self.assertRaises((judyd.Error, ValueError), self.answered(reply).judy1("a").count)
+
+    def test_a_refusal_of_a_later_server(self):
+        with self.assertRaises(Refused) as caught:
+            self.answered(b"ERR NEW\n").judy1("a").count()
+        self.assertEqual((type(caught.exception), str(caught.exception), caught.exception.reply), (Refused, "ERR NEW", "ERR NEW"))
+        for replies in (b"1\n1\nERR NEW\nFULL\n1\n", b"1\nERR FROZEN\n1\n1\n1\n"):
+            with self.assertRaisesRegex(Refused, "ERR NEW|ERR FROZEN: the tenant is frozen while its arrays are restored"):
+                self.answered(replies).judy1("a").update(range(5))
+            with self.assertRaisesRegex(Refused, "ERR"), self.answered(replies).pipeline() as pipe:
+                pipe.judy1("a").update(range(5))
+        self.assertRaises(Frozen, self.answered(b"ERR FROZEN\n").judyl("a").insert, 5, 5)
 
     def test_an_end_in_a_reply(self):
         self.assertRaises(Closed, self.answered(b"N 1").judy1("a").count)
