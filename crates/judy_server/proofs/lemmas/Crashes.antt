@@ -90,8 +90,15 @@ replayed-run places (bytes ∷ records) old new s asks (mid, first, rest) =
         },
         more.run,
       );
-      are = inl (bytes, records, refl, asks bytes p.event p.asked ∙ ap Ok (sym (asked_again (places_in old) bytes p.event p.asked).0),
-          p.turns, p.unrefused, more.are);
+      are = inl (
+        bytes,
+        records,
+        refl,
+        asks bytes p.event p.asked ∙ ap Ok (sym (asked_again (places_in old) bytes p.event p.asked).0),
+        p.turns,
+        p.unrefused,
+        more.are,
+      );
       sound = more.sound;
       tenants = more.tenants ∙ p.made.keeps.tenants;
     }

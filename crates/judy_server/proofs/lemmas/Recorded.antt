@@ -159,8 +159,15 @@ call-recorded : (places : Places) (name : List ℕ) (event : Event) (reply : Rep
     → AreRecords places ((event, reply) ∷ []) records
 call-recorded places name event reply records good found true is (line, one, reads) =
     let (turns, told) = and_parts (changes event.call) (not (says_unchanged event.call reply)) is in
-    inl (record_of name line, [], one, asks_again places name line event good found reads turns, turns,
-        unrefused (is_refused reply) (leaves event.call reply) told, refl)
+    inl (
+      record_of name line,
+      [],
+      one,
+      asks_again places name line event good found reads turns,
+      turns,
+      unrefused (is_refused reply) (leaves event.call reply) told,
+      refl,
+    )
   where
     unrefused : (r l : Bool) → not (r || l) ≡ true → r ≡ false
     unrefused true l e = cc

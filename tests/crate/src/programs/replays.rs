@@ -137,7 +137,8 @@ fn play_all(alloc: Global, service: &mut Service<Sha256Hash>, text: &str) -> Res
     replay_all(alloc, service, text.as_bytes(), &mut key, &mut found)
 }
 
-/// Writes the reply to the call of a line that a tenant asks for. Returns whether the call is recorded.
+/// Writes the reply to the call of a line that a tenant asks for. Returns whether the call is recorded: it is
+/// not refused, and its reply does not say that all was so before.
 fn ask(
     alloc: Global,
     service: &mut Service<Sha256Hash>,
@@ -165,7 +166,7 @@ fn ask(
         reply,
         Reply::Full | Reply::ReadOnly | Reply::Frozen | Reply::Memory
     );
-    Ok(call.changes() && !refused)
+    Ok(call.changes() && !refused && !call.leaves(&reply))
 }
 
 /// Checks that a tenant gets the same reply to a line from both services.
@@ -259,7 +260,7 @@ fn random_lines(rt: HostRuntime) -> Result<(), Fail> {
             kept = kept.saturating_add(1);
         }
     }
-    holds_at(&rt, kept > 150, ("few lines are recorded", kept));
+    holds_at(&rt, kept > 100, ("few lines are recorded", kept));
     holds_at(&rt, kept < 290, ("no line is refused", kept));
     let mut restored = open(alloc, LATER)?;
     same(
