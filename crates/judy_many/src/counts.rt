@@ -27,6 +27,72 @@ pub struct Counts {
     dropped: u64,
 }
 
+/// What was written to a journal since the start: zeros if there is none. The counts saturate.
+#[derive(Clone, Copy, Debug, PartialEq, Eq)]
+pub struct JournalCounts {
+    segment: u64,
+    bytes: u64,
+    unsynced: u64,
+    syncs: u64,
+}
+
+impl JournalCounts {
+    /// Nothing was written yet; this segment goes on, or none if it is 0.
+    pub fn new(segment: u64) -> JournalCounts {
+        JournalCounts {
+            segment,
+            bytes: 0,
+            unsynced: 0,
+            syncs: 0,
+        }
+    }
+
+    /// A segment was begun.
+    pub fn begin(&mut self, segment: u64) {
+        self.segment = segment;
+    }
+
+    /// Bytes were appended.
+    pub fn keep(&mut self, n: usize) {
+        self.bytes = self.bytes.saturating_add(n as u64);
+        self.unsynced = self.unsynced.saturating_add(n as u64);
+    }
+
+    /// All that was appended was synced.
+    pub fn sync(&mut self) {
+        self.unsynced = 0;
+        self.syncs = up(self.syncs);
+    }
+
+    /// Appends these numbers.
+    fn add_to(&self, text: &mut Text) {
+        add_gauge(
+            text,
+            b"judyd_journal_segment",
+            b"The segment of the journal that is written.",
+            self.segment,
+        );
+        add_counter(
+            text,
+            b"judyd_journal_bytes_total",
+            b"Bytes that were appended to the journal.",
+            self.bytes,
+        );
+        add_gauge(
+            text,
+            b"judyd_journal_unsynced_bytes",
+            b"Bytes of the journal that are not synced yet.",
+            self.unsynced,
+        );
+        add_counter(
+            text,
+            b"judyd_journal_syncs_total",
+            b"Syncs of the journal.",
+            self.syncs,
+        );
+    }
+}
+
 /// One more.
 fn up(count: u64) -> u64 {
     count.saturating_add(1)
@@ -237,8 +303,8 @@ impl Counts {
         );
     }
 
-    /// The text, with the seconds since the start.
-    pub fn text(&self, seconds: u64) -> Text {
+    /// The text, with the seconds since the start, and the numbers of the journal.
+    pub fn text(&self, seconds: u64, journal: JournalCounts) -> Text {
         let mut text = ArrayVec::new();
         self.add_connections(&mut text);
         self.add_bytes(&mut text);
@@ -254,6 +320,7 @@ impl Counts {
             b"Seconds since the start.",
             seconds,
         );
+        journal.add_to(&mut text);
         text
     }
 }

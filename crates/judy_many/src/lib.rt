@@ -30,6 +30,7 @@ mod warnings;
 
 pub use buffers::{Answers, Input, Sent};
 pub use client::{Client, Fate, listen, tell};
+pub use counts::JournalCounts;
 pub use judy_protocol::ANSWERS_LIMIT;
 pub use keeping::{Keeper, begin_segment};
 pub use laws::{answers_are_kept, stories_are_written};

@@ -4,7 +4,7 @@ ghost use Rattle.judy_many.specs.Comes.{HasNumber};
 ghost use Rattle.judy_many.specs.Nets.{Fits, Takes};
 ghost use Rattle.judy_many.specs.Queues.{AreAwake, StayAwake};
 
-use crate::counts::Counts;
+use crate::counts::{Counts, JournalCounts};
 use crate::desk::{CONTROL, Desk, Purpose, STATUS};
 use crate::limits::{CLIENTS_LIMIT, EVENTS_LIMIT};
 use crate::lines::tell_line;
@@ -352,10 +352,11 @@ impl<'a, F: Files + Net + Clock + Eprint> Sockets<'a, F> {
         ask_at(&mut self.status, registry, now)
     }
 
-    /// Answers what was asked last. What the asker does not take at once is dropped.
-    pub fn report(&mut self, text: &[u8]) {
+    /// Answers what was asked last, with the numbers of the journal. What the asker does not take at
+    /// once is dropped.
+    pub fn report(&mut self, text: &[u8], journal: JournalCounts) {
         let seconds = self.seconds().unwrap_or(0);
-        let first = self.counts.text(seconds);
+        let first = self.counts.text(seconds, journal);
         if let Some(desk) = &mut self.status {
             desk.answer(first.as_slice(), text);
         }

@@ -4,7 +4,7 @@ ghost use Rattle.judy_recovery.specs.Whole.{HasPlayedJournal, HasResumed, Kept};
 
 use crate::journals::Readies;
 use judy_disk::{DiskFault, Folder, Growing, Locks, Place, Spares};
-use judy_many::tell_line;
+use judy_many::{JournalCounts, tell_line};
 use judy_recovery::{End, JournalFault, Resumed, recover, resume};
 use std::alloc::Global;
 use std::io::{self, Eprint};
@@ -18,6 +18,7 @@ pub struct Directory<'a, F: Locks> {
     lock: Option<F::File>,
     current: Option<Growing<F>>,
     spares: Spares<F>,
+    counts: JournalCounts,
     fault: Option<JournalFault>,
 }
 
@@ -84,8 +85,14 @@ impl<'a, F: Locks + Eprint + Clone + Drop> Directory<'a, F> {
             lock: None,
             current: None,
             spares: Spares::new(),
+            counts: JournalCounts::new(0),
             fault: None,
         }
+    }
+
+    /// What was written to the journal since the start: zeros if there is none.
+    pub fn counts(&self) -> JournalCounts {
+        self.counts
     }
 
     /// What the disk refused last, and why.
@@ -120,6 +127,7 @@ impl<'a, F: Locks + Eprint + Clone + Drop> Directory<'a, F> {
         self.folder = Some(folder);
         self.lock = Some(lock);
         self.current = current;
+        self.counts = JournalCounts::new(resumed.segment);
         Ok(resumed)
     }
 
@@ -202,6 +210,7 @@ impl<'a, F: Locks + Eprint + Clone + Drop> Directory<'a, F> {
             Ok(current) => {
                 self.current = Some(current);
                 self.spares.take(folder);
+                self.counts.begin(segment);
                 true
             }
             Err(fault) => self.did(Err(fault)),
@@ -214,6 +223,7 @@ impl<'a, F: Locks + Eprint + Clone + Drop> Directory<'a, F> {
             return false;
         };
         let done = current.append(bytes);
+        self.counts.keep(bytes.len());
         self.did(done)
     }
 
@@ -228,6 +238,7 @@ impl<'a, F: Locks + Eprint + Clone + Drop> Directory<'a, F> {
             return false;
         };
         let done = current.sync();
+        self.counts.sync();
         self.did(done)
     }
 }

@@ -322,7 +322,7 @@ impl<'a, F: Locks + Net + Clock + Eprint + Clone + Drop> Network for System<'a, 
 
     fn report(&mut self, text: &[u8]) {
         if let Some(sockets) = &mut self.sockets {
-            sockets.report(text);
+            sockets.report(text, self.directory.counts());
         }
         self.notes.reported(text);
     }
