@@ -13,6 +13,7 @@ use Rattle.std.specs.Prelude.{◌≡◌, ◌⊎◌, ◌||◌, ℕ, Bool, true, s
 use Rattle.std.specs.List.{list_all}
 use Rattle.judy_table.specs.declared.fault.TableFault.{TableFault}
 use Rattle.judy_table.specs.declared.tenant.Tenant.{Tenant}
+use Rattle.judy_model.specs.Tenant.{no_arrays}
 use Rattle.judy_table.specs.Freezes.{has_tenant_of, with_freeze}
 use Rattle.judy_table.specs.Seats.{AreRows, has_name, name_at, seated}
 use Rattle.judy_table.specs.Tenants.{is_vacant, read_table}
@@ -94,6 +95,8 @@ pub record IsReload (old : Tallied) (text : List ℕ) (new : Tallied) : Type 0 w
   pub meant : IsMeant old.held.tenants text (order_in text)
   pub tenants : new.held.tenants ≡ rows_with old.held.tenants text
   pub only : KeepsRest (order_in text) old.held new.held
+  -- each tenant keeps its arrays, or has none
+  pub keeps : (t : ℕ) → (states_of new.held t ≡ states_of old.held t) ⊎ (states_of new.held t ≡ no_arrays)
   pub rows : AreRows new.held.tenants
   pub held : HasChanged old.held new.held
   pub sound : IsSoundService new.held

@@ -166,11 +166,6 @@ no_counts = record {
 abbrev pub bumped : List ℕ → ℕ → List ℕ
 bumped counts place = slice_set counts place (count_up (slice_index counts place))
 
--- the counter of a tenant goes up, if there is one
-abbrev pub bumped_for : Option ℕ → List ℕ → List ℕ
-bumped_for None counts = counts
-bumped_for (Some place) counts = bumped counts place
-
 -- the counter of a place is forgotten, if no tenant has it
 abbrev pub cleared : Bool → ℕ → List ℕ → List ℕ
 cleared vacant place counts = if vacant then slice_set counts place 0 else counts
@@ -191,9 +186,10 @@ with_line line answer tally = record tally { lines = bumped tally.lines (call_pl
 
 -- they were counted for the tenant that speaks after the line, if one does: the line, and the answer `FULL`
 abbrev pub with_share : Option ℕ → List ℕ → Tally → Tally
-with_share who answer tally = record tally {
-  spoken = bumped_for who tally.spoken;
-  full = (if reply_place answer == 1 then bumped_for who tally.full else tally.full);
+with_share None answer tally = tally
+with_share (Some place) answer tally = record tally {
+  spoken = bumped tally.spoken place;
+  full = (if reply_place answer == 1 then bumped tally.full place else tally.full);
 }
 
 -- the tenant of a speaker

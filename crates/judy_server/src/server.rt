@@ -1,12 +1,12 @@
 //! The tenants of a table, as a connection and a program see them.
-ghost use Rattle.std.specs.Prelude.{◌≡◌, None, true};
+ghost use Rattle.std.specs.Prelude.{◌≡◌, None, option_map, true};
 ghost use Rattle.std.proofs.Common.{ap, refl};
 ghost use Rattle.judy_table.specs.Seats.{goes_on};
 ghost use Rattle.judy_table.specs.Shown.{seen};
 ghost use Rattle.judy_protocol.specs.Sending.{MaySend};
 ghost use Rattle.judy_protocol.specs.Serving.{wire};
+ghost use Rattle.judy_protocol.specs.Talks.{as_heard};
 ghost use Rattle.judy_programs.specs.Program.{HasRun, IsSent, MayPullScript, is_refused};
-ghost use Rattle.judy_server.proofs.lemmas.Orders.{change-keeps};
 ghost use Rattle.judy_server.specs.Limits.{IsLifted, IsLimited};
 ghost use Rattle.judy_server.specs.Reloads.{AllStay, IsReload};
 ghost use Rattle.judy_server.specs.Served.{IsServedStep, IsNewService, IsNoted, seen_of, held_words};
@@ -162,7 +162,9 @@ impl<H: Chosen> Shows for Server<H> {
         add_status(text, &self.service, &self.tally, speakers)
     }
 
-    fn note(&mut self, speaker: Option<Speaker>, asked: &Result<Line<'_>, Refusal>, answer: &[u8]) {
+    fn note(&mut self, speaker: Option<Speaker>, asked: &Result<Line<'_>, Refusal>, answer: &[u8])
+        ensures { IsNoted self.old (option_map seen speaker) (as_heard asked.now) answer.now self.new }
+    {
         self.tally.count(asked, answer);
         self.tally.count_for(tenant_of(speaker), answer);
         if let Some(name) = refused_name(asked, answer) {
@@ -210,8 +212,7 @@ impl<H: Chosen> Shows for Server<H> {
         self.service.find(name).is_some()
     }
 
-    ghost stays = { λ before after text changed.
-        change-keeps before.held after.held changed.held };
+    ghost stays = { λ before after text changed. changed.keeps };
 
     ghost unseen = { λ before after who line answer noted. ap seen_of noted };
 }

@@ -5,7 +5,7 @@ ghost use Rattle.std.specs.Ordering.{eq_by_cmp};
 ghost use Rattle.judy_arena.specs.Blocks.{count_up};
 ghost use Rattle.judy_model.specs.Contents.{string_order};
 ghost use Rattle.judy_protocol.specs.Talks.{as_heard};
-ghost use Rattle.judy_server.specs.Tally.{bumped, bumped_for, call_place, cleared, no_counts, refused_at, refused_name, refuses_login, reply_place, with_line};
+ghost use Rattle.judy_server.specs.Tally.{bumped, call_place, cleared, no_counts, refused_at, refused_name, refuses_login, reply_place, with_line};
 ghost use Rattle.judy_server.specs.Tally.{with_share};
 
 use crate::calls::place_of_call;
@@ -63,16 +63,6 @@ fn bump(counts: &mut [u64], place: usize)
 {
     if place < counts.len() {
         counts[place] = up(counts[place]);
-    }
-}
-
-/// Counts for a tenant, if there is one.
-fn bump_for(counts: &mut [u64], tenant: Option<TenantId>)
-    ensures { counts.new ≡ bumped_for tenant counts.old }
-{
-    match tenant {
-        Some(tenant) => bump(counts, tenant.place() as usize),
-        None => {}
     }
 }
 
@@ -203,9 +193,12 @@ impl Tally {
     pub fn count_for(&mut self, tenant: Option<TenantId>, answer: &[u8])
         ensures { self.new ≡ with_share tenant answer.now self.old }
     {
-        bump_for(&mut self.spoken, tenant);
+        let Some(tenant) = tenant else {
+            return;
+        };
+        bump(&mut self.spoken, tenant.place() as usize);
         if reply_place(answer) == 1 {
-            bump_for(&mut self.full, tenant);
+            bump(&mut self.full, tenant.place() as usize);
         }
     }
 

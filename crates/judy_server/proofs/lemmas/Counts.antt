@@ -30,7 +30,7 @@ use Rattle.judy_server.specs.Present.{speaks_for}
 use Rattle.judy_server.specs.Reloads.{IsReload, forgotten, rows_with}
 use Rattle.judy_server.specs.Rules.{server_rules}
 use Rattle.judy_server.specs.Served.{IsServedStep}
-use Rattle.judy_server.specs.Tally.{Tallied, bumped, bumped_for, call_place, counted, no_counts, refused_at, refused_name, refused_to, reply_place, tenant_of, with_line, with_share}
+use Rattle.judy_server.specs.Tally.{Tallied, bumped, call_place, counted, no_counts, refused_at, refused_name, refused_to, reply_place, tenant_of, with_line, with_share}
 use Rattle.judy_server.specs.declared.tally.Tally.{Tally}
 use Rattle.judy_server.proofs.lemmas.Space.{rows-of}
 use Rattle.judy_server.proofs.lemmas.Starting.{HasServedAny, started-keeps}
@@ -168,20 +168,47 @@ refused-unknown tenants (Some name) tally = at (place_of name tenants)
     at None = refl
     at (Some p) = refl
 
--- a counter of the tenant that speaks, if one does
-bumped-for : (who : Option Speaker) (counts : List ℕ) (place : ℕ) → place < length counts
-    → (slice_index (bumped_for (tenant_of who) counts) place ≡ cond (speaks_for place who) (count_up (slice_index counts place)) (slice_index counts place))
-    × (length (bumped_for (tenant_of who) counts) ≡ length counts)
-bumped-for None counts place few = (refl, refl)
-bumped-for (Some speaker) counts place few = (bumped-at counts speaker.tenant place few, bumped-length counts speaker.tenant)
+-- what is counted for the tenant that speaks after a line, if one does, changes no other counter
+shared-lines : (who : Option ℕ) (answer : List ℕ) (tally : Tally) → (with_share who answer tally).lines ≡ tally.lines
+shared-lines None answer tally = refl
+shared-lines (Some place) answer tally = refl
 
--- so it is if a test holds
-bumped-if : (test : Bool) (who : Option Speaker) (counts : List ℕ) (place : ℕ) → place < length counts
-    → (slice_index (cond test (bumped_for (tenant_of who) counts) counts) place
-    ≡ cond (test && speaks_for place who) (count_up (slice_index counts place)) (slice_index counts place))
-    × (length (cond test (bumped_for (tenant_of who) counts) counts) ≡ length counts)
-bumped-if true who counts place few = bumped-for who counts place few
-bumped-if false who counts place few = (refl, refl)
+shared-replies : (who : Option ℕ) (answer : List ℕ) (tally : Tally) → (with_share who answer tally).replies ≡ tally.replies
+shared-replies None answer tally = refl
+shared-replies (Some place) answer tally = refl
+
+shared-refused : (who : Option ℕ) (answer : List ℕ) (tally : Tally) → (with_share who answer tally).refused ≡ tally.refused
+shared-refused None answer tally = refl
+shared-refused (Some place) answer tally = refl
+
+shared-unknown : (who : Option ℕ) (answer : List ℕ) (tally : Tally) → (with_share who answer tally).unknown ≡ tally.unknown
+shared-unknown None answer tally = refl
+shared-unknown (Some place) answer tally = refl
+
+shared-spoken : (who : Option Speaker) (answer : List ℕ) (tally : Tally) (place : ℕ) → place < length tally.spoken
+    → (slice_index (with_share (tenant_of who) answer tally).spoken place
+    ≡ cond (speaks_for place who) (count_up (slice_index tally.spoken place)) (slice_index tally.spoken place))
+    × (length (with_share (tenant_of who) answer tally).spoken ≡ length tally.spoken)
+shared-spoken None answer tally place few = (refl, refl)
+shared-spoken (Some speaker) answer tally place few = (bumped-at tally.spoken speaker.tenant place few, bumped-length tally.spoken speaker.tenant)
+
+bumped-if : (test : Bool) (counts : List ℕ) (i place : ℕ) → place < length counts
+    → (slice_index (cond test (bumped counts i) counts) place ≡ cond (test && (i == place)) (count_up (slice_index counts place)) (slice_index counts place))
+    × (length (cond test (bumped counts i) counts) ≡ length counts)
+bumped-if true counts i place few = (bumped-at counts i place few, bumped-length counts i)
+bumped-if false counts i place few = (refl, refl)
+
+not-both : (test : Bool) (m n : ℕ) → n ≡ cond (test && false) m n
+not-both true m n = refl
+not-both false m n = refl
+
+shared-full : (who : Option Speaker) (answer : List ℕ) (tally : Tally) (place : ℕ) → place < length tally.full
+    → (slice_index (with_share (tenant_of who) answer tally).full place
+    ≡ cond ((reply_place answer == 1) && speaks_for place who) (count_up (slice_index tally.full place)) (slice_index tally.full place))
+    × (length (with_share (tenant_of who) answer tally).full ≡ length tally.full)
+shared-full None answer tally place few =
+    (not-both (reply_place answer == 1) (count_up (slice_index tally.full place)) (slice_index tally.full place), refl)
+shared-full (Some speaker) answer tally place few = bumped-if (reply_place answer == 1) tally.full speaker.tenant place few
 
 -- the counts after a line, before a refused log-in is counted
 abbrev shared : Turn → Tally → Tally
@@ -189,30 +216,38 @@ shared t tally = with_share (tenant_of t.after) (text_of t) (with_line t.line (t
 
 lines-rise : (place : ℕ) → Rises (λ tally. slice_index tally.lines place) (λ tally. place < length tally.lines) (λ tenants. asks place)
 lines-rise place tenants t tally few =
-    let same = refused-lines tenants (refused_name t.line (text_of t)) (shared t tally) in (
+    let same = refused-lines tenants (refused_name t.line (text_of t)) (shared t tally) ∙ shared-lines (tenant_of t.after) (text_of t) (with_line t.line (text_of t) tally) in (
       ap (λ xs. slice_index xs place) same ∙ bumped-at tally.lines (call_place t.line) place few,
       subst (λ xs. place < length xs) (sym same) (subst (λ n. place < n) (sym (bumped-length tally.lines (call_place t.line))) few),
     )
 
 replies-rise : (place : ℕ) → Rises (λ tally. slice_index tally.replies place) (λ tally. place < length tally.replies) (λ tenants. answers place)
 replies-rise place tenants t tally few =
-    let same = refused-replies tenants (refused_name t.line (text_of t)) (shared t tally) in (
+    let same = refused-replies tenants (refused_name t.line (text_of t)) (shared t tally) ∙ shared-replies (tenant_of t.after) (text_of t) (with_line t.line (text_of t) tally) in (
       ap (λ xs. slice_index xs place) same ∙ bumped-at tally.replies (reply_place (text_of t)) place few,
       subst (λ xs. place < length xs) (sym same) (subst (λ n. place < n) (sym (bumped-length tally.replies (reply_place (text_of t)))) few),
     )
 
 logins-rise : (place : ℕ) → Rises (λ tally. slice_index tally.refused place) (λ tally. place < length tally.refused) (λ tenants. refuses tenants (Some place))
 logins-rise place tenants t tally few =
-    let here = refused-refused tenants (refused_name t.line (text_of t)) (shared t tally) place few in
-    (here.0, subst (λ n. place < n) (sym here.1) few)
+    let same = shared-refused (tenant_of t.after) (text_of t) (with_line t.line (text_of t) tally) in
+    let fits : place < length (shared t tally).refused = subst (λ xs. place < length xs) (sym same) few in
+    let here = refused-refused tenants (refused_name t.line (text_of t)) (shared t tally) place fits in (
+      here.0 ∙ ap (λ xs. cond (refuses tenants (Some place) t) (count_up (slice_index xs place)) (slice_index xs place)) same,
+      subst (λ n. place < n) (sym here.1) fits,
+    )
 
 unknown-rise : Rises (λ tally. tally.unknown) (λ tally. Unit {0}) (λ tenants. refuses tenants None)
-unknown-rise tenants t tally few = (refused-unknown tenants (refused_name t.line (text_of t)) (shared t tally), tt)
+unknown-rise tenants t tally few = (
+  refused-unknown tenants (refused_name t.line (text_of t)) (shared t tally)
+      ∙ ap (λ n. cond (refuses tenants None t) (count_up n) n) (shared-unknown (tenant_of t.after) (text_of t) (with_line t.line (text_of t) tally)),
+  tt,
+)
 
 spoken-rise : (place : ℕ) → Rises (λ tally. slice_index tally.spoken place) (λ tally. place < length tally.spoken) (λ tenants. speaks_at place)
 spoken-rise place tenants t tally few =
     let same = refused-spoken tenants (refused_name t.line (text_of t)) (shared t tally) in
-    let here = bumped-for t.after tally.spoken place few in (
+    let here = shared-spoken t.after (text_of t) (with_line t.line (text_of t) tally) place few in (
       ap (λ xs. slice_index xs place) same ∙ here.0,
       subst (λ xs. place < length xs) (sym same) (subst (λ n. place < n) (sym here.1) few),
     )
@@ -220,7 +255,7 @@ spoken-rise place tenants t tally few =
 full-rise : (place : ℕ) → Rises (λ tally. slice_index tally.full place) (λ tally. place < length tally.full) (λ tenants. fills place)
 full-rise place tenants t tally few =
     let same = refused-full tenants (refused_name t.line (text_of t)) (shared t tally) in
-    let here = bumped-if (reply_place (text_of t) == 1) t.after tally.full place few in (
+    let here = shared-full t.after (text_of t) (with_line t.line (text_of t) tally) place few in (
       ap (λ xs. slice_index xs place) same ∙ here.0,
       subst (λ xs. place < length xs) (sym same) (subst (λ n. place < n) (sym here.1) few),
     )

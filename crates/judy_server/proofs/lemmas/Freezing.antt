@@ -5,7 +5,7 @@
 --     stays-if          so it does where a look at the text found an order
 --     no-order          a text is none where it found none
 --     if-made           what follows of a step that was made
-use Rattle.std.proofs.Common.{◌≡◌, ◌⊎◌, inr, ◌∙◌, ◌&&◌, ℕ, Bool, true, false, not, List, Option, Some, None, ap, arith, is_some, refl, subst, sym}
+use Rattle.std.proofs.Common.{◌≡◌, ◌⊎◌, inl, inr, ◌∙◌, ◌&&◌, ℕ, Bool, true, false, not, List, Option, Some, None, ap, arith, is_some, refl, subst, sym}
 use Rattle.std.specs.Prelude.{MatchBool, option_map, slice_get}
 use Rattle.std.proofs.lemmas.List.Elements.{recursion_from_All}
 use Rattle.judy_model.specs.Tenant.{no_arrays}
@@ -83,6 +83,7 @@ ordered-reload old text order new is h = record {
   meant = subst (IsMeant old.held.tenants text) (sym is) h.known;
   tenants = h.tenants ∙ sym (rows-are old.held.tenants text (Some order) is);
   only = subst (λ o. KeepsRest o old.held new.held) (sym is) h.only;
+  keeps = λ t. inl (ap (λ (x : Held). states_of x t) h.only);
   rows = h.rows;
   held = ordered-changed old order new h;
   sound = h.sound;
