@@ -9,7 +9,7 @@ import unittest
 sys.path.insert(0, os.path.dirname(os.path.abspath(__file__)))
 
 from judy_runs import JudyTest, alice, run_judy, start_judy  # noqa: E402
-from judyd import Client, Closed, Frozen, JudyError, metrics  # noqa: E402
+from judyd import Client, Closed, Frozen  # noqa: E402
 from served import Served, table  # noqa: E402
 from status_server import StatusServer  # noqa: E402
 
@@ -51,10 +51,6 @@ class RestoreTest(JudyTest):
     def setUp(self):
         self.own = Served(table(), clients=64, control=True, more=self.more)
         self.addCleanup(self.own.end)
-        try:
-            metrics.thaw(self.own.control, "alice", 60)
-        except JudyError:
-            self.skipTest("this judyd has no FREEZE")
         self.fill()
         self.dump = self.dumped("alice.dump", *ARRAYS)
 
