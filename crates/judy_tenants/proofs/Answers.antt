@@ -1,5 +1,5 @@
 -- The reply to a tenant among others.
-use Rattle.std.proofs.Common.{◌≡◌, ◌⊎◌, inl, inr, Bool, true, false, not, ap, sym, ◌∙◌, refl, subst}
+use Rattle.std.proofs.Common.{◌≡◌, ◌⊎◌, inl, inr, ℕ, Bool, true, false, not, ap, sym, ◌∙◌, refl, subst}
 use Rattle.std.specs.Prelude.{MatchBool, if◌then◌else◌}
 use Rattle.judy_model.specs.declared.calls.Call.{Call}
 use Rattle.judy_model.specs.declared.calls.Call.TheVariants as call
@@ -10,9 +10,11 @@ use Rattle.judy_model.specs.declared.replies.Reply.{Reply}
 use Rattle.judy_model.specs.declared.replies.Reply.TheVariants as reply
 use Rattle.judy_model.specs.Tenant.{State, changes, is_read_only, refusal_of, asks_for_new, has_room, allowed_step, attempt_step, step}
 use Rattle.judy_model.specs.WellFormed.{FullIsForNew, LooksKeepAll}
+use Rattle.judy_model.specs.Service.{IsServed, Quotas, States}
 use Rattle.judy_model.specs.Solo.{IsAnswered, MayLackMemory, StepHasMemory, is_memory}
+use Rattle.judy_model.specs.Speakers.{Event}
 use Rattle.judy_kinds.specs.Calls.{is_of_array}
-use Rattle.judy_tenants.specs.Held.{is_refusal}
+use Rattle.judy_tenants.specs.Held.{Held, HasCause, IsQuiet, IsShortService, IsUnplaced, is_refusal}
 use Rattle.judy_tenants.proofs.Steps.{HasWay}
 
 -- the reply to a call that the right allows
@@ -83,12 +85,24 @@ not-refused full looks quota s new right c r allowed e way h = by (refusal_cases
     by (inr (inr i)) = forbids Frozen ((looks right quota s c).1.0 (given ∙ i)) refl
 
 -- what a right answers to a call that it forbids is a refusal, and not for memory
-pub forbidden-quiet : (right : Right) → is_memory (refusal_of right) ≡ false
+forbidden-quiet : (right : Right) → is_memory (refusal_of right) ≡ false
 forbidden-quiet Change = refl
 forbidden-quiet Look = refl
 forbidden-quiet Frozen = refl
 
-pub forbidden-refused : (right : Right) → is_refusal (refusal_of right) ≡ true
-forbidden-refused Change = refl
-forbidden-refused Look = refl
-forbidden-refused Frozen = refl
+-- a call that its right forbids is answered so, and nothing changes
+pub forbidden-served : (quotas : Quotas) (states : States) (t : ℕ) (right : Right) (c : Call) → is_read_only right c ≡ true
+    → IsServed quotas states (record { speaker = record { tenant = t; right = right }; call = c }) (refusal_of right) states
+forbidden-served quotas states t right c e = record {
+  answered = subst
+      (λ b. MatchBool b (MayLackMemory (quotas t) (states t) (record { right = right; call = c }) × (states t ≡ states t))
+      (attempt_step (quotas t) (states t) (record { right = right; call = c }) ≡ (refusal_of right, states t)))
+      (sym (forbidden-quiet right)) (ap (λ b. if b then (refusal_of right, states t) else allowed_step (quotas t) (states t) c) e);
+  others = λ u h. refl;
+}
+
+-- nothing was refused for memory
+pub forbidden-cause : (event : Event) (held : Held) (right : Right) → HasCause event held (refusal_of right) held
+forbidden-cause event held right =
+    subst (λ b. MatchBool b (IsShortService held held ⊎ IsUnplaced event held held) (IsQuiet held held)) (sym (forbidden-quiet right))
+    (record { refusals = refl; unplaced = refl })

@@ -126,7 +126,11 @@ static OF_WAITING: [(&str, &str); 11] = [
     ("USED", "Q 2 2 2 252"),
 ];
 
-static OF_READER: [(&str, &str); 3] = [("J1S a 1", "ERR READONLY"), ("J1T a 1", "1"), ("J1C a 0 -1", "N 1")];
+static OF_READER: [(&str, &str); 3] = [
+    ("J1S a 1", "ERR READONLY"),
+    ("J1T a 1", "1"),
+    ("J1C a 0 -1", "N 1"),
+];
 
 static OF_LOADER: [(&str, &str); 5] = [
     ("J1S a 3", "FULL"),
@@ -154,21 +158,34 @@ fn refusals(rt: HostRuntime) -> Result<(), Fail> {
     ask(&rt, &mut house, &bob, &BEFORE)?;
     ask(&rt, &mut house, &loader, &OF_LOADER)?;
     holds(&rt, house.thaw("alice"));
-    ask(&rt, &mut house, &writer, &[("J1S a 2", "1"), ("USED", "Q 2 2 2 252")])
+    ask(
+        &rt,
+        &mut house,
+        &writer,
+        &[("J1S a 2", "1"), ("USED", "Q 2 2 2 252")],
+    )
 }
 
 /// Another table leaves a tenant that stays frozen. One that comes is not, nor one that comes again.
 #[test]
 fn another_table(rt: HostRuntime) -> Result<(), Fail> {
     let mut house = House::new(&rt, rt.alloc(), BOTH)?;
-    holds(&rt, house.freeze("alice", LOOK)? && house.freeze("bob", LOOK)?);
+    holds(
+        &rt,
+        house.freeze("alice", LOOK)? && house.freeze("bob", LOOK)?,
+    );
     let loader = house.speaker("alice", "look")?;
     same(&rt, house.change(&rt, LATER)?, true);
     holds(&rt, house.knows(&loader));
     same(&rt, right(&house, "alice", "abc"), Some(Right::Frozen));
     same(&rt, right(&house, "alice", "hello"), Some(Right::Look));
     same(&rt, right(&house, "carol", "abc"), Some(Right::Change));
-    ask(&rt, &mut house, &loader, &[("J1S a 1", "1"), ("J1S a 2", "FULL")])?;
+    ask(
+        &rt,
+        &mut house,
+        &loader,
+        &[("J1S a 1", "1"), ("J1S a 2", "FULL")],
+    )?;
     same(&rt, house.change(&rt, BOTH)?, true);
     same(&rt, right(&house, "alice", "abc"), Some(Right::Frozen));
     same(&rt, right(&house, "bob", "abc"), Some(Right::Change));
