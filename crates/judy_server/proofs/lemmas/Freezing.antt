@@ -107,6 +107,6 @@ pub no-order : {A : Type 0} (f : A → Freeze) (text : List ℕ) (found : Option
 no-order f text (Some order) reads none = cc
 no-order f text None reads none = sym reads
 
-pub if-made : {P Q R : Type 0} (made : Bool) → (P → Q) → MatchBool made P R → MatchBool made Q R
-if-made true f h = f h
-if-made false f h = h
+pub if-made : {P Q : Type 0} (R : Type 0) (made : Bool) → (P → Q) → MatchBool made P R → MatchBool made Q R
+if-made R true f h = f h
+if-made R false f h = h
