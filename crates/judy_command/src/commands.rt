@@ -34,7 +34,8 @@ const SOCKET_HELP: &str = "Where the Unix socket is made; nothing may stand ther
 
 const STATUS_HELP: &str = "Where a second Unix socket is made, for STATUS and GET /metrics";
 
-const CONTROL_HELP: &str = "Where a third Unix socket is made, for RELOAD, KICK and STOP";
+const CONTROL_HELP: &str =
+    "Where a third Unix socket is made, for RELOAD, FREEZE, THAW, KICK and STOP";
 
 const CLIENTS_HELP: &str = "How many clients to serve at once, 1 to 1024; others wait";
 
