@@ -1,14 +1,20 @@
 use Rattle.std.proofs.Common.{◌≡◌, ◌≤◌, ◌++◌, List, length, take, drop, ap, sym, ◌∙◌, refl, subst}
 use Rattle.std.proofs.Math.Seq.{take-append_seam}
 use Rattle.std.specs.Vec.{with_items}
+use Rattle.judy_model.specs.declared.replies.Reply.{Reply}
 use Rattle.judy_model.specs.declared.replies.Reply.TheVariants as reply
+use Rattle.judy_model.specs.Service.{IsServed}
+use Rattle.judy_model.specs.Speakers.{Event}
 use Rattle.judy_arena.specs.Blocks.{ArenaState}
 use Rattle.judy_arena.specs.Takes.{Takes}
 use Rattle.judy_directory.specs.Places.{at}
 use Rattle.judy_kinds.specs.Calls.{kind_of_call, name_of_call, blocks_of_call}
 use Rattle.judy_tenants.specs.declared.accounts.Account.{Account}
 use Rattle.judy_tenants.specs.Accounts.{entries_at, account_pieces, IsServer}
+use Rattle.judy_tenants.specs.Held.{HasCause, quotas_of, states_of}
 use Rattle.judy_tenants.specs.States.{key_of_call}
+use Rattle.judy_tenants.specs.Stocks.{held_of}
+use Rattle.judy_tenants.proofs.Answers.{forbidden-cause, forbidden-served}
 use Rattle.judy_tenants.proofs.CallsServed.{Premises, Ends, AtKey, CanSettle, key-is, used-served, full-served, at-key, short}
 use Rattle.judy_tenants.proofs.CallsServed.{can-settle, settled-stocked, answered, whole-keeps}
 use Rattle.judy_tenants.proofs.Rooms.{pieces-fit}
@@ -177,6 +183,21 @@ returns-clause-cause g c = (done g c).cause
 
 pub returns-clause-keeps : goal.returns-clause-keeps
 returns-clause-keeps g c = (done g c).keeps
+
+-- a call that its right forbids
+pub returns-then-is_read_only-clause-served : goal.returns-then-is_read_only-clause-served
+returns-then-is_read_only-clause-served g c =
+    let states = states_of (held_of c.args.table.now c.args.stock.now) in
+    let event : Event = record { speaker = record { tenant = c.args.speaker.tenant; right = c.args.speaker.right }; call = c.args.call.now } in
+    subst (λ (r : Reply). IsServed (quotas_of c.args.table.now) states event r states) (sym c.refusal.ensures)
+    (forbidden-served (quotas_of c.args.table.now) states c.args.speaker.tenant c.args.speaker.right c.args.call.now
+    (sym c.is_read_only.ensures ∙ c.if-is_read_only.true))
+
+pub returns-then-is_read_only-clause-cause : goal.returns-then-is_read_only-clause-cause
+returns-then-is_read_only-clause-cause g c =
+    let held = held_of c.args.table.now c.args.stock.now in
+    let event : Event = record { speaker = record { tenant = c.args.speaker.tenant; right = c.args.speaker.right }; call = c.args.call.now } in
+    subst (λ (r : Reply). HasCause event held r held) (sym c.refusal.ensures) (forbidden-cause event held c.args.speaker.right)
 
 -- if nothing changed, the whole service is unchanged
 pub returns-then-is_read_only-clause-keeps : goal.returns-then-is_read_only-clause-keeps
