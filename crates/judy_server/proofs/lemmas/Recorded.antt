@@ -20,7 +20,7 @@ use Rattle.std.proofs.lemmas.Option.{slice_get-get_or, slice_get_within, get_or_
 use Rattle.std.proofs.lemmas.Slice.Eq.{bytes_eq-Decides}
 use Rattle.judy_journal.specs.declared.replays.Unplayed.{Unplayed}
 use Rattle.judy_journal.specs.Journals.{Commit}
-use Rattle.judy_journal.specs.Replays.{Places, Told, told, event_told, event_for, event_at, again, HaveAnswered, AreRecords, IsNamed, after_calls, calls_named, event_recorded, RecordedCallsTellAll}
+use Rattle.judy_journal.specs.Replays.{Places, record_of, Told, told, event_told, event_for, event_at, again, HaveAnswered, AreRecords, IsNamed, after_calls, calls_named}
 use Rattle.judy_journal.proofs.lemmas.ReplayLemmas.{asks_again, records_tell_one_change, AreRecords-append, HaveAnswered-append}
 use Rattle.judy_model.specs.declared.calls.Call.{Call}
 use Rattle.judy_model.specs.declared.quotas.Right.TheVariants.{Change}
