@@ -105,7 +105,7 @@ class Tables(JudyTest):
         self.assertEqual(self.told('["a.b"]\n' + whole, 0), ["no fault"])
 
     def test_warnings(self):
-        short = "line %d, tenant alice: warning: 3 pieces are less than the quota of 4 entries needs: an entry takes 1 to 126, so ERR FULL comes before"
+        short = "line %d, tenant alice: warning: 3 pieces are less than the quota of 4 entries needs: an entry takes 1 to 126, so FULL comes before"
         self.assertEqual(self.told("[alice]\npieces = 3\nquota = 0x4 # few\n" + LINE, 0), [short % 2, "no fault"])
         self.assertEqual(self.told("alice = {quota = 4, pieces = 3, %s}\n" % LINE.strip(), 0), [short % 1, "no fault"])
         self.assertEqual(self.told("[alice]\npieces = 4\nquota = 4\n" + LINE, 0), ["no fault"])

@@ -291,7 +291,7 @@ def _short_pieces(name: str, tenant: _Tenant) -> Iterator[Fault]:
     values = {it.key: it for it in tenant.statements}
     pieces, quota = _number_at(values.get("pieces")), _number_at(values.get("quota"))
     if pieces is not None and quota is not None and 0 <= pieces < quota:
-        why = "%d pieces are less than the quota of %d entries needs: an entry takes 1 to 126, so ERR FULL comes before" % (pieces, quota)
+        why = "%d pieces are less than the quota of %d entries needs: an entry takes 1 to 126, so FULL comes before" % (pieces, quota)
         yield Fault("", values["pieces"].line, name, why)
 
 
