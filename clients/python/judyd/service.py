@@ -28,7 +28,7 @@ def status(connect: Callable[[], Client], user: Optional[str], where: str) -> st
     """What a server tells of itself, and of the tenant that is logged in."""
     with connect() as client:
         if user is None:
-            client.lines([b"USED"])
+            client.lines([b"PING"])
             return "%s: a server answers" % where
         used = client.used()
     return "%s: a server answers; %s has %d of %d entries, %d of %d pieces" % (where, user, *used)
@@ -42,7 +42,7 @@ def wait(connect: Callable[[Optional[float]], Client], seconds: Optional[float])
         left = None if until is None else max(until - time.monotonic(), 0.05)
         try:
             with connect(left) as client:
-                client.lines([b"USED"])
+                client.lines([b"PING"])
                 return
         except Closed:
             if until is not None and time.monotonic() >= until:
