@@ -17,12 +17,13 @@ that refuses it, all other goals that were left are holes, so that this one alon
 import re
 
 from functions import CYCLE, own_impl_around
+from holes import imports_of, with_the_hole
 
 TACTIC = re.compile(r"^ *#!?\[tactic\([^\n]*\)\]\n", re.M)
 FN = re.compile(r"^( *)(?=(?:pub(?:\([a-z]+\))? )?(?:const |unsafe )*fn )", re.M)
 GOALS = "use Rattle.%s.proofs.%s.Goals as %s\n"
-ANSWER = "\npub %s : %s.%s\n%s = ?\n"
-HOLE = "use %s.{statement}\n\npub %s_spec : {M : Type 1} → statement M\n%s_spec 𝓤 𝓛 𝓜 𝓡 w = ?\n"
+ANSWER = "\npub %s : %s.%s\n%s = anything\n"
+HOLE = "use %s.{statement}\n%s\n\npub %s_spec : {M : Type 1} → statement M\n%s_spec = anything\n"
 COPIED, PLACED, FILED, WHOLE = "as a copy", "in its place", "as files", "alone"
 CARRIED = "use %s\n"
 
@@ -30,11 +31,13 @@ CARRIED = "use %s\n"
 class Try:
     """How an edit is tried: its function, for COPIED the name of the copy (None: it is put in the place of
     its function), and the text of the function with the edit; with tactics, the goals that are holes. For
-    FILED the files that are copied, and what is added to their names."""
+    FILED the files that are copied, and what is added to their names. Of the written answers only those to
+    the goals `kept` are checked; all, if it is None."""
 
     def __init__(self, edit, how, function=None, text=None):
         self.edit, self.how, self.function, self.text, self.name = edit, how, function, text, None
         self.holes, self.files, self.suffix = None, None, None
+        self.kept = {edit.goal} if edit.goal and function and not function.cycle else None
 
     def path(self):
         """The path of what is tried, below the crate."""
@@ -114,14 +117,14 @@ def without_tactics(text):
 class Batch:
     """A crate's texts with copies and changed functions in them, and what is tried there."""
 
-    def __init__(self, crate, sources):
-        self.crate, self.sources = crate, sources
-        self.texts, self.changes, self.imports = dict(sources.texts), {}, {}
+    def __init__(self, crate, sources, holes=None):
+        self.crate, self.sources, self.holes = crate, sources, holes
+        self.texts, self.changes, self.imports = with_the_hole(holes.texts if holes else sources.texts), {}, {}
         self.asked, self.spans = [], []
 
-    def copy(self, function, text, name, tried=None, goals=None):
+    def copy(self, function, text, name, tried=None, goals=None, kept=None):
         """Adds a copy of a function, with this text, under this name. Without tactics if `goals` is None,
-        otherwise with a hole for each of these goals."""
+        otherwise with a hole for each of these goals. Of its written answers these are kept."""
         text = without_tactics(text) if goals is None else text
         shown, at = CYCLE.sub("", re.sub(r"\bfn %s\b" % function.name, "fn " + name, text, count=1)).lstrip("\n"), function.end
         if function.of_trait:
@@ -132,9 +135,16 @@ class Batch:
         cited = ["Rattle.%s.proofs.%s" % (self.crate, ".".join(function.place(it))) for it in (None, name)]
         for path, proof in {} if function.cycle else self.sources.proof_of(function).items():
             self.texts[as_copy + path[len(below) :]] = re.sub(re.escape(cited[0]) + r"(?![\w-])", cited[1], proof)
+        self.keep_answers(as_copy, kept)
         if goals:
             self.dig_goals(as_copy + "Answers.antt", cited[1], goals)
         self.asked.append(function.path(name))
+
+    def keep_answers(self, folder, kept):
+        """Makes holes of the written answers of a function but these."""
+        path = folder + "Answers.antt"
+        if self.holes and path in self.texts:
+            self.texts[path] = self.holes.answers(self.texts[path], kept)
 
     def dig_goals(self, path, cited, goals):
         """Answers goals of a function by holes."""
@@ -142,19 +152,22 @@ class Batch:
         found = re.search(r"^use %s\.Goals as (\S+)$" % re.escape(cited), text, re.M)
         alias = found[1] if found else "goal_of_copy"
         head = "" if found else GOALS % (self.crate, cited.split(".proofs.")[1], alias)
+        head += "" if imports_of(self.crate) in text else imports_of(self.crate) + "\n"
         self.texts[path] = head + text + "".join(ANSWER % (it, alias, it, it) for it in goals)
 
     def copy_all(self, tries):
         """Adds a copy of the function of each of these, under its name, or puts it in its place."""
         for it in tries:
             if it.name:
-                self.copy(it.function, it.text, it.name, it, it.holes)
+                self.copy(it.function, it.text, it.name, it, it.holes, it.kept)
                 self.change_imports(it.edit)
                 continue
             self.place(it, without_tactics(it.text) if it.holes is None else it.text)
+            place = it.function.place()
+            folder = "/".join(["proofs", *place]) + "/"
+            self.keep_answers(folder, it.kept)
             if it.holes:
-                place = it.function.place()
-                self.dig_goals("/".join(["proofs", *place, "Answers.antt"]), "Rattle.%s.proofs.%s" % (self.crate, ".".join(place)), it.holes)
+                self.dig_goals(folder + "Answers.antt", "Rattle.%s.proofs.%s" % (self.crate, ".".join(place)), it.holes)
 
     def place(self, tried, text=None):
         """Gives a function the text that is tried."""
@@ -190,7 +203,7 @@ class Batch:
             if not odd and it.name not in busy and it.path() not in self.asked:
                 for path in self.sources.proof_of(it):
                     self.texts.pop(path, None)
-                hole = HOLE % (self.cited(it) + ".Statement", it.name, it.name)
+                hole = HOLE % (self.cited(it) + ".Statement", imports_of(self.crate), it.name, it.name)
                 self.texts["/".join(["proofs", *it.place(), "Proof.antt"])] = "".join(CARRIED % one for one in imports) + hole
                 self.asked.append(it.path())
                 return
@@ -223,7 +236,7 @@ class Batch:
                 self.texts.pop(path, None)
             name = "+" + it.cycle if it.cycle else it.name
             stated = cited if it.cycle else cited + ".Statement"
-            self.texts[cited[len("Rattle.%s." % self.crate) :].replace(".", "/") + "/Proof.antt"] = HOLE % (stated, name, name)
+            self.texts[cited[len("Rattle.%s." % self.crate) :].replace(".", "/") + "/Proof.antt"] = HOLE % (stated, imports_of(self.crate), name, name)
 
     def folder(self, it):
         """The front of the names of all that stands in the folder of a function's proof."""

@@ -3,7 +3,8 @@ lines are `file: PATH`, `old: TEXT` and `new: TEXT`: each text is one line, sinc
 of it. A line `by: FUNCTION` or `by: proofs/FILE.antt` names a function of the crate, or a file of
 lemmas, that the prover refuses with the edit. Only an edit of a definition needs it, so that not all
 functions are tried. A line `goal: NAME` names the goal of the function that no tactic proves with the
-edit. `tests/wrong --record` writes it, so that no other goal is searched."""
+edit, or to which the written answer is refused. `tests/wrong --record` writes it, so that no other goal
+is searched."""
 
 import os
 
