@@ -16,7 +16,10 @@ pub const VERSION: &str = "1.0.0";
 /// The text below the help of `run`.
 const RUN_EXAMPLES: &str = "Examples:
   judyd run < samples/first.txt
-  (cat samples/tenants.toml; echo ---; echo 'AUTH alice abc'; echo 'J1S a 5') | judyd run --words";
+  (cat samples/tenants.toml; echo ---; echo 'AUTH alice abc'; echo 'J1S a 5') | judyd run --words
+
+Statuses: 0 at the end of the requests or after QUIT; 2 for a wrong command line; 3 for a wrong table;
+4 if memory, a read or a write fails. Standard error says which.";
 
 /// The text below the help of `serve`.
 const SERVE_EXAMPLES: &str = "Examples:
@@ -25,7 +28,11 @@ const SERVE_EXAMPLES: &str = "Examples:
   judyd serve --config samples/tenants.toml --socket judyd.sock --journal /var/lib/judyd/journal
 
 A session with it:
-  printf 'AUTH alice abc\\nJ1S a 5\\nQUIT\\n' | nc -U judyd.sock";
+  printf 'AUTH alice abc\\nJ1S a 5\\nQUIT\\n' | nc -U judyd.sock
+
+Statuses: 0 when it was asked to stop, or N connections were served; 1 if the journal can't be written;
+2 for a wrong command line; 3 for a wrong table or journal; 4 if memory, the table's file or a socket
+fails. Standard error says which.";
 
 /// The help of the options of `serve`.
 const CONFIG_HELP: &str = "The file with the table of tenants";
@@ -69,14 +76,20 @@ const COMPACT_EXAMPLES: &str = "Examples:
   judyd compact /var/lib/judyd/journal
 
 All files of the journal but the last one become one, in which each entry is written once. A server
-may use the directory meanwhile.";
+may use the directory meanwhile.
+
+Statuses: 0 when it is done; 2 for a wrong command line; 3 if the journal is refused, which stays as it
+was; 4 without memory or random bytes. Standard error says which.";
 
 /// The text below the help of `journal`.
 const PRINT_EXAMPLES: &str = "Examples:
   judyd journal /var/lib/judyd/journal
   (echo 'AUTH alice abc'; judyd journal /var/lib/judyd/journal --tenant alice; echo QUIT) | nc -U judyd.sock
 
-A server may use the directory meanwhile.";
+A server may use the directory meanwhile.
+
+Statuses: 0 when all is printed; 2 for a wrong command line; 3 if the journal is refused; 4 if memory
+or a write fails. Standard error says which.";
 
 /// The text below the help.
 const EXAMPLES: &str = "Examples:
@@ -86,7 +99,10 @@ const EXAMPLES: &str = "Examples:
 A table of tenants is TOML, one table a tenant:
   [alice]
   sha256 = \"..\"       # the token's digest, as by: printf %s TOKEN | sha256sum
-  quota = 1000        # the most entries that the tenant may have";
+  quota = 1000        # the most entries that the tenant may have
+
+Statuses: 0 done, 1 the journal can't be written, 2 a wrong command line, 3 a wrong table or journal,
+4 the system refuses something. `judyd COMMAND --help` and man judyd say more.";
 
 /// `--NAME`, an optional flag.
 fn flag<'a>(alloc: Global, name: &'a str, help: &'a str) -> Arg<'a>

@@ -19,7 +19,7 @@ use Rattle.judy_directory.proofs.lemmas.Changes.{total}
 use Rattle.judy_arena.proofs.lemmas.BlockLaws.{twice}
 
 -- keys are alike if they compare equal, in the other order
-tied-alike : (q k : List ℕ) → eq_by_cmp string_order q k ≡ alike k q
+pub tied-alike : (q k : List ℕ) → eq_by_cmp string_order q k ≡ alike k q
 tied-alike q k = sym (alike-tied q k) ∙ nat_list_eq_equiv.symm q k
 
 -- a choice is one option or else the other

@@ -4,3 +4,4 @@ pub mod Rooms
 pub mod Recent
 pub mod Kinds
 pub mod Secrets
+pub mod Lengths

@@ -1,5 +1,6 @@
 //! The names of all arrays, one after another.
-ghost use Rattle.std.specs.Prelude.{◌≡◌, ◌∷◌, ◌++◌, [], IfSome, IfNone, map};
+ghost use Rattle.std.specs.Prelude.{◌≡◌, ◌∷◌, ◌++◌, ◌%◌, ◌^◌, [], IfSome, IfNone, map};
+ghost use Rattle.judy_directory.specs.Lengths.{lengths};
 
 use crate::keyed::Keyed;
 use crate::spot::{Place, Spot};
@@ -51,5 +52,16 @@ impl<'a> AllNames<'a> {
             Some(entry) => Some(entry.0.copied()),
             None => None,
         }
+    }
+
+    /// The bytes of the names that are still to come, added up, modulo 2^64.
+    pub(crate) fn bytes(mut self) -> u64
+        ensures { result ≡ lengths self.entry % 2 ^ 64 }
+    {
+        let mut bytes = 0u64;
+        while let Some(spot) = self.next() {
+            bytes = bytes.wrapping_add(spot.bytes());
+        }
+        bytes
     }
 }

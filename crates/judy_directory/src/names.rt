@@ -3,6 +3,7 @@ ghost use Rattle.std.specs.Prelude.{◌≡◌, ◌≤◌, ℕ, List, IfOk, OnOk,
 ghost use Rattle.std.specs.FinMap as map;
 ghost use Rattle.std.specs.HashMap.{hasher_of, spare};
 ghost use Rattle.judy_directory.specs.Kinds.{is_staying};
+ghost use Rattle.judy_directory.specs.Lengths.{length_if, name_bytes};
 ghost use Rattle.judy_directory.specs.Places.{at, nothing};
 ghost use Rattle.judy_directory.specs.Rooms.{staying, is_listed, AreOnce};
 ghost use Rattle.judy_directory.specs.Secrets.{start_of};
@@ -52,13 +53,25 @@ fn drop_listed(table: &mut HashMap<Spot, Place, Keyed>, gone: &[bool])
     table.retain(|spot, _place| !spot.is_gone(gone));
 }
 
+/// The bytes of a name that loses its place, and 0 if it had none.
+fn bytes_lost(spot: &Spot, place: Option<Place>) -> u64
+    ensures { result ≡ length_if place spot.now }
+{
+    match place {
+        Some(_) => spot.bytes(),
+        None => 0,
+    }
+}
+
 /// The place of each tenant, kind and name. Contracts see a finite map, the start of every hash, and
 /// the room. A place that the table has no memory for is kept in a list, whose memory is taken
-/// beforehand: the room is the capacity of the list.
+/// beforehand: the room is the capacity of the list. The bytes of the names are counted as they come
+/// and go.
 #[derive(Drop)]
 pub struct Names {
     table: HashMap<Spot, Place, Keyed>,
     kept: Vec<(Spot, Place)>,
+    bytes: u64,
 }
 
 impl Model for Names {
@@ -74,6 +87,8 @@ impl Model for Names {
     ghost use Rattle.std.specs.Prelude.{vec_capacity, ◌++◌};
     ghost use Rattle.std.specs.HashMap.{hasher_of};
     ghost use Rattle.judy_directory.specs.Rooms.{HasListRoom};
+    ghost use Rattle.judy_directory.specs.Lengths.{name_bytes};
+    ghost use Rattle.std.specs.Prelude.{◌≡◌};
 
     ghost view = { λ d. (
       map.from_entries (d.table.entries ++ d.kept.items),
@@ -83,7 +98,8 @@ impl Model for Names {
       },
     ) };
 
-    ghost invariant = { λ d. HasListRoom d.table.entries d.kept.items (vec_capacity d.kept) };
+    ghost invariant = { λ d. HasListRoom d.table.entries d.kept.items (vec_capacity d.kept)
+        × (d.bytes ≡ name_bytes (map.from_entries (d.table.entries ++ d.kept.items))) };
 }
 
 impl Names {
@@ -95,7 +111,11 @@ impl Names {
     {
         let table = empty_table(alloc, secret)?;
         let kept = Vec::with_capacity(alloc, FREE_PLACES).map_err(|_| NoMemory)?;
-        Ok(Names { table, kept })
+        Ok(Names {
+            table,
+            kept,
+            bytes: 0,
+        })
     }
 
     /// There is room for 256 names at all times. The function is empty: the contract is the law, for
@@ -132,6 +152,7 @@ impl Names {
     {
         drop_listed(&mut self.table, gone);
         drop_gone(&mut self.kept, gone);
+        self.bytes = AllNames::of(&self.table, self.kept.as_slice()).bytes();
     }
 
     /// The number of names that have a place.
@@ -139,6 +160,14 @@ impl Names {
         ensures { result ≡ map.len self.now.0 }
     {
         self.table.len() + self.kept.len()
+    }
+
+    /// The bytes of the names that have a place, added up, modulo 2^64. What a key adds for tenant and
+    /// kind does not count.
+    pub fn bytes(&self) -> u64
+        ensures { result ≡ name_bytes self.now.0 }
+    {
+        self.bytes
     }
 
     /// Makes room for this many names, in the table and in the list. No place changes.
@@ -182,12 +211,14 @@ impl Names {
         ensures footing { self.new.1 ≡ self.old.1 }
     {
         let Err(_) = self.table.insert(spot.copied(), Place::nothing()) else {
+            self.bytes = self.bytes.wrapping_add(spot.bytes());
             return Ok(());
         };
         if self.kept.len() == self.kept.capacity() {
             return Err(NoMemory);
         }
         push_kept(&mut self.kept, spot, Place::nothing());
+        self.bytes = self.bytes.wrapping_add(spot.bytes());
         Ok(())
     }
 
@@ -210,7 +241,11 @@ impl Names {
         ensures places { self.new.0 ≡ map.remove self.old.0 spot.now }
         ensures footing { self.new.1 ≡ self.old.1 }
     {
-        let _ = self.table.remove(spot);
+        let place = self
+            .table
+            .remove(spot)
+            .or(find_kept(self.kept.as_slice(), spot));
         drop_kept(&mut self.kept, spot);
+        self.bytes = self.bytes.wrapping_sub(bytes_lost(spot, place));
     }
 }

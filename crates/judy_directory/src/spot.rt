@@ -1,6 +1,7 @@
 //! The key of an array in the directory, and its place.
 ghost use Rattle.std.specs.Prelude.{◌≡◌, ℕ, ◌∷◌, ◌<◌, [], drop, nat_eq, slice_index};
 ghost use Rattle.judy_directory.specs.Kinds.{array_kind_number, kind_with, spot_of, is_gone, IsOf};
+ghost use Rattle.judy_directory.specs.Lengths.{name_length};
 ghost use Rattle.std.specs.Cmp.{partial_equiv_from_equiv};
 ghost use Rattle.std.specs.Cmp.Lexicographic.{pointwise, nat_list_eq_equiv, bytes_decides};
 ghost use Rattle.std.specs.Hash.{same_Alike, le_bytes};
@@ -99,6 +100,13 @@ impl Spot {
             → spot_of tenant result.0 result.1 ≡ self.now }
     {
         (ArrayKind::with(self.owner % 4), self.name.copied())
+    }
+
+    /// The number of bytes of the name.
+    pub fn bytes(&self) -> u64
+        ensures { result ≡ name_length self.now }
+    {
+        self.name.as_bytes().len() as u64
     }
 
     /// A copy of the key.

@@ -283,9 +283,10 @@ impl Desk {
         time
     }
 
-    /// Whether a connection asks, or one may wait to be accepted.
+    /// Whether a connection asks or asked last, or one may wait to be accepted. After the last question the
+    /// loop has to ask once more, or it would not sleep again.
     pub fn is_busy(&self) -> bool {
-        self.comes || !self.askers.is_empty()
+        self.more || self.comes || !self.askers.is_empty()
     }
 
     /// Keeps a connection that came.

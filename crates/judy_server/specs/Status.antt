@@ -59,6 +59,7 @@ total_of t total.LiveWords = t.held.words
 total_of t total.MachineWords = t.held.region
 total_of t total.PeakWords = t.held.peak
 total_of t total.Arrays = t.held.names
+total_of t total.NameBytes = t.held.name_bytes
 total_of t total.RefusedRequests = t.held.refusals
 total_of t total.RefusedNames = t.held.unplaced
 total_of t total.UnknownLogins = t.tally.unknown
@@ -102,7 +103,7 @@ by_build = heading metrics.Build ++ labelled (name_of metrics.Build) (codes "ver
 -- ---- the text
 
 abbrev pub first_totals : List Total
-first_totals = total.LiveWords ∷ total.MachineWords ∷ total.PeakWords ∷ total.Arrays ∷ total.RefusedRequests ∷ total.RefusedNames ∷ []
+first_totals = total.LiveWords ∷ total.MachineWords ∷ total.PeakWords ∷ total.Arrays ∷ total.NameBytes ∷ total.RefusedRequests ∷ total.RefusedNames ∷ []
 
 abbrev pub first_shares : List Share
 first_shares = share.Entries ∷ share.EntriesQuota ∷ share.Pieces ∷ share.PiecesQuota ∷ []

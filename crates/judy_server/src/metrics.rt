@@ -13,6 +13,8 @@ pub enum Total {
     PeakWords,
     /// The arrays that have entries.
     Arrays,
+    /// The bytes of the names of all arrays.
+    NameBytes,
     /// Requests for a block that were refused.
     RefusedRequests,
     /// New names that there was no memory for.
@@ -68,6 +70,7 @@ fn total_name(total: Total) -> &'static str
         Total::MachineWords => "judyd_machine_words",
         Total::PeakWords => "judyd_peak_words",
         Total::Arrays => "judyd_arrays",
+        Total::NameBytes => "judyd_name_bytes",
         Total::RefusedRequests => "judyd_refused_requests_total",
         Total::RefusedNames => "judyd_refused_names_total",
         Total::UnknownLogins => "judyd_logins_unknown_total",
@@ -113,6 +116,7 @@ fn total_help(total: Total) -> &'static str
         Total::MachineWords => "Words taken from the machine.",
         Total::PeakWords => "The most live words at once so far.",
         Total::Arrays => "Arrays of all tenants.",
+        Total::NameBytes => "Bytes of the names of all arrays.",
         Total::RefusedRequests => "Requests for a block that were refused.",
         Total::RefusedNames => "New names that there was no memory for.",
         Total::UnknownLogins => "Log-ins with a name that no tenant has.",
@@ -158,6 +162,7 @@ pub fn kind_of(metric: Metric) -> &'static str
         Metric::Total(Total::MachineWords) => "gauge",
         Metric::Total(Total::PeakWords) => "gauge",
         Metric::Total(Total::Arrays) => "gauge",
+        Metric::Total(Total::NameBytes) => "gauge",
         Metric::Total(Total::RefusedRequests) => "counter",
         Metric::Total(Total::RefusedNames) => "counter",
         Metric::Total(Total::UnknownLogins) => "counter",

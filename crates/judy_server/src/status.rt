@@ -18,11 +18,12 @@ use judy_tenants::{KeyHash, Service};
 use std::alloc::AllocError;
 
 /// The numbers of the whole service that come first.
-const TOTALS: [Total; 6] = [
+const TOTALS: [Total; 7] = [
     Total::LiveWords,
     Total::MachineWords,
     Total::PeakWords,
     Total::Arrays,
+    Total::NameBytes,
     Total::RefusedRequests,
     Total::RefusedNames,
 ];
@@ -127,6 +128,7 @@ fn total<H: KeyHash>(service: &Service<H>, tally: &Tally, total: Total) -> u64
         Total::MachineWords => service.machine_words(),
         Total::PeakWords => service.peak_words(),
         Total::Arrays => service.arrays(),
+        Total::NameBytes => service.name_bytes(),
         Total::RefusedRequests => service.refusals(),
         Total::RefusedNames => service.unplaced(),
         Total::UnknownLogins => tally.unknown,

@@ -66,6 +66,8 @@ pub record Held : Type 0 where
   pub unplaced : ℕ
   -- arrays that have entries
   pub names : ℕ
+  -- the bytes of their names, added up, modulo 2^64
+  pub name_bytes : ℕ
   -- words in live blocks
   pub words : ℕ
   -- words that the arena took from the machine

@@ -10,6 +10,7 @@ use Rattle.std.specs.Prelude.{◌≡◌, ◌⊎◌, ◌≤◌, ℕ, List, IsTrue
 use Rattle.std.specs.FinMap as map
 use Rattle.judy_arena.specs.Blocks.{count_up}
 use Rattle.judy_model.specs.declared.calls.Call.{Call}
+use Rattle.judy_directory.specs.Lengths.{name_bytes}
 use Rattle.judy_directory.specs.Places.{at, with_place}
 use Rattle.judy_table.specs.declared.tenant.Tenant.{Tenant}
 use Rattle.judy_kinds.specs.Calls.{kind_of_call, asks_at, AnswersAt, ArrayBecomes}
@@ -28,6 +29,7 @@ held_of tenants stock = record {
   refusals = stock.arena.refusals;
   unplaced = stock.unplaced;
   names = map.len stock.directory.0;
+  name_bytes = name_bytes stock.directory.0;
   words = stock.arena.live;
   region = stock.arena.region;
   peak = stock.arena.peak;

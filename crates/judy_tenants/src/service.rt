@@ -389,6 +389,13 @@ impl<H: KeyHash> Service<H> {
         self.stock.directory.count() as u64
     }
 
+    /// The bytes of the names of these arrays, added up, modulo 2^64.
+    pub fn name_bytes(&self) -> u64
+        ensures { result ≡ self.now.name_bytes }
+    {
+        self.stock.directory.bytes()
+    }
+
     /// How many new names the directory had no memory for. The counter saturates.
     pub fn unplaced(&self) -> u64
         ensures { result ≡ self.now.unplaced }

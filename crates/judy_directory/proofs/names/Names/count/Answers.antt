@@ -1,4 +1,4 @@
-use Rattle.std.proofs.Common.{◌≡◌, ◌≤◌, ◌+◌, ℕ, ◌++◌, ap, arith, length}
+use Rattle.std.proofs.Common.{◌≡◌, ◌≤◌, ◌++◌, ap, arith, length}
 use Rattle.std.proofs.lemmas.List.{length-append}
 use Rattle.std.specs.FinMap as map
 use Rattle.judy_directory.proofs.Rooms.{joined, len-listed}
@@ -12,4 +12,4 @@ returns c =
     let v : map.len (joined es fs) ≡ map.len c.args.self.now.0 = ap map.len (ap (λ v. v.0) c.self.view_is) in
     let a : c.len.result ≡ length es = c.len.ensures.len in
     let b : c.len-2.result ≡ length fs = omega (arith, c.len-2.ensures) in
-    omega (arith, m, length-append es fs, v, a, b, c.self.invariant.many)
+    omega (arith, m, length-append es fs, v, a, b, c.self.invariant.0.many)

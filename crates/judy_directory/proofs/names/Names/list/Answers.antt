@@ -1,8 +1,7 @@
-use Rattle.std.proofs.Common.{◌≡◌, ◌+◌, ◌≤◌, ◌++◌, length, map, ap, sym, ◌∙◌, subst, arith}
+use Rattle.std.proofs.Common.{◌≡◌, ◌+◌, ◌++◌, length, map, ap, sym, ◌∙◌, subst, arith}
 use Rattle.std.proofs.lemmas.List.{length-append}
 use Rattle.std.specs.FinMap as finite
 use Rattle.judy_directory.specs.Rooms.{is_listed, AreOnce}
-use Rattle.judy_directory.proofs.Rooms.{joined}
 use Rattle.judy_directory.proofs.Leaving.{has-listed, once-listed}
 use Rattle.judy_directory.proofs.names.Names.list.Goals as goal
 
@@ -20,6 +19,6 @@ pub returns-clause-once : goal.returns-clause-once
 returns-clause-once c =
     let es = c.self.inside.table.entries in
     let fs = c.self.inside.kept.items in
-    let many = c.self.invariant.many in
+    let many = c.self.invariant.0.many in
     let both : length (es ++ fs) ≡ length es + length fs = length-append es fs in
     subst AreOnce (sym (named c)) (once-listed (es ++ fs) (omega (arith, many, both)))
