@@ -1,7 +1,7 @@
 #!/usr/bin/env python3
 """Draws the pictures of the pages into a folder, by default docs: architecture.svg, the crates of crates.txt in their
-layers; line.svg, the way of a line; memory.svg, the bytes for each entry, from the table of bench/README.md; restart.svg,
-what a start with a journal does, with the times of docs/SPEED.md.
+layers; line.svg, the way of a line; lost.svg, what is left of a machine that is lost; memory.svg, the bytes for each
+entry, from the table of bench/README.md; restart.svg, what a start with a journal does, with the times of docs/SPEED.md.
 
 usage: docs/pictures.py [FOLDER]
 
@@ -58,6 +58,14 @@ START = [
     ("the sockets", "are made, and the clients that waited connect", PALE),
     ("the first round", "answers", PALE),
 ]
+
+# What is left of a machine A that is lost, what the operator does with it at a machine B, and which lines are there then.
+# docs/OPERATING.md, "A machine is lost", has the same in words.
+LEFT = [
+    ("A's disk is left", ("B gets A's table and journal", "the journal's files: user judyd", "start judyd: it plays the journal", "clients or haproxy: B's address"), ("There: all that was synced,", "with --sync round all answered"), GREEN),
+    ("a copy of the journal is left", ("B gets A's table and the copy", "the journal's files: user judyd", "start judyd: it plays the copy", "clients or haproxy: B's address"), ("There: all up to the copy.", "Lost: what was answered since"), SAND),
+    ("the dumps are left", ("B gets A's table, no journal", "start judyd: no arrays yet", "judy restore, tenant by tenant", "clients or haproxy: B's address"), ("There: the arrays of each dump.", "Lost: what was answered since"), SAND),
+]  # fmt: skip
 
 
 def read(path):
@@ -201,12 +209,44 @@ def restart():
     return picture(800, y + 4, "What a start with a journal does, and how long it takes", parts)
 
 
+def bar(left, right, y, colour, words):
+    """A stretch of time, with what happens in it."""
+    return [box(left, y, right - left, 30, colour), text((left + right) / 2, y + 19, words, 12, anchor="middle")]
+
+
+def time_line():
+    """The time of A and of B: a backup, and the loss."""
+    parts = [text(12, 31, "A", 14, GREY), text(12, 99, "B", 14, GREY)]
+    parts += bar(36, 286, 12, PALE, "answers, and syncs its journal") + bar(290, 560, 12, PALE, "goes on answering") + bar(564, 788, 12, SAND, "is lost: nothing answers")
+    parts += [text(288, 60, "the timer's dumps, or a copy", 12, GREY, "end"), text(288, 74, "of the journal, go to B", 12, GREY, "end"), arrow(298, 44, 78)]
+    parts += bar(290, 788, 80, GREEN, "keeps the copy of the journal, or the dumps") + [text(574, 60, "the operator acts:", 12, GREY), text(574, 74, "nothing does so by itself", 12, GREY)]
+    return parts + ['<path d="M562 6V48" stroke="%s" stroke-width="3"/>' % ORANGE, arrow(564, 44, 78)]
+
+
+def column(left, top, row, left_over):
+    """What is left of a machine, the steps below each other, and what is there then."""
+    what, steps, results, colour = left_over
+    parts, y = [text(left + 126, top, what, 13, GREY, "middle", "bold")], top + 12
+    for at, step in enumerate(steps):
+        parts += [box(left, y, 252, 28, PALE), text(left + 126, y + 18, "%d. %s" % (at + 1, step), 12, anchor="middle"), arrow(left + 126, y + 28, y + row - 1)]
+        y += row
+    return [*parts, box(left, y, 252, 46, colour), *(text(left + 126, y + 19 + 16 * at, words, 12, anchor="middle") for at, words in enumerate(results))]
+
+
+def lost():
+    """A machine is lost: its time, what the operator does, and what is there then."""
+    parts, row, top = time_line(), 44, 140
+    for number, it in enumerate(LEFT):
+        parts += column(12 + number * 262, top, row, it)
+    return picture(800, top + 12 + len(LEFT[0][1]) * row + 58, "A machine is lost: what is left, what the operator does, and which lines are there then", parts)
+
+
 def main():
     """Draws all."""
     if len(sys.argv) > 2 or any(word.startswith("-") for word in sys.argv[1:]):
         sys.exit(__doc__)
     folder = sys.argv[1] if len(sys.argv) == 2 else os.path.join(TOP, "docs")
-    for name, draw in (("architecture.svg", architecture), ("line.svg", way), ("memory.svg", memory), ("restart.svg", restart)):
+    for name, draw in (("architecture.svg", architecture), ("line.svg", way), ("lost.svg", lost), ("memory.svg", memory), ("restart.svg", restart)):
         with open(os.path.join(folder, name), "w", encoding="utf-8") as file:
             file.write(draw())
 

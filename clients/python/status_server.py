@@ -40,6 +40,7 @@ METRICS = [
     Metric("judyd_machine_words", "gauge", "", "Words taken from the machine."),
     Metric("judyd_peak_words", "gauge", "", "The most live words at once so far."),
     Metric("judyd_arrays", "gauge", "", "Arrays of all tenants."),
+    Metric("judyd_name_bytes", "gauge", "", "Bytes of the names of all arrays."),
     Metric("judyd_refused_requests_total", "counter", "", "Requests for a block that were refused."),
     Metric("judyd_refused_names_total", "counter", "", "New names that there was no memory for."),
     Metric("judyd_tenant_entries", "gauge", "tenant", "Entries of a tenant."),
@@ -74,7 +75,7 @@ class Numbers:
     def __init__(self, tenants: Optional[Dict[str, Tenant]] = None) -> None:
         self.tenants = tenants or {"alice": Tenant(2, 1000, 2, 126000)}
         self.plain = {metric.name: 0 for metric in METRICS if not metric.label}
-        self.plain.update({"judyd_live_words": 4, "judyd_machine_words": 512, "judyd_peak_words": 512, "judyd_arrays": 1, "judyd_uptime_seconds": 1})
+        self.plain.update({"judyd_live_words": 4, "judyd_machine_words": 512, "judyd_peak_words": 512, "judyd_arrays": 1, "judyd_name_bytes": 3, "judyd_uptime_seconds": 1})
         self.labelled: Dict[str, Dict[str, int]] = {
             "judyd_connections_ended_total": dict.fromkeys(CAUSES, 0),
             "judyd_tenant_connections": dict.fromkeys(self.tenants, 0),

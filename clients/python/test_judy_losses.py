@@ -226,6 +226,16 @@ class Losses(JudyTest):
         self.assertEqual(os.stat(self.good).st_mode & 0o777, 0o640)
         self.assertEqual(run_judy(b"", "-u", "alice", "check", self.good)[:2], (0, "%d entries, alike\n" % len({*IDS.splitlines(), *Torn.LINES.splitlines()})))
 
+    @unittest.skipIf(os.getuid(), "only root makes a file for another user")
+    def test_a_new_file_of_root_is_its_folders(self):
+        folder = self.folder()
+        os.chown(folder, 65534, 65534)
+        self.addCleanup(os.chown, folder, 0, 0)
+        path = os.path.join(folder, "dump")
+        self.assertEqual(run_judy(b"", "-u", "alice", "dump", "-o", path, "J1:ids"), (0, "", ""))
+        found = os.stat(path)
+        self.assertEqual((found.st_uid, found.st_gid, found.st_mode & 0o777), (65534, 65534, 0o600))
+
     def lost(self):
         """A server with a lot of entries, which will be started anew."""
         served = Served(clients=64)

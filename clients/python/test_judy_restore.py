@@ -1,8 +1,11 @@
 """Tests of `judy restore` and `judy thaw` against a real `judyd serve`."""
 
+import glob
 import os
+import shutil
 import signal
 import sys
+import tempfile
 import threading
 import unittest
 
@@ -264,6 +267,48 @@ class OnePlace(RestoreTest):
         holder = alice(self.own.path)
         self.assertEqual((self.restore()[0], self.entries()), (0, before))
         self.assertRaises(Closed, holder.used)
+
+
+class LostMachines(RestoreTest):
+    """A machine is lost, and another one takes its place, as docs/OPERATING.md, "A machine is lost", has it."""
+
+    def setUp(self):
+        self.journal = self.folder_of_its_own()
+        self.more = ("--journal", self.journal, "--sync", "round")
+        super().setUp()
+
+    def folder_of_its_own(self):
+        """The path of a folder of this test."""
+        made = tempfile.TemporaryDirectory(prefix="judyd-lost-")
+        self.addCleanup(made.cleanup)
+        return made.name
+
+    def copied(self, journal):
+        """A copy of the files of a journal, as the page makes it."""
+        folder = self.folder_of_its_own()
+        for path in sorted(glob.glob(os.path.join(journal, "[0-9]*"))):
+            shutil.copy2(path, folder)
+        return folder
+
+    def go_to_another(self, journal):
+        """Another machine, with these files of a journal."""
+        self.own = Served(table(), clients=64, control=True, more=("--journal", self.copied(journal)))
+        self.addCleanup(self.own.end)
+
+    def test_what_another_machine_has(self):
+        backup, copy = self.entries(), self.copied(self.journal)
+        with alice(self.own.path) as client:
+            client.judy1("ids").update(range(3000, 3500))
+        last = self.entries()
+        self.own.kill()
+        for journal, wanted in ((self.journal, last), (copy, backup)):
+            self.go_to_another(journal)
+            self.assertEqual(self.entries(), wanted)
+        self.go_to_another(self.folder_of_its_own())
+        with alice(self.own.path) as client:
+            self.assertEqual(client.used().used, 0)
+        self.assertEqual(self.restore()[::2], (0, ""))
+        self.assertEqual((self.entries(), len(last) - len(backup)), (backup, 500))
 
 
 if __name__ == "__main__":

@@ -163,7 +163,7 @@ class Tables(JudyTest):
             status, _, wrong = run_judy(b"abc\n", "table", path, *words)
             self.assertEqual((status, said in wrong, text_of(path)), (1, True, wanted), wrong)
         self.assertEqual(run_judy(b"", "table", path, "remove", "b.ob"), changed)
-        self.assertEqual(text_of(path), wanted.partition("[\"b")[0])
+        self.assertEqual(text_of(path), wanted.partition("\n[\"b")[0])
         self.assertIn("(Count)", run_judy(b"", "table", path, "remove", "alice")[2])
         self.assertEqual(run_judy(b"", "table", path, "add")[0], 2)
 
@@ -200,6 +200,28 @@ class Tables(JudyTest):
         run_judy(b"", "table", path, "remove", "alice")
         self.assertEqual(text_of(path), "# all\n\n# the first\n# the second\n['bob']\n%s\"quota\" = 9\n" % LINE)
 
+    def test_a_removed_tenant_leaves_one_blank_line(self):
+        row = "[%s]\nquota = 1\n" + LINE
+        ann, ben, cat = (row % name for name in ("ann", "ben", "cat"))
+        for before, after in (
+            ((ann, ben, cat), (ann, cat)), ((ann, "\n", ben, "\n", cat), (ann, "\n", cat)), ((ann, "\n", ben, cat), (ann, "\n", cat)), ((ann, ben, "\n", cat), (ann, "\n", cat)),
+            ((ann, "\n\n", ben, " \n\n", cat), (ann, "\n", cat)), ((ben, "\n", cat), (cat,)), (("\n", ben, "\n", cat), (cat,)), ((cat, "\n", ben, "\n"), (cat,)), ((ann, "\n", ben, "\n# c\n", cat), (ann, "\n# c\n", cat)),
+            ((ann, "\n# b\n", ben, "\n# c\n", cat), (ann, "\n# b\n\n# c\n", cat)),
+        ):  # fmt: skip
+            for end in ("\n", "\r\n"):
+                path = self.file("blank.toml", "".join(before).replace("\n", end).encode())
+                self.assertEqual(run_judy(b"", "table", path, "remove", "ben")[0], 0)
+                with open(path, newline="", encoding="utf-8") as file:
+                    self.assertEqual(file.read(), "".join(after).replace("\n", end))
+
+    def test_a_tenant_removed_and_added_again(self):
+        path = self.file("again.toml", ("[ann]\nquota = 1\n" + LINE).encode())
+        run_judy(b"abc\n", "table", path, "add", "ben", "--quota", "1")
+        before = text_of(path)
+        run_judy(b"", "table", path, "remove", "ben")
+        run_judy(b"abc\n", "table", path, "add", "ben", "--quota", "1")
+        self.assertEqual((text_of(path), before.count("\n\n")), (before, 1))
+
     @unittest.skipIf(tomllib is None, "Python before 3.11 has no reader of TOML to compare with")
     def test_only_what_was_asked_changes(self):
         draw, count = random.Random(int(os.environ.get("SEED", "1"))), 0
@@ -218,6 +240,8 @@ class Tables(JudyTest):
     def test_without_judyd(self):
         status, _, wrong = run_judy(b"", "table", "-", more={"JUDYD": "", "PATH": "/nowhere"})
         self.assertEqual((status, "judyd is not on the PATH" in wrong), (1, True))
+        status, _, wrong = run_judy(b"", "table", "-", more={"JUDYD": "/nowhere/judyd"})
+        self.assertEqual((status, wrong), (1, "judy: the environment's JUDYD is no program: /nowhere/judyd\n"))
 
 
 if __name__ == "__main__":

@@ -115,7 +115,7 @@ class Lines(unittest.TestCase):
         for text in (b"", b"\n", b"hello\n", good[:-1], good.replace(b"judyd_live_words ", b"judyd_live_words -"), b"judyd_live_words 0\n", good.replace(b'{tenant="alice"', b"{alice"), b"<html>\n", b"\xff\xfe\n"):
             with self.assertRaises(Error, msg=repr(text[:40])):
                 Metrics(text)
-        hidden = ("judyd_arrays", "judyd_connections_without_tenant", "judyd_live_words", "judyd_log_lines_dropped_total", "judyd_logins_unknown_total")
+        hidden = ("judyd_arrays", "judyd_connections_without_tenant", "judyd_live_words", "judyd_log_lines_dropped_total", "judyd_logins_unknown_total", "judyd_name_bytes")
         shown = [metric.name for metric in METRICS if not metric.label and metric.name not in hidden and not metric.name.startswith("judyd_journal_")]
         self.assertEqual(len(shown), 10)  # those that each server tells
         for name in shown:

@@ -202,7 +202,7 @@ def lost(why: Exception, may_have_run: bool, timeout: Optional[float]) -> Connec
     """The exception for a connection that was lost."""
     run = "each call without a reply may have run" if may_have_run else "no call without a reply has run"
     if isinstance(why, (socket.timeout, TimeoutError)):
-        return TimedOut("no reply for %g s%s; %s" % (timeout or 0, _SERVED, run), may_have_run)
+        return TimedOut("no reply for %.3g s%s; %s" % (timeout or 0, _SERVED, run), may_have_run)
     return ConnectionLost("the connection was lost (%s); %s" % (str(why) or type(why).__name__, run), may_have_run)
 
 

@@ -200,8 +200,9 @@ def write_all(file: int, data: bytes) -> None:
 def replaced(path: str, before: Optional[str] = None) -> Iterator[int]:
     """A new file beside a path, open for writing. When the block ends it is synced and takes the
     place of the path; if the block raises an exception it is removed, and the path stays as it was. A
-    path that is new gets a file that only this user may read. With `before` the file that was there goes
-    to that path. At each moment both paths that had a file have a whole one."""
+    path that is new gets a file that only this user may read; if root makes it, it is the folder's owner's. With
+    `before` the file that was there goes to that path. At each moment both paths that had a file have a whole
+    one."""
     place = os.path.realpath(path)
     old = os.stat(place) if os.path.exists(place) else None
     if old is not None and not stat.S_ISREG(old.st_mode):
@@ -212,7 +213,8 @@ def replaced(path: str, before: Optional[str] = None) -> Iterator[int]:
         try:
             yield file
             if old is not None:
-                _like(file, old)
+                os.fchmod(file, stat.S_IMODE(old.st_mode))
+            _own(file, old or os.stat(folder))
             os.fsync(file)
         finally:
             os.close(file)
@@ -237,9 +239,8 @@ def _link(place: str, other: str) -> None:
         os.unlink(beside)  # both paths had the same file, and then nothing is renamed
 
 
-def _like(file: int, old: os.stat_result) -> None:
-    """Gives a file the mode of another and, where that is allowed, its owner."""
-    os.fchmod(file, stat.S_IMODE(old.st_mode))
+def _own(file: int, old: os.stat_result) -> None:
+    """Gives a file the owner of another one, or of a folder, where that is allowed."""
     new = os.fstat(file)
     if (new.st_uid, new.st_gid) == (old.st_uid, old.st_gid):
         return

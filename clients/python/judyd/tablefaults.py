@@ -83,9 +83,12 @@ def shown(name: str) -> str:
 def program() -> str:
     """The path of judyd: the environment's JUDYD, beside this program, or on the PATH."""
     here, real = os.path.dirname(os.path.abspath(sys.argv[0])), os.path.dirname(os.path.realpath(sys.argv[0]))
-    for path in (os.environ.get("JUDYD", ""), os.path.join(here, "judyd"), os.path.join(real, "..", "..", "bin", "judyd")):
+    given = os.environ.get("JUDYD", "")
+    for path in (given, os.path.join(here, "judyd"), os.path.join(real, "..", "..", "bin", "judyd")):
         if os.path.isfile(path) and os.access(path, os.X_OK):
             return path
+        if path and path == given:
+            raise ValueError("the environment's JUDYD is no program: %s" % given)
     found = shutil.which("judyd")
     if found is None:
         raise ValueError("judyd is not on the PATH: put its path into the environment's JUDYD")

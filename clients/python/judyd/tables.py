@@ -74,9 +74,13 @@ def without_old(text: str, tenant: str) -> str:
 
 
 def without(text: str, tenant: str) -> str:
-    """The table without a tenant."""
+    """The table without a tenant, and with at most one blank line where it was."""
     start, end = _section(text, tenant)
-    return text[:start] + text[end:].lstrip("\n")
+    before = re.sub(r"(?m)(?:^[ \t]*\r?\n)+\Z", "", text[:start])
+    after = re.sub(r"\A(?:[ \t]*\r?\n)+", "", text[end:])
+    if not before or not after or len(before + after) == len(text) - (end - start):
+        return before + after
+    return before + ("\r\n" if before.endswith("\r\n") else "\n") + after
 
 
 def with_tenant(text: str, tenant: str, keys: Dict[str, str]) -> str:

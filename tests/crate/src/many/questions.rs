@@ -57,6 +57,7 @@ fn a_status_is_that_of_its_round(rt: HostRuntime) -> Result<(), Fail> {
         b"judyd_tenant_entries{tenant=\"bob\"} 0".as_slice(),
         b"judyd_tenant_quota_entries{tenant=\"alice\"} 2".as_slice(),
         b"judyd_arrays 1".as_slice(),
+        b"judyd_name_bytes 1".as_slice(),
         b"judyd_tenant_connections{tenant=\"bob\"} 0".as_slice(),
         b"judyd_connections_without_tenant 0".as_slice(),
         b"judyd_refused_requests_total 0".as_slice(),
