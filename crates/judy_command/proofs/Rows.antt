@@ -8,7 +8,7 @@ use Rattle.clap.specs.Words.{Text}
 use Rattle.clap.specs.ValueTests.{is_unsigned_in}
 use Rattle.clap.specs.declared.builder.value_parser.ValueParser.TheVariants as parser
 use Rattle.clap.proofs.ValueTestLemmas.{accepts-Accepts, Accepts-accepts}
-use Rattle.judy_command.specs.CommandLine.{IsSync, seconds_in, sync_in, number_in, most_clients, most_count, most_megabytes, IsUsage, StopsBy, judyd_app, job_of, IsCount, IsInRange, job_at, served, words_fault}
+use Rattle.judy_command.specs.CommandLine.{IsSync, seconds_in, sync_in, number_in, most_clients, most_count, most_megabytes, IsUsage, StopsBy, judyd_app, job_of, IsCount, IsInRange, IsOptionFault, job_at, served, words_fault}
 use Rattle.clap.specs.Kinds.{or_else}
 use Rattle.std.proofs.Common.{◌⊎◌, ◌∷◌, [], inl, inr, subst, sym, Some, None, codes}
 use Rattle.clap.specs.Words.{Row, first_of, Kinds, IsAmong, takes, subcommand_of, fault_of}
@@ -141,15 +141,26 @@ StopsBy-first [] b (Usage text) s = absurd s.1
 StopsBy-first [] b Memory s = tt
 StopsBy-first (k ∷ ks) b s h = h
 
--- a usage text stops for the faults of `--sync`
-pub usage-stops : (kinds : Kinds) (s : Refusal) → IsUsage s → (kinds ≡ kind.ValueValidation ∷ []) ⊎ (kinds ≡ kind.MissingRequiredArgument ∷ [])
-    → StopsBy kinds s
+-- a usage text stops for the faults of options
+pub usage-stops : (kinds : Kinds) (s : Refusal) → IsUsage s → IsOptionFault kinds → StopsBy kinds s
 usage-stops kinds (Help text) bad h = absurd bad
 usage-stops kinds (Usage text) u (inl e) =
     let P : Kinds → Type 0 = λ k. StopsBy k (Usage text) in subst P (sym e) (kind.ValueValidation, inl refl, (λ auto. cc), (λ auto. cc))
-usage-stops kinds (Usage text) u (inr e) =
+usage-stops kinds (Usage text) u (inr (inl e)) =
     let P : Kinds → Type 0 = λ k. StopsBy k (Usage text) in subst P (sym e) (kind.MissingRequiredArgument, inl refl, (λ auto. cc), (λ auto. cc))
+usage-stops kinds (Usage text) u (inr (inr e)) =
+    let P : Kinds → Type 0 = λ k. StopsBy k (Usage text) in subst P (sym e) (kind.ArgumentConflict, inl refl, (λ auto. cc), (λ auto. cc))
 usage-stops kinds Memory u h = tt
+
+-- the first of some faults is the first of these and others
+pub first-fault : (a b : Kinds) → IsOptionFault a → IsOptionFault (or_else a b)
+first-fault a b (inl e) = let P : Kinds → Type 0 = λ k. IsOptionFault (or_else k b) in subst P (sym e) (inl refl)
+first-fault a b (inr (inl e)) = let P : Kinds → Type 0 = λ k. IsOptionFault (or_else k b) in subst P (sym e) (inr (inl refl))
+first-fault a b (inr (inr e)) = let P : Kinds → Type 0 = λ k. IsOptionFault (or_else k b) in subst P (sym e) (inr (inr refl))
+
+-- without these the others are the first
+pub later-fault : (a b : Kinds) → a ≡ [] → IsOptionFault b → IsOptionFault (or_else a b)
+later-fault a b e h = let P : Kinds → Type 0 = λ k. IsOptionFault (or_else k b) in subst P (sym e) h
 
 -- worked rows: two command lines that give jobs, and one that does not
 taken-run : takes judyd_app (codes "run" ∷ codes "--words" ∷ []) ≡ true
@@ -169,22 +180,22 @@ unfolding clap_on_literals
 taken-serve = refl
 
 job-serve : job_of (subcommand_of judyd_app (codes "serve" ∷ codes "--config" ∷ codes "c" ∷ codes "--socket" ∷ codes "s" ∷ []))
-    ≡ Some (Serve (codes "c") (codes "s") None None 64 None 4294967295 10 None None None None Round false)
+    ≡ Some (Serve (codes "c") (codes "s") None None 64 None 4294967295 10 None None None None Round false false)
 unfolding clap_on_literals
 job-serve = refl
 
 job-status : job_of (subcommand_of judyd_app (codes "serve" ∷ codes "--config" ∷ codes "c" ∷ codes "--socket" ∷ codes "s" ∷ codes "--status" ∷ codes "t" ∷ []))
-    ≡ Some (Serve (codes "c") (codes "s") (Some (codes "t")) None 64 None 4294967295 10 None None None None Round false)
+    ≡ Some (Serve (codes "c") (codes "s") (Some (codes "t")) None 64 None 4294967295 10 None None None None Round false false)
 unfolding clap_on_literals
 job-status = refl
 
 job-reserve : job_of (subcommand_of judyd_app (codes "serve" ∷ codes "--config" ∷ codes "c" ∷ codes "--socket" ∷ codes "s" ∷ codes
-    "--reserve" ∷ codes "64" ∷ [])) ≡ Some (Serve (codes "c") (codes "s") None None 64 None 4294967295 10 None None (Some 64) None Round false)
+    "--reserve" ∷ codes "64" ∷ [])) ≡ Some (Serve (codes "c") (codes "s") None None 64 None 4294967295 10 None None (Some 64) None Round false false)
 unfolding clap_on_literals
 job-reserve = refl
 
 job-tenant-clients : job_of (subcommand_of judyd_app (codes "serve" ∷ codes "--config" ∷ codes "c" ∷ codes "--socket" ∷ codes "s" ∷ codes
-    "--tenant-clients" ∷ codes "3" ∷ [])) ≡ Some (Serve (codes "c") (codes "s") None None 64 (Some 3) 4294967295 10 None None None None Round false)
+    "--tenant-clients" ∷ codes "3" ∷ [])) ≡ Some (Serve (codes "c") (codes "s") None None 64 (Some 3) 4294967295 10 None None None None Round false false)
 unfolding clap_on_literals
 job-tenant-clients = refl
 
@@ -212,7 +223,7 @@ abbrev serve-words : Text → Text → List Text
 serve-words dir when = codes "serve" ∷ codes "--config" ∷ codes "c" ∷ codes "--socket" ∷ codes "s" ∷ codes "--journal" ∷ dir ∷ codes "--sync" ∷ when ∷ []
 
 job-journal : job_of (subcommand_of judyd_app (serve-words (codes "d") (codes "5")))
-    ≡ Some (Serve (codes "c") (codes "s") None None 64 None 4294967295 10 None None None (Some (codes "d")) (Seconds 5) false)
+    ≡ Some (Serve (codes "c") (codes "s") None None 64 None 4294967295 10 None None None (Some (codes "d")) (Seconds 5) false false)
 unfolding clap_on_literals
 job-journal = refl
 
@@ -230,10 +241,29 @@ unfolding clap_on_literals
 job-compact = refl
 
 job-print : job_of (subcommand_of judyd_app (codes "journal" ∷ codes "--tenant" ∷ codes "alice" ∷ codes "d" ∷ []))
-    ≡ Some (Journal (codes "d") (Some (codes "alice")))
+    ≡ Some (Journal (codes "d") (Some (codes "alice")) false false)
 unfolding clap_on_literals
 job-print = refl
 
 refused-no-directory : fault_of judyd_app (codes "compact" ∷ []) ≡ kind.MissingRequiredArgument ∷ []
 unfolding clap_on_literals
 refused-no-directory = refl
+
+job-new : job_of (subcommand_of judyd_app (codes "journal" ∷ codes "--new" ∷ codes "d" ∷ [])) ≡ Some (Journal (codes "d") None true false)
+unfolding clap_on_literals
+job-new = refl
+
+job-new-journal : job_of (subcommand_of judyd_app (codes "serve" ∷ codes "--config" ∷ codes "c" ∷ codes "--socket" ∷ codes "s" ∷ codes
+    "--new-journal" ∷ codes "--journal" ∷ codes "d" ∷ []))
+    ≡ Some (Serve (codes "c") (codes "s") None None 64 None 4294967295 10 None None None (Some (codes "d")) Round true false)
+unfolding clap_on_literals
+job-new-journal = refl
+
+refused-new-alone : words_fault (codes "serve" ∷ codes "--config" ∷ codes "c" ∷ codes "--socket" ∷ codes "s" ∷ codes "--new-journal" ∷ [])
+    ≡ kind.MissingRequiredArgument ∷ []
+unfolding clap_on_literals
+refused-new-alone = refl
+
+refused-two : words_fault (codes "journal" ∷ codes "--new" ∷ codes "--check" ∷ codes "d" ∷ []) ≡ kind.ArgumentConflict ∷ []
+unfolding clap_on_literals
+refused-two = refl

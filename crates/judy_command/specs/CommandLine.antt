@@ -1,7 +1,7 @@
 -- The command line in terms of `clap`'s definitions of a simple command, and the job that its words
 -- ask for.
 use Rattle.std.specs.Prelude.{ℕ, ◌⊎◌, ◌≢◌, ◌≤◌, Bool, true, false, List, [], ◌∷◌, Option, Some, codes, not, unwrap_or}
-use Rattle.std.specs.Prelude.{IfSome, None, is_some, option_map, pos, if◌then◌else◌}
+use Rattle.std.specs.Prelude.{◌≡◌, ◌&&◌, ◌||◌, IfSome, None, is_some, option_map, pos, if◌then◌else◌}
 use Rattle.std.specs.Option.{option_map_or}
 use Rattle.std.specs.Str.{bytes_eq}
 use Rattle.std.specs.Str.Parse.{digits_value, without_leading_plus}
@@ -82,13 +82,13 @@ with_clients a = with_rule (with_rule a clients_rule) tenant_clients_rule
 abbrev pub with_limits : App → App
 with_limits a = with_times (with_rule (with_clients a) connections_rule)
 
--- `[--journal DIR] [--sync WHEN]`
+-- `[--journal DIR] [--sync WHEN] [--new-journal]`
 abbrev pub with_journal : App → App
-with_journal a = with_rule (with_rule a (valued_rule (codes "journal"))) (valued_rule (codes "sync"))
+with_journal a = with_rule (with_rule (with_rule a (valued_rule (codes "journal"))) (valued_rule (codes "sync"))) (flag_rule (codes "new-journal"))
 
 -- `serve --config FILE --socket PATH [--status PATH] [--control PATH] [--clients N] [--tenant-clients N]
 -- [--connections N] [--login SECONDS] [--idle SECONDS] [--turn SECONDS] [--reserve MB] [--journal DIR]
--- [--sync WHEN] [--check]`
+-- [--sync WHEN] [--new-journal] [--check]`
 abbrev pub serve_app : App
 serve_app = with_rule (with_journal (with_rule (with_limits (with_places (new_app (codes "serve")))) reserve_rule)) (flag_rule (codes "check"))
 
@@ -96,9 +96,9 @@ serve_app = with_rule (with_journal (with_rule (with_limits (with_places (new_ap
 abbrev pub compact_app : App
 compact_app = with_rule (new_app (codes "compact")) (placed_rule (codes "directory"))
 
--- `journal DIR [--tenant NAME]`
+-- `journal DIR [--tenant NAME] [--new] [--check]`
 abbrev pub journal_app : App
-journal_app = with_rule (with_rule (new_app (codes "journal")) (placed_rule (codes "directory"))) (valued_rule (codes "tenant"))
+journal_app = with_rule (with_rule (with_rule (with_rule (new_app (codes "journal")) (placed_rule (codes "directory"))) (valued_rule (codes "tenant"))) (flag_rule (codes "new"))) (flag_rule (codes "check"))
 
 -- one of the four commands is required; the words do not include the program's name
 abbrev pub bare_app : App
@@ -152,14 +152,14 @@ served rows = Serve (unwrap_or (first_of (codes "config") rows) []) (unwrap_or (
     (unwrap_or (number_given most_count (codes "login") rows) 10)
     (number_given most_count (codes "idle") rows) (number_given most_count (codes "turn") rows)
     (number_given most_megabytes (codes "reserve") rows)
-    (first_of (codes "journal") rows) (sync_given rows) (is_set (codes "check") rows)
+    (first_of (codes "journal") rows) (sync_given rows) (is_set (codes "new-journal") rows) (is_set (codes "check") rows)
 
 -- the job of the subcommand of this name with these matches
 abbrev pub job_at : Text → List Row → Job
 job_at name rows =
     if bytes_eq name (codes "run") then Run (is_set (codes "words") rows) (is_set (codes "batch") rows)
     else if bytes_eq name (codes "compact") then Compact (unwrap_or (first_of (codes "directory") rows) [])
-    else if bytes_eq name (codes "journal") then Journal (unwrap_or (first_of (codes "directory") rows) []) (first_of (codes "tenant") rows)
+    else if bytes_eq name (codes "journal") then Journal (unwrap_or (first_of (codes "directory") rows) []) (first_of (codes "tenant") rows) (is_set (codes "new") rows) (is_set (codes "check") rows)
     else served rows
 
 -- what clap does not see: a word after `--sync` that is none, and `--sync` without `--journal`
@@ -171,12 +171,32 @@ word_fault t journal =
 abbrev pub sync_fault : List Row → Kinds
 sync_fault rows = option_map_or (λ t. word_fault t (first_of (codes "journal") rows)) (first_of (codes "sync") rows) []
 
-abbrev pub sync_fault_of : Option (Text × List Row) → Kinds
-sync_fault_of found = option_map_or (λ p. sync_fault p.1) found []
+-- nor that `--new-journal` comes without `--journal`
+abbrev pub new_fault : List Row → Kinds
+new_fault rows =
+    if is_set (codes "new-journal") rows && not (is_some (first_of (codes "journal") rows)) then kind.MissingRequiredArgument ∷ [] else []
 
--- the fault of the words: of clap, or otherwise of `--sync`
+-- nor two of `--tenant`, `--new` and `--check`
+abbrev pub are_two : Bool → Bool → Bool → Bool
+are_two a b c = (a && b) || (a && c) || (b && c)
+
+abbrev pub two_fault : List Row → Kinds
+two_fault rows =
+    if are_two (is_some (first_of (codes "tenant") rows)) (is_set (codes "new") rows) (is_set (codes "check") rows) then kind.ArgumentConflict ∷ [] else []
+
+abbrev pub option_fault : List Row → Kinds
+option_fault rows = or_else (sync_fault rows) (or_else (new_fault rows) (two_fault rows))
+
+abbrev pub option_fault_of : Option (Text × List Row) → Kinds
+option_fault_of found = option_map_or (λ p. option_fault p.1) found []
+
+-- the kinds of these faults
+abbrev pub IsOptionFault : Kinds → Type 0
+IsOptionFault kinds = (kinds ≡ kind.ValueValidation ∷ []) ⊎ (kinds ≡ kind.MissingRequiredArgument ∷ []) ⊎ (kinds ≡ kind.ArgumentConflict ∷ [])
+
+-- the fault of the words: of clap, or otherwise of an option
 abbrev pub words_fault : List Text → Kinds
-words_fault words = or_else (fault_of judyd_app words) (sync_fault_of (subcommand_of judyd_app words))
+words_fault words = or_else (fault_of judyd_app words) (option_fault_of (subcommand_of judyd_app words))
 
 abbrev pub job_of : Option (Text × List Row) → Option Job
 job_of = option_map (λ p. job_at p.0 p.1)
@@ -192,12 +212,12 @@ IsSync Never = Unit {0}
 
 abbrev pub IsInRange : Job → Type 0
 IsInRange (Run words batch) = Unit {0}
-IsInRange (Serve config socket status control clients tenant_clients connections login idle turn reserve journal sync check) =
+IsInRange (Serve config socket status control clients tenant_clients connections login idle turn reserve journal sync new_journal check) =
     IsCount most_clients clients × IfSome tenant_clients (IsCount most_clients) × IsCount most_count connections × IsCount most_count login
     × IfSome idle (IsCount most_count) × IfSome turn (IsCount most_count)
     × IfSome reserve (IsCount most_megabytes) × IsSync sync
 IsInRange (Compact directory) = Unit {0}
-IsInRange (Journal directory tenant) = Unit {0}
+IsInRange (Journal directory tenant new check) = Unit {0}
 
 -- a `Help` refusal comes from a request for help or the version, a `Usage` refusal from any other
 -- fault

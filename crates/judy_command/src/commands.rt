@@ -25,6 +25,7 @@ Statuses: 0 at the end of the requests or after QUIT; 2 for a wrong command line
 const SERVE_EXAMPLES: &str = "Examples:
   judyd serve --config samples/tenants.toml --socket judyd.sock
   judyd serve --config samples/tenants.toml --socket judyd.sock --connections 1
+  judyd journal /var/lib/judyd/journal --new
   judyd serve --config samples/tenants.toml --socket judyd.sock --journal /var/lib/judyd/journal
 
 A session with it:
@@ -67,9 +68,16 @@ const JOURNAL_HELP: &str = "The directory of the journal: what was answered is t
 const SYNC_HELP: &str =
     "When the journal is secured: round (before each answer), never, or a number of seconds";
 
+const NEW_JOURNAL_HELP: &str =
+    "Begin a new journal: its directory must have no manifest yet, and gets one";
+
 const DIRECTORY_HELP: &str = "The directory of the journal";
 
 const TENANT_HELP: &str = "Print only the requests of this tenant, without its name";
+
+const NEW_HELP: &str = "Make the manifest of a new journal, or of one of an older version";
+
+const CHECK_JOURNAL_HELP: &str = "Tell what a start would find, and change nothing";
 
 /// The text below the help of `compact`.
 const COMPACT_EXAMPLES: &str = "Examples:
@@ -83,13 +91,15 @@ was; 4 without memory or random bytes. Standard error says which.";
 
 /// The text below the help of `journal`.
 const PRINT_EXAMPLES: &str = "Examples:
+  judyd journal /var/lib/judyd/journal --new
   judyd journal /var/lib/judyd/journal
   (echo 'AUTH alice abc'; judyd journal /var/lib/judyd/journal --tenant alice; echo QUIT) | nc -U judyd.sock
 
-A server may use the directory meanwhile.
+A server may use the directory meanwhile, but not for --new: that makes the manifest of an empty
+directory, or of one with a journal that is whole and has none. A start without a manifest is refused.
 
-Statuses: 0 when all is printed; 2 for a wrong command line; 3 if the journal is refused; 4 if memory
-or a write fails. Standard error says which.";
+Statuses: 0 when it is done; 2 for a wrong command line; 3 if the journal is refused; 4 if memory or a
+write fails. Standard error says which.";
 
 /// The text below the help.
 const EXAMPLES: &str = "Examples:
@@ -311,7 +321,8 @@ fn with_journal<'a>(alloc: Global, command: Made<'a>) -> Made<'a>
     ensures local { IfOk result (λ c. (fields_of c).has_globals ≡ false) }
 {
     let command = with(command, valued(alloc, "journal", "DIR", JOURNAL_HELP));
-    with(command, valued(alloc, "sync", "WHEN", SYNC_HELP))
+    let command = with(command, valued(alloc, "sync", "WHEN", SYNC_HELP));
+    with(command, flag(alloc, "new-journal", NEW_JOURNAL_HELP))
 }
 
 /// `serve` with its options.
@@ -348,19 +359,21 @@ fn compact_command<'a>(alloc: Global) -> Made<'a>
     )
 }
 
-/// `journal DIR [--tenant NAME]`.
+/// `journal DIR [--tenant NAME] [--new] [--check]`.
 fn journal_command<'a>(alloc: Global) -> Made<'a>
     ensures app { IfOk result (λ c. app_of c ≡ journal_app) }
     ensures local { IfOk result (λ c. (fields_of c).has_globals ≡ false) }
 {
-    let about = "Prints the requests of a journal, each with its tenant's name";
+    let about = "Prints the requests of a journal, begins a new one, or checks one";
     let usage = "judyd journal [OPTIONS] <DIR>";
     let command = used(alloc, "journal", about, usage, PRINT_EXAMPLES);
     let command = with(
         Ok(command),
         placed(alloc, "directory", "DIR", DIRECTORY_HELP),
     );
-    with(command, valued(alloc, "tenant", "NAME", TENANT_HELP))
+    let command = with(command, valued(alloc, "tenant", "NAME", TENANT_HELP));
+    let command = with(command, flag(alloc, "new", NEW_HELP));
+    with(command, flag(alloc, "check", CHECK_JOURNAL_HELP))
 }
 
 /// A command with one more command below it.

@@ -3,7 +3,8 @@ ghost use Rattle.std.specs.Prelude.{◌≡◌, ◌⊎◌, Some, None, true, IfOk
 ghost use Rattle.std.specs.Prelude.{option_map};
 ghost use Rattle.clap.specs.Words.{takes, subcommand_of, rows_of, found_of, first_of, kind_of};
 ghost use Rattle.judy_command.specs.CommandLine.{IsInRange, IsUsage, StopsBy, is_set, job_at, job_of, judyd_app, served, seconds_in};
-ghost use Rattle.judy_command.specs.CommandLine.{most_clients, most_count, number_given, number_in, sync_fault, sync_fault_of};
+ghost use Rattle.judy_command.specs.CommandLine.{most_clients, most_count, number_given, number_in, sync_fault};
+ghost use Rattle.judy_command.specs.CommandLine.{IsOptionFault, are_two, new_fault, option_fault, option_fault_of, two_fault};
 ghost use Rattle.judy_command.specs.CommandLine.{sync_given, sync_in, words_fault};
 
 use crate::commands::judyd_command;
@@ -75,6 +76,8 @@ pub enum Job {
         journal: Option<Word>,
         /// When the journal is secured.
         sync: Sync,
+        /// Whether the journal is a new one.
+        new_journal: bool,
         /// Whether to only read the table and report its fault.
         check: bool,
     },
@@ -83,12 +86,16 @@ pub enum Job {
         /// The directory of the journal.
         directory: Word,
     },
-    /// Print the requests of a journal.
+    /// Print the requests of a journal, or begin or check one.
     Journal {
         /// The directory of the journal.
         directory: Word,
         /// The only tenant whose requests are wanted, if there is one.
         tenant: Option<Word>,
+        /// Whether to make the manifest of a new journal.
+        new: bool,
+        /// Whether to tell what a start would find.
+        check: bool,
     },
 }
 
@@ -120,6 +127,22 @@ For more information, try '--help'.
 const NO_JOURNAL: &str = "error: the argument '--sync <WHEN>' needs '--journal <DIR>'
 
 Usage: judyd serve [OPTIONS] --config <FILE> --socket <PATH>
+
+For more information, try '--help'.
+";
+
+/// What is wrong with a command line that has `--new-journal` and no journal.
+const NO_NEW_JOURNAL: &str = "error: the argument '--new-journal' needs '--journal <DIR>'
+
+Usage: judyd serve [OPTIONS] --config <FILE> --socket <PATH>
+
+For more information, try '--help'.
+";
+
+/// What is wrong with a command line that asks for two things of one journal.
+const TWO_ASKED: &str = "error: only one of '--tenant <NAME>', '--new' and '--check' may be given
+
+Usage: judyd journal [OPTIONS] <DIR>
 
 For more information, try '--help'.
 ";
@@ -232,6 +255,7 @@ fn served(alloc: Global, matches: &ArgMatches<'_>) -> Result<Job, AllocError>
         reserve: number_given(matches, "reserve", MOST_MEGABYTES),
         journal,
         sync: sync_given(matches),
+        new_journal: is_set(matches, "new-journal"),
         check: is_set(matches, "check"),
     })
 }
@@ -253,7 +277,12 @@ fn job_of(alloc: Global, name: &str, matches: &ArgMatches<'_>) -> Result<Job, Al
     if name == "journal" {
         let directory = word_of(alloc, matches, "directory")?;
         let tenant = word_given(alloc, matches, "tenant")?;
-        return Ok(Job::Journal { directory, tenant });
+        return Ok(Job::Journal {
+            directory,
+            tenant,
+            new: is_set(matches, "new"),
+            check: is_set(matches, "check"),
+        });
     }
     served(alloc, matches)
 }
@@ -273,6 +302,53 @@ fn sync_fault(matches: &ArgMatches<'_>) -> Option<&'static str>
         Some(_) => None,
         None => Some(NO_JOURNAL),
     }
+}
+
+/// What is wrong with `--new-journal`, if it is given. `clap` does not see it.
+fn new_fault(matches: &ArgMatches<'_>) -> Option<&'static str>
+    ensures none { result ≡ None → new_fault (rows_of (found_of matches.now)) ≡ [] }
+    ensures some { IfSome result (λ text.
+        new_fault (rows_of (found_of matches.now)) ≡ ErrorKind.MissingRequiredArgument ∷ []) }
+{
+    if is_set(matches, "new-journal") && text_of(matches, "journal").is_none() {
+        return Some(NO_NEW_JOURNAL);
+    }
+    None
+}
+
+/// Whether two or more of these hold.
+fn are_two(a: bool, b: bool, c: bool) -> bool
+    ensures { result ≡ are_two a b c }
+{
+    (a && b) || (a && c) || (b && c)
+}
+
+/// What is wrong with `--tenant`, `--new` and `--check`, if two of them are given. `clap` does not see
+/// it.
+fn two_fault(matches: &ArgMatches<'_>) -> Option<&'static str>
+    ensures none { result ≡ None → two_fault (rows_of (found_of matches.now)) ≡ [] }
+    ensures some { IfSome result (λ text.
+        two_fault (rows_of (found_of matches.now)) ≡ ErrorKind.ArgumentConflict ∷ []) }
+{
+    let prints = text_of(matches, "tenant").is_some();
+    if are_two(prints, is_set(matches, "new"), is_set(matches, "check")) {
+        return Some(TWO_ASKED);
+    }
+    None
+}
+
+/// What is wrong with an option that `clap` does not see.
+fn option_fault(matches: &ArgMatches<'_>) -> Option<&'static str>
+    ensures none { result ≡ None → option_fault (rows_of (found_of matches.now)) ≡ [] }
+    ensures some { IfSome result (λ text. IsOptionFault (option_fault (rows_of (found_of matches.now)))) }
+{
+    if let Some(text) = sync_fault(matches) {
+        return Some(text);
+    }
+    if let Some(text) = new_fault(matches) {
+        return Some(text);
+    }
+    two_fault(matches)
 }
 
 /// A usage text.
@@ -308,12 +384,12 @@ fn refusal_of(alloc: Global, e: &clap::Error) -> Refusal
 /// The job of a subcommand with this name and these matches, or what is wrong with it.
 fn obtain(alloc: Global, name: &str, matches: &ArgMatches<'_>) -> Result<Job, Refusal>
     ensures job { IfOk result (λ job. job ≡ job_at name.now (rows_of (found_of matches.now))) }
-    ensures faultless { OnOk result (sync_fault (rows_of (found_of matches.now)) ≡ []) }
-    ensures refused { IfErr result (StopsBy (sync_fault (rows_of (found_of matches.now)))) }
-    ensures taken { IfErr result (λ why. sync_fault (rows_of (found_of matches.now)) ≡ []
+    ensures faultless { OnOk result (option_fault (rows_of (found_of matches.now)) ≡ []) }
+    ensures refused { IfErr result (StopsBy (option_fault (rows_of (found_of matches.now)))) }
+    ensures taken { IfErr result (λ why. option_fault (rows_of (found_of matches.now)) ≡ []
         → why ≡ Refusal.Memory) }
 {
-    if let Some(text) = sync_fault(matches) {
+    if let Some(text) = option_fault(matches) {
         return Err(usage(alloc, text));
     }
     job_of(alloc, name, matches).map_err(|_| Refusal::Memory)
@@ -330,7 +406,7 @@ pub fn parse_words(alloc: Global, words: &[String]) -> Result<Job, Refusal>
     ensures faultless { OnOk result (words_fault (map (λ w. string_bytes w) words.now) ≡ []) }
     ensures refused { IfErr result (StopsBy (words_fault (map (λ w. string_bytes w) words.now))) }
     ensures taken { IfErr result (λ why. takes judyd_app (map (λ w. string_bytes w) words.now) ≡ true
-        → sync_fault_of (subcommand_of judyd_app (map (λ w. string_bytes w) words.now)) ≡ []
+        → option_fault_of (subcommand_of judyd_app (map (λ w. string_bytes w) words.now)) ≡ []
         → why ≡ Refusal.Memory) }
 {
     let command = match judyd_command(alloc) {

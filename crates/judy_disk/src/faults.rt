@@ -1,4 +1,5 @@
 //! What can be wrong with the directory of a journal.
+use crate::manifest::Lack;
 use crate::names::Place;
 use std::{fmt, io};
 
@@ -18,8 +19,16 @@ pub enum DiskFault {
     InUse,
     /// Another program compacts the journal, or reads it meanwhile.
     Compacted,
-    /// This segment is missing: there is a later one, or a snapshot that another one follows.
-    Missing(u64),
+    /// This file is missing: the manifest names it, or a later one is there.
+    Missing(Place),
+    /// There is no manifest.
+    NoManifest,
+    /// There is a manifest already.
+    HasManifest,
+    /// The text of the manifest is damaged.
+    Manifest,
+    /// The manifest ends at this segment, and two or more are there after it.
+    Behind(u64),
 }
 
 impl DiskFault {
@@ -28,11 +37,33 @@ impl DiskFault {
         DiskFault::System { place, reason }
     }
 
+    /// Whether a file is not there.
+    pub(crate) fn is_absent(&self) -> bool {
+        match self {
+            DiskFault::System { reason, .. } => reason.kind() == io::ErrorKind::NotFound,
+            _ => false,
+        }
+    }
+
     /// Whether a file was not made since it is there.
     pub(crate) fn is_there(&self) -> bool {
         match self {
             DiskFault::System { reason, .. } => reason.kind() == io::ErrorKind::AlreadyExists,
             _ => false,
+        }
+    }
+}
+
+/// What helps where there is no manifest.
+const NO_MANIFEST: &str =
+    ": if a new journal is wanted here, or this is one of an older version: judyd journal DIR --new";
+
+impl From<Lack> for DiskFault {
+    fn from(lack: Lack) -> DiskFault {
+        match lack {
+            Lack::Snapshot(number) => DiskFault::Missing(Place::Snapshot(number)),
+            Lack::Segment(number) => DiskFault::Missing(Place::Segment(number)),
+            Lack::Behind(number) => DiskFault::Behind(number),
         }
     }
 }
@@ -57,7 +88,13 @@ impl fmt::Display for DiskFault {
             DiskFault::InUse => write!(f, ": in use by another server"),
             DiskFault::Compacted => write!(f, ": in use by another compaction or reader"),
             DiskFault::Name(name) => write!(f, "/{name}: no name of a journal's file"),
-            DiskFault::Missing(number) => write!(f, "/{number:012}.journal: missing"),
+            DiskFault::Missing(place) => write!(f, "/{place}: missing"),
+            DiskFault::NoManifest => write!(f, "/manifest: missing{NO_MANIFEST}"),
+            DiskFault::HasManifest => write!(f, "/manifest: is there: this is no new journal"),
+            DiskFault::Manifest => write!(f, "/manifest: damaged"),
+            DiskFault::Behind(number) => {
+                write!(f, "/manifest: ends at {number:012}.journal, and two or more follow")
+            }
         }
     }
 }

@@ -17,6 +17,14 @@ impl<F: Files> Growing<F> {
         Growing { file, place }
     }
 
+    /// The same file, which has this name now.
+    pub(crate) fn renamed(self, place: Place) -> Self {
+        Growing {
+            file: self.file,
+            place,
+        }
+    }
+
     /// Which file it is.
     pub fn place(&self) -> Place {
         self.place
@@ -32,24 +40,6 @@ impl<F: Files> Growing<F> {
         done_at(self.place, self.file.sync_data())
     }
 
-    /// Cuts off what follows this number of bytes, and secures the rest.
-    pub(crate) fn cut(&self, len: u64) -> Result<(), DiskFault> {
-        done_at(self.place, self.cut_to(len))
-    }
-
-    /// Cuts off what follows this number of bytes, and secures the rest. A file that has fewer is at
-    /// fault.
-    fn cut_to(&self, len: u64) -> io::Result<()> {
-        let size = self.file.metadata()?.len();
-        if size < len {
-            return Err(io::Error::from(io::ErrorKind::UnexpectedEof));
-        }
-        if size > len {
-            self.file.set_len(len)?;
-        }
-        self.file.sync_all()
-    }
-
     /// A file that has a byte is at fault.
     pub(crate) fn check_empty(&self) -> Result<(), DiskFault> {
         let kind = match self.file.metadata() {
@@ -61,7 +51,7 @@ impl<F: Files> Growing<F> {
     }
 
     /// Secures the file whole.
-    fn secure(&self) -> Result<(), DiskFault> {
+    pub(crate) fn secure(&self) -> Result<(), DiskFault> {
         done_at(self.place, self.file.sync_all())
     }
 }

@@ -2,11 +2,12 @@
 use crate::faults::{DiskFault, done_at};
 use crate::files::{Growing, NewSnapshot};
 use crate::locks::Locks;
-use crate::names::{Named, Place, read_name};
-use crate::scan::{Found, arrange, out_of_memory};
+use crate::manifest::{MANIFEST_ROOM, Manifest};
+use crate::names::Place;
+use crate::scan::{Found, Names};
 use std::alloc::Global;
-use std::fs::{self, Files, OpenFile, OpenOptions, ReadDir};
-use std::io;
+use std::fs::{self, Files, OpenFile, OpenOptions};
+use std::io::{self, Read};
 use std::os::unix::fs::{MetadataExt, OpenOptionsExt};
 
 /// The rights to a new file: only its owner may read and write it.
@@ -14,46 +15,6 @@ const OWNER_ALONE: u32 = 0o600;
 
 /// The user number of root.
 const ROOT: u32 = 0;
-
-/// Puts a number with the others.
-fn put_number(numbers: &mut Vec<u64>, number: u64) -> Result<(), DiskFault> {
-    match numbers.push(number) {
-        Ok(()) => Ok(()),
-        Err(_) => Err(out_of_memory()),
-    }
-}
-
-/// Puts the number of a file with this name with the others.
-fn put_name(
-    alloc: Global,
-    name: &str,
-    segments: &mut Vec<u64>,
-    snapshots: &mut Vec<u64>,
-) -> Result<(), DiskFault> {
-    match read_name(name) {
-        Named::Segment(number) => put_number(segments, number),
-        Named::Snapshot(number) => put_number(snapshots, number),
-        Named::Passed => Ok(()),
-        Named::Other => match String::from_str(alloc, name) {
-            Ok(name) => Err(DiskFault::Name(name)),
-            Err(_) => Err(out_of_memory()),
-        },
-    }
-}
-
-/// Puts the number of each file of a directory with the others.
-fn put_names<R: Files + Clone + Drop>(
-    alloc: Global,
-    entries: ReadDir<R>,
-    segments: &mut Vec<u64>,
-    snapshots: &mut Vec<u64>,
-) -> Result<(), DiskFault> {
-    for entry in entries {
-        let entry = done_at(Place::Folder, entry)?;
-        put_name(alloc, entry.file_name(), segments, snapshots)?;
-    }
-    Ok(())
-}
 
 /// The directory of a journal, by its path.
 #[derive(Drop)]
@@ -104,24 +65,37 @@ impl<'a, F: Files> Folder<'a, F> {
         done_at(Place::Folder, file.sync_all())
     }
 
-    /// Goes on in a segment after its first `len` bytes. What follows them is cut off. What is left is
-    /// secured, since a server that was killed may have left it unsecured.
-    pub fn resume(&self, number: u64, len: u64) -> Result<Growing<F>, DiskFault> {
-        let place = Place::Segment(number);
-        let file = self.open_with(OpenOptions::new().append(true), place)?;
-        let growing = Growing::new(file, place);
-        growing.cut(len)?;
-        self.sync()?;
-        Ok(growing)
+    /// Gives a file another name, and takes it from the file that has it now.
+    pub(crate) fn rename(&self, from: Place, to: Place) -> Result<(), DiskFault> {
+        let (old, new) = (self.path_to(from)?, self.path_to(to)?);
+        done_at(to, fs::rename(self.files, old.as_str(), new.as_str()))
+    }
+
+    /// The manifest. None if there is none.
+    pub fn manifest(&self) -> Result<Option<Manifest>, DiskFault> {
+        let place = Place::Manifest;
+        let mut file = match self.open(place) {
+            Ok(file) => file,
+            Err(fault) if fault.is_absent() => return Ok(None),
+            Err(fault) => return Err(fault),
+        };
+        let found = done_at(place, file.metadata())?;
+        if found.len() > MANIFEST_ROOM as u64 {
+            return Err(DiskFault::Manifest);
+        }
+        let mut room = [0u8; MANIFEST_ROOM];
+        let (text, _) = room.split_at_mut(found.len() as usize);
+        done_at(place, file.read_exact(text))?;
+        match Manifest::read(text) {
+            Some(manifest) => Ok(Some(manifest)),
+            None => Err(DiskFault::Manifest),
+        }
     }
 
     /// Gives the snapshot that was written its name, so that it stands for the segments up to this
     /// number. It must be secured before. That it has its name is secured by `sync`.
     pub fn name_snapshot(&self, number: u64) -> Result<(), DiskFault> {
-        let from = self.path_to(Place::NewSnapshot)?;
-        let to = self.path_to(Place::Snapshot(number))?;
-        let named = fs::rename(self.files, from.as_str(), to.as_str());
-        done_at(Place::Snapshot(number), named)
+        self.rename(Place::NewSnapshot, Place::Snapshot(number))
     }
 
     /// Removes a file.
@@ -132,14 +106,45 @@ impl<'a, F: Files> Folder<'a, F> {
 }
 
 impl<'a, F: Files + Clone + Drop> Folder<'a, F> {
-    /// Which files the directory has. Nothing is changed.
-    pub fn scan(&self) -> Result<Found, DiskFault> {
+    /// The names of its files.
+    fn names(&self) -> Result<Names, DiskFault> {
         let listed = fs::read_dir(&(self.files, self.alloc), self.path.as_str());
         let entries = done_at(Place::Folder, listed)?;
-        let mut segments = Vec::new(self.alloc);
-        let mut snapshots = Vec::new(self.alloc);
-        put_names(self.alloc, entries, &mut segments, &mut snapshots)?;
-        arrange(self.alloc, segments.as_mut_slice(), snapshots.as_slice())
+        let mut names = Names::new(self.alloc);
+        for entry in entries {
+            let entry = done_at(Place::Folder, entry)?;
+            names.put(self.alloc, entry.file_name())?;
+        }
+        Ok(names)
+    }
+
+    /// Which files the directory has, whatever its manifest names. Nothing is changed.
+    pub fn scan_unnamed(&self) -> Result<Found, DiskFault> {
+        self.names()?.arrange(self.alloc)
+    }
+
+    /// Which files the directory has. Those that its manifest names are all there. Nothing is changed.
+    pub fn scan(&self) -> Result<Found, DiskFault> {
+        // A file that comes later is not missing, so the manifest is read first.
+        let manifest = self.manifest()?.ok_or(DiskFault::NoManifest)?;
+        let mut names = self.names()?;
+        if let Some(lack) = manifest.lack(names.snapshot(), manifest.last) {
+            return Err(DiskFault::from(lack));
+        }
+        let found = names.arrange(self.alloc)?;
+        match manifest.lack(found.snapshot.unwrap_or(0), found.last.unwrap_or(0)) {
+            Some(lack) => Err(DiskFault::from(lack)),
+            None => Ok(found),
+        }
+    }
+
+    /// Which files the directory of a new journal has: it has no manifest yet. Nothing is changed.
+    pub fn scan_new(&self) -> Result<Found, DiskFault> {
+        match self.manifest() {
+            Ok(None) => self.scan_unnamed(),
+            Ok(Some(_)) | Err(DiskFault::Manifest) => Err(DiskFault::HasManifest),
+            Err(fault) => Err(fault),
+        }
     }
 }
 
@@ -160,7 +165,7 @@ impl<'a, F: Locks> Folder<'a, F> {
     }
 
     /// Makes a file, which grows at its end. One that is there is a fault.
-    fn make(&self, place: Place) -> Result<F::File, DiskFault> {
+    pub(crate) fn make(&self, place: Place) -> Result<F::File, DiskFault> {
         let mut how = OpenOptions::new();
         how.append(true).create_new(true).mode(OWNER_ALONE);
         let file = self.open_with(&how, place)?;
@@ -191,12 +196,46 @@ impl<'a, F: Locks> Folder<'a, F> {
         Ok(growing)
     }
 
+    /// Makes a file anew. One that was begun before is removed.
+    pub(crate) fn make_anew(&self, place: Place) -> Result<Growing<F>, DiskFault> {
+        let _removed = self.remove(place);
+        Ok(Growing::new(self.make(place)?, place))
+    }
+
     /// Begins a snapshot, which is none until it has its name. One that was begun before is removed.
     pub fn begin_snapshot(&self) -> Result<NewSnapshot<F>, DiskFault> {
-        let place = Place::NewSnapshot;
-        let _removed = self.remove(place);
-        let file = self.make(place)?;
-        Ok(NewSnapshot::new(Growing::new(file, place)))
+        Ok(NewSnapshot::new(self.make_anew(Place::NewSnapshot)?))
+    }
+
+    /// Writes the manifest under another name, and secures it.
+    fn write_manifest(&self, manifest: &Manifest) -> Result<(), DiskFault> {
+        let mut file = self.make_anew(Place::NewManifest)?;
+        file.append(manifest.text().as_slice())?;
+        file.secure()
+    }
+
+    /// Puts a manifest in the place of the one before. It is there after a crash too. If it cannot be
+    /// written, the one before stays.
+    pub fn put_manifest(&self, manifest: &Manifest) -> Result<(), DiskFault> {
+        if let Err(fault) = self.write_manifest(manifest) {
+            let _removed = self.remove(Place::NewManifest);
+            return Err(fault);
+        }
+        self.rename(Place::NewManifest, Place::Manifest)?;
+        self.sync()
+    }
+
+    /// Raises the manifest, so that it names these files too, which must be there after a crash. It never
+    /// names less than before. One that is not there is made. It waits while another program raises it.
+    pub fn raise_manifest(&self, to: Manifest) -> Result<(), DiskFault> {
+        let place = Place::ManifestLock;
+        let lock = self.make_or_open(place)?;
+        done_at(place, self.files.lock(&lock))?;
+        match self.manifest()? {
+            Some(before) if before.raised(to) == before => Ok(()),
+            Some(before) => self.put_manifest(&before.raised(to)),
+            None => self.put_manifest(&to),
+        }
     }
 
     /// Locks a file, until what is returned is dropped. None if another program has locked it.

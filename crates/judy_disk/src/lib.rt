@@ -1,7 +1,8 @@
 //! The directory of a journal: which files it has, and how they are read, written and removed.
 //!
 //! Its files are the segments `000000000001.journal`, `000000000002.journal` and so on, perhaps a
-//! snapshot `000000000007.snapshot`, which stands for the segments up to its number, and the locks.
+//! snapshot `000000000007.snapshot`, which stands for the segments up to its number, the manifest, which
+//! names the last of them, and the locks.
 //! What a file has is no subject here: nothing is known of the bytes that the system keeps.
 #![tactic(auto)]
 
@@ -9,7 +10,9 @@ mod faults;
 mod files;
 mod folder;
 mod locks;
+mod manifest;
 mod names;
+mod rewriting;
 mod scan;
 mod spares;
 
@@ -17,6 +20,7 @@ pub use faults::DiskFault;
 pub use files::{Growing, NewSnapshot};
 pub use folder::Folder;
 pub use locks::Locks;
+pub use manifest::{Lack, MANIFEST_ROOM, Manifest};
 pub use names::{Named, Place, read_name};
 pub use scan::{Found, arrange};
 pub use spares::Spares;

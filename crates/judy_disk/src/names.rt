@@ -17,10 +17,22 @@ pub enum Place {
     CompactLock,
     /// The segment with this number.
     Segment(u64),
+    /// The segment with this number as it is written anew.
+    NewSegment(u64),
+    /// What was behind the last whole commit of the segment with this number.
+    Torn(u64),
+    /// The same, as it is written.
+    NewTorn(u64),
     /// The snapshot that stands for the segments up to this number.
     Snapshot(u64),
     /// The snapshot that is being written.
     NewSnapshot,
+    /// The manifest.
+    Manifest,
+    /// The manifest that is being written.
+    NewManifest,
+    /// The file that is locked while the manifest is replaced.
+    ManifestLock,
 }
 
 impl fmt::Display for Place {
@@ -30,8 +42,14 @@ impl fmt::Display for Place {
             Place::Lock => write!(f, "lock"),
             Place::CompactLock => write!(f, "compact.lock"),
             Place::Segment(number) => write!(f, "{number:012}.journal"),
+            Place::NewSegment(number) => write!(f, "{number:012}.journal.new"),
+            Place::Torn(number) => write!(f, "{number:012}.torn"),
+            Place::NewTorn(number) => write!(f, "{number:012}.torn.new"),
             Place::Snapshot(number) => write!(f, "{number:012}.snapshot"),
             Place::NewSnapshot => write!(f, "snapshot.new"),
+            Place::Manifest => write!(f, "manifest"),
+            Place::NewManifest => write!(f, "manifest.new"),
+            Place::ManifestLock => write!(f, "manifest.lock"),
         }
     }
 }
@@ -43,8 +61,10 @@ pub enum Named {
     Segment(u64),
     /// The snapshot with this number, from 1 on.
     Snapshot(u64),
-    /// A lock, a file that is not finished yet, or one that is no part of the journal: a hidden file, or
-    /// what a file system keeps in each of its roots.
+    /// The torn bytes of the segment with this number, from 1 on.
+    Torn(u64),
+    /// A lock, the manifest, a file that is not finished yet, or one that is no part of the journal: a
+    /// hidden file, another one that was set aside, or what a file system keeps in each of its roots.
     Passed,
     /// None that a journal's directory has.
     Other,
@@ -60,10 +80,14 @@ fn read_number(digits: &str) -> Option<u64>
     digits.parse::<u64>().ok().filter(|number| *number >= 1)
 }
 
+/// Whether this is the name of a lock or of the manifest.
+fn is_fixed(name: &str) -> bool {
+    name == "lock" || name == "compact.lock" || name == "manifest.lock" || name == "manifest"
+}
+
 /// Whether a file of this name is no segment and no snapshot, and may be there.
 fn is_passed(name: &str) -> bool {
-    let is_lock = name == "lock" || name == "compact.lock";
-    is_lock || name == "lost+found" || name.starts_with(".") || name.ends_with(".new")
+    is_fixed(name) || name == "lost+found" || name.starts_with(".") || name.ends_with(".new")
 }
 
 /// What a file is, by its name.
@@ -80,6 +104,9 @@ pub fn read_name(name: &str) -> Named {
         && let Some(number) = read_number(digits)
     {
         return Named::Snapshot(number);
+    }
+    if let Some(digits) = name.strip_suffix(".torn") {
+        return read_number(digits).map_or(Named::Passed, |number| Named::Torn(number));
     }
     Named::Other
 }

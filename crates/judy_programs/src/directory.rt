@@ -3,7 +3,7 @@ ghost use Rattle.std.specs.Prelude.{IfOk, IfSome, IsTrue, OnOk};
 ghost use Rattle.judy_recovery.specs.Whole.{HasPlayedJournal, HasResumed, Kept};
 
 use crate::journals::Readies;
-use judy_disk::{DiskFault, Folder, Growing, Locks, Place, Spares};
+use judy_disk::{DiskFault, Folder, Found, Growing, Locks, Manifest, Place, Spares};
 use judy_many::{JournalCounts, tell_line};
 use judy_recovery::{End, JournalFault, Resumed, recover, resume};
 use std::alloc::Global;
@@ -20,6 +20,7 @@ pub struct Directory<'a, F: Locks> {
     spares: Spares<F>,
     counts: JournalCounts,
     fault: Option<JournalFault>,
+    is_new: bool,
 }
 
 /// The directory at a path.
@@ -39,8 +40,16 @@ fn of_disk(fault: DiskFault) -> JournalFault {
     JournalFault::Disk(fault)
 }
 
-/// Tells that a commit was cut off, if one was.
-fn tell_cut<F: Locks + Eprint>(rt: &F, folder: &Folder<'_, F>, end: &Option<End>) {
+/// How many of the bytes behind the last whole commit will be kept beside: none if they are zeros.
+fn torn_len<F: Locks>(folder: &Folder<'_, F>, end: &Option<End>) -> Result<u64, DiskFault> {
+    match end {
+        Some(end) if end.torn > 0 => folder.torn_len(end.segment, end.size),
+        _ => Ok(0),
+    }
+}
+
+/// Tells that a commit was cut off, if one was, and where it is kept.
+fn tell_cut<F: Locks + Eprint>(rt: &F, folder: &Folder<'_, F>, end: &Option<End>, kept: u64) {
     let Some(end) = end else {
         return;
     };
@@ -48,10 +57,20 @@ fn tell_cut<F: Locks + Eprint>(rt: &F, folder: &Folder<'_, F>, end: &Option<End>
         return;
     }
     let (path, file, torn) = (folder.path(), Place::Segment(end.segment), end.torn);
+    let beside = Place::Torn(end.segment);
+    if kept == 0 {
+        tell_line(
+            rt,
+            format_args!(
+                "judyd: {path}/{file}: cut off {torn} bytes of a commit that was not finished, all of them 0"
+            ),
+        );
+        return;
+    }
     tell_line(
         rt,
         format_args!(
-            "judyd: {path}/{file}: cut off {torn} bytes of a commit that was not finished"
+            "judyd: {path}/{file}: cut off {torn} bytes of a commit that was not finished, kept in {beside}"
         ),
     );
 }
@@ -76,6 +95,20 @@ fn hold_closed<F: Locks + Eprint>(
     folder.hold_closed(lock)
 }
 
+/// Makes the file of a segment, which takes the place of the current one, and raises the manifest to it.
+fn begin_at<F: Locks>(
+    folder: &Folder<'_, F>,
+    segment: u64,
+    current: &mut Option<Growing<F>>,
+) -> Result<(), DiskFault> {
+    // This closes the file before, and so leaves a descriptor for the manifest.
+    *current = Some(folder.begin(segment)?);
+    folder.raise_manifest(Manifest {
+        snapshot: 0,
+        last: segment,
+    })
+}
+
 impl<'a, F: Locks + Eprint + Clone + Drop> Directory<'a, F> {
     /// No directory yet.
     pub fn new(rt: &'a F) -> Self {
@@ -87,7 +120,22 @@ impl<'a, F: Locks + Eprint + Clone + Drop> Directory<'a, F> {
             spares: Spares::new(),
             counts: JournalCounts::new(0),
             fault: None,
+            is_new: false,
         }
+    }
+
+    /// The journal is a new one: its directory must have no manifest yet, and gets one.
+    pub fn expect_new(&mut self) {
+        self.is_new = true;
+    }
+
+    /// Which files a directory has. Those that its manifest names are all there, or it is that of a new
+    /// journal, if that is expected.
+    fn scan(&self, folder: &Folder<'_, F>) -> Result<Found, DiskFault> {
+        if self.is_new {
+            return folder.scan_new();
+        }
+        folder.scan()
     }
 
     /// What was written to the journal since the start: zeros if there is none.
@@ -115,14 +163,17 @@ impl<'a, F: Locks + Eprint + Clone + Drop> Directory<'a, F> {
         let closed = folder.closed_lock().map_err(|e| of_disk(e))?;
         hold_closed(self.rt, &folder, &closed).map_err(|e| of_disk(e))?;
         let lock = folder.take().map_err(|e| of_disk(e))?;
-        let found = folder.scan().map_err(|e| of_disk(e))?;
+        let found = self.scan(&folder).map_err(|e| of_disk(e))?;
         let end = recover(&folder, alloc, &found, player)?;
         player.ready()?;
+        let kept = torn_len(&folder, &end).map_err(|e| of_disk(e))?;
         let (resumed, current) = match resume(&folder, end) {
             Ok(ready) => ready,
             Err(fault) => return Err(of_disk(fault)),
         };
-        tell_cut(self.rt, &folder, &end);
+        tell_cut(self.rt, &folder, &end, kept);
+        let raised = folder.raise_manifest(Manifest::of(&found));
+        raised.map_err(|e| of_disk(e))?;
         self.spares.take(&folder);
         self.folder = Some(folder);
         self.lock = Some(lock);
@@ -167,7 +218,7 @@ impl<'a, F: Locks + Eprint + Clone + Drop> Directory<'a, F> {
             // Without the lock the files are read as they are.
             let _held = hold_closed(self.rt, &folder, lock);
         }
-        let found = folder.scan().map_err(|e| of_disk(e))?;
+        let found = self.scan(&folder).map_err(|e| of_disk(e))?;
         recover(&folder, alloc, &found, player)?;
         player.ready()?;
         Ok(())
@@ -206,15 +257,12 @@ impl<'a, F: Locks + Eprint + Clone + Drop> Directory<'a, F> {
             return false;
         };
         self.spares.give_up();
-        match folder.begin(segment) {
-            Ok(current) => {
-                self.current = Some(current);
-                self.spares.take(folder);
-                self.counts.begin(segment);
-                true
-            }
-            Err(fault) => self.did(Err(fault)),
+        let begun = begin_at(folder, segment, &mut self.current);
+        if begun.is_ok() {
+            self.spares.take(folder);
+            self.counts.begin(segment);
         }
+        self.did(begun)
     }
 
     /// Appends bytes to the current file.

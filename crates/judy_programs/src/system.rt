@@ -232,6 +232,11 @@ impl<'a, F: Locks + Net + Clock + Eprint + Clone + Drop> System<'a, F> {
         self.directory.take_fault()
     }
 
+    /// The journal is a new one: its directory must have no manifest yet, and gets one.
+    pub fn expect_new_journal(&mut self) {
+        self.directory.expect_new();
+    }
+
     /// Secures the journal, if there is one. False if that fails.
     pub fn secure_journal(&mut self) -> bool {
         self.directory.secure()

@@ -4,9 +4,8 @@ ghost use Rattle.judy_recovery.specs.Whole.{GoesOn};
 
 use crate::ends::{End, FIRST_SUM};
 use crate::reading::first_line_len;
-use judy_disk::{DiskFault, Folder, Growing};
+use judy_disk::{DiskFault, Folder, Growing, Locks};
 use judy_journal::SUM_LEN;
-use std::fs::Files;
 
 /// Where a writer goes on.
 #[derive(Clone, Copy, Debug, PartialEq, Eq)]
@@ -23,10 +22,10 @@ pub struct Resumed {
     pub is_bare: bool,
 }
 
-/// Cuts off what a crash left behind the last whole commit, and opens the last segment. If not even
-/// its first line is whole, it has no byte afterwards, and a writer begins it anew. It is never removed:
-/// without it the segment after a snapshot could be missing.
-pub fn resume<F: Files>(
+/// Writes the last segment anew up to its last whole commit, and opens it. What a crash left behind that
+/// is kept beside it. If not even its first line is whole, it has no byte afterwards, and a writer begins
+/// it anew. It is never removed: without it the segment after a snapshot could be missing.
+pub fn resume<F: Locks>(
     folder: &Folder<'_, F>,
     end: Option<End>,
 ) -> Result<(Resumed, Option<Growing<F>>), DiskFault>

@@ -155,6 +155,7 @@ fn do_job_with<K: Chosen, R: Source, W: Sink, H: Journals>(
             reserve,
             journal,
             sync,
+            new_journal: _,
             check,
         } => {
             let file = config.0.as_str();

@@ -5,9 +5,9 @@ use Rattle.std.specs.Prelude.{IsTrue}
 use Rattle.std.specs.List.{list_all}
 use Rattle.judy_disk.specs.declared.faults.DiskFault.{DiskFault}
 use Rattle.judy_disk.specs.declared.names.Place.{Place}
-use Rattle.judy_upkeep.specs.Replacing.{Act, Acts, AreStale, HasRemoved, HasReplaced, Logs, Step, act_of, is_stale, placed, removals}
+use Rattle.judy_upkeep.specs.Replacing.{Act, Acts, AreStale, HasRemoved, HasRemovedLeft, HasReplaced, Logs, Step, act_of, is_stale, noted, placed, removals}
 use Rattle.judy_upkeep.specs.Replacing.Act.{Did, Failed}
-use Rattle.judy_upkeep.specs.Replacing.Step.{Remove, Rename, Secure, Sync}
+use Rattle.judy_upkeep.specs.Replacing.Step.{Note, Remove, Rename, Secure, Sync}
 
 pub logs_none : (log : Acts) → Logs log [] log
 logs_none None = tt
@@ -64,15 +64,29 @@ removed_then upto (Err fault) a b c (xs, stale, l) (ys, last, stale', this, l') 
     )
 
 -- the snapshot was put into its place, and then files were removed
-pub replaced : (upto : ℕ) (r : Result (Unit {0}) DiskFault) (a b c d e : Acts) → Logs a (Did Secure ∷ []) b → Logs b (Did (Rename upto) ∷ []) c
-    → Logs c (Did Sync ∷ []) d → HasRemoved r upto d e → HasReplaced r upto a e
-replaced upto r a b c d e s n y rest = by r rest
+pub replaced : (upto : ℕ) (r : Result (Unit {0}) DiskFault) (a b c d m e : Acts) → Logs a (Did Secure ∷ []) b → Logs b (Did (Rename upto) ∷ []) c
+    → Logs c (Did Sync ∷ []) d → Logs d (Did (Note upto) ∷ []) m → HasRemoved r upto m e → HasReplaced r upto a e
+replaced upto r a b c d m e s n y k rest = by r rest
   where
-    there : Logs a (placed upto) d
-    there = logs_then a b d (Did Secure ∷ []) (Did (Rename upto) ∷ Did Sync ∷ []) s
-        (logs_then b c d (Did (Rename upto) ∷ []) (Did Sync ∷ []) n y)
+    there : Logs a (placed upto) m
+    there = logs_then a b m (Did Secure ∷ []) (Did (Rename upto) ∷ Did Sync ∷ Did (Note upto) ∷ []) s
+        (logs_then b c m (Did (Rename upto) ∷ []) (Did Sync ∷ Did (Note upto) ∷ []) n
+        (logs_then c d m (Did Sync ∷ []) (Did (Note upto) ∷ []) y k))
 
-    by : (r : Result (Unit {0}) DiskFault) → HasRemoved r upto d e → HasReplaced r upto a e
-    by (Ok done) (places, stale, l) = (places, stale, logs_then a d e (placed upto) (removals places) there l)
+    by : (r : Result (Unit {0}) DiskFault) → HasRemoved r upto m e → HasReplaced r upto a e
+    by (Ok done) (places, stale, l) = (places, stale, logs_then a m e (placed upto) (removals places) there l)
     by (Err fault) (places, last, stale, this, l) =
-        inr (inr (inr (places, last, stale, this, logs_then a d e (placed upto) (removals places ++ Failed (Remove last) ∷ []) there l)))
+        inr (inr (inr (inr (places, last, stale, this, logs_then a m e (placed upto) (removals places ++ Failed (Remove last) ∷ []) there l))))
+
+-- the manifest names the snapshot, and then files were removed
+pub removed_left : (upto : ℕ) (r : Result (Unit {0}) DiskFault) (a b c e : Acts) → Logs a (Did Sync ∷ []) b → Logs b (Did (Note upto) ∷ []) c
+    → HasRemoved r upto c e → HasRemovedLeft r upto a e
+removed_left upto r a b c e y k rest = by r rest
+  where
+    there : Logs a (noted upto) c
+    there = logs_then a b c (Did Sync ∷ []) (Did (Note upto) ∷ []) y k
+
+    by : (r : Result (Unit {0}) DiskFault) → HasRemoved r upto c e → HasRemovedLeft r upto a e
+    by (Ok done) (places, stale, l) = (places, stale, logs_then a c e (noted upto) (removals places) there l)
+    by (Err fault) (places, last, stale, this, l) =
+        inr (inr (places, last, stale, this, logs_then a c e (noted upto) (removals places ++ Failed (Remove last) ∷ []) there l))

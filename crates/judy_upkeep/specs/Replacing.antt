@@ -3,6 +3,7 @@
 --     Logs log acts log'               these steps were asked for and no others, where they are known
 --     is_stale upto place              a snapshot with this number stands for the file
 --     HasRemoved result upto log log'  only such files were removed
+--     HasRemovedLeft result upto log log' the same, and not before the manifest names the snapshot
 --     HasReplaced result upto log log' the same, and not before the snapshot is there for good
 use Rattle.std.specs.Prelude.{◌≡◌, ◌⊎◌, ◌++◌, ℕ, Bool, false, List, [], ◌∷◌, map, Option, Some, None, Result, Ok, Err, IsTrue, nat_le, nat_lt}
 use Rattle.std.specs.List.{list_all}
@@ -17,6 +18,8 @@ pub data Step : Type 0 where
   Rename : ℕ → Step
   -- which files the directory has is secured
   Sync : Step
+  -- the manifest names the snapshot with this number
+  Note : ℕ → Step
   -- this file is removed
   Remove : Place → Step
 
@@ -39,10 +42,11 @@ abbrev pub act_of : {T E : Type 0} → Step → Result T E → Act
 act_of step (Ok done) = Did step
 act_of step (Err fault) = Failed step
 
--- the snapshot with this number stands for the file: it is a segment up to this number, or an older
--- snapshot
+-- the snapshot with this number stands for the file: it is a segment up to this number, or torn bytes of one, or
+-- an older snapshot
 abbrev pub is_stale : ℕ → Place → Bool
 is_stale upto (place.Segment number) = nat_le number upto
+is_stale upto (place.Torn number) = nat_le number upto
 is_stale upto (place.Snapshot number) = nat_lt number upto
 is_stale upto _ = false
 
@@ -60,9 +64,22 @@ HasRemoved (Ok done) upto log log' = (places : List Place) × AreStale upto plac
 HasRemoved (Err fault) upto log log' = (places : List Place) × (last : Place) × AreStale upto places × IsTrue (is_stale upto last)
     × Logs log (removals places ++ Failed (Remove last) ∷ []) log'
 
--- the snapshot is there for good: secured, then renamed, and then its directory was synced
+-- the snapshot is there for good: secured, then renamed, then its directory was synced, and then the manifest
+-- names it
 abbrev pub placed : ℕ → List Act
-placed upto = Did Secure ∷ Did (Rename upto) ∷ Did Sync ∷ []
+placed upto = Did Secure ∷ Did (Rename upto) ∷ Did Sync ∷ Did (Note upto) ∷ []
+
+-- The snapshot that is there already is there for good: the directory was synced, and then the manifest names it.
+abbrev pub noted : ℕ → List Act
+noted upto = Did Sync ∷ Did (Note upto) ∷ []
+
+-- Before that nothing is removed, and then only files that it stands for. A step that fails is the last one.
+abbrev pub HasRemovedLeft : {T E : Type 0} → Result T E → ℕ → Acts → Acts → Type 0
+HasRemovedLeft (Ok done) upto log log' = (places : List Place) × AreStale upto places × Logs log (noted upto ++ removals places) log'
+HasRemovedLeft (Err fault) upto log log' = Logs log (Failed Sync ∷ []) log'
+    ⊎ Logs log (Did Sync ∷ Failed (Note upto) ∷ []) log'
+    ⊎ ((places : List Place) × (last : Place) × AreStale upto places × IsTrue (is_stale upto last)
+    × Logs log (noted upto ++ (removals places ++ Failed (Remove last) ∷ [])) log')
 
 -- Before the snapshot is there for good nothing is removed, and then only files that it stands for. A
 -- step that fails is the last one.
@@ -71,5 +88,6 @@ HasReplaced (Ok done) upto log log' = (places : List Place) × AreStale upto pla
 HasReplaced (Err fault) upto log log' = Logs log (Failed Secure ∷ []) log'
     ⊎ Logs log (Did Secure ∷ Failed (Rename upto) ∷ []) log'
     ⊎ Logs log (Did Secure ∷ Did (Rename upto) ∷ Failed Sync ∷ []) log'
+    ⊎ Logs log (Did Secure ∷ Did (Rename upto) ∷ Did Sync ∷ Failed (Note upto) ∷ []) log'
     ⊎ ((places : List Place) × (last : Place) × AreStale upto places × IsTrue (is_stale upto last)
     × Logs log (placed upto ++ (removals places ++ Failed (Remove last) ∷ [])) log')

@@ -2,7 +2,7 @@
 ghost use Rattle.std.specs.Prelude.{◌≡◌, ◌<◌, []};
 
 use crate::compacting::Uncompacted;
-use judy_disk::{DiskFault, Folder, Growing, Locks, Place};
+use judy_disk::{DiskFault, Folder, Growing, Locks, Manifest, Place};
 use judy_journal::{LAST_SEGMENT, Writer};
 use judy_recovery::{Halt, Player, Resumed, recover, resume};
 use std::alloc::Global;
@@ -10,7 +10,7 @@ use std::fs::Files;
 
 /// A player that does nothing with the records.
 #[derive(Drop)]
-struct Nobody;
+pub(crate) struct Nobody;
 
 impl Player for Nobody {
     /// Nothing is said of the records.
@@ -31,8 +31,8 @@ fn put_first<F: Files>(growing: &mut Growing<F>, text: &[u8]) -> Result<(), Disk
     growing.sync()
 }
 
-/// Begins the segment after this one, with its first line. If the line cannot be written, there is no
-/// such segment, unless it was there before.
+/// Begins the segment after this one, with its first line, and raises the manifest to it. If the line
+/// cannot be written, there is no such segment, unless it was there before.
 fn begin_next<F: Locks>(
     folder: &Folder<'_, F>,
     writer: &mut Writer,
@@ -47,7 +47,11 @@ fn begin_next<F: Locks>(
     if put.is_err() && !is_there {
         let _removed = folder.remove(Place::Segment(writer.segment()));
     }
-    put
+    put?;
+    folder.raise_manifest(Manifest {
+        snapshot: 0,
+        last: writer.segment(),
+    })
 }
 
 /// Begins the segment after the one where a writer would go on, unless that one has no commit.
@@ -67,7 +71,7 @@ fn begin_after<F: Locks>(
 }
 
 /// Closes the last segment, if there is one and it has a commit: what a crash left behind its last
-/// whole commit is cut off, and the next segment is begun. If it cannot be, the last one stays the
+/// whole commit is kept beside, and the next segment is begun. If it cannot be, the last one stays the
 /// last. No server may have the directory.
 pub fn close_last<F: Locks + Clone + Drop>(
     alloc: Global,
@@ -79,5 +83,6 @@ pub fn close_last<F: Locks + Clone + Drop>(
         return Ok(());
     }
     let (at, _) = resume(folder, end)?;
+    folder.raise_manifest(Manifest::of(&found))?;
     begin_after(alloc, folder, at)
 }

@@ -3,7 +3,7 @@ use crate::asking::Asking;
 use crate::closing::close_last;
 use crate::names::Names;
 use crate::output::Output;
-use crate::replacing::{Replacing, remove_stale, replace};
+use crate::replacing::{Replacing, remove_left, replace};
 use crate::replaying::Replaying;
 use crate::rewriting::Rewriting;
 use judy_disk::{DiskFault, Folder, Found, Locks, NewSnapshot, Place};
@@ -117,7 +117,7 @@ fn compact_closed<S: Opens + Replays + Drop, F: Locks + Clone + Drop>(
     let mut names = Names::new(alloc);
     let Some(end) = recover_closed(folder, alloc, &found, &mut names)? else {
         let kept = found.snapshot.unwrap_or(0);
-        remove_stale(&mut Replacing::new(folder, None), &found, kept)?;
+        remove_left(&mut Replacing::new(folder, None), &found, kept)?;
         return Ok(Compacted::Nothing);
     };
     let service: S = replay_closed(alloc, secret, folder, &found, &names)?;

@@ -1,10 +1,9 @@
 //! The last step of a compaction: the new snapshot takes the place of the files that it stands for.
 ghost use Rattle.std.specs.Prelude.{◌≡◌, [], ◌∷◌, None};
-ghost use Rattle.judy_upkeep.specs.Replacing.{Acts, HasRemoved, HasReplaced, Logs, act_of, is_stale};
-ghost use Rattle.judy_upkeep.specs.Replacing.Step.{Remove, Rename, Secure, Sync};
+ghost use Rattle.judy_upkeep.specs.Replacing.{Acts, HasRemoved, HasRemovedLeft, HasReplaced, Logs, act_of, is_stale};
+ghost use Rattle.judy_upkeep.specs.Replacing.Step.{Note, Remove, Rename, Secure, Sync};
 
-use judy_disk::{DiskFault, Folder, Found, NewSnapshot, Place};
-use std::fs::Files;
+use judy_disk::{DiskFault, Folder, Found, Locks, Manifest, NewSnapshot, Place};
 
 /// A directory with a new snapshot, which has no name yet.
 pub trait Replaces {
@@ -23,6 +22,10 @@ pub trait Replaces {
     fn sync(&mut self) -> Result<(), DiskFault>
         ensures { Logs (log self.old) (act_of Sync result ∷ []) (log self.new) };
 
+    /// Has the manifest name the snapshot with this number, for good.
+    fn note(&mut self, number: u64) -> Result<(), DiskFault>
+        ensures { Logs (log self.old) (act_of (Note number) result ∷ []) (log self.new) };
+
     /// Removes a file.
     fn remove(&mut self, place: Place) -> Result<(), DiskFault>
         ensures { Logs (log self.old) (act_of (Remove place) result ∷ []) (log self.new) };
@@ -31,19 +34,19 @@ pub trait Replaces {
 /// The directory of a journal, with a new snapshot if one was written. Nothing is known of what the
 /// system does.
 #[derive(Drop)]
-pub struct Replacing<'a, 'b, F: Files> {
+pub struct Replacing<'a, 'b, F: Locks> {
     folder: &'a Folder<'b, F>,
     file: Option<NewSnapshot<F>>,
 }
 
-impl<'a, 'b, F: Files> Replacing<'a, 'b, F> {
+impl<'a, 'b, F: Locks> Replacing<'a, 'b, F> {
     /// The directory with this snapshot.
     pub fn new(folder: &'a Folder<'b, F>, file: Option<NewSnapshot<F>>) -> Self {
         Replacing { folder, file }
     }
 }
 
-impl<'a, 'b, F: Files> Replaces for Replacing<'a, 'b, F> {
+impl<'a, 'b, F: Locks> Replaces for Replacing<'a, 'b, F> {
     ghost log = { λ _. None };
 
     fn secure(&mut self) -> Result<(), DiskFault> {
@@ -61,6 +64,13 @@ impl<'a, 'b, F: Files> Replaces for Replacing<'a, 'b, F> {
         self.folder.sync()
     }
 
+    fn note(&mut self, number: u64) -> Result<(), DiskFault> {
+        self.folder.raise_manifest(Manifest {
+            snapshot: number,
+            last: 0,
+        })
+    }
+
     fn remove(&mut self, place: Place) -> Result<(), DiskFault> {
         self.folder.remove(place)
     }
@@ -72,11 +82,17 @@ fn is_stale(place: Place, upto: u64) -> bool
 {
     match place {
         Place::Segment(number) => number <= upto,
+        Place::Torn(number) => number <= upto,
         Place::Snapshot(number) => number < upto,
         Place::Folder => false,
         Place::Lock => false,
         Place::CompactLock => false,
+        Place::NewSegment(_) => false,
+        Place::NewTorn(_) => false,
         Place::NewSnapshot => false,
+        Place::Manifest => false,
+        Place::NewManifest => false,
+        Place::ManifestLock => false,
     }
 }
 
@@ -149,14 +165,29 @@ pub fn remove_stale<D: Replaces>(
     remove_segments(directory, found.first, upto)
 }
 
+/// Removes what a compaction before left that did not come to its end, once the manifest names its
+/// snapshot, the one with this number. After a step that fails there is none.
+pub fn remove_left<D: Replaces>(
+    directory: &mut D,
+    found: &Found,
+    upto: u64,
+) -> Result<(), DiskFault>
+    ensures { HasRemovedLeft result upto (D.log directory.old) (D.log directory.new) }
+{
+    directory.sync()?;
+    directory.note(upto)?;
+    remove_stale(directory, found, upto)
+}
+
 /// Puts the new snapshot in the place of all files that it stands for, the segments up to this number
-/// and the snapshot before. First its bytes are secured. Then it gets its name, and the directory is
-/// synced. Only then they are removed. After a step that fails there is none.
+/// and the snapshot before. First its bytes are secured. Then it gets its name, the directory is synced,
+/// and the manifest names it. Only then they are removed. After a step that fails there is none.
 pub fn replace<D: Replaces>(directory: &mut D, found: &Found, upto: u64) -> Result<(), DiskFault>
     ensures { HasReplaced result upto (D.log directory.old) (D.log directory.new) }
 {
     directory.secure()?;
     directory.rename(upto)?;
     directory.sync()?;
+    directory.note(upto)?;
     remove_stale(directory, found, upto)
 }

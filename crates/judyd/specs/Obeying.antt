@@ -23,10 +23,10 @@ IsUpkept status = (status ≡ 0) ⊎ (status ≡ 3) ⊎ (status ≡ 4)
 -- the status, and the line on standard error, if any, are those of a way in which the job can end
 abbrev pub HasEnded : Job → ℕ → Option (List ℕ) → Type 0
 HasEnded (job.Run words batch) status text = (ran : Ran) × (status ≡ run_status ran) × (text ≡ run_text ran)
-HasEnded (job.Serve config socket watch control clients tenant_clients connections login idle turn reserve journal sync check) status text =
+HasEnded (job.Serve config socket watch control clients tenant_clients connections login idle turn reserve journal sync new_journal check) status text =
     (hosted : Hosted) × (status ≡ host_status hosted) × (text ≡ host_text hosted)
 HasEnded (job.Compact directory) status text = IsUpkept status × (text ≡ None)
-HasEnded (job.Journal directory tenant) status text = IsUpkept status × (text ≡ None)
+HasEnded (job.Journal directory tenant new check) status text = IsUpkept status × (text ≡ None)
 
 -- or the system gave no secret
 abbrev pub IsFinished : Job → ℕ → Option (List ℕ) → Type 0

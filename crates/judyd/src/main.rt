@@ -22,7 +22,7 @@ use judy_recovery::JournalFault;
 use judy_server::{Server, do_job_on};
 use judy_stream::{Reads, Writes};
 use judy_tenants::Sha256Hash;
-use judy_upkeep::{Uncompacted, Unprinted, compact, print};
+use judy_upkeep::{Examined, Uncompacted, Unprinted, begin_journal, compact, examine, print};
 use reasons::{Kept, explain};
 use standard::fill_standard;
 use std::alloc::Global;
@@ -280,6 +280,73 @@ fn print_at(rt: &HostRuntime, path: &str, tenant: &Option<Word>) -> u8
     }
 }
 
+/// Makes the manifest of a journal that has none. Returns the status of the program.
+fn begin_at(rt: &HostRuntime, path: &str) -> u8
+    ensures { IsUpkept result }
+{
+    let Some(folder) = folder_at(rt, path) else {
+        return refuse_memory(rt);
+    };
+    match begin_journal(rt.alloc(), &folder) {
+        Ok(()) => 0,
+        Err(fault) => {
+            tell_fault(rt, path, &fault);
+            3
+        }
+    }
+}
+
+/// Prints what a start would find, a line for each number. Returns the status of the program.
+fn print_examined(rt: &HostRuntime, examined: &Examined) -> u8
+    ensures { IsUpkept result }
+{
+    let (size, torn) = examined.end.map_or((0, 0), |end| (end.size, end.torn));
+    let printed = println!(rt;
+        "snapshot {}\nlast {}\ncommits {}\nrecords {}\nsize {size}\ntorn {torn}\nkept {}",
+        examined.found.snapshot.unwrap_or(0),
+        examined.found.last.unwrap_or(0),
+        examined.commits,
+        examined.records,
+        examined.kept
+    );
+    match printed {
+        Ok(()) => 0,
+        Err(_) => {
+            let _ = eprintln!(rt; "judyd: write fault");
+            4
+        }
+    }
+}
+
+/// Tells what a start would find. Returns the status of the program.
+fn examine_at(rt: &HostRuntime, path: &str) -> u8
+    ensures { IsUpkept result }
+{
+    let Some(folder) = folder_at(rt, path) else {
+        return refuse_memory(rt);
+    };
+    match examine(rt.alloc(), &folder) {
+        Ok(examined) => print_examined(rt, &examined),
+        Err(fault) => {
+            tell_fault(rt, path, &fault);
+            3
+        }
+    }
+}
+
+/// Prints, begins or examines a journal. Returns the status of the program.
+fn obey_journal(rt: &HostRuntime, path: &str, tenant: &Option<Word>, new: bool, check: bool) -> u8
+    ensures { IsUpkept result }
+{
+    if new {
+        return begin_at(rt, path);
+    }
+    if check {
+        return examine_at(rt, path);
+    }
+    print_at(rt, path, tenant)
+}
+
 /// What follows the line at the start: the journal, and what a crash may lose if it is not secured in
 /// each round. Without memory for it there is nothing.
 fn journal_text(rt: &HostRuntime, journal: &Option<Word>, sync: Sync) -> Option<String> {
@@ -321,6 +388,16 @@ fn announce(rt: &HostRuntime, job: &Job, system: &mut System<'_, HostRuntime>) {
     );
     if let Ok(line) = line {
         system.tell_at_start(line);
+    }
+}
+
+/// Notes that the journal is a new one, if the command line says so.
+fn expect_new(job: &Job, system: &mut System<'_, HostRuntime>) {
+    if let Job::Serve {
+        new_journal: true, ..
+    } = job
+    {
+        system.expect_new_journal();
     }
 }
 
@@ -369,6 +446,7 @@ fn obey_program(rt: &HostRuntime, job: &Job) -> u8
 {
     let mut system = System::new(rt);
     announce(rt, job, &mut system);
+    expect_new(job, &mut system);
     let mut kept = Vec::new(rt.alloc());
     let ended = do_job(rt, job, &mut system, &mut kept);
     let (status, text) = secure(job, &mut system, ended);
@@ -392,7 +470,12 @@ fn obey_job(rt: &HostRuntime, job: &Job) -> u8
 {
     match job {
         Job::Compact { directory } => compact_at(rt, directory.0.as_str()),
-        Job::Journal { directory, tenant } => print_at(rt, directory.0.as_str(), tenant),
+        Job::Journal {
+            directory,
+            tenant,
+            new,
+            check,
+        } => obey_journal(rt, directory.0.as_str(), tenant, *new, *check),
         Job::Run { .. } => obey_program(rt, job),
         Job::Serve { .. } => obey_program(rt, job),
     }

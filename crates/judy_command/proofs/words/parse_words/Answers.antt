@@ -1,7 +1,7 @@
 use Rattle.std.proofs.Common.{◌≡◌, ◌∙◌, [], ap, ap₂, inl, inr, map, string_bytes, subst, sym, List, Option, None, Some, option_map}
 use Rattle.clap.specs.Words.{rows_of, found_of, takes, fault_of, is_simple, is_simple_and_free, kind_of, app_of, App, IsAmong, Kinds, Row, Text, subcommand_of}
 use Rattle.clap.specs.Kinds.{or_else}
-use Rattle.judy_command.specs.CommandLine.{StopsBy, job_of, judyd_app, sync_fault_of, words_fault}
+use Rattle.judy_command.specs.CommandLine.{StopsBy, job_of, judyd_app, option_fault_of, words_fault}
 use Rattle.judy_command.proofs.Rows.{job_at-in_range, StopsBy-among, StopsBy-first, StopsBy-memory}
 use Rattle.judy_command.proofs.words.parse_words.Goals as goal
 
@@ -13,7 +13,7 @@ returns-clause-refused c =
     let kinds = c.in-Err-try_get_matches_from.ensures.kinds (ap is_simple_and_free is_judyd) in
     elim kinds [
       | inl memory ↦ StopsBy-memory (words_fault words) c.refusal_of.result (c.refusal_of.ensures.memory memory)
-      | inr among ↦ StopsBy-first (fault_of judyd_app words) (sync_fault_of (subcommand_of judyd_app words)) c.refusal_of.result
+      | inr among ↦ StopsBy-first (fault_of judyd_app words) (option_fault_of (subcommand_of judyd_app words)) c.refusal_of.result
           (StopsBy-among (kind_of e) (fault_of judyd_app words) c.refusal_of.result
           (let P : App → Type 0 = λ a. IsAmong (kind_of e) (fault_of a words) in subst P is_judyd among) c.refusal_of.ensures.kind)
     ]
@@ -55,7 +55,7 @@ returns-in-Ok-obtain-clause-faultless c =
     let same = found.1 ∙ ap (λ a. subcommand_of a words) is_judyd in
     let first : fault_of judyd_app words ≡ [] =
     ap (λ a. fault_of a words) (sym is_judyd) ∙ c.in-Ok-try_get_matches_from.ensures.kinds (ap is_simple_and_free is_judyd) in
-    let second : sync_fault_of (subcommand_of judyd_app words) ≡ [] = ap sync_fault_of
+    let second : option_fault_of (subcommand_of judyd_app words) ≡ [] = ap option_fault_of
     (sym same ∙ entered _ _ _ _ _ c.subcommand.result c.unwrap.result c.unwrap.ensures c.subcommand.ensures.name c.subcommand.ensures.rows)
     ∙ c.in-Ok-obtain.ensures.faultless in
     ap₂ or_else first second
@@ -68,7 +68,7 @@ returns-in-Ok-try_get_matches_from-clause-refused c =
     let same = found.1 ∙ ap (λ a. subcommand_of a words) is_judyd in
     let first : fault_of judyd_app words ≡ [] =
     ap (λ a. fault_of a words) (sym is_judyd) ∙ c.in-Ok-try_get_matches_from.ensures.kinds (ap is_simple_and_free is_judyd) in
-    let second = ap sync_fault_of
+    let second = ap option_fault_of
     (sym same ∙ entered _ _ _ _ _ c.subcommand.result c.unwrap.result c.unwrap.ensures c.subcommand.ensures.name c.subcommand.ensures.rows) in
     let P : Kinds → Type 0 = λ kinds. StopsBy kinds c.in-Err-obtain.refusal in
     subst P (sym (ap₂ or_else first second)) c.in-Err-obtain.ensures.refused
@@ -79,6 +79,6 @@ returns-in-Ok-try_get_matches_from-clause-taken c =
     let is_judyd : app_of c.in-Ok.command ≡ judyd_app = c.in-Ok.ensures.app in
     let found = c.in-Ok-try_get_matches_from.ensures.matches (ap is_simple is_judyd) in
     let same = found.1 ∙ ap (λ a. subcommand_of a words) is_judyd in
-    let second = ap sync_fault_of
+    let second = ap option_fault_of
     (sym same ∙ entered _ _ _ _ _ c.subcommand.result c.unwrap.result c.unwrap.ensures c.subcommand.ensures.name c.subcommand.ensures.rows) in
     λ taken. λ none. c.in-Err-obtain.ensures.taken (sym second ∙ none)
