@@ -1,0 +1,187 @@
+"""What the clients of a recorded run asked and were told, beside its disk: which records there are, in which
+order, what arrays they make, and which of them must be there at each moment."""
+
+import sys
+from bisect import bisect_left
+from collections import namedtuple
+
+from disks import after, renumbered
+
+WORD = 2**64
+
+# A moment of a run: the disk, how many records must be there after a loss, how many may be, and the place of the
+# last event.
+Moment = namedtuple("Moment", "disk must may at")
+
+
+def fail(text):
+    """Ends the test."""
+    sys.exit("losses: %s" % text)
+
+
+class Arrays:
+    """The entries of all tenants, and a sum over them that two sets of entries have alike only if they are
+    equal."""
+
+    def __init__(self, other=None):
+        self.entries = dict(other.entries) if other else {}
+        self.sum = other.sum if other else 0
+
+    def put(self, place, value):
+        """Puts an entry, or with None takes it away."""
+        old = self.entries.pop(place, None)
+        if old is not None:
+            self.sum -= hash((place, old))
+        if value is not None:
+            self.entries[place] = value
+            self.sum += hash((place, value))
+        self.sum %= WORD
+
+    def play(self, record):
+        """Runs the line of a record."""
+        tenant, call, name, key, *more = record.split(b" ")
+        kind, letter, number = call[:-1], call[-1:], int(more[0]) if more else 0
+        if kind in (b"J1", b"JL"):
+            key = int(key)
+        place = (tenant, kind, name, key)
+        if letter in (b"U", b"D"):
+            self.put(place, None)
+        elif letter == b"A":
+            self.put(place, (self.entries.get(place, 0) + number) % WORD)
+        elif letter in (b"S", b"I"):
+            self.put(place, number)
+        else:
+            fail("a record of an unknown call: %r" % record[:100])
+
+
+class Story:
+    """A recorded run: its events, the text of the records before it, the arrays that these make, and the records
+    that may have come since, each only once."""
+
+    def __init__(self, disk, text, arrays, events, asked):
+        self.disk, self.text, self.arrays = disk, text, arrays
+        self.events = renumbered(events)
+        self.asked = asked
+        self.records, self.places = [], {}
+        self.written_at()
+        self.texts = [0]
+        self.sums = {arrays.sum: [0, 0]}
+        self.play()
+
+    def written_at(self):
+        """Finds the records, in the order in which they were first written, and how many were after each event."""
+        rests, self.counts = {}, []
+        for event in self.events:
+            if event.kind == "W":
+                *lines, rests[event.number] = (rests.get(event.number, b"") + event.text).split(b"\n")
+                for line in lines:
+                    if line in self.asked and line not in self.places:
+                        self.places[line] = len(self.records)
+                        self.records.append(line)
+            self.counts.append(len(self.records))
+
+    def play(self):
+        """Finds the sum of the arrays after each record."""
+        arrays = Arrays(self.arrays)
+        for count, record in enumerate(self.records, 1):
+            arrays.play(record)
+            self.texts.append(self.texts[-1] + len(record) + 1)
+            self.sums.setdefault(arrays.sum, [count, count])[1] = count
+        self.record_text = b"".join(record + b"\n" for record in self.records)
+        self.last = arrays
+
+    def arrays_after(self, count):
+        """The arrays after so many records."""
+        arrays = Arrays(self.arrays)
+        for record in self.records[:count]:
+            arrays.play(record)
+        return arrays
+
+    def answered(self):
+        """How many records must be there after each event: those of all lines that were answered, and those of
+        which an answer told."""
+        asked, tenants, must, found = {}, {}, 0, []
+        for event in self.events:
+            if event.kind == "I":
+                *lines, rest = (asked.get(event.number, [b""]).pop() + event.text).split(b"\n")
+                asked[event.number] = asked.get(event.number, []) + [*lines, rest]
+            if event.kind == "O" and event.number in asked:
+                for reply in event.text.split(b"\n")[:-1]:
+                    must = max(must, self.told(asked[event.number].pop(0), reply, tenants, event.number))
+            found.append(must)
+        return found
+
+    def told(self, line, reply, tenants, number):
+        """How many records are there if this line was answered so."""
+        fields = line.split(b" ")
+        if fields[0] == b"AUTH":
+            tenants[number] = fields[1]
+        tenant = tenants.get(number, b"")
+        if fields[0] == b"J1C" and fields[1].startswith(b"r"):
+            counted = [self.places[record] for record in self.records if record.startswith(b"%s J1S %s " % (tenant, fields[1]))]
+            return counted[int(reply[2:]) - 1] + 1 if reply != b"N 0" else 0
+        record = tenant + b" " + line
+        if record not in self.asked:
+            return 0
+        if record not in self.places:
+            fail("%r was answered, and no record of it was written" % record[:100])
+        return self.places[record] + 1
+
+    def moments(self, left_out=()):
+        """The moments of the run: before it, and after each event of the disk. Events of these places are left
+        out, as if they had not been asked."""
+        disk, found = self.disk, [Moment(self.disk, 0, 0, -1)]
+        for at, (event, must) in enumerate(zip(self.events, self.answered())):
+            if event.kind in "IO":
+                if must > found[-1].must:
+                    found.append(Moment(disk, must, self.counts[at], at))
+                continue
+            if at not in left_out:
+                disk = after(disk, event)
+            found.append(Moment(disk, must, self.counts[at], at))
+        return found
+
+    def left_out(self):
+        """The places of the syncs of each kind, by a name."""
+        made = {event.number for event in self.events if event.kind == "C"}
+        named = {event.number: at for at, event in enumerate(self.events) if event.kind == "R"}
+        kinds, changes = {}, []
+        for at, event in enumerate(self.events):
+            number = event.number
+            if event.kind in "CR":
+                changes.append((event.kind, number))
+            if event.kind == "S" and at < named.get(number, -1):
+                kinds.setdefault("of a file before it is renamed", set()).add(at)
+            elif event.kind == "S":
+                of_new = number in made and number not in named
+                kinds.setdefault("of a new file" if of_new else "of what was appended", set()).add(at)
+            if event.kind == "D":
+                if any(kind == "R" for kind, _ in changes):
+                    kinds.setdefault("of the directory after a file was renamed", set()).add(at)
+                if any(kind == "C" and number not in named for kind, number in changes):
+                    kinds.setdefault("of the directory after a file was made", set()).add(at)
+                changes = []
+        return kinds
+
+    def all_places(self):
+        """The places of all entries that there ever were, by tenant."""
+        places = set(self.arrays.entries)
+        for record in self.records:
+            arrays = Arrays()
+            arrays.play(record)
+            places.update(arrays.entries)
+        found = {}
+        for place in sorted(places, key=repr):
+            found.setdefault(place[0], []).append(place)
+        return found
+
+    def found(self, text):
+        """How many records a printed journal has at least and at most, or None if it has other arrays."""
+        if text.startswith(self.text) and self.record_text.startswith(memoryview(text)[len(self.text) :].tobytes()):
+            length = len(text) - len(self.text)
+            count = bisect_left(self.texts, length)
+            return [count, count] if self.texts[count] == length else None
+        arrays = Arrays()
+        for record in text.split(b"\n")[:-1]:
+            arrays.play(record)
+        return self.sums.get(arrays.sum)
