@@ -1,5 +1,5 @@
 -- The files of a journal that is being recovered, one after another.
-use Rattle.std.proofs.Common.{◌≡◌, ℕ, zero, suc, ◌<◌, ◌+◌, Bool, true, false, List, [], ◌∷◌, ◌++◌, length, sym, ◌∙◌, ap, subst, refl, arith, append_assoc, append-nil, inl, inr}
+use Rattle.std.proofs.Common.{◌≡◌, ℕ, zero, suc, ◌<◌, ◌+◌, ◌^◌, Bool, true, false, List, [], ◌∷◌, ◌++◌, length, sym, ◌∙◌, ap, subst, refl, arith, append_assoc, append-nil, inl, inr}
 use Rattle.std.specs.Prelude.{IsTrue, Ok, ◌⊎◌, ◌==◌, if◌then◌else◌}
 use Rattle.std.proofs.lemmas.List.{length-append}
 use Rattle.judy_journal.specs.declared.reader.Read.TheVariants.{More, Whole}
@@ -7,7 +7,7 @@ use Rattle.judy_journal.specs.Acts.{Left}
 use Rattle.judy_journal.specs.Crashes.{FoundAll, IsHeadless}
 use Rattle.judy_journal.specs.Journals.{Commit, commits_lines, header, is_line, joined, journal_text, sum_at}
 use Rattle.judy_journal.specs.Readings.{HasRead, HasStopped, IsRead, Reading, front, tail_of}
-use Rattle.judy_journal.specs.Recovered.{AreFound, EndsAt, HasHalted, HasRecovered, IsRecovered, RecoveryIsFound, Recovering, last_size, place_of}
+use Rattle.judy_journal.specs.Recovered.{AreFound, EndsAt, HasHalted, HasRecovered, IsRecovered, RecoveryIsFound, Recovering, last_size, place_of, read_in}
 use Rattle.judy_journal.specs.Recoveries.{Found}
 use Rattle.judy_journal.specs.Writes.{header_text, size_with}
 use Rattle.judy_journal.proofs.Fronts.{sum_at-append}
@@ -215,10 +215,37 @@ position_size k sum done text commits r size h has is =
 
 -- ---- the place of damage
 
-pub halts : (k : ℕ) (sum : List ℕ) (done : List Left) (text : List ℕ) (commits : List Commit) (bytes : List ℕ) (r : Recovering) (now : Reading) (taken before : ℕ)
+-- how many bytes are read, if they fit a word
+read_size : (number : ℕ) (first text : List ℕ) (here : List Commit) (r : Reading) (ended : ℕ) → IsRead number first text here r → EndsAt number first here ended
+    → length text < 2 ^ 64 → (b : Bool) → r.begun ≡ b
+    → (if b then size_with (if ended == 0 then length (header_text r.segment r.first) else ended) (length (tail_of r)) else length (tail_of r)) ≡ length text
+read_size number first text here r ended h at fits true has =
+    let all : text ≡ journal_text number first here ++ tail_of r = h.text_is ∙ ap (λ b. front b number first here ++ tail_of r) has in
+    let size = if ended == 0 then length (header_text r.segment r.first) else ended in
+    omega (arith, fits, whole_size number first text here r ended size h at refl, ap length all, length-append (journal_text number first here) (tail_of r))
+read_size number first text here r ended h at fits false not =
+    ap length (sym (h.text_is ∙ ap (λ b. front b number first here ++ tail_of r) not))
+
+pub halts : (k : ℕ) (sum : List ℕ) (done : List Left) (text : List ℕ) (commits : List Commit) (bytes : List ℕ) (r : Recovering) (now : Reading) (taken : ℕ)
     → (h : IsRecovered k sum done text commits r) → HasStopped bytes (k + length done + 1) (sum_at sum h.before) text h.here now
-    → HasHalted k sum done text commits bytes (record { reading = now; taken = taken; ended = r.ended; before = before })
-halts k sum done text commits bytes r now taken before h stopped = (h.before, h.here, h.joins, stopped, h.ended_is)
+    → r.taken + length bytes < 2 ^ 64 → taken ≡ read_in (record { reading = now; taken = r.taken; ended = r.ended; before = r.before })
+    → HasHalted k sum done text commits bytes (record { reading = now; taken = taken; ended = r.ended; before = r.before })
+halts k sum done text commits bytes r now taken h (used, rest, cut, read) fits is =
+    let few : length (text ++ used) < 2 ^ 64 = omega (arith, fits, h.taken_is, ap length cut, length-append used rest, length-append text used) in (
+      used,
+      rest,
+      cut,
+      record {
+        before = h.before;
+        here = h.here;
+        joins = h.joins;
+        found = h.found;
+        read = read;
+        taken_is = is ∙ read_size (k + length done + 1) (sum_at sum h.before) (text ++ used) h.here now r.ended read h.ended_is few now.begun refl;
+        before_is = h.before_is;
+        ended_is = h.ended_is;
+      },
+    )
 
 pub bare_place : (number : ℕ) (sum text : List ℕ) (commits : List Commit) (r : Reading) → IsRead number sum text commits r → r.begun ≡ false
     → 0 ≡ place_of number sum commits r

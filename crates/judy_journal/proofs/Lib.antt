@@ -4,6 +4,7 @@ mod Fronts
 mod Recovering
 mod Pushing
 mod Writing
+pub mod Noticing
 mod Stepping
 mod Damaging
 mod Crashing

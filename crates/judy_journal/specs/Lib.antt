@@ -2,6 +2,8 @@ pub mod Acts
 pub mod Crashes
 pub mod Disks
 pub mod Journals
+pub mod Notes
+pub mod Noting
 pub mod Readings
 pub mod Recovered
 pub mod Recoveries

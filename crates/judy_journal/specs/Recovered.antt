@@ -3,7 +3,7 @@
 --     IsRecovered segment sum done text commits r   these files and this front of the next one were read
 --     IsUnpacked segment sum text commits r         these bytes of a snapshot were read, after its first line
 --     IsSnapshot segment sum bytes commits          the bytes are those of a snapshot
-use Rattle.std.specs.Prelude.{◌≡◌, Bool, take, ◌⊎◌, ℕ, ◌≤◌, ◌+◌, ◌^◌, true, false, List, [], ◌∷◌, ◌++◌, length, Result, Ok, Err, if◌then◌else◌}
+use Rattle.std.specs.Prelude.{◌≡◌, ◌==◌, Bool, take, ◌⊎◌, ℕ, ◌≤◌, ◌+◌, ◌^◌, true, false, List, [], ◌∷◌, ◌++◌, length, Result, Ok, Err, if◌then◌else◌}
 use Rattle.judy_journal.specs.declared.damage.Damage.{Damage}
 use Rattle.judy_journal.specs.declared.reader.Read.{Read}
 use Rattle.judy_journal.specs.declared.reader.Read.TheVariants.{More, Whole}
@@ -11,7 +11,7 @@ use Rattle.judy_journal.specs.declared.recovery.Position.{Position}
 use Rattle.judy_journal.specs.Acts.{AreWhole, File, Left}
 use Rattle.judy_journal.specs.Crashes.{FoundAll}
 use Rattle.judy_journal.specs.Journals.{AreCommits, Commit, commits_lines, joined, journal_text, sum_at}
-use Rattle.judy_journal.specs.Readings.{HasStopped, IsRead, Reading, front, tail_of}
+use Rattle.judy_journal.specs.Readings.{IsRead, Reading, front, tail_of}
 use Rattle.judy_journal.specs.Recoveries.{Found, IsDamaged}
 use Rattle.judy_journal.specs.Writes.{header_text, size_with, snapshot_line}
 
@@ -60,11 +60,17 @@ HasRecovered (Ok (Whole left)) segment sum done text commits bytes r = (used : L
 HasRecovered (Err damage) segment sum done text commits bytes r = (before : List Commit) × (here : List Commit) × (commits ≡ before ++ here)
     × IsDamaged damage (segment + length done + 1) (sum_at sum before) (text ++ bytes)
 
--- damage was found in these bytes of the current file, and a front of them was taken
+-- Damage was found in these bytes of the current file, and a front of them was taken: it is read, and what
+-- follows it is not.
 abbrev pub HasHalted : ℕ → List ℕ → List Left → List ℕ → List Commit → List ℕ → Recovering → Type 0
-HasHalted segment sum done text commits bytes r = (before : List Commit) × (here : List Commit) × (commits ≡ before ++ here)
-    × HasStopped bytes (segment + length done + 1) (sum_at sum before) text here r.reading
-    × EndsAt (segment + length done + 1) (sum_at sum before) here r.ended
+HasHalted segment sum done text commits bytes r =
+    (used : List ℕ) × (rest : List ℕ) × (used ++ rest ≡ bytes) × IsRecovered segment sum done (text ++ used) commits r
+
+-- how many bytes of the current file are read: up to the last whole commit, or the first line, and those behind it
+abbrev pub read_in : Recovering → ℕ
+read_in r = if r.reading.begun
+    then size_with (if r.ended == 0 then length (header_text r.reading.segment r.reading.first) else r.ended) (length (tail_of r.reading))
+    else length (tail_of r.reading)
 
 -- the byte after the whole commits, and the records that were read after them
 abbrev pub place_of : ℕ → List ℕ → List Commit → Reading → ℕ

@@ -19,6 +19,12 @@ const MARK_ROOM: usize = 102;
 /// The most bytes of the records of a commit.
 pub const COMMIT_LIMIT: usize = TEXT_LIMIT - MARK_ROOM;
 
+/// The most bytes of a note, with its line feed.
+pub const NOTE_ROOM: usize = NOTE.len() + DIGITS_LIMIT + 1 + SUM_LEN + 1;
+
+/// The most bytes of the records of a commit that a writer makes, without its note.
+pub const BODY_LIMIT: usize = COMMIT_LIMIT - NOTE_ROOM;
+
 /// The most bytes of a record: a name, a space, a request and a line feed.
 pub const RECORD_LIMIT: usize = NAME_LIMIT + 1 + LINE_LIMIT + 1;
 
@@ -36,6 +42,9 @@ pub const SNAPSHOT: &[u8; 17] = b"judyd snapshot 1 ";
 
 /// What comes before the count in the line that ends a commit.
 pub const MARK: &[u8; 2] = b"# ";
+
+/// What comes before the number in a note.
+pub const NOTE: &[u8; 2] = b"@ ";
 
 /// The most bytes of a line with a number and a checksum before its number.
 pub const FRONT_LIMIT: usize = SNAPSHOT.len();
@@ -62,7 +71,7 @@ fn number_after(number: u64, bytes: &[u8]) -> u64
 }
 
 /// The hexadecimal digits of eight bytes.
-fn digits_of(bytes: [u8; 8]) -> [u8; SUM_LEN]
+pub fn digits_of(bytes: [u8; 8]) -> [u8; SUM_LEN]
     ensures { result ≡ encode_lower bytes }
 {
     let mut digits = [0u8; SUM_LEN];

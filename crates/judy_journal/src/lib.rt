@@ -9,6 +9,7 @@
 mod damage;
 mod format;
 mod laws;
+mod notes;
 mod reader;
 mod records;
 mod recovery;
@@ -24,6 +25,7 @@ pub use laws::{
     crashes_keep_marks, journal_is_exact, recovery_is_exact, what_is_read_is_found,
     what_is_recovered_is_found, what_is_recovered_is_whole,
 };
+pub use notes::Notes;
 pub use reader::{Read, Reader};
 pub use records::{read_record, snapshot_sum};
 pub use recovery::{Position, Recovery};

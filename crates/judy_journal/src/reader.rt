@@ -1,8 +1,10 @@
 //! Reads a journal's text in pieces.
 ghost use Rattle.std.specs.Prelude.{◌≡◌, ◌≢◌, ◌≤◌, ◌<◌, ◌+◌, ◌++◌, ℕ, List, [], ◌∷◌, length, true, false, IfOk, OnErr, IsTrue, if◌then◌else◌};
+ghost use Rattle.judy_model.specs.Stream.{lines_of};
 ghost use Rattle.judy_protocol.specs.Talks.{HasNoLf};
 ghost use Rattle.judy_journal.specs.declared.damage.Damage.TheVariants as damage;
 ghost use Rattle.judy_journal.specs.Journals.{Commit, header, is_mark as marks, is_record, joined, mark, sum_after};
+ghost use Rattle.judy_journal.specs.Notes.{changes_in};
 ghost use Rattle.judy_journal.specs.Readings.{HasClosed, HasEnded, HasRead, HasStopped, HasTaken, IsRead, LeavesLess, forgotten, next_of, restarted, tail_of};
 ghost use Rattle.judy_journal.specs.Writes.{header_text};
 
@@ -11,6 +13,7 @@ use crate::format::{
     COMMIT_LIMIT, HEADER, LAST_SEGMENT, LINE_ROOM, MARK, SUM_LEN, are_same, numbered_line, put,
     sum_of,
 };
+use crate::notes::without_note;
 use arrayvec::ArrayVec;
 use judy_protocol::cut_line;
 use std::marker::Model;
@@ -255,6 +258,13 @@ impl Reader {
         ensures { result.now ≡ joined self.now.records }
     {
         self.body.as_slice()
+    }
+
+    /// The records of the commit that became whole without its note, each with its line feed.
+    pub fn changes(&self) -> &[u8]
+        ensures { lines_of result.now ≡ changes_in self.now.records }
+    {
+        without_note(self.body.as_slice())
     }
 
     /// How many bytes were read after the last whole commit.

@@ -1,9 +1,11 @@
 //! Reads all files of a journal in order.
 ghost use Rattle.std.specs.Prelude.{◌≡◌, ◌≢◌, ◌⊎◌, ◌≤◌, ◌<◌, ◌+◌, ◌++◌, ℕ, List, [], ◌∷◌, length, true, false, IfOk, OnOk, OnErr, ◌==◌, if◌then◌else◌};
+ghost use Rattle.judy_model.specs.Stream.{lines_of};
 ghost use Rattle.judy_journal.specs.Acts.{Left};
 ghost use Rattle.judy_journal.specs.Journals.{Commit, joined};
+ghost use Rattle.judy_journal.specs.Notes.{changes_in};
 ghost use Rattle.judy_journal.specs.Readings.{IsRead, LeavesLess};
-ghost use Rattle.judy_journal.specs.Recovered.{EndsAt, HasEndedFile, HasEndedSnapshot, HasHalted, HasRecovered, HasUnpacked, IsPosition, IsRecovered, IsUnpacked, place_of};
+ghost use Rattle.judy_journal.specs.Recovered.{EndsAt, HasEndedFile, HasEndedSnapshot, HasHalted, HasRecovered, HasUnpacked, IsPosition, IsRecovered, IsUnpacked, place_of, read_in};
 ghost use Rattle.judy_journal.specs.Writes.{header_text};
 
 use crate::damage::Damage;
@@ -68,8 +70,30 @@ impl Recovery {
         }
     }
 
+    /// Up to where the file is whole: the end of its last whole commit, or of its first line.
+    fn whole(&self) -> u64
+        ensures { result ≡ (if self.now.ended == 0
+            then length (header_text self.now.reading.segment self.now.reading.first)
+            else self.now.ended) }
+    {
+        if self.ended == 0 {
+            return self.reader.header_len() as u64;
+        }
+        self.ended
+    }
+
+    /// How many bytes of the file the reader holds as read.
+    fn so_far(&self) -> u64
+        ensures { result ≡ read_in self.now }
+    {
+        if !self.reader.is_begun() {
+            return self.reader.unended() as u64;
+        }
+        self.whole().saturating_add(self.reader.unended() as u64)
+    }
+
     /// Reads more of the file: all of it, or up to the end of a commit. Then `records` gives the
-    /// records of that commit, until the next call.
+    /// records of that commit, until the next call. After damage the text is what was read before it.
     pub fn read(&mut self, bytes: &[u8]) -> Result<Read, Damage>
         ensures read { (segment : ℕ) (sum : List ℕ) (done : List Left) (text : List ℕ) (commits : List Commit)
             → IsRecovered segment sum done text commits self.old
@@ -96,7 +120,10 @@ impl Recovery {
                 self.taken = all;
                 Ok(Read::More)
             }
-            Err(damage) => Err(damage),
+            Err(damage) => {
+                self.taken = self.so_far();
+                Err(damage)
+            }
         }
     }
 
@@ -105,6 +132,13 @@ impl Recovery {
         ensures { result.now ≡ joined self.now.reading.records }
     {
         self.reader.records()
+    }
+
+    /// The same without the commit's note, which tells no change.
+    pub fn changes(&self) -> &[u8]
+        ensures { lines_of result.now ≡ changes_in self.now.reading.records }
+    {
+        self.reader.changes()
     }
 
     /// Ends a snapshot: its last commit must have no records, and nothing may come after it. The next
@@ -144,18 +178,6 @@ impl Recovery {
             }
             Err(damage) => Err(damage),
         }
-    }
-
-    /// Up to where the file is whole: the end of its last whole commit, or of its first line.
-    fn whole(&self) -> u64
-        ensures { result ≡ (if self.now.ended == 0
-            then length (header_text self.now.reading.segment self.now.reading.first)
-            else self.now.ended) }
-    {
-        if self.ended == 0 {
-            return self.reader.header_len() as u64;
-        }
-        self.ended
     }
 
     /// Where a writer goes on, once all bytes of the last file were read.

@@ -1,12 +1,14 @@
 -- The acts of the loop on the disk are those of a writer.
 --     on_disk             what is on the disk after a story
 --     stories_are_written, answers_are_kept
-use Rattle.std.proofs.Common.{◌≡◌, inl, inr, Bool, true, false, List, [], ◌∷◌, ◌++◌, sym, ◌∙◌, ap, subst, refl, append_assoc, append-nil}
+use Rattle.std.proofs.Common.{◌≡◌, ℕ, length, inl, inr, Bool, true, false, List, [], ◌∷◌, ◌++◌, sym, ◌∙◌, ap, subst, refl, append_assoc, append-nil}
 use Rattle.judy_journal.specs.Acts.{IsWriting}
 use Rattle.judy_journal.specs.Acts.DiskAct.{Kept as FileKept}
 use Rattle.judy_journal.specs.Journals.{Commit}
-use Rattle.judy_journal.specs.Writes.{all_records}
-use Rattle.judy_many.specs.Books.{Journal, noted}
+use Rattle.judy_journal.specs.Journals.{joined, numbered}
+use Rattle.judy_journal.specs.Notes.{changes_in, note}
+use Rattle.judy_journal.specs.Writes.{all_records, size_with}
+use Rattle.judy_many.specs.Books.{Journal, commit_of, noted}
 use Rattle.judy_many.specs.declared.network.Sync.{Sync}
 use Rattle.judy_many.specs.declared.network.Sync.TheVariants as sync
 use Rattle.judy_many.specs.Journaling.{AnswersAreKept, IsJournaled, IsOnDisk, IsSecured, IsText, StoriesAreWritten, disk_acts, journal_after, journal_since, kept_after, phase_of, writer_at}
@@ -21,13 +23,21 @@ never e = cc
 
 all_records-append : (a b : List Commit) → all_records (a ++ b) ≡ all_records a ++ all_records b
 all_records-append [] b = refl
-all_records-append (x ∷ a) b = ap (λ v. x ++ v) (all_records-append a b) ∙ sym (append_assoc x (all_records a) (all_records b))
+all_records-append (x ∷ a) b = ap (λ v. changes_in x ++ v) (all_records-append a b) ∙ sym (append_assoc (changes_in x) (all_records a) (all_records b))
+
+-- a note at the end of a commit tells no change
+without_its_note : (records : Commit) (segment place sure : ℕ) → changes_in (records ++ note segment place sure ∷ []) ≡ records
+unfolding numbered
+without_its_note [] segment place sure = refl
+without_its_note (r ∷ []) segment place sure = refl
+without_its_note (r ∷ s ∷ records) segment place sure = ap (λ v. r ∷ v) (without_its_note (s ∷ records) segment place sure)
 
 -- one more commit was kept
-one_more : (kept more : List Commit) (commit : Commit) → all_records (kept ++ (more ++ commit ∷ [])) ++ [] ≡ all_records (kept ++ more) ++ commit
-one_more kept more commit =
-    append-nil (all_records (kept ++ (more ++ commit ∷ []))) ∙ ap all_records (sym (append_assoc kept more (commit ∷ [])))
-    ∙ all_records-append (kept ++ more) (commit ∷ []) ∙ ap (λ v. all_records (kept ++ more) ++ v) (append-nil commit)
+one_more : (kept more : List Commit) (j : Journal) → all_records (kept ++ (more ++ commit_of j ∷ [])) ++ [] ≡ all_records (kept ++ more) ++ j.records
+one_more kept more j =
+    append-nil (all_records (kept ++ (more ++ commit_of j ∷ []))) ∙ ap all_records (sym (append_assoc kept more (commit_of j ∷ [])))
+    ∙ all_records-append (kept ++ more) (commit_of j ∷ []) ∙ ap (λ v. all_records (kept ++ more) ++ v) (append-nil (changes_in (commit_of j))
+    ∙ without_its_note j.records j.segment (size_with j.size (length (joined j.records))) j.synced)
 
 -- lines were run
 more_lines : (before records : Commit) (turns more : List Turn) → (before ++ (records ++ records_in turns)) ++ records_in more ≡ (before ++ records) ++ records_in (turns ++ more)
@@ -58,8 +68,8 @@ on_disk j kept more (Did Untabled ∷ story) h c = on_disk j kept more story h.1
 on_disk j kept more (Did (Named name) ∷ story) h c = on_disk j kept more story h.1 c
 on_disk j kept more (Did (Replied text) ∷ story) h c = on_disk j kept more story h.1 c
 on_disk j kept more (Did (Began k) ∷ story) h c =
-    let (kept', more', d) = on_disk (record j { segment = k; begun = false }) kept more story h.1 c in
-    (kept', more', ((writer_at (record j { segment = k; begun = false }) kept more, record { number_is = h.0.number; done = inr (ap phase_of h.0.begun); clean = h.0.clean; now = refl }, d.0), d.1, d.2))
+    let (kept', more', d) = on_disk (record j { segment = k; begun = false; size = 0; synced = 0 }) kept more story h.1 c in
+    (kept', more', ((writer_at (record j { segment = k; begun = false; size = 0; synced = 0 }) kept more, record { number_is = h.0.number; done = inr (ap phase_of h.0.begun); clean = h.0.clean; now = refl }, d.0), d.1, d.2))
 on_disk j kept more (Did (Kept text) ∷ story) h c = text_kept j.begun refl h.0 h.1 (λ i more rest c. on_disk i kept more story rest c)
   where
     Goal : Journal → Type 0
@@ -72,13 +82,13 @@ on_disk j kept more (Did (Kept text) ∷ story) h c = text_kept j.begun refl h.0
         → ((i : Journal) (more : List Commit) → IsJournaled i story → (i.clean ≡ true → more ≡ []) → (kept' : List Commit) × (more' : List Commit) × IsOnDisk i kept more story kept' more')
         → Goal (kept_after b j)
     text_kept true e t rest again =
-        let commit = j.records in
+        let commit = commit_of j in
         let (kept', more', d) = again (kept_after true j) (more ++ commit ∷ []) rest (λ e. absurd (never e)) in (
           kept',
           more',
           (
             (writer_at (kept_after true j) kept (more ++ commit ∷ []), inr (record { headed = ap phase_of e; commit = commit; commit_is = t.1; text_is = t.2; now = refl }), d.0),
-            d.1 ∙ ap (λ r. r ++ records_in (turns_in story)) (one_more kept more commit),
+            d.1 ∙ ap (λ r. r ++ records_in (turns_in story)) (one_more kept more j),
             d.2,
           ),
         )
@@ -87,11 +97,11 @@ on_disk j kept more (Did (Kept text) ∷ story) h c = text_kept j.begun refl h.0
         (kept', more', ((writer_at (kept_after false j) kept more, inl (record { bare = ap phase_of e; text_is = t; now = refl }), d.0), d.1, d.2))
 on_disk j kept more (Did Unkept ∷ story) h c = on_disk j kept more story h.1 c
 on_disk j kept more (Did Synced ∷ story) h c =
-    let (kept', more', d) = on_disk (record j { clean = true }) (kept ++ more) [] story h.1 (λ e. refl) in (
+    let (kept', more', d) = on_disk (record j { synced = j.size; clean = true }) (kept ++ more) [] story h.1 (λ e. refl) in (
       kept',
       more',
       (
-        (writer_at (record j { clean = true }) (kept ++ more) [], refl, d.0),
+        (writer_at (record j { synced = j.size; clean = true }) (kept ++ more) [], refl, d.0),
         d.1 ∙ ap (λ r. (all_records r ++ j.records) ++ records_in (turns_in story)) (append-nil (kept ++ more)),
         d.2,
       ),

@@ -8,8 +8,8 @@ use Rattle.judy_journal.specs.Acts.{DiskAct, IsWriting, Phase as FilePhase, Jour
 use Rattle.judy_journal.specs.Acts.DiskAct.{Began as FileBegan, Kept as FileKept, Synced as FileSynced}
 use Rattle.judy_journal.specs.Acts.Phase.{Bare, Headed}
 use Rattle.judy_journal.specs.Journals.{Commit, is_commit, sum_after}
-use Rattle.judy_journal.specs.Writes.{all_records, commit_text, header_text}
-use Rattle.judy_many.specs.Books.{Journal, noted}
+use Rattle.judy_journal.specs.Writes.{all_records, commit_text, header_text, size_with}
+use Rattle.judy_many.specs.Books.{Journal, commit_of, noted}
 use Rattle.judy_many.specs.declared.serve.Limits.{Limits}
 use Rattle.judy_many.specs.declared.network.Sync.{Sync}
 use Rattle.judy_many.specs.declared.network.Sync.TheVariants as sync
@@ -19,15 +19,20 @@ use Rattle.judy_many.specs.Sessions.{records_in}
 use Rattle.judy_many.specs.Stories.{Moment, Story, acts_in, told, turns_in}
 use Rattle.judy_many.specs.Stories.Moment.{Changed, Did, Ran}
 
--- after a text was kept: it is the header of the segment, or a commit of all records
+-- after a text was kept: it is the header of the segment, or a commit of all records and a note
 abbrev pub kept_after : Bool → Journal → Journal
-kept_after true j = record j { sum = sum_after j.sum j.records; records = []; clean = false }
-kept_after false j = record j { begun = true; clean = false }
+kept_after true j = record j {
+  size = size_with j.size (length (commit_text j.sum (commit_of j)));
+  sum = sum_after j.sum (commit_of j);
+  records = [];
+  clean = false;
+}
+kept_after false j = record j { begun = true; size = length (header_text j.segment j.sum); clean = false }
 
 abbrev pub journal_after : Journal → Moment → Journal
-journal_after j (Did (Began k)) = record j { segment = k; begun = false }
+journal_after j (Did (Began k)) = record j { segment = k; begun = false; size = 0; synced = 0 }
 journal_after j (Did (Kept text)) = kept_after j.begun j
-journal_after j (Did Synced) = record j { clean = true }
+journal_after j (Did Synced) = record j { synced = j.size; clean = true }
 journal_after j (Ran n turns) = noted (records_in turns) j
 journal_after j moment = j
 
@@ -45,10 +50,10 @@ IsSecured sync.Never clean = Unit {0}
 abbrev pub IsSettled : Journal → Type 0
 IsSettled j = (j.records ≡ []) × IsSecured j.rule j.clean
 
--- what may be kept: one commit of all records of lines that were run since the last one; or, in a new
--- segment, its header
+-- what may be kept: one commit of all records of lines that were run since the last one, with a note of how much
+-- of the segment is synced; or, in a new segment, its header
 abbrev pub IsText : Bool → Journal → List ℕ → Type 0
-IsText true j text = (0 < length j.records) × IsTrue (is_commit j.records) × (text ≡ commit_text j.sum j.records)
+IsText true j text = (0 < length j.records) × IsTrue (is_commit (commit_of j)) × (text ≡ commit_text j.sum (commit_of j))
 IsText false j text = text ≡ header_text j.segment j.sum
 
 -- the next segment begins where all of the one before it is kept and synced

@@ -1,7 +1,7 @@
 //! The journal of the loop: the records of the lines that were run, kept before they are answered.
 ghost use Rattle.std.specs.Prelude.{◌≡◌, ◌<◌, [], ◌∷◌, Bool, IsTrue, None, length, true, false, option_map};
 ghost use Rattle.judy_journal.specs.Journals.{record_of};
-ghost use Rattle.judy_journal.specs.Writes.{IsShortRecord, begun};
+ghost use Rattle.judy_journal.specs.Writes.{IsShortRecord, begun, secured};
 ghost use Rattle.judy_journal.specs.declared.format.TheConstants.{LAST_SEGMENT};
 ghost use Rattle.judy_many.specs.Books.{has_room as has_room_for, journal_of, noted_by, opened};
 ghost use Rattle.judy_many.specs.Journaling.{AreSettled, AreWritten, HasWritten, IsSecured};
@@ -42,24 +42,26 @@ pub fn begin_segment<N: Network>(network: &mut N, writer: &mut Writer) -> bool
     network.sync()
 }
 
-/// Ends the commit of a writer, and keeps it. False if the journal fails.
+/// Ends the commit of a writer with its note, and keeps it. False if the journal fails.
 fn end_commit<N: Network>(network: &mut N, writer: &mut Writer) -> bool
     requires some { 0 < length writer.old.records }
     ensures none { writer.new.records ≡ [] }
     ensures written { (rule : SyncLem) (clean : Bool) → HasWritten result (journal_of rule clean writer.old)
         (journal_of rule false writer.new) (N.log network.old) (N.log network.new) }
 {
-    writer.end();
+    writer.end_noted();
     keep_text(network, &*writer)
 }
 
 /// Syncs what was kept. False if the journal fails.
-fn sync_all<N: Network>(network: &mut N, writer: &Writer, clean: &mut bool) -> bool
+fn sync_all<N: Network>(network: &mut N, writer: &mut Writer, clean: &mut bool) -> bool
     ensures clean { clean.new ≡ true }
-    ensures written { (rule : SyncLem) → HasWritten result (journal_of rule clean.old writer.now)
-        (journal_of rule clean.new writer.now) (N.log network.old) (N.log network.new) }
+    ensures writer { writer.new ≡ secured writer.old }
+    ensures written { (rule : SyncLem) → HasWritten result (journal_of rule clean.old writer.old)
+        (journal_of rule clean.new writer.new) (N.log network.old) (N.log network.new) }
 {
     *clean = true;
+    writer.secure();
     network.sync()
 }
 
@@ -73,7 +75,7 @@ fn next_if_full<N: Network>(network: &mut N, writer: &mut Writer, clean: &mut bo
     if !writer.is_full() {
         return true;
     }
-    if !sync_all(network, &*writer, clean) {
+    if !sync_all(network, writer, clean) {
         return false;
     }
     begin_segment(network, writer)
@@ -119,14 +121,15 @@ fn is_due<N: Network>(network: &mut N, rule: Sync, since: &mut u64) -> bool
 /// Syncs what was kept, if it has to be synced now. False if the journal fails.
 fn sync_if_due<N: Network>(
     network: &mut N,
-    writer: &Writer,
+    writer: &mut Writer,
     rule: Sync,
     clean: &mut bool,
     since: &mut u64,
 ) -> bool
     ensures secured { result ≡ true → IsSecured rule clean.new }
-    ensures written { HasWritten result (journal_of rule clean.old writer.now)
-        (journal_of rule clean.new writer.now) (N.log network.old) (N.log network.new) }
+    ensures none { writer.new.records ≡ writer.old.records }
+    ensures written { HasWritten result (journal_of rule clean.old writer.old)
+        (journal_of rule clean.new writer.new) (N.log network.old) (N.log network.new) }
 {
     if *clean {
         return true;
@@ -242,7 +245,7 @@ impl Keeper {
         }
         sync_if_due(
             network,
-            &*writer,
+            writer,
             self.rule,
             &mut self.clean,
             &mut self.since,

@@ -1,16 +1,19 @@
 -- How the files of a journal are played one after another.
 use Rattle.std.proofs.Common.{◌≡◌, ◌≢◌, ◌+◌, ◌-◌, ◌≤◌, ◌<◌, ℕ, Bool, true, false, List, [], ◌∷◌, ◌++◌, length, Option, Some, None}
-use Rattle.std.proofs.Common.{refl, sym, ◌∙◌, ap, subst, arith, append_assoc, append-nil, length-append}
-use Rattle.std.specs.Prelude.{IsTrue}
+use Rattle.std.proofs.Common.{refl, sym, ◌∙◌, ap, subst, arith, append_assoc, append-nil, length-append, inl, inr}
+use Rattle.std.specs.Prelude.{Err, IfOk, IfSome, IsTrue, Ok, Result}
 use Rattle.judy_journal.specs.Acts.{AreWhole, Left}
 use Rattle.judy_journal.specs.Journals.{Commit, is_line, commits_lines, header, joined, journal_text, sum_at}
+use Rattle.judy_journal.specs.Notes.{is_torn_end, seen_in}
+use Rattle.judy_journal.specs.Noting.{HasSeen, Noting}
 use Rattle.judy_journal.specs.Readings.{front, tail_of}
 use Rattle.judy_journal.specs.Recovered.{HasEndedSnapshot, IsPosition, IsRecovered, IsUnpacked, RecoveredIsWhole, Recovering, RecoveryIsFound, files_kept}
 use Rattle.judy_journal.specs.Writes.{all_records, snapshot_line}
 use Rattle.judy_journal.specs.declared.recovery.Position.{Position}
-use Rattle.judy_recovery.specs.Played.{ReadsAll}
-use Rattle.judy_recovery.specs.Whole.{AllGave, EndsThere, Gave, HasRecoveredAll, HasStarted, ReadsFiles, ReadsSegment, segment_before}
+use Rattle.judy_recovery.specs.Played.{HasReadLast, IsDamagedFile, ReadsAll, ReadsUpTo}
+use Rattle.judy_recovery.specs.Whole.{AllGave, EndsIn, EndsThere, Gave, HasRecoveredAll, HasStarted, ReadsFiles, ReadsLast, ReadsSegment, segment_before}
 use Rattle.judy_recovery.specs.declared.ends.End.{End}
+use Rattle.judy_recovery.specs.declared.pieces.Damaged.{Damaged}
 use Rattle.judy_recovery.proofs.Playing.{Laws, all_records-append}
 
 -- the size is the position's if the position is in the file of this number, and 0 if not
@@ -102,6 +105,89 @@ module _ {P File : Type 0} (plays : P → List (List ℕ) → P → Type 0) (rem
         ends_there number size torn segment sum done text commits r' p h is (at segment sum done text commits h) there;
   }
 
+  -- a segment that was read to its end without damage
+  pub as_last : (number : ℕ) (r r' : Recovering) (old new : P) (end : End) → ReadsSegment plays remaining number r old end r' new
+      → ReadsLast plays remaining number r old end r' new
+  as_last number r r' old new end h = record {
+    bytes = h.bytes;
+    given = h.given;
+    reads = λ segment sum done commits was there.
+        let k = h.reads.segments segment sum done [] commits was in
+        record {
+          text = h.bytes;
+          junk = [];
+          cut = append-nil h.bytes;
+          more = k.more;
+          read = k.read;
+          played = k.played;
+          ends = h.ends segment sum done h.bytes (commits ++ k.more) k.read there;
+          follows = inl refl;
+        };
+  }
+
+  pub if_last : {E : Type 0} (number : ℕ) (r r' : Recovering) (old new : P) (result : Result End E)
+      → IfOk result (λ end. ReadsSegment plays remaining number r old end r' new) → IfOk result (λ end. ReadsLast plays remaining number r old end r' new)
+  if_last number r r' old new (Ok end) h = as_last number r r' old new end h
+  if_last number r r' old new (Err e) h = tt
+
+  -- the last segment was read to its end, and its damage may be what a crash left
+  pub last_read : (number size torn : ℕ) (file : File) (left' : Option (List ℕ)) (found : Option Damaged) (r r' : Recovering) (old new : P)
+      (n n' : Noting) (p : Position) → HasReadLast plays (remaining file) left' found r old n r' new n' → HasSeen number [] n → IsSizeIn number p size
+      → ((segment : ℕ) (sum : List ℕ) (done : List Left) (text : List ℕ) (commits : List Commit) → IsRecovered segment sum done text commits r'
+      → IsPosition segment sum done text commits r' p)
+      → IfSome found (λ damaged. is_torn_end n'.seen size ≡ true)
+      → ReadsLast plays remaining number r old (record { segment = number; sum = p.sum; size = size; torn = torn }) r' new
+  last_read number size torn file left' found r r' old new n n' p all none is at passed = record {
+    bytes = all.bytes;
+    given = (file, left', all.given, all.ended);
+    reads = λ segment sum done commits was there. by found all.reads passed segment sum done commits was there;
+  }
+    where
+      end : End
+      end = record { segment = number; sum = p.sum; size = size; torn = torn }
+
+      seen : n'.seen ≡ seen_in number all.bytes
+      seen = (all.noted number [] none).seen_is
+
+      by : (found : Option Damaged) → ReadsUpTo plays found r all.bytes old r' new → IfSome found (λ damaged. is_torn_end n'.seen size ≡ true)
+          → (segment : ℕ) (sum : List ℕ) (done : List Left) (commits : List Commit) → IsRecovered segment sum done [] commits r
+          → number ≡ segment + length done + 1 → EndsIn plays segment sum done commits all.bytes old end r' new
+      by None reads passed segment sum done commits was there =
+          let k = reads.segments segment sum done [] commits was in
+          record {
+            text = all.bytes;
+            junk = [];
+            cut = append-nil all.bytes;
+            more = k.more;
+            read = k.read;
+            played = k.played;
+            ends = ends_there number size torn segment sum done all.bytes (commits ++ k.more) r' p k.read is
+                (at segment sum done all.bytes (commits ++ k.more) k.read) there;
+            follows = inl refl;
+          }
+      by (Some damaged) (front, more, cut, breaks) passed segment sum done commits was there =
+          let k = breaks segment sum done [] commits was in
+          let whole : k.used ++ (k.rest ++ more) ≡ all.bytes = sym (append_assoc k.used k.rest more) ∙ ap (λ v. v ++ more) k.cut ∙ cut in
+          record {
+            text = k.used;
+            junk = k.rest ++ more;
+            cut = whole;
+            more = k.more;
+            read = k.read;
+            played = k.played;
+            ends = ends_there number size torn segment sum done k.used (commits ++ k.more) r' p k.read is
+                (at segment sum done k.used (commits ++ k.more) k.read) there;
+            follows = inr (record {
+              damage = damaged.damage;
+              seen = k.rest;
+              more = more;
+              junk_is = refl;
+              damaged = subst (IsDamagedFile damaged.damage segment sum done (commits ++ k.more)) (sym k.cut) k.damaged;
+              torn = ap (λ m. is_torn_end (seen_in m (k.used ++ (k.rest ++ more))) size) (sym there)
+                  ∙ ap (λ v. is_torn_end (seen_in number v) size) whole ∙ ap (λ s. is_torn_end s size) (sym seen) ∙ passed;
+            });
+          }
+
   module _ (laws : Laws plays) where
     -- nothing is played before the first segment if there is no snapshot
     pub none_started : (sum : List ℕ) (r : Recovering) (p : P) → sum ≡ Rattle.judy_recovery.specs.declared.ends.TheConstants.FIRST_SUM
@@ -146,30 +232,32 @@ module _ {P File : Type 0} (plays : P → List (List ℕ) → P → Type 0) (rem
 
     -- the snapshot, the whole files and the last one
     pub recovered_all : RecoveryIsFound → RecoveredIsWhole → (snapshot : Option ℕ) (first last : ℕ) (r r' r'' : Recovering) (old p p' new : P) (end : End)
-        → HasStarted plays remaining snapshot old r p → ReadsFiles plays remaining (last - first) r p r' p' → ReadsSegment plays remaining last r' p' end r'' new
+        → HasStarted plays remaining snapshot old r p → ReadsFiles plays remaining (last - first) r p r' p' → ReadsLast plays remaining last r' p' end r'' new
         → first ≡ segment_before snapshot + 1 → first ≤ last → HasRecoveredAll plays remaining snapshot last old end new
     recovered_all is_found is_whole snapshot first last r r' r'' old p p' new end started files reads first_is not_less =
         let f = files (segment_before snapshot) started.sum [] [] started.next in
-        let k = reads.reads.segments (segment_before snapshot) started.sum f.files [] f.more f.read in
         let last_is : last ≡ segment_before snapshot + length f.files + 1 = omega (arith, f.count_is, first_is, not_less) in
+        let k = reads.reads (segment_before snapshot) started.sum f.files f.more f.read last_is in
         let played : plays p (all_records (f.more ++ k.more)) new =
         subst (λ v. plays p v new) (sym (all_records-append f.more k.more))
         (laws.joins p p' new (all_records f.more) (all_records k.more) f.played k.played) in
-        let ends = reads.ends (segment_before snapshot) started.sum f.files reads.bytes (f.more ++ k.more) k.read last_is in
+        let l : Left = record { number = segment_before snapshot + length f.files + 1; bytes = k.text ++ k.junk } in
         record {
           sum = started.sum;
           unpacked = started.commits;
           start = started.start;
           done = f.files;
-          text = reads.bytes;
+          text = k.text;
+          junk = k.junk;
           commits = f.more ++ k.more;
           r = r'';
           read = k.read;
-          found = is_found (segment_before snapshot) started.sum f.files reads.bytes (f.more ++ k.more) r'' k.read;
+          found = is_found (segment_before snapshot) started.sum f.files k.text (f.more ++ k.more) r'' k.read;
           began = started.given;
-          given = gave-append f.files (record { number = segment_before snapshot + length f.files + 1; bytes = reads.bytes }) f.given reads.given;
+          given = gave-append f.files l f.given (subst (Gave remaining) (sym k.cut) reads.given);
+          follows = k.follows;
           last_is = last_is;
-          ends = ends;
-          whole = whole_to_end is_whole (segment_before snapshot) started.sum f.files reads.bytes (f.more ++ k.more) r'' end k.read ends;
+          ends = k.ends;
+          whole = whole_to_end is_whole (segment_before snapshot) started.sum f.files k.text (f.more ++ k.more) r'' end k.read k.ends;
           played = laws.joins old p new (all_records started.commits) (all_records (f.more ++ k.more)) started.played played;
         }

@@ -4,21 +4,24 @@
 --     HasStarted plays remaining snapshot old r new              the snapshot was played; r goes on behind it
 --     HasPlayedFiles plays remaining .. count old r new          so many whole files were played
 --     EndsThere segment sum done text commits r end              the journal ends in this text, behind these files
+--     MayFollow segment sum done commits text junk size          behind this text the last file has what a crash may have left
 --     HasRecoveredAll plays remaining snapshot last old end new  the snapshot and the segments up to the last were played
 --     Recovers plays remaining snapshot last old end new         the same, or there is no segment
 --     GoesOn end at                                              a writer goes on where the journal ends
 --     HasPlayedJournal plays kept old new                        a journal of these files was read and played
 --     HasResumed plays kept old at new                           the same, and a writer goes on behind it
-use Rattle.std.specs.Prelude.{◌≡◌, ℕ, ◌<◌, ◌+◌, ◌-◌, true, false, List, [], ◌∷◌, ◌++◌, length, IsTrue, Option, Some, None}
+use Rattle.std.specs.Prelude.{◌≡◌, ◌⊎◌, ℕ, ◌<◌, ◌+◌, ◌-◌, true, false, List, [], ◌∷◌, ◌++◌, length, IsTrue, Option, Some, None}
 use Rattle.std.specs.Io.KnownBytes.{Consumes, IsAtEnd}
 use Rattle.judy_journal.specs.Acts.{AreWhole, File, Left}
 use Rattle.judy_journal.specs.Crashes.{FoundAll}
 use Rattle.judy_journal.specs.Journals.{Commit, is_line, sum_at}
+use Rattle.judy_journal.specs.Notes.{is_torn_end, seen_in}
 use Rattle.judy_journal.specs.Readings.{tail_of}
 use Rattle.judy_journal.specs.Recovered.{IsPosition, IsRecovered, IsSnapshot, Recovering, files_kept}
 use Rattle.judy_journal.specs.Writes.{all_records, snapshot_line}
 use Rattle.judy_journal.specs.declared.recovery.Position.{Position}
-use Rattle.judy_recovery.specs.Played.{ReadsOn}
+use Rattle.judy_journal.specs.declared.damage.Damage.{Damage}
+use Rattle.judy_recovery.specs.Played.{IsDamagedFile, ReadsOn}
 use Rattle.judy_recovery.specs.declared.ends.End.{End}
 use Rattle.judy_recovery.specs.declared.ends.TheConstants.{FIRST_SUM}
 use Rattle.judy_recovery.specs.declared.resuming.Resumed.{Resumed}
@@ -99,6 +102,41 @@ pub record ReadsSegment {P F : Type 0} (plays : P → List (List ℕ) → P → 
       → IsRecovered segment sum done text commits after → number ≡ segment + length done + 1
       → EndsThere segment sum done text commits after end
 
+-- Behind this text the last file has these bytes. A front of them makes the file damaged, and no note in the file tells
+-- that more of it was synced than this size. If there is no note, the file has no mark either.
+pub record IsCutOff (segment : ℕ) (sum : List ℕ) (done : List Left) (commits : List Commit) (text junk : List ℕ) (size : ℕ) : Type 0 where
+  pub damage : Damage
+  pub seen : List ℕ
+  pub more : List ℕ
+  pub junk_is : seen ++ more ≡ junk
+  pub damaged : IsDamagedFile damage segment sum done commits (text ++ seen)
+  pub torn : is_torn_end (seen_in (segment + length done + 1) (text ++ junk)) size ≡ true
+
+-- nothing is behind the text, or what a crash may have left
+abbrev pub MayFollow : ℕ → List ℕ → List Left → List Commit → List ℕ → List ℕ → ℕ → Type 0
+MayFollow segment sum done commits text junk size = (junk ≡ []) ⊎ IsCutOff segment sum done commits text junk size
+
+-- The last file, which has these bytes, was read up to its first damage, and the records of its whole commits were
+-- played. What follows was passed over.
+pub record EndsIn {P : Type 0} (plays : P → List (List ℕ) → P → Type 0) (segment : ℕ) (sum : List ℕ) (done : List Left) (commits : List Commit)
+    (bytes : List ℕ) (old : P) (end : End) (r : Recovering) (new : P) : Type 0 where
+  pub text : List ℕ
+  pub junk : List ℕ
+  pub cut : text ++ junk ≡ bytes
+  pub more : List Commit
+  pub read : IsRecovered segment sum done text (commits ++ more) r
+  pub played : plays old (all_records more) new
+  pub ends : EndsThere segment sum done text (commits ++ more) r end
+  pub follows : MayFollow segment sum done (commits ++ more) text junk end.size
+
+-- the segment of this number, which is the last one, was read to its end, whatever was read before it
+pub record ReadsLast {P F : Type 0} (plays : P → List (List ℕ) → P → Type 0) (remaining : F → Option (List ℕ)) (number : ℕ)
+    (before : Recovering) (old : P) (end : End) (after : Recovering) (new : P) : Type 0 where
+  pub bytes : List ℕ
+  pub given : Gave remaining bytes
+  pub reads : (segment : ℕ) (sum : List ℕ) (done : List Left) (commits : List Commit) → IsRecovered segment sum done [] commits before
+      → number ≡ segment + length done + 1 → EndsIn plays segment sum done commits bytes old end after new
+
 -- the files of the segments after this one, with the last one
 abbrev pub with_last : ℕ → List Left → List ℕ → List Left
 with_last segment done text = done ++ record { number = segment + length done + 1; bytes = text } ∷ []
@@ -111,13 +149,15 @@ pub record HasRecoveredAll {P F : Type 0} (plays : P → List (List ℕ) → P �
   pub unpacked : List Commit
   pub start : IsStart snapshot sum unpacked
   pub done : List Left  -- the files before the last one, each of them whole
-  pub text : List ℕ  -- what the last file has
+  pub text : List ℕ  -- what was read of the last file
+  pub junk : List ℕ  -- what it has behind that
   pub commits : List Commit
   pub r : Recovering
   pub read : IsRecovered (segment_before snapshot) sum done text commits r
   pub found : FoundAll (segment_before snapshot) sum (with_last (segment_before snapshot) done text) commits (tail_of r.reading)
   pub began : GaveStart remaining snapshot sum unpacked
-  pub given : AllGave remaining (with_last (segment_before snapshot) done text)
+  pub given : AllGave remaining (with_last (segment_before snapshot) done (text ++ junk))
+  pub follows : MayFollow (segment_before snapshot) sum done commits text junk end.size
   pub last_is : last ≡ segment_before snapshot + length done + 1
   pub ends : EndsThere (segment_before snapshot) sum done text commits r end
   pub whole : AreWhole (segment_before snapshot) sum

@@ -14,6 +14,6 @@ pub struct End {
     /// How many bytes of the last segment are its first line and whole commits. If there is none, not
     /// even its first line is whole.
     pub size: u64,
-    /// How many bytes follow them: those of a commit that was not finished.
+    /// How many bytes follow them, up to the last one that is not zero: those that a crash left.
     pub torn: u64,
 }

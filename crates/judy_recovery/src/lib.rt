@@ -7,6 +7,7 @@
 
 mod ends;
 mod faults;
+mod last;
 mod pieces;
 mod player;
 mod reading;

@@ -1,9 +1,8 @@
 //! Reads a file of a journal in pieces, and gives its records to a player.
-ghost use Rattle.std.specs.Prelude.{OnOk};
+ghost use Rattle.std.specs.Prelude.{IfErr, OnOk};
 ghost use Rattle.judy_stream.specs.Streams.{MayAlwaysPull};
-ghost use Rattle.judy_model.specs.Stream.{lines_of};
-ghost use Rattle.judy_journal.specs.Journals.{joined};
-ghost use Rattle.judy_recovery.specs.Played.{ReadsAll, ReadsOn};
+ghost use Rattle.judy_journal.specs.Notes.{changes_in};
+ghost use Rattle.judy_recovery.specs.Played.{IsNoDamage, IsStopAt, MayBreak, ReadsAll, ReadsOn};
 
 use crate::faults::Flaw;
 use crate::player::{Halt, Player};
@@ -17,6 +16,15 @@ pub const PIECE: usize = 16384;
 /// What comes before the version in the first line of a segment.
 const ANY_VERSION: &[u8; 14] = b"judyd journal ";
 
+/// Damage of a file, and the byte where its line begins.
+#[derive(Clone, Copy, Debug)]
+pub struct Damaged {
+    /// The byte.
+    pub byte: u64,
+    /// What is wrong there.
+    pub damage: Damage,
+}
+
 /// Why a file is not read to its end.
 #[derive(Clone, Copy, Debug)]
 pub enum Stop {
@@ -24,6 +32,8 @@ pub enum Stop {
     Fault,
     /// It has a flaw, at this byte.
     Flaw(u64, Flaw),
+    /// It is damaged.
+    Damaged(Damaged),
 }
 
 /// How far a file was read.
@@ -52,20 +62,24 @@ fn is_other_version(bytes: &[u8]) -> bool {
     bytes.starts_with(ANY_VERSION) && !bytes.starts_with(HEADER)
 }
 
-/// What a damage is told as, by the first bytes of the file if it was found among them.
-fn flaw_of(damage: Damage, progress: &Progress, bytes: &[u8]) -> Flaw {
+/// Where the reading stops at this damage, by the first bytes of the file if it was found among them.
+fn stop_at(recovery: &Recovery, damage: Damage, progress: &Progress, bytes: &[u8]) -> Stop
+    ensures { IsStopAt damage result }
+{
+    let byte = recovery.place();
     if progress.seen == 0 && damage == Damage::Header && is_other_version(bytes) {
-        return Flaw::Version;
+        return Stop::Flaw(byte, Flaw::Version);
     }
-    Flaw::Damage(damage)
+    Stop::Damaged(Damaged { byte, damage })
 }
 
-/// Gives the records of a commit that became whole to a player.
+/// Gives the records of a commit that became whole to a player, without its note.
 fn play<P: Player>(recovery: &Recovery, player: &mut P, progress: &mut Progress) -> Result<(), Stop>
-    ensures { OnOk result
-        (P.plays player.old (lines_of (joined recovery.now.reading.records)) player.new) }
+    ensures played { OnOk result
+        (P.plays player.old (changes_in recovery.now.reading.records) player.new) }
+    ensures flaw { IfErr result (λ stop. IsNoDamage stop) }
 {
-    let records = recovery.records();
+    let records = recovery.changes();
     if let Err(halt) = player.play(records) {
         let line = start_of(records, halt) as u64;
         let byte = progress.whole.saturating_add(line);
@@ -76,15 +90,17 @@ fn play<P: Player>(recovery: &Recovery, player: &mut P, progress: &mut Progress)
 }
 
 /// Reads the next bytes of a file. Of the commits that become whole in them each is played, in order,
-/// and nothing else is.
+/// and nothing else is; up to damage, if there is some.
 pub fn read_piece<P: Player>(
     recovery: &mut Recovery,
     player: &mut P,
     bytes: &[u8],
     progress: &mut Progress,
 ) -> Result<(), Stop>
-    ensures { OnOk result
+    ensures read { OnOk result
         (ReadsOn P.plays recovery.old bytes.now player.old recovery.new player.new) }
+    ensures broken { IfErr result
+        (λ stop. MayBreak P.plays stop recovery.old bytes.now player.old recovery.new player.new) }
 {
     let mut rest = bytes;
     while !rest.is_empty() {
@@ -99,10 +115,7 @@ pub fn read_piece<P: Player>(
                 play(&*recovery, player, progress)?;
                 rest = after;
             }
-            Err(damage) => {
-                let flaw = flaw_of(damage, progress, rest);
-                return Err(Stop::Flaw(recovery.place(), flaw));
-            }
+            Err(damage) => return Err(stop_at(&*recovery, damage, progress, rest)),
         }
     }
     Ok(())

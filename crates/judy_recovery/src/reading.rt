@@ -1,19 +1,20 @@
 //! Reads the files of a journal's directory in order.
 ghost use Rattle.std.specs.Prelude.{◌≡◌, ◌≢◌, ◌≤◌, ◌<◌, ◌+◌, ◌-◌, ◌^◌, ℕ, List, IfOk, IfSome, OnOk, IsTrue, Option, Some, option_map};
 ghost use Rattle.judy_journal.specs.Journals.{is_line};
-ghost use Rattle.judy_recovery.specs.Played.{ReadsAll};
-ghost use Rattle.judy_recovery.specs.Whole.{HasStarted, ReadsFiles, ReadsSegment};
+ghost use Rattle.judy_recovery.specs.Played.{HasReadLast, ReadsAll};
+ghost use Rattle.judy_recovery.specs.Whole.{HasStarted, ReadsFiles, ReadsLast, ReadsSegment};
 ghost use Rattle.judy_recovery.specs.Whole.{Recovers, segment_before};
 
 use crate::ends::{End, FIRST_SUM};
 use crate::faults::{Flaw, JournalFault};
-use crate::pieces::{Progress, Stop, read_file};
+use crate::last::{Given, pass, read_last};
+use crate::pieces::{Damaged, Progress, Stop, read_file};
 use crate::player::Player;
 use crate::sources::FileReads;
 use itoa::Buffer;
 use judy_disk::{DiskFault, Folder, Found, Place};
 use judy_journal::{
-    Damage, HEADER, LAST_SEGMENT, LINE_ROOM, Position, Recovery, SNAPSHOT, SUM_LEN, snapshot_sum,
+    Damage, HEADER, LAST_SEGMENT, LINE_ROOM, Notes, Position, Recovery, SNAPSHOT, SUM_LEN, snapshot_sum,
     what_is_recovered_is_found, what_is_recovered_is_whole,
 };
 use judy_protocol::cut_line;
@@ -35,6 +36,7 @@ fn unread(place: Place, fault: io::Error) -> JournalFault {
 fn fault_of(place: Place, stop: Stop, fault: Option<io::Error>) -> JournalFault {
     match (stop, fault) {
         (Stop::Flaw(byte, flaw), _) => fault_at(place, byte, flaw),
+        (Stop::Damaged(at), _) => fault_at(place, at.byte, Flaw::Damage(at.damage)),
         (Stop::Fault, Some(fault)) => unread(place, fault),
         (Stop::Fault, None) => unread(place, io::Error::from(io::ErrorKind::Other)),
     }
@@ -54,6 +56,30 @@ fn read_rest<R: Read + Drop, P: Player>(
     let mut source = FileReads::new(file);
     let read = read_file(&mut source, recovery, player, progress);
     read.map_err(|stop| fault_of(place, stop, source.take_fault()))
+}
+
+/// Reads the last file to its end, with its notes. Up to its first damage each commit that is whole is
+/// played, in order, and nothing else is. Returns the damage, if there is some.
+fn read_end<R: Read + Drop, P: Player>(
+    file: R,
+    number: u64,
+    recovery: &mut Recovery,
+    player: &mut P,
+    notes: &mut Notes,
+    given: &mut Given,
+) -> Result<Option<Damaged>, JournalFault>
+    ensures { IfOk result (λ found. (left : Option (List ℕ)) × HasReadLast P.plays (R.remaining file) left found
+        recovery.old player.old notes.old recovery.new player.new notes.new) }
+{
+    let mut progress = Progress {
+        whole: first_line_len(number),
+        seen: 0,
+    };
+    let mut source = FileReads::new(file);
+    match read_last(&mut source, recovery, player, &mut progress, notes, given) {
+        Ok(found) => Ok(found),
+        Err(stop) => Err(fault_of(Place::Segment(number), stop, source.take_fault())),
+    }
 }
 
 /// A recovery on the heap, since it is large.
@@ -201,6 +227,55 @@ fn read_segment<F: Files, P: Player>(
     })
 }
 
+/// Reads the last segment. Damage in it is passed over if it may be what a crash left.
+fn read_last_segment<F: Files, P: Player>(
+    folder: &Folder<'_, F>,
+    recovery: &mut Recovery,
+    number: u64,
+    player: &mut P,
+) -> Result<End, JournalFault>
+    ensures { IfOk result (λ end. ReadsLast P.plays F.File.remaining number
+        recovery.old player.old end recovery.new player.new) }
+{
+    let place = Place::Segment(number);
+    let file = match folder.open(place) {
+        Ok(file) => file,
+        Err(fault) => return Err(JournalFault::Disk(fault)),
+    };
+    let mut notes = Notes::new(number);
+    let mut given = Given { all: 0, solid: 0 };
+    let found = read_end(file, number, recovery, player, &mut notes, &mut given)?;
+    let position = recovery.position();
+    let size = size_in(number, &position);
+    if let Err(stop) = pass(&notes, size, found) {
+        return Err(fault_of(place, stop, None));
+    }
+    Ok(End {
+        segment: number,
+        sum: position.sum,
+        size,
+        torn: given.solid.saturating_sub(size),
+    })
+}
+
+/// Reads the segment of this number, which is the last one that is read. If another one follows, it is
+/// closed: no damage is passed over.
+fn read_last_of<F: Files, P: Player>(
+    folder: &Folder<'_, F>,
+    recovery: &mut Recovery,
+    number: u64,
+    player: &mut P,
+    closed: bool,
+) -> Result<End, JournalFault>
+    ensures { IfOk result (λ end. ReadsLast P.plays F.File.remaining number
+        recovery.old player.old end recovery.new player.new) }
+{
+    if closed {
+        return read_segment(folder, recovery, number, player);
+    }
+    read_last_segment(folder, recovery, number, player)
+}
+
 /// Reads the segments from `first` to the one before `last`, each of which is whole.
 fn read_closed<F: Files, P: Player>(
     folder: &Folder<'_, F>,
@@ -225,14 +300,15 @@ fn read_closed<F: Files, P: Player>(
     Ok(())
 }
 
-/// Reads the snapshot and the segments up to `last`, each of which is whole but perhaps the last. None
-/// if there is no segment up to it behind the snapshot: then nothing is read.
+/// Reads the snapshot and the segments up to `last`, each of which is whole but perhaps the last, which
+/// may be `closed`. None if there is no segment up to it behind the snapshot: then nothing is read.
 fn read_files<F: Files, P: Player>(
     folder: &Folder<'_, F>,
     alloc: Global,
     snapshot: Option<u64>,
     last: u64,
     player: &mut P,
+    closed: bool,
 ) -> Result<Option<End>, JournalFault>
     ensures { IfOk result
         (λ end. Recovers P.plays F.File.remaining snapshot (Some last) player.old end player.new) }
@@ -243,7 +319,7 @@ fn read_files<F: Files, P: Player>(
     }
     let mut recovery = begin(folder, alloc, snapshot, player)?;
     read_closed(folder, &mut *recovery, first, last, player)?;
-    let end = read_segment(folder, &mut *recovery, last, player)?;
+    let end = read_last_of(folder, &mut *recovery, last, player, closed)?;
     what_is_recovered_is_found();
     what_is_recovered_is_whole();
     Ok(Some(end))
@@ -261,7 +337,7 @@ pub fn recover<F: Files, P: Player>(
         (λ end. Recovers P.plays F.File.remaining found.now.snapshot found.now.last player.old end player.new) }
 {
     match found.last {
-        Some(last) => read_files(folder, alloc, found.snapshot, last, player),
+        Some(last) => read_files(folder, alloc, found.snapshot, last, player, false),
         None => Ok(None),
     }
 }
@@ -282,7 +358,7 @@ pub fn recover_closed<F: Files, P: Player>(
         Some(last) => last.saturating_sub(1),
         None => return Ok(None),
     };
-    let Some(end) = read_files(folder, alloc, found.snapshot, last, player)? else {
+    let Some(end) = read_files(folder, alloc, found.snapshot, last, player, true)? else {
         return Ok(None);
     };
     if end.torn > 0 || end.size == 0 {

@@ -9,7 +9,6 @@ use Rattle.judy_journal.proofs.Unpacking.{unpacked_more, unpacked_whole}
 use Rattle.std.proofs.lemmas.List.{length-append}
 use Rattle.std.proofs.Common.{inl, inr, ◌++◌, ◌∷◌, append_assoc}
 use Rattle.std.proofs.Common.{[], refl, append-nil}
-use Rattle.judy_journal.specs.Readings.{IsRead}
 use Rattle.judy_journal.proofs.Gathering.{halts, read_more, read_whole}
 use Rattle.judy_journal.proofs.recovery.Recovery.read.Goals as goal
 
@@ -63,10 +62,9 @@ returns-in-Err-clause-snapshot c segment sum text commits h =
 pub returns-in-Err-clause-halted : goal.returns-in-Err-clause-halted
 returns-in-Err-clause-halted c segment sum done text commits h =
     let k = subst (λ v. IsRecovered segment sum done text commits v) (sym c.self.view_is) h in
-    halts segment sum done text commits c.args.bytes.now _ c.read.new.self c.self.inside.taken c.self.inside.before k
-    (c.in-Err.ensures.stopped (segment + length done + 1) (sum_at sum k.before) text k.here k.read)
+    halts segment sum done text commits c.args.bytes.now _ c.read.new.self _ k
+    (c.in-Err.ensures.stopped (segment + length done + 1) (sum_at sum k.before) text k.here k.read) (omega (arith, c.in-Some.ensures)) c.so_far-self-inside.ensures
 
 pub returns-in_default-clause-halted : goal.returns-in_default-clause-halted
 returns-in_default-clause-halted c segment sum done text commits h =
-    halts segment sum done text commits c.args.bytes.now c.args.self.now c.args.self.now.reading c.args.self.now.taken c.args.self.now.before h
-    ([], c.args.bytes.now, refl, subst (λ v. IsRead (segment + length done + 1) (sum_at sum h.before) v h.here c.args.self.now.reading) (sym (append-nil text)) h.read)
+    ([], c.args.bytes.now, refl, subst (λ v. IsRecovered segment sum done v commits c.args.self.now) (sym (append-nil text)) h)

@@ -3,12 +3,12 @@ use Rattle.std.proofs.lemmas.List.{length-append}
 use Rattle.judy_model.specs.Stream.{lines_of}
 use Rattle.judy_journal.specs.Journals.{joined, record_of}
 use Rattle.judy_journal.specs.Writes.{Writing}
-use Rattle.judy_journal.proofs.Pushing.{Pushed, limit_of, pushed, room, whole}
+use Rattle.judy_journal.proofs.Pushing.{Pushed, body_limit_of, pushed, room, whole}
 use Rattle.judy_journal.proofs.writer.Writer.add.Goals as goal
 
 pub put_record-requires : goal.put_record-requires
 put_record-requires c =
-    let fits = limit_of (length (joined c.args.self.now.records) + 4130) c.requires.room in
+    let fits = body_limit_of (length (joined c.args.self.now.records) + 4130) c.requires.room in
     omega (
       arith,
       fits,
@@ -21,7 +21,7 @@ put_record-requires c =
 -- the record that was added
 added : (c : goal.After-self-1) → Pushed c.self.inside.body.items (record_of c.args.tenant.now c.args.request.now) c.put_record.new.body.items
 added c =
-    let fits = limit_of (length (joined c.args.self.now.records) + 4130) c.requires.room in
+    let fits = body_limit_of (length (joined c.args.self.now.records) + 4130) c.requires.room in
     pushed c.self.inside.body.items (record_of c.args.tenant.now c.args.request.now) c.put_record.new.body.items
     c.self.invariant.0 c.self.invariant.2 c.requires.short.is c.put_record.ensures
     (omega (
@@ -46,6 +46,7 @@ returns c =
       segment = c.self.inside.segment;
       sum = c.self.inside.sum;
       size = c.self.inside.size;
+      synced = c.self.inside.synced;
       records = lines_of c.self.inside.body.items;
       text = c.self.inside.text.items;
     } in
