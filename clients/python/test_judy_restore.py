@@ -204,17 +204,19 @@ class Restores(RestoreTest):
         self.assertTrue(self.may_write())
 
     def begun(self, count=50000):
-        """A restore of a large dump that has freed the first array."""
+        """A restore of a large dump that has freed the first array. It is stopped there."""
         with alice(self.own.path) as client:
             client.judy1("ids").update(range(count))
         large = self.dumped("large", "J1:ids")
         judy = start_judy(*self.words(large), path=self.own.path)
         self.told_until(judy.stdout.fileno(), b"entries freed\n")
+        judy.send_signal(signal.SIGSTOP)
         return judy
 
     def test_two_at_once(self):
         judy = self.begun()
         self.assertEqual(self.restore(), (1, "", "judy: another judy restore runs at %s\n" % self.own.control))
+        judy.send_signal(signal.SIGCONT)
         said, wrong = judy.communicate(timeout=60)
         self.assertEqual((judy.returncode, said.endswith(b"alike\n"), wrong), (0, True, b""))
 
@@ -222,6 +224,7 @@ class Restores(RestoreTest):
         for number, wanted in ((signal.SIGINT, 130), (signal.SIGTERM, 143), (signal.SIGHUP, 129)):
             judy = self.begun()
             judy.send_signal(number)
+            judy.send_signal(signal.SIGCONT)
             _, wrong = judy.communicate(timeout=60)
             self.assertEqual((judy.returncode, wrong), (wanted, b"judy: alice: its arrays are not as the dump has them; begin again\n"))
             self.assertTrue(self.may_write())
@@ -247,6 +250,7 @@ class Restores(RestoreTest):
     def test_a_server_that_ends(self):
         judy = self.begun()
         self.own.kill()
+        judy.send_signal(signal.SIGCONT)
         _, wrong = judy.communicate(timeout=60)
         self.assertEqual(judy.returncode, 1, wrong)
         for line in (b"the connection was lost", b"alice is still frozen, if the server runs: judy thaw", b"alice: its arrays are not as the dump has them; begin again"):
