@@ -112,6 +112,11 @@ def after(disk, event):
     return Disk(names, changes, {**files, number: File(file.secured, (*file.later, now))})
 
 
+def unsynced(disk):
+    """How many changes of the directory and of files are not secured."""
+    return len(disk.changes) + sum(len(file.later) for file in disk.files.values())
+
+
 def whole(disk):
     """The contents of a disk if nothing is lost."""
     return {name: newest(disk.files[number]) for name, number in changed(disk.names, disk.changes).items()}

@@ -51,7 +51,7 @@ class Arrays:
         elif letter in (b"S", b"I"):
             self.put(place, number)
         else:
-            fail("a record of an unknown call: %r" % record[:100])
+            raise ValueError("a record of an unknown call: %r" % record[:100])
 
 
 class Story:
@@ -182,6 +182,9 @@ class Story:
             count = bisect_left(self.texts, length)
             return [count, count] if self.texts[count] == length else None
         arrays = Arrays()
-        for record in text.split(b"\n")[:-1]:
-            arrays.play(record)
+        try:
+            for record in text.split(b"\n")[:-1]:
+                arrays.play(record)
+        except ValueError:
+            return None
         return self.sums.get(arrays.sum)
