@@ -11,9 +11,11 @@ import sys
 import tempfile
 import time
 
+import journals
+
 TOP = os.path.dirname(os.path.dirname(os.path.abspath(__file__)))
 SHOWN = 200
-LOGGED = re.compile(rb"judyd: (?:\S+ started: table .*, socket .*, \d+ clients(?:, journal .*)?|\S+: cut off \d+ bytes of a commit that was not finished|stopping|accept failed: .*|log-in refused: .*|out of memory: .*|table (?:not )?read again: .*)\n")
+LOGGED = re.compile(rb"judyd: (?:\S+ started: table .*, socket .*, \d+ clients(?:, journal .*)?|\S+: cut off \d+ bytes of a commit that was not finished, (?:kept in \d+\.torn|all of them 0)|stopping|accept failed: .*|log-in refused: .*|out of memory: .*|table (?:not )?read again: .*)\n")
 
 
 def program():
@@ -73,7 +75,8 @@ def compare(what, lines, wanted, got):
 
 class Server:
     """A `judyd serve` with its table and its socket in a folder of its own, which is removed with
-    it. With `heard` its standard error is kept, for `process.stderr`."""
+    it. With `heard` its standard error is kept, for `process.stderr`. The directory of its journal gets a
+    manifest, if it has none."""
 
     def __init__(self, table, *words, heard=False):
         self.heard = heard
@@ -99,6 +102,9 @@ class Server:
         # Clients of the tests may be silent for longer than the program has it unless it is told otherwise.
         patient = () if "--login" in self.words else ("--login", "3600")
         words = [program(), "serve", "--config", self.config, "--socket", self.path, *patient, *self.words]
+        for word, folder in zip(self.words, self.words[1:]):
+            if word == "--journal":
+                journals.begin(folder)
         self._tell()
         self.said = None if self.heard else tempfile.TemporaryFile()
         self.process = subprocess.Popen(words, stderr=self.said or subprocess.PIPE)

@@ -114,20 +114,50 @@ def snapshot_path(folder, number):
     return os.path.join(folder, "%012d.snapshot" % number)
 
 
+def manifest_path(folder):
+    """The path of the manifest."""
+    return os.path.join(folder, "manifest")
+
+
+def manifest_text(snapshot, last):
+    """The text of the manifest of a directory with this snapshot and this last segment, 0 for none."""
+    text = b"judyd manifest 1 %d %d " % (snapshot, last)
+    return text + sum_of("", text).encode() + b"\n"
+
+
+def numbers_of(folder, ending):
+    """The numbers of the files of a directory whose names end so."""
+    return sorted(int(name[:12]) for name in os.listdir(folder) if re.fullmatch(r"\d{12}\." + ending, name))
+
+
+def write_manifest(folder):
+    """Writes the manifest of the files that a directory has."""
+    snapshots, segments = numbers_of(folder, "snapshot"), numbers_of(folder, "journal")
+    with open(manifest_path(folder), "wb") as file:
+        file.write(manifest_text((snapshots or [0])[-1], (segments or [0])[-1]))
+
+
+def begin(folder):
+    """Writes the manifest of a directory that has none."""
+    if not os.path.exists(manifest_path(folder)):
+        write_manifest(folder)
+
+
 def write(folder, segments, first=1, checksum=ZEROS):
-    """Writes segments, each a list of commits. Returns the checksum after them."""
+    """Writes segments, each a list of commits, and the manifest. Returns the checksum after them."""
     for number, commits in enumerate(segments, first):
         text, checksum = segment_text(number, checksum, commits)
         with open(segment_path(folder, number), "wb") as file:
             file.write(text)
+    write_manifest(folder)
     return checksum
 
 
 def contents(folder):
-    """The bytes of each file of a directory but its locks."""
+    """The bytes of each file of a directory but its locks and its manifest."""
     found = {}
     for name in sorted(os.listdir(folder)):
-        if not name.endswith("lock"):
+        if not name.endswith("lock") and name != "manifest":
             with open(os.path.join(folder, name), "rb") as file:
                 found[name] = file.read()
     return found
