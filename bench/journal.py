@@ -57,6 +57,7 @@ class Judyd:
             for name in NAMES:
                 print('[%s]\nsha256 = "%s"\nquota = 16000000\n' % (name, digest), file=table)
         os.mkdir(self.journal)
+        subprocess.run([PROGRAM, "journal", self.journal, "--new"], check=True)
 
     def start(self):
         """Starts the server."""

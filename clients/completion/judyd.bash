@@ -7,9 +7,9 @@ _judyd_words() {
         run) echo "--words --batch --help" ;;
         serve)
             echo "--config --socket --status --control --clients --tenant-clients --connections --login --idle --turn" \
-                "--reserve --journal --sync --check --help"
+                "--reserve --journal --sync --new-journal --check --help"
             ;;
-        journal) echo "--tenant --help" ;;
+        journal) echo "--tenant --new --check --help" ;;
         compact) echo "--help" ;;
         help) echo "run serve compact journal help" ;;
     esac

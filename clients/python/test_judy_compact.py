@@ -46,8 +46,8 @@ class Compactions(JudyTest):
         journals.write(self.journal, [COMMITS] * 3)
 
     def names(self):
-        """The files of the journal, without its locks."""
-        return sorted(name for name in os.listdir(self.journal) if not name.endswith("lock"))
+        """The files of the journal, without its locks and its manifest."""
+        return sorted(name for name in os.listdir(self.journal) if not name.endswith("lock") and name != "manifest")
 
     def compact(self, *words, **how):
         """The status of a compaction, and its output."""

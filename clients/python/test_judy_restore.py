@@ -278,7 +278,7 @@ class LostMachines(RestoreTest):
 
     def setUp(self):
         self.journal = self.folder_of_its_own()
-        self.more = ("--journal", self.journal, "--sync", "round")
+        self.more = ("--journal", self.journal, "--new-journal", "--sync", "round")
         super().setUp()
 
     def folder_of_its_own(self):
@@ -290,13 +290,13 @@ class LostMachines(RestoreTest):
     def copied(self, journal):
         """A copy of the files of a journal, as the page makes it."""
         folder = self.folder_of_its_own()
-        for path in sorted(glob.glob(os.path.join(journal, "[0-9]*"))):
+        for path in [os.path.join(journal, "manifest"), *sorted(glob.glob(os.path.join(journal, "[0-9]*")))]:
             shutil.copy2(path, folder)
         return folder
 
-    def go_to_another(self, journal):
-        """Another machine, with these files of a journal."""
-        self.own = Served(table(), clients=64, control=True, more=("--journal", self.copied(journal)))
+    def go_to_another(self, *words):
+        """Another machine, with a journal by these words."""
+        self.own = Served(table(), clients=64, control=True, more=("--journal", *words))
         self.addCleanup(self.own.end)
 
     def test_what_another_machine_has(self):
@@ -306,9 +306,9 @@ class LostMachines(RestoreTest):
         last = self.entries()
         self.own.kill()
         for journal, wanted in ((self.journal, last), (copy, backup)):
-            self.go_to_another(journal)
+            self.go_to_another(self.copied(journal))
             self.assertEqual(self.entries(), wanted)
-        self.go_to_another(self.folder_of_its_own())
+        self.go_to_another(self.folder_of_its_own(), "--new-journal")
         with alice(self.own.path) as client:
             self.assertEqual(client.used().used, 0)
         self.assertEqual(self.restore()[::2], (0, ""))

@@ -93,7 +93,10 @@ impl fmt::Display for DiskFault {
             DiskFault::HasManifest => write!(f, "/manifest: is there: this is no new journal"),
             DiskFault::Manifest => write!(f, "/manifest: damaged"),
             DiskFault::Behind(number) => {
-                write!(f, "/manifest: ends at {number:012}.journal, and two or more follow")
+                write!(
+                    f,
+                    "/manifest: ends at {number:012}.journal, and two or more follow"
+                )
             }
         }
     }

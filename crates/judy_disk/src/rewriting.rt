@@ -94,7 +94,13 @@ impl<'a, F: Files> Folder<'a, F> {
 
 impl<'a, F: Locks> Folder<'a, F> {
     /// Writes `len` bytes of a segment, from a place on, to a new file, and secures it.
-    fn write_copy(&self, number: u64, from: u64, len: u64, to: Place) -> Result<Growing<F>, DiskFault> {
+    fn write_copy(
+        &self,
+        number: u64,
+        from: u64,
+        len: u64,
+        to: Place,
+    ) -> Result<Growing<F>, DiskFault> {
         let mut file = self.open_from(number, from)?;
         let mut growing = self.make_anew(to)?;
         self.copy(number, &mut file, len, &mut growing)?;
@@ -103,7 +109,13 @@ impl<'a, F: Locks> Folder<'a, F> {
     }
 
     /// The same. If it cannot be written whole, there is no such file.
-    fn try_copy(&self, number: u64, from: u64, len: u64, to: Place) -> Result<Growing<F>, DiskFault> {
+    fn try_copy(
+        &self,
+        number: u64,
+        from: u64,
+        len: u64,
+        to: Place,
+    ) -> Result<Growing<F>, DiskFault> {
         let copied = self.write_copy(number, from, len, to);
         if copied.is_err() {
             let _removed = self.remove(to);

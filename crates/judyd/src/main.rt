@@ -394,7 +394,8 @@ fn announce(rt: &HostRuntime, job: &Job, system: &mut System<'_, HostRuntime>) {
 /// Notes that the journal is a new one, if the command line says so.
 fn expect_new(job: &Job, system: &mut System<'_, HostRuntime>) {
     if let Job::Serve {
-        new_journal: true, ..
+        new_journal: true,
+        ..
     } = job
     {
         system.expect_new_journal();

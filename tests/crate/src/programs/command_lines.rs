@@ -59,10 +59,16 @@ fn limits_text(
     format!(in alloc; "{connections} {login} {idle} {turn} {reserve}")
 }
 
-// The journal of a server and when it is secured, as a text.
-fn journal_text(alloc: Global, journal: Option<Word>, sync: Sync) -> Result<String, AllocError> {
+// The journal of a server, when it is secured and whether it is new, as a text.
+fn journal_text(
+    alloc: Global,
+    journal: Option<Word>,
+    sync: Sync,
+    new: bool,
+) -> Result<String, AllocError> {
+    let new = if new { " new" } else { "" };
     match journal {
-        Some(journal) => format!(in alloc; " {} {sync:?}", journal.0),
+        Some(journal) => format!(in alloc; " {} {sync:?}{new}", journal.0),
         None => Ok(String::new(alloc)),
     }
 }
@@ -85,21 +91,29 @@ fn job_text(alloc: Global, job: Job) -> Result<String, AllocError> {
             reserve,
             journal,
             sync,
+            new_journal,
             check,
         } => {
             let sockets = sockets_text(alloc, socket, status, control)?;
             let clients = clients_text(alloc, clients, tenant_clients)?;
             let limits = limits_text(alloc, connections, login, idle, turn, reserve)?;
-            let journal = journal_text(alloc, journal, sync)?;
+            let journal = journal_text(alloc, journal, sync, new_journal)?;
             format!(in alloc;
                 "serve {} {sockets} {clients} {limits} {check}{journal}",
                 config.0
             )
         }
         Job::Compact { directory } => format!(in alloc; "compact {}", directory.0),
-        Job::Journal { directory, tenant } => {
+        Job::Journal {
+            directory,
+            tenant,
+            new,
+            check,
+        } => {
             let tenant = optional(alloc, " ", tenant)?;
-            format!(in alloc; "journal {}{tenant}", directory.0)
+            let new = if new { " new" } else { "" };
+            let check = if check { " check" } else { "" };
+            format!(in alloc; "journal {}{tenant}{new}{check}", directory.0)
         }
     }
 }
@@ -242,6 +256,11 @@ serve --config c --socket s --journal=d --sync round --check -> serve c s 64 429
 serve --sync never --config c --socket s --journal d -> serve c s 64 4294967295 10 0 0 0 false d Never
 serve --config c --socket s --journal d --sync 1 -> serve c s 64 4294967295 10 0 0 0 false d Seconds(1)
 serve --config c --socket s --journal d --sync 4294967295 -> serve c s 64 4294967295 10 0 0 0 false d Seconds(4294967295)
+serve --config c --socket s --journal d --new-journal -> serve c s 64 4294967295 10 0 0 0 false d Round new
+serve --new-journal --config c --socket s --sync 2 --journal d --check -> serve c s 64 4294967295 10 0 0 0 true d Seconds(2) new
+serve --config c --socket s --new-journal -> usage
+serve --config c --socket s --new-journal --sync round -> usage
+serve --config c --socket s --journal d --new-journal=true -> usage
 serve --config c --socket s --sync round -> usage
 serve --config c --socket s --sync 5 -> usage
 serve --config c --socket s --journal d --sync 0 -> usage
@@ -258,6 +277,14 @@ compact d --tenant a -> usage
 journal d -> journal d
 journal d --tenant a -> journal d a
 journal --tenant=a d -> journal d a
+journal d --new -> journal d new
+journal --check d -> journal d check
+journal d --new --check -> usage
+journal d --new --tenant a -> usage
+journal d --check --tenant a -> usage
+journal d --new --check --tenant a -> usage
+journal --new -> usage
+compact d --new -> usage
 journal --tenant a -> usage
 journal -> usage
 run --journal d -> usage";
