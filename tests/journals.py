@@ -82,6 +82,11 @@ def mark(count, checksum):
     return b"# %d %s\n" % (count, checksum.encode())
 
 
+def note(number, place, sure):
+    """The note at a byte of a segment: so many bytes of the segment are synced for sure."""
+    return b"@ %d %s" % (sure, sum_of("%0*x" % (SUM, number), b"%d %d" % (place, sure)).encode())
+
+
 def commits_text(checksum, commits):
     """The text of commits, each a list of records, and the checksum after them."""
     parts = []
@@ -96,6 +101,19 @@ def segment_text(number, checksum, commits):
     """The text of a segment, and the checksum after it."""
     text, after = commits_text(checksum, commits)
     return b"judyd journal 1 %d %s\n" % (number, checksum.encode()) + text, after
+
+
+def noted_text(number, checksum, rounds):
+    """The text of a segment as a server writes it: a commit of each of these lists of records with its note,
+    each synced before the next one is written. Returns the places where they end, the first line's first."""
+    text = b"judyd journal 1 %d %s\n" % (number, checksum.encode())
+    ends = [len(text)]
+    for records in rounds:
+        place = len(text) + sum(len(record) + 1 for record in records)
+        more, checksum = commits_text(checksum, [[*records, note(number, place, ends[-1])]])
+        text += more
+        ends.append(len(text))
+    return text, ends
 
 
 def snapshot_text(number, checksum, commits):
@@ -184,24 +202,30 @@ def records_of(folder):
         if not text.startswith(head):
             assert number == last and head.startswith(text), (number, text[:100])
             return records, len(text)
-        commits, checksum, torn = commits_in(text[len(head) :], checksum)
+        commits, checksum, torn = commits_in(text[len(head) :], checksum, number, len(head))
         assert torn == 0 or number == last, "segment %d is not whole" % number
         records += [record for commit in commits for record in commit]
     return records, torn
 
 
-def commits_in(text, checksum):
-    """The whole commits of a text, the checksum after them, and how many bytes follow."""
-    commits, records, at, whole = [], [], 0, 0
+def commits_in(text, checksum, number=None, start=0):
+    """The whole commits of a text, each without its note, the checksum after them, and how many bytes
+    follow. The text begins at byte `start` of segment `number`; a snapshot's has no notes."""
+    commits, records, at, whole, sure = [], [], 0, 0, 0
     while True:
         end = text.find(b"\n", at)
         if end < 0:
             return commits, checksum, len(text) - whole
-        line, at = text[at:end], end + 1
+        line, place, at = text[at:end], start + at, end + 1
         if not line.startswith(b"#"):
-            records.append(line)
+            records.append((place, line))
             continue
-        checksum = sum_of(checksum, b"".join(record + b"\n" for record in records))
+        checksum = sum_of(checksum, b"".join(record + b"\n" for _, record in records))
         assert line + b"\n" == mark(len(records), checksum), line
-        commits.append(records)
+        if records and records[-1][1].startswith(b"@"):
+            place, last = records.pop()
+            told = int(last.split()[1])
+            assert last == note(number, place, told) and sure <= told <= start + whole, last
+            sure = told
+        commits.append([record for _, record in records])
         records, whole = [], at

@@ -60,7 +60,7 @@ pub record HasLooked {S : Type 0} (replay : Replay S) (kept : Kept) (fresh after
 
 -- a writer that goes on there, and has no record yet
 abbrev pub writer_there : Resumed → Writing
-writer_there at = record { segment = at.segment; sum = at.sum; size = at.size; records = []; text = [] }
+writer_there at = record { segment = at.segment; sum = at.sum; size = at.size; synced = at.size; records = []; text = [] }
 
 -- the file of the segment after that of this writer was made, with its header, and synced
 abbrev pub HasOpenedNext : Writing → Writing → Log → Log → Type 0

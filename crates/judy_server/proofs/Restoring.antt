@@ -12,6 +12,7 @@ use Rattle.judy_journal.specs.Acts.DiskAct.{Began as FileBegan, Kept as FileKept
 use Rattle.judy_journal.specs.Crashes.{JournalIsExact}
 use Rattle.judy_journal.specs.Journals.{Commit, sum_at}
 use Rattle.judy_journal.specs.Replays.{AreRecords, HaveAnswered, Places, RecordsTellAll, after_calls, calls_named, event_told}
+use Rattle.judy_journal.specs.Notes.{changes_in}
 use Rattle.judy_journal.specs.Writes.{Writing, all_records}
 use Rattle.judy_journal.proofs.lemmas.ReplayLemmas.{AreRecords-append, HaveAnswered-append}
 use Rattle.judy_model.specs.declared.replies.Reply.{Reply}
@@ -53,7 +54,7 @@ use Rattle.judy_server.proofs.lemmas.Recorded.{HasLasted, Leads, asks-there, las
 
 all-append : (a b : List Commit) → all_records (a ++ b) ≡ all_records a ++ all_records b
 all-append [] b = refl
-all-append (x ∷ a) b = ap (λ v. x ++ v) (all-append a b) ∙ sym (append_assoc x (all_records a) (all_records b))
+all-append (x ∷ a) b = ap (λ v. changes_in x ++ v) (all-append a b) ∙ sym (append_assoc (changes_in x) (all_records a) (all_records b))
 
 acts-append : (a b : Story) → acts_in (a ++ b) ≡ acts_in a ++ acts_in b
 acts-append [] b = refl
