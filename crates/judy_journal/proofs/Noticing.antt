@@ -11,7 +11,7 @@ use Rattle.std.specs.Prelude.{codes, decimal}
 use Rattle.std.specs.Int.{w64, to_be_bytes}
 use Rattle.hex.specs.Hex.{encode_lower}
 use Rattle.judy_journal.specs.Journals.{Commit, is_line, is_record, joined, numbered}
-use Rattle.judy_journal.specs.Notes.{Seen, begins_mark, changes_in, check, is_note, larger, note, number_in, seen_in, seen_line, seen_lines, seen_nothing, sure_of}
+use Rattle.judy_journal.specs.Notes.{Seen, changes_in, check, is_note, larger, note, number_in, seen_in, seen_line, seen_lines, seen_nothing, sure_of}
 use Rattle.judy_journal.specs.Noting.{HasSeen, Noting, held, line_ended}
 use Rattle.judy_journal.specs.Writes.{size_with}
 use Rattle.judy_journal.proofs.Lines.{both, numbered-line, record-line, sum-line, text_is}
@@ -49,11 +49,6 @@ sure_of-front segment place line = by (nat_le (length line) 40) refl
     by false is =
         let long : 40 ≤ length line = grind (arith, nat_tests, is) in
         none_if_long segment place (take 40 line) (omega (arith, length-take_front 40 line long)) ∙ sym (none_if_long segment place line long)
-
-begins_mark-front : (line : List ℕ) → begins_mark (take 40 line) ≡ begins_mark line
-begins_mark-front [] = refl
-begins_mark-front (b ∷ []) = refl
-begins_mark-front (b ∷ c ∷ line) = refl
 
 -- ---- lines, one after another
 
@@ -99,29 +94,20 @@ line_seen segment text chunk n m k one h is ends =
     let sure : sure_of n.segment n.seen.place (held chunk n).line ≡ sure_of segment (seen_in segment text).place line =
     ap (sure_of n.segment n.seen.place) front ∙ sure_of-front n.segment n.seen.place line
     ∙ ap (λ i. sure_of i n.seen.place line) h.segment_is ∙ ap (λ s. sure_of segment s.place line) h.seen_is in
-    let marks : begins_mark (held chunk n).line ≡ begins_mark line = ap begins_mark front ∙ begins_mark-front line in
     let place : size_with (held chunk n).taken 1 ≡ size_with (seen_in segment text).place (length line + 1) =
     omega (arith, h.taken_is, place_in segment text, length_is text, length-append (rest_of text) chunk) in
     let seen : (line_ended (held chunk n)).seen ≡ seen_line segment (seen_in segment text) line =
     ap (λ p. record {
       place = p;
       surest = larger n.seen.surest (sure_of n.segment n.seen.place (held chunk n).line);
-      marked = n.seen.marked || begins_mark (held chunk n).line;
     }) place
     ∙ ap (λ o. record {
       place = size_with (seen_in segment text).place (length line + 1);
       surest = larger n.seen.surest o;
-      marked = n.seen.marked || begins_mark (held chunk n).line;
     }) sure
-    ∙ ap (λ b. record {
-      place = size_with (seen_in segment text).place (length line + 1);
-      surest = larger n.seen.surest (sure_of segment (seen_in segment text).place line);
-      marked = n.seen.marked || b;
-    }) marks
     ∙ ap (λ s. record {
       place = size_with (seen_in segment text).place (length line + 1);
       surest = larger s.surest (sure_of segment (seen_in segment text).place line);
-      marked = s.marked || begins_mark line;
     }) h.seen_is in
     subst (HasSeen segment all) (sym (ends ∙ ap line_ended is)) (record {
       segment_is = h.segment_is;

@@ -2,9 +2,9 @@
 --     note segment place sure       the note at this place of this segment
 --     changes_in commit             the records of a commit without its note
 --     sure_of segment place line    what a line at this place tells, if it is a note
---     Seen, seen_in segment text    what the lines of a text tell: the most that a note of it tells, and whether it has a mark
---     is_torn_end seen size         whether damage behind this size may be what a crash left
-use Rattle.std.specs.Prelude.{ℕ, Bool, true, false, not, ◌&&◌, ◌||◌, ◌+◌, ◌-◌, ◌*◌, ◌%◌, List, [], ◌∷◌, ◌++◌, length, take, drop, nat_le, ◌==◌, codes, decimal}
+--     Seen, seen_in segment text    what the lines of a text tell: the most that a note of it tells
+--     is_torn_end segment seen size whether damage behind this size may be what a crash left
+use Rattle.std.specs.Prelude.{ℕ, Bool, true, false, ◌&&◌, ◌+◌, ◌-◌, ◌*◌, ◌%◌, List, [], ◌∷◌, ◌++◌, length, take, drop, nat_le, ◌==◌, codes, decimal}
 use Rattle.std.specs.Prelude.{Option, Some, None, if◌then◌else◌, min, ◌^◌}
 use Rattle.std.specs.Int.{w64, to_be_bytes}
 use Rattle.std.specs.Str.{bytes_eq}
@@ -55,32 +55,24 @@ sure_of segment place line =
     then Some (number_in line)
     else None
 
--- whether a line begins as one that ends a commit
-abbrev pub begins_mark : List ℕ → Bool
-begins_mark [] = false
-begins_mark (b ∷ []) = false
-begins_mark (b ∷ c ∷ bytes) = b == 35 && c == 32
-
 -- the greater of two numbers, if there are any
 abbrev pub larger : Option ℕ → Option ℕ → Option ℕ
 larger None b = b
 larger (Some a) None = Some a
 larger (Some a) (Some b) = if nat_le a b then Some b else Some a
 
--- where the next line begins, which stays at `u64::MAX`; the most that a note told; whether a line begins as a mark
+-- where the next line begins, which stays at `u64::MAX`; the most that a note told
 pub record Seen : Type 0 where
   pub place : ℕ
   pub surest : Option ℕ
-  pub marked : Bool
 
 abbrev pub seen_nothing : Seen
-seen_nothing = record { place = 0; surest = None; marked = false }
+seen_nothing = record { place = 0; surest = None }
 
 abbrev pub seen_line : ℕ → Seen → List ℕ → Seen
 seen_line segment seen line = record {
   place = min (seen.place + (length line + 1)) (2 ^ 64 - 1);
   surest = larger seen.surest (sure_of segment seen.place line);
-  marked = seen.marked || begins_mark line;
 }
 
 abbrev pub seen_lines : ℕ → Seen → List (List ℕ) → Seen
@@ -93,11 +85,15 @@ seen_in segment text = seen_lines segment seen_nothing (lines_of text)
 
 -- ---- the end of a segment
 
-abbrev pub is_torn_by : Option ℕ → Bool → ℕ → Bool
-is_torn_by (Some sure) marked size = nat_le sure size
-is_torn_by None marked size = not marked
+-- how many bytes the first line of a segment has, with its line feed
+abbrev pub first_len : ℕ → ℕ
+first_len segment = length (decimal segment) + 34
 
--- Damage behind this size of a text is what a crash left: no note tells more, and one tells something. Without any note the
--- text has no mark either: then it has no commit that was synced.
-abbrev pub is_torn_end : Seen → ℕ → Bool
-is_torn_end seen size = is_torn_by seen.surest seen.marked size
+abbrev pub is_torn_by : ℕ → Option ℕ → ℕ → Bool
+is_torn_by first (Some sure) size = nat_le sure size
+is_torn_by first None size = nat_le size first
+
+-- Damage behind this size of a segment is what a crash left: no note tells that more was synced, and one tells something.
+-- Without any note no commit comes before the damage. The size is that of the first line and the commits before it.
+abbrev pub is_torn_end : ℕ → Seen → ℕ → Bool
+is_torn_end segment seen size = is_torn_by (first_len segment) seen.surest size

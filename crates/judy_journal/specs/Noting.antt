@@ -6,7 +6,7 @@
 use Rattle.std.specs.Prelude.{◌≡◌, ◌||◌, ◌++◌, ℕ, List, [], take, length}
 use Rattle.judy_model.specs.Stream.{rest_of}
 use Rattle.judy_journal.specs.declared.format.TheConstants.{NOTE_ROOM}
-use Rattle.judy_journal.specs.Notes.{Seen, begins_mark, larger, seen_in, sure_of}
+use Rattle.judy_journal.specs.Notes.{Seen, larger, seen_in, sure_of}
 use Rattle.judy_journal.specs.Writes.{size_with}
 
 -- the segment, what its whole lines told, how many bytes were read, and the front of the line that is open
@@ -24,7 +24,6 @@ line_ended n = record n {
   seen = record {
     place = size_with n.taken 1;
     surest = larger n.seen.surest (sure_of n.segment n.seen.place n.line);
-    marked = n.seen.marked || begins_mark n.line;
   };
   taken = size_with n.taken 1;
   line = [];

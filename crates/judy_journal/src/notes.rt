@@ -6,11 +6,11 @@ ghost use Rattle.std.specs.Prelude.{◌≡◌, ◌≤◌, ◌+◌, ◌++◌, ◌
 ghost use Rattle.judy_journal.specs.Journals.{is_record};
 ghost use Rattle.judy_model.specs.Stream.{lines_of, rest_of};
 ghost use Rattle.judy_protocol.specs.Talks.{HasNoLf};
-ghost use Rattle.judy_journal.specs.Notes.{begins_mark as begins_as_mark, changes_in, check, is_note, is_torn_end, larger as larger_of, note, number_told, sure_of};
+ghost use Rattle.judy_journal.specs.Notes.{changes_in, check, first_len as first_len_of, is_note, is_torn_end, larger as larger_of, note, number_told, sure_of};
 ghost use Rattle.judy_journal.specs.Noting.{HasSeen, held, line_ended};
 
 use crate::format::{
-    LINE_ROOM, NOTE, NOTE_ROOM, SUM_LEN, are_same, digits_of, numbered_line, put, sum_of,
+    HEADER, LINE_ROOM, NOTE, NOTE_ROOM, SUM_LEN, are_same, digits_of, numbered_line, put, sum_of,
 };
 use arrayvec::ArrayVec;
 use bstr::ByteSlice;
@@ -83,11 +83,12 @@ fn begins_note(line: &[u8]) -> bool
     !line.is_empty() && line[0] == b'@'
 }
 
-/// Whether a line begins as one that ends a commit.
-fn begins_mark(line: &[u8]) -> bool
-    ensures { result ≡ begins_as_mark line.now }
+/// How many bytes the first line of a segment has, with its line feed.
+fn first_len(segment: u64) -> u64
+    ensures { result ≡ first_len_of segment }
 {
-    line.len() >= 2 && line[0] == b'#' && line[1] == b' '
+    let mut digits = Buffer::new();
+    (HEADER.len() + digits.format(segment).len() + 1 + SUM_LEN + 1) as u64
 }
 
 /// Where the last line of a text begins, which has no line feed.
@@ -118,8 +119,7 @@ pub fn without_note(records: &[u8]) -> &[u8]
     records
 }
 
-/// Reads the notes of a segment's text, wherever they stand, and whether it has a line that begins as
-/// the end of a commit.
+/// Reads the notes of a segment's text, wherever they stand.
 #[derive(Drop)]
 pub struct Notes {
     segment: u64,
@@ -131,7 +131,6 @@ pub struct Notes {
     line: ArrayVec<u8, NOTE_ROOM>,
     /// The most that a note told.
     surest: Option<u64>,
-    marked: bool,
 }
 
 impl Model for Notes {
@@ -141,7 +140,7 @@ impl Model for Notes {
 
     ghost view = { λ n. record {
       segment = n.segment;
-      seen = record { place = n.place; surest = n.surest; marked = n.marked };
+      seen = record { place = n.place; surest = n.surest };
       taken = n.taken;
       line = n.line.items;
     } };
@@ -154,13 +153,7 @@ fn larger(a: Option<u64>, b: Option<u64>) -> Option<u64>
     match (a, b) {
         (None, b) => b,
         (a, None) => a,
-        (Some(a), Some(b)) => {
-            if a <= b {
-                Some(b)
-            } else {
-                Some(a)
-            }
-        }
+        (Some(a), Some(b)) => { if a <= b { Some(b) } else { Some(a) } }
     }
 }
 
@@ -175,7 +168,6 @@ impl Notes {
             taken: 0,
             line: ArrayVec::new(),
             surest: None,
-            marked: false,
         }
     }
 
@@ -199,9 +191,6 @@ impl Notes {
     {
         let told = read_note(self.line.as_slice(), self.segment, self.place);
         self.surest = larger(self.surest, told);
-        if begins_mark(self.line.as_slice()) {
-            self.marked = true;
-        }
         self.taken = self.taken.saturating_add(1);
         self.place = self.taken;
         self.line.clear();
@@ -230,13 +219,14 @@ impl Notes {
         self.hold(rest);
     }
 
-    /// Whether damage behind this size of the text may be what a crash left.
+    /// Whether damage behind this size of the text, which is that of its first line and the commits before the
+    /// damage, may be what a crash left: no note tells more; or there is no note, and no commit.
     pub fn is_torn(&self, size: u64) -> bool
-        ensures { result ≡ is_torn_end self.now.seen size }
+        ensures { result ≡ is_torn_end self.now.segment self.now.seen size }
     {
         match self.surest {
             Some(sure) => sure <= size,
-            None => !self.marked,
+            None => size <= first_len(self.segment),
         }
     }
 }

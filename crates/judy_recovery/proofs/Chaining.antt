@@ -135,7 +135,7 @@ module _ {P File : Type 0} (plays : P → List (List ℕ) → P → Type 0) (rem
       (n n' : Noting) (p : Position) → HasReadLast plays (remaining file) left' found r old n r' new n' → HasSeen number [] n → IsSizeIn number p size
       → ((segment : ℕ) (sum : List ℕ) (done : List Left) (text : List ℕ) (commits : List Commit) → IsRecovered segment sum done text commits r'
       → IsPosition segment sum done text commits r' p)
-      → IfSome found (λ damaged. is_torn_end n'.seen size ≡ true)
+      → IfSome found (λ damaged. is_torn_end n'.segment n'.seen size ≡ true)
       → ReadsLast plays remaining number r old (record { segment = number; sum = p.sum; size = size; torn = torn }) r' new
   last_read number size torn file left' found r r' old new n n' p all none is at passed = record {
     bytes = all.bytes;
@@ -149,7 +149,7 @@ module _ {P File : Type 0} (plays : P → List (List ℕ) → P → Type 0) (rem
       seen : n'.seen ≡ seen_in number all.bytes
       seen = (all.noted number [] none).seen_is
 
-      by : (found : Option Damaged) → ReadsUpTo plays found r all.bytes old r' new → IfSome found (λ damaged. is_torn_end n'.seen size ≡ true)
+      by : (found : Option Damaged) → ReadsUpTo plays found r all.bytes old r' new → IfSome found (λ damaged. is_torn_end n'.segment n'.seen size ≡ true)
           → (segment : ℕ) (sum : List ℕ) (done : List Left) (commits : List Commit) → IsRecovered segment sum done [] commits r
           → number ≡ segment + length done + 1 → EndsIn plays segment sum done commits all.bytes old end r' new
       by None reads passed segment sum done commits was there =
@@ -183,8 +183,9 @@ module _ {P File : Type 0} (plays : P → List (List ℕ) → P → Type 0) (rem
               more = more;
               junk_is = refl;
               damaged = subst (IsDamagedFile damaged.damage segment sum done (commits ++ k.more)) (sym k.cut) k.damaged;
-              torn = ap (λ m. is_torn_end (seen_in m (k.used ++ (k.rest ++ more))) size) (sym there)
-                  ∙ ap (λ v. is_torn_end (seen_in number v) size) whole ∙ ap (λ s. is_torn_end s size) (sym seen) ∙ passed;
+              torn = ap (λ m. is_torn_end m (seen_in m (k.used ++ (k.rest ++ more))) size) (sym there)
+                  ∙ ap (λ v. is_torn_end number (seen_in number v) size) whole ∙ ap (λ s. is_torn_end number s size) (sym seen)
+                  ∙ ap (λ m. is_torn_end m n'.seen size) (sym (all.noted number [] none).segment_is) ∙ passed;
             });
           }
 

@@ -103,14 +103,14 @@ pub record ReadsSegment {P F : Type 0} (plays : P → List (List ℕ) → P → 
       → EndsThere segment sum done text commits after end
 
 -- Behind this text the last file has these bytes. A front of them makes the file damaged, and no note in the file tells
--- that more of it was synced than this size. If there is no note, the file has no mark either.
+-- that more of it was synced than this size. If there is no note, the file has no whole commit.
 pub record IsCutOff (segment : ℕ) (sum : List ℕ) (done : List Left) (commits : List Commit) (text junk : List ℕ) (size : ℕ) : Type 0 where
   pub damage : Damage
   pub seen : List ℕ
   pub more : List ℕ
   pub junk_is : seen ++ more ≡ junk
   pub damaged : IsDamagedFile damage segment sum done commits (text ++ seen)
-  pub torn : is_torn_end (seen_in (segment + length done + 1) (text ++ junk)) size ≡ true
+  pub torn : is_torn_end (segment + length done + 1) (seen_in (segment + length done + 1) (text ++ junk)) size ≡ true
 
 -- nothing is behind the text, or what a crash may have left
 abbrev pub MayFollow : ℕ → List ℕ → List Left → List Commit → List ℕ → List ℕ → ℕ → Type 0

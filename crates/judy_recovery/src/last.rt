@@ -96,8 +96,8 @@ pub fn read_last<R: Source, P: Player>(
 
 /// Passes over damage behind this size if it may be what a crash left. If not, it stops there.
 pub fn pass(notes: &Notes, size: u64, found: Option<Damaged>) -> Result<(), Stop>
-    ensures torn { OnOk result (IfSome found (λ damaged. is_torn_end notes.now.seen size ≡ true)) }
-    ensures refused { OnErr result (is_torn_end notes.now.seen size ≡ false) }
+    ensures torn { OnOk result (IfSome found (λ damaged. is_torn_end notes.now.segment notes.now.seen size ≡ true)) }
+    ensures refused { OnErr result (is_torn_end notes.now.segment notes.now.seen size ≡ false) }
 {
     let Some(damaged) = found else {
         return Ok(());

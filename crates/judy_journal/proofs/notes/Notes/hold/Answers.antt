@@ -11,7 +11,7 @@ returns-then-chunk-room c =
     let shown : ℕ → List ℕ → Noting =
     λ taken line. record {
       segment = c.self.inside.segment;
-      seen = record { place = c.self.inside.place; surest = c.self.inside.surest; marked = c.self.inside.marked };
+      seen = record { place = c.self.inside.place; surest = c.self.inside.surest };
       taken = taken;
       line = line;
     } in
@@ -25,7 +25,7 @@ returns-else-chunk-room c =
     let shown : ℕ → List ℕ → Noting =
     λ taken line. record {
       segment = c.self.inside.segment;
-      seen = record { place = c.self.inside.place; surest = c.self.inside.surest; marked = c.self.inside.marked };
+      seen = record { place = c.self.inside.place; surest = c.self.inside.surest };
       taken = taken;
       line = line;
     } in
