@@ -14,6 +14,7 @@ sys.path.insert(0, os.path.dirname(os.path.abspath(__file__)))
 from judyd import MAX, Full, JudyError, KeyTooLong, NoMemory, ReadOnly, aio  # noqa: E402
 from judyd.catalogue import Catalogue  # noqa: E402
 from judyd.client import Arrays  # noqa: E402
+from judyd.lines import joined  # noqa: E402
 from served import WithServer  # noqa: E402
 
 
@@ -57,11 +58,11 @@ class Kept(Arrays):
 
     def __init__(self, *replies, catalogue=None):
         super().__init__()
-        self.sent, self._replies, self._catalogue = [], list(replies), catalogue
+        self.sent, self._given, self._catalogue = [], list(replies), catalogue
 
     def _exchange(self, lines, is_quiet=False):
-        self.sent.append(lines)
-        return self._replies or list(map(replied, lines))
+        self.sent.append(lines.each())
+        return joined(self._given or list(map(replied, self.sent[-1])))
 
     def _server(self):
         return self
@@ -75,11 +76,11 @@ class KeptByTasks(aio.Client):
 
     def __init__(self, *replies):
         super().__init__("nowhere")
-        self.sent, self._replies = [], list(replies)
+        self.sent, self._given = [], list(replies)
 
     async def _exchange(self, lines, is_quiet=False):
-        self.sent.append(lines)
-        return self._replies or list(map(replied, lines))
+        self.sent.append(lines.each())
+        return joined(self._given or list(map(replied, self.sent[-1])))
 
 
 def result_of(client, kind, name, things, *encoding):

@@ -5,6 +5,7 @@ import re
 from typing import Any, Iterable, List, NamedTuple, Optional, Sequence, SupportsIndex, Tuple
 
 from .errors import JudyError, KeyTooLong
+from .lines import cut
 
 MAX = 2**64 - 1
 """The greatest word."""
@@ -13,6 +14,7 @@ KEY_LIMIT = 1000
 LINE_LIMIT = 4096
 _NAME = re.compile(r"[A-Za-z0-9_.-]{1,32}\Z")
 _TOKEN = re.compile(r"[!-~]{1,128}\Z")
+_FLAGS = bytes.maketrans(b"01", b"\0\1")
 _HELLO = re.compile(rb"JUDYD (\d+) line (\d+) reply (\d+) name (\d+) token (\d+) key (\d+)(?: .*)?\Z")
 
 
@@ -92,11 +94,22 @@ def is_word(thing: Any) -> bool:
 
 def plain_words(things: Sequence[Any]) -> Optional[List[int]]:
     """Many words, checked at once; None if one of the things is no word."""
+    return _plain_numbers(things, 0)
+
+
+def plain_steps(things: Sequence[Any]) -> Optional[List[int]]:
+    """What many additions add, modulo 2^64, checked at once; None if one of the things is no step."""
+    steps = _plain_numbers(things, -MAX)
+    return None if steps is None else [step % (MAX + 1) for step in steps]
+
+
+def _plain_numbers(things: Sequence[Any], low: int) -> Optional[List[int]]:
+    """Many ints from `low` to MAX, checked at once; None if one of the things is none."""
     try:
-        words = list(map(operator.index, things))
-    except Exception:  # `word_of` raises what there is to say of it
+        numbers = list(map(operator.index, things))
+    except Exception:  # `_number` raises what there is to say of it
         return None
-    return words if min(words, default=0) >= 0 and max(words, default=0) <= MAX else None
+    return numbers if min(numbers, default=0) >= low and max(numbers, default=0) <= MAX else None
 
 
 def step_field(step: SupportsIndex) -> bytes:
@@ -198,6 +211,23 @@ def value_of(reply: bytes) -> int:
 def value_or_none(reply: bytes) -> Optional[int]:
     """A value, or None."""
     return None if reply == b"NULL" else value_of(reply)
+
+
+def flags_of(replies: bytes) -> Iterable[int]:
+    """Yes or no, 1 or 0, of each of these replies."""
+    digits = replies[::2]
+    if replies[1::2] == b"\n" * len(digits) and not digits.strip(b"01"):
+        return digits.translate(_FLAGS)
+    return map(flag, cut(replies))
+
+
+def values_of(replies: bytes) -> Iterable[Optional[int]]:
+    """The value of each of these replies, or None."""
+    digits = replies.replace(b"NULL\n", b"V -\n")[2:-1].split(b"\nV ")
+    is_plain = replies[:2] in (b"V ", b"NU") and b"-" not in replies and not b"".join(digits).strip(b"-0123456789")
+    if not is_plain or b"" in digits:
+        return map(value_or_none, cut(replies))
+    return [None if it == b"-" else int(it) for it in digits] if b"NULL" in replies else list(map(int, digits))
 
 
 def index_of(reply: bytes) -> Optional[int]:

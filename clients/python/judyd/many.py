@@ -7,6 +7,7 @@ from typing import Any, Callable, Generic, Iterable, Iterator, List, Optional, S
 from .connection import SameServer
 from .errors import all_checked
 from .fields import MAX, stop_of, word_of
+from .lines import Lines, joined
 from .walks import RankedWalk, walked
 
 T = TypeVar("T")
@@ -33,9 +34,9 @@ class Many:
     _asker: Any
 
     def _many(
-        self, things: Iterable[T], lines_of: Callable[[List[T]], Optional[List[bytes]]], call: Callable[[Any, T], Any],
+        self, things: Iterable[T], lines_of: Callable[[List[T]], Optional[Lines]], call: Callable[[Any, T], Any],
         is_quiet: bool = False,
-    ) -> Iterator[Tuple[List[T], List[bytes]]]:  # fmt: skip
+    ) -> Iterator[Tuple[List[T], bytes]]:  # fmt: skip
         """These things in windows, each with the replies to its calls. A refusal is raised after the
         window that has it. The calls are quiet if nobody looks at their results.
 
@@ -52,12 +53,12 @@ class Many:
             same.check()
             yield window, replies
 
-    def _piped(self, window: List[T], call: Callable[[Any, T], Any], is_quiet: bool) -> List[bytes]:
+    def _piped(self, window: List[T], call: Callable[[Any, T], Any], is_quiet: bool) -> bytes:
         """The replies to the calls of these things. If one of them raises an exception, nothing is sent."""
         with self._asker.pipeline(None, is_quiet=is_quiet) as pipe:
             calls = self._in(pipe)
             late = [call(calls, thing) for thing in window]
-        return [ABSENT if it is None else it._reply for it in late]
+        return joined([ABSENT if it is None else it._reply for it in late])
 
     def _in(self, pipe: Any) -> Any:
         """The calls of this array in a pipeline."""
@@ -157,7 +158,7 @@ class Ranked(Generic[T]):
         found: List[T] = []
         same = SameServer(self._asker._server)
         for window in windows(ranks):
-            found += [entry for entry in self._read(self._asker._exchange([line % (rank + 1) for rank in window])) if entry is not None]
+            found += [entry for entry in self._read(self._asker._replies([line % (rank + 1) for rank in window])) if entry is not None]
             same.check()
         return found
 

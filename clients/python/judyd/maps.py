@@ -10,7 +10,7 @@ from weakref import ReferenceType, ref
 
 from .calls import JudyHSCalls, JudyLCalls, JudySLCalls, MapCalls, given
 from .catalogue import keys_of
-from .fields import MAX, flag, value_or_none
+from .fields import MAX, flags_of, values_of
 from .many import Many, Ranked
 from .strings import Item, Listing, StringWalk
 from .walks import Steps, items_of, walked
@@ -161,7 +161,7 @@ class MapBase(Many, MapCalls[K, bool, int, Optional[int]], Generic[K]):
         """Each of these keys with its value, or with None, with many lines in flight at once. A key
         that is out of range is absent."""
         for window, replies in self._many(keys, partial(self._lines, b"G"), self._get_late):
-            yield from zip(window, map(value_or_none, replies))
+            yield from zip(window, values_of(replies))
 
     def _get_late(self, calls: Any, key: K) -> Any:
         """The later value of a key, with the calls of a pipeline; None for a key out of range."""
@@ -185,7 +185,7 @@ class MapBase(Many, MapCalls[K, bool, int, Optional[int]], Generic[K]):
         """Removes all of these keys, with many lines in flight at once, and returns how many were
         present."""
         found = self._many(keys, partial(self._lines, b"D"), lambda calls, key: calls.delete(key))
-        return sum(flag(reply) for _, replies in found for reply in replies)
+        return sum(sum(flags_of(replies)) for _, replies in found)
 
 
 def _insert(calls: Any, entry: Tuple[Any, int]) -> Any:
