@@ -4,12 +4,12 @@ from functools import partial
 from itertools import compress
 from typing import Any, AsyncIterator, Callable, Coroutine, Generic, Iterable, List, Mapping, Optional, Tuple, TypeVar, Union, overload
 
-from .calls import Judy1Calls, JudyHSCalls, JudyLCalls, JudySLCalls, MapCalls, given
+from .calls import Judy1Calls, JudyHSCalls, JudyLCalls, JudySLCalls, MapCalls
 from .connection import SameServer
 from .errors import all_checked
-from .fields import MAX, flags_of, is_word, stop_of, values_of, word_of
+from .fields import MAX, flags_of, is_word, numbers_of, stop_of, values_of, word_of
 from .lines import Lines, joined
-from .many import ABSENT, windows
+from .many import ABSENT, add_step, get_key, insert_entry, pairs_of, windows
 from .strings import Item, StringWalk
 from .walks import Ask, RankedWalk, Steps, index_of_item, indexes_of, items_of
 
@@ -138,17 +138,25 @@ class Map(Many, MapCalls[K, SoonYes, SoonNumber, SoonFound], Generic[K]):
 
     async def update(self, entries: Union[Mapping[K, int], Iterable[Tuple[K, int]]]) -> None:
         """Stores all of these entries, with many lines in flight at once. A refusal is raised after
-        the window that has it."""
-        items: Iterable[Tuple[Any, int]] = entries.items() if isinstance(entries, Mapping) else entries
-        async for _ in self._many(items, self._insert_lines, lambda calls, entry: calls.insert(entry[0], given(entry[1])), is_quiet=True):
+        the window that has it: all other entries of that window and of those before are stored."""
+        async for _ in self._many(pairs_of(entries), self._insert_lines, insert_entry, is_quiet=True):
             pass
 
     async def get_many(self, keys: Iterable[K]) -> AsyncIterator[Tuple[K, Optional[int]]]:
         """Each of these keys with its value, or with None, with many lines in flight at once. A key
         that is out of range is absent."""
-        async for window, replies in self._many(keys, partial(self._lines, b"G"), _get_late):
+        async for window, replies in self._many(keys, partial(self._lines, b"G"), get_key):
             for item in zip(window, values_of(replies)):
                 yield item
+
+    async def add_many(self, steps: Union[Mapping[K, int], Iterable[Tuple[K, int]]]) -> List[int]:
+        """Adds to the values of many keys, pairs of a key and what is added to it, with many lines in
+        flight at once. Returns the new values, in the order given. A refusal is raised after the window
+        that has it: all other additions of that window and of those before are made."""
+        values: List[int] = []
+        async for _, replies in self._many(pairs_of(steps), self._add_lines, add_step):
+            values += numbers_of(replies)
+        return values
 
     async def delete_many(self, keys: Iterable[K]) -> int:
         """Removes all of these keys, with many lines in flight at once, and returns how many were
@@ -157,14 +165,6 @@ class Map(Many, MapCalls[K, SoonYes, SoonNumber, SoonFound], Generic[K]):
         async for _, replies in self._many(keys, partial(self._lines, b"D"), lambda calls, key: calls.delete(key)):
             count += sum(flags_of(replies))
         return count
-
-
-def _get_late(calls: Any, key: Any) -> Any:
-    """The later value of a key; None for a key out of range."""
-    try:
-        return calls.get(key)
-    except ValueError:
-        return None
 
 
 class JudyL(Map[int], JudyLCalls[SoonYes, SoonNumber, SoonFound, Coroutine[Any, Any, Optional[Tuple[int, int]]]]):

@@ -82,7 +82,7 @@ class Client(Bound):
         """Sends lines as they are, bytes without LF, and returns the list of their replies. If a call
         with an AUTH among them is cancelled, the connection is closed, as by `auth`."""
         plain = plain_lines(lines)
-        if any(line.split()[:1] == [b"AUTH"] for line in plain):
+        if any(b"AUTH" in line and line.split()[:1] == [b"AUTH"] for line in plain):
             return await self._exchange_log_ins(plain)
         return await self._replies(plain)
 

@@ -164,7 +164,8 @@ class Client(Arrays):
         with self._held():
             replies = self._replies(plain)
             for line, reply in zip(plain, replies):
-                self._note_log_in(line, reply)
+                if b"AUTH" in line:
+                    self._note_log_in(line, reply)
         return replies
 
     def quit(self) -> None:

@@ -78,6 +78,8 @@ def word_of(word: SupportsIndex) -> int:
 
 def word_field(word: SupportsIndex) -> bytes:
     """A word, in decimal digits."""
+    if type(word) is int and 0 <= word <= MAX:
+        return b"%d" % word
     return b"%d" % word_of(word)
 
 
@@ -168,11 +170,11 @@ def no_zeros(plain: bytes) -> bytes:
 def plain_lines(lines: Iterable[bytes]) -> List[bytes]:
     """Lines that are sent as they are."""
     is_one_line = isinstance(lines, (str, bytes, bytearray, memoryview))
-    plain = [] if is_one_line else list(lines)
-    if is_one_line or not all(isinstance(line, (bytes, bytearray, memoryview)) for line in plain):
+    given = [] if is_one_line else list(lines)
+    if is_one_line or not all(issubclass(kind, (bytes, bytearray, memoryview)) for kind in set(map(type, given))):
         raise TypeError("lines are a list, and each line is bytes")
-    plain = [bytes(line) for line in plain]
-    if any(b"\n" in line for line in plain):
+    plain = list(map(bytes, given))
+    if b"\n" in b"".join(plain):
         raise ValueError("a line has no LF in it")
     return plain
 
@@ -219,6 +221,14 @@ def flags_of(replies: bytes) -> Iterable[int]:
     if replies[1::2] == b"\n" * len(digits) and not digits.strip(b"01"):
         return digits.translate(_FLAGS)
     return map(flag, cut(replies))
+
+
+def numbers_of(replies: bytes) -> List[int]:
+    """The value of each of these replies, none of which is that there is none."""
+    values = list(values_of(replies))
+    if None in values:
+        raise JudyError("no such answer: %r" % b"NULL")
+    return values  # type: ignore[return-value]  # no item is None
 
 
 def values_of(replies: bytes) -> Iterable[Optional[int]]:

@@ -4,6 +4,7 @@ import operator
 from itertools import islice
 from typing import Any, Callable, Generic, Iterable, Iterator, List, Optional, Sequence, Tuple, TypeVar, Union, overload
 
+from .calls import given
 from .connection import SameServer
 from .errors import all_checked
 from .fields import MAX, stop_of, word_of
@@ -26,6 +27,32 @@ def windows(things: Iterable[T], size: int = WINDOW) -> Iterator[List[T]]:
         yield window
     if window:
         yield window
+
+
+def pairs_of(entries: Any) -> Iterable[Tuple[Any, int]]:
+    """The pairs of a mapping, or pairs that are given as such."""
+    pairs: Iterable[Tuple[Any, int]] = entries.items() if hasattr(entries, "items") else entries
+    return pairs
+
+
+def insert_entry(calls: Any, entry: Tuple[Any, int]) -> Any:
+    """Stores an entry with the calls of a map."""
+    key, value = entry
+    return calls.insert(key, given(value))
+
+
+def add_step(calls: Any, step: Tuple[Any, int]) -> Any:
+    """Adds to the value of a key with the calls of a map."""
+    key, n = step
+    return calls.add(key, n)
+
+
+def get_key(calls: Any, key: Any) -> Any:
+    """The later value of a key, with the calls of a pipeline; None for a key out of range."""
+    try:
+        return calls.get(key)
+    except ValueError:
+        return None
 
 
 class Many:
