@@ -89,9 +89,12 @@ class Link(asyncio.Protocol):
         """The replies to lines. Up to MOST_LINES wait for replies at once; more lines, and those of other
         tasks, wait for their turn. All lines that tasks ask for in one turn of the loop are sent
         together."""
+        if lines.count <= MOST_LINES:
+            await self._place(lines.count)
+            return await self._sent(lines)
         replies: List[bytes] = []
         try:
-            for part in [lines] if lines.count <= MOST_LINES else map(Lines.of, windows(lines.each(), MOST_LINES)):
+            for part in map(Lines.of, windows(lines.each(), MOST_LINES)):
                 await self._place(part.count)
                 replies.append(await self._sent(part))
         except ConnectionLost as e:

@@ -1,6 +1,6 @@
 """Lines that are sent together, and their replies, as bytes. So many lines cost little more than the bytes."""
 
-from typing import Any, Collection, Iterator, List, Sequence
+from typing import Any, Collection, Iterable, List, Sequence
 
 PIECE = 250
 """How many lines that are alike are made at once. A server works on them while the next ones are made."""
@@ -18,13 +18,13 @@ class Lines:
         """These lines, each without an LF."""
         return cls(joined(lines), len(lines))
 
-    def pieces(self) -> Iterator[bytes]:
+    def pieces(self) -> Iterable[bytes]:
         """The bytes, in pieces of whole lines."""
-        yield self._data
+        return (self._data,)
 
     def data(self) -> bytes:
         """The bytes as one."""
-        return b"".join(self.pieces())
+        return self._data
 
     def each(self) -> List[bytes]:
         """Each line by itself."""
@@ -35,15 +35,20 @@ class FormedLines(Lines):
     """Lines that are alike: a form, and the fields of one line after the other. They are made piece by piece."""
 
     def __init__(self, form: bytes, fields: Sequence[Any], count: int) -> None:
-        super().__init__(form + b"\n", count)
+        super().__init__(b"", count)
+        self._form = form + b"\n"
         self._fields = fields
 
-    def pieces(self) -> Iterator[bytes]:
+    def pieces(self) -> Iterable[bytes]:
         """The bytes, in pieces of whole lines."""
         width = len(self._fields) // self.count
         for at in range(0, self.count, PIECE):
             count = min(PIECE, self.count - at)
-            yield self._data * count % tuple(self._fields[at * width : (at + count) * width])
+            yield self._form * count % tuple(self._fields[at * width : (at + count) * width])
+
+    def data(self) -> bytes:
+        """The bytes as one."""
+        return b"".join(self.pieces())
 
 
 def joined(lines: Collection[bytes]) -> bytes:
