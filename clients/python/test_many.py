@@ -260,7 +260,7 @@ class Replies(unittest.TestCase):
         return seen
 
     def test_replies_that_are_none(self):
-        for odd in (b"V 1", b"", b"10", b"OK"):
+        for odd in (b"V 1", b"", b"10", b"OK", b"2"):
             self.assertEqual(self.read(b"1", b"0", b"1", odd, b"1", name="among"), [0, 2])
             self.assertRaisesRegex(JudyError, "no such answer", Kept(b"1", odd).judyl("a").delete_many, range(2))
             self.assertIsNone(Kept(b"1", odd).judy1("a").update(range(2)))  # nobody looks at them

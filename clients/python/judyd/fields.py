@@ -102,7 +102,7 @@ def plain_words(things: Sequence[Any]) -> Optional[List[int]]:
 def plain_steps(things: Sequence[Any]) -> Optional[List[int]]:
     """What many additions add, modulo 2^64, checked at once; None if one of the things is no step."""
     steps = _plain_numbers(things, -MAX)
-    return None if steps is None else [step % (MAX + 1) for step in steps]
+    return steps if steps is None or min(steps, default=0) >= 0 else [step % (MAX + 1) for step in steps]
 
 
 def _plain_numbers(things: Sequence[Any], low: int) -> Optional[List[int]]:
