@@ -5,12 +5,14 @@ import asyncio
 import inspect
 import os
 import sys
+import time
 import unittest
 from unittest import mock
 
 sys.path.insert(0, os.path.dirname(os.path.abspath(__file__)))
 
 from judyd import IDEMPOTENT, QUERIES, Client, ConnectionLost, Full, ReadOnly, aio  # noqa: E402
+from judyd.lines import Lines  # noqa: E402
 from served import WithClient, WithServer, odd_server  # noqa: E402
 from test_restarts import scripted  # noqa: E402
 
@@ -109,6 +111,26 @@ class Ends(unittest.TestCase):
                     else:
                         self.assertIsInstance(found, ConnectionLost)
                         self.assertEqual((len(found.replies), len(got)), (2, 3))
+
+
+    def test_an_end_before_the_last_piece(self):
+        class Slow(Lines):
+            """Lines whose last piece is made when the server has ended."""
+
+            def pieces(self):
+                yield b"J1S a 1\n" * 3
+                time.sleep(0.5)
+                yield b"J1S a 1\n" * 2
+
+            def data(self):
+                return b"J1S a 1\n" * 5
+
+        with odd_server(b"1\n0\n0") as path, Client(path, 60) as client, self.assertRaises(ConnectionLost) as caught:
+            client._exchange(Slow(b"", 5))
+        self.assertEqual((caught.exception.replies, caught.exception.may_have_run), ([b"1", b"0"], True))
+        with odd_server(b"1\n0\n0\n") as path, Client(path, 60) as client, self.assertRaises(ConnectionLost) as caught:
+            client._exchange(Slow(b"", 5))
+        self.assertEqual((caught.exception.replies, caught.exception.may_have_run), ([b"1", b"0", b"0"], False))
 
 
 class Refused(WithServer):

@@ -100,6 +100,10 @@ class Connection:
             return True
         except _BUSY:
             return False
+        except OSError:
+            sock.setblocking(False)
+            self._take(sock, lines.count)  # the replies that came before the end
+            raise
 
     def _read(self, sock: socket.socket, missing: int) -> None:
         """Waits for the missing replies, once all lines are sent."""
