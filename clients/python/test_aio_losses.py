@@ -14,6 +14,7 @@ from unittest import mock
 sys.path.insert(0, os.path.dirname(os.path.abspath(__file__)))
 
 from judyd import IDEMPOTENT, QUERIES, ConnectionLost, TimedOut, aio, aiolink  # noqa: E402
+from judyd.lines import Lines, cut  # noqa: E402
 from served import WithServer  # noqa: E402
 from test_restarts import scripted  # noqa: E402
 
@@ -68,6 +69,11 @@ def linked(timeout=30):
     return link, wire, clock
 
 
+async def asked(link, lines):
+    """The replies to lines."""
+    return cut(await link.ask(Lines.of(lines)))
+
+
 async def turns(count=5):
     """Lets other tasks run."""
     for _ in range(count):
@@ -83,7 +89,7 @@ class Times(unittest.TestCase):
             calls = []
             for now in range(30):  # one more call each second, and no byte
                 clock.go_to(float(now))
-                calls.append(asyncio.ensure_future(link.ask([b"USED"])))
+                calls.append(asyncio.ensure_future(asked(link, [b"USED"])))
                 await turns()
             self.assertTrue(link.is_open)
             clock.go_to(30.0)
@@ -95,11 +101,11 @@ class Times(unittest.TestCase):
     def test_only_bytes_that_come_give_more_time(self):
         async def job():
             link, _, clock = linked()
-            first = asyncio.ensure_future(link.ask([b"USED"]))
+            first = asyncio.ensure_future(asked(link, [b"USED"]))
             await turns()
             clock.go_to(29.0)
             link.data_received(b"Q 1 ")
-            second = asyncio.ensure_future(link.ask([b"USED"]))
+            second = asyncio.ensure_future(asked(link, [b"USED"]))
             await turns()
             for now in (30.0, 58.0):
                 clock.go_to(now)
@@ -119,12 +125,12 @@ class Times(unittest.TestCase):
     def test_a_line_that_is_sent_late_has_its_time(self):
         async def job():
             link, _, clock = linked()
-            first = asyncio.ensure_future(link.ask([b"USED"]))
+            first = asyncio.ensure_future(asked(link, [b"USED"]))
             await turns()
             link.data_received(b"Q 1 2 3 4\n")
             await first
             clock.go_to(1000.0)
-            second = asyncio.ensure_future(link.ask([b"USED"]))
+            second = asyncio.ensure_future(asked(link, [b"USED"]))
             await turns()
             clock.go_to(1029.0)
             self.assertTrue(link.is_open)
@@ -141,7 +147,7 @@ class ManyLines(unittest.TestCase):
     def test_further_calls_wait(self):
         async def job():
             link, wire, _ = linked()
-            calls = [asyncio.ensure_future(link.ask([b"USED"] * 100)) for _ in range(120)]
+            calls = [asyncio.ensure_future(asked(link, [b"USED"] * 100)) for _ in range(120)]
             await turns()
             self.assertEqual(wire.lines, 10000)
             for at in (112, 118):
@@ -161,8 +167,8 @@ class ManyLines(unittest.TestCase):
     def test_one_call_of_more_lines(self):
         async def job():
             link, wire, _ = linked()
-            whole = asyncio.ensure_future(link.ask([b"USED"] * 25000))
-            after = asyncio.ensure_future(link.ask([b"USED"]))
+            whole = asyncio.ensure_future(asked(link, [b"USED"] * 25000))
+            after = asyncio.ensure_future(asked(link, [b"USED"]))
             sent = []
             for _ in range(4):
                 await turns()
@@ -176,7 +182,7 @@ class ManyLines(unittest.TestCase):
     def test_a_loss_reaches_all(self):
         async def job():
             link, _, _ = linked()
-            calls = [asyncio.ensure_future(link.ask([b"USED"] * 100)) for _ in range(120)]
+            calls = [asyncio.ensure_future(asked(link, [b"USED"] * 100)) for _ in range(120)]
             await turns()
             link.data_received(b"Q\n" * 1050)
             await turns()
@@ -185,7 +191,7 @@ class ManyLines(unittest.TestCase):
             self.assertEqual([it for it in found if not isinstance(it, ConnectionLost)], [[b"Q"] * 100] * 10)
             self.assertEqual([(it.may_have_run, len(it.replies)) for it in found[10:]], [(True, 50)] + [(True, 0)] * 99 + [(False, 0)] * 10)
             with self.assertRaises(ConnectionLost) as caught:
-                await link.ask([b"USED"])
+                await asked(link, [b"USED"])
             self.assertFalse(caught.exception.may_have_run)
 
         asyncio.run(asyncio.wait_for(job(), 120))

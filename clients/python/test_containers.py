@@ -223,7 +223,7 @@ class Parts(Containers):
 
         def asked(lines, is_quiet=False):  # another client removes an entry between two windows
             replies = exchange(lines, is_quiet)
-            if lines[0].startswith(b"J1BC"):
+            if lines.data().startswith(b"J1BC"):
                 other.discard(5)
             return replies
 

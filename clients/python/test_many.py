@@ -14,6 +14,7 @@ sys.path.insert(0, os.path.dirname(os.path.abspath(__file__)))
 from judyd import MAX, Full, JudyError, KeyTooLong, NoMemory, ReadOnly, aio  # noqa: E402
 from judyd.catalogue import Catalogue  # noqa: E402
 from judyd.client import Arrays  # noqa: E402
+from judyd.lines import joined  # noqa: E402
 from served import WithServer  # noqa: E402
 
 
@@ -48,7 +49,7 @@ def raising(things, at):
 
 def replied(line):
     """The reply of a server with empty arrays."""
-    return {b"I": b"V 0", b"G": b"NULL"}.get(line.split(b" ")[0][-1:], b"0")
+    return {b"I": b"V 0", b"A": b"V 7", b"G": b"NULL"}.get(line.split(b" ")[0][-1:], b"0")
 
 
 class Kept(Arrays):
@@ -57,11 +58,11 @@ class Kept(Arrays):
 
     def __init__(self, *replies, catalogue=None):
         super().__init__()
-        self.sent, self._replies, self._catalogue = [], list(replies), catalogue
+        self.sent, self._given, self._catalogue = [], list(replies), catalogue
 
     def _exchange(self, lines, is_quiet=False):
-        self.sent.append(lines)
-        return self._replies or list(map(replied, lines))
+        self.sent.append(lines.each())
+        return joined(self._given or list(map(replied, self.sent[-1])))
 
     def _server(self):
         return self
@@ -75,11 +76,11 @@ class KeptByTasks(aio.Client):
 
     def __init__(self, *replies):
         super().__init__("nowhere")
-        self.sent, self._replies = [], list(replies)
+        self.sent, self._given = [], list(replies)
 
     async def _exchange(self, lines, is_quiet=False):
-        self.sent.append(lines)
-        return self._replies or list(map(replied, lines))
+        self.sent.append(lines.each())
+        return joined(self._given or list(map(replied, self.sent[-1])))
 
 
 def result_of(client, kind, name, things, *encoding):
@@ -129,7 +130,11 @@ class Lines(WithBoth):
             lines = cut([b"JLI a %d %d" % (it, value) for it, value in zip(words, reversed(words))])
             self.both("judyl", "update", lambda: zip(things, reversed(things)), lines)
             self.both("judyl", "update", lambda: [list(entry) for entry in zip(things, reversed(things))], lines)
+            steps = [-MAX, -1, *(it - 5 for it in words[2:])]
+            lines = cut([b"JLA a %d %d" % (it, step % (MAX + 1)) for it, step in zip(words, steps)])
+            self.both("judyl", "add_many", lambda: zip(things, steps), lines, [7] * len(words))
         self.both("judyl", "update", lambda: {Seven(): Seven()}, [[b"JLI a 7 7"]])
+        self.both("judyl", "add_many", lambda: {Seven(): Seven(), 8: -1}, [[b"JLA a 7 7", b"JLA a 8 18446744073709551615"]], [7, 7])
         for name in ("update", "difference_update", "among"):
             self.both("judy1", name, list, [], [] if name == "among" else None)
 
@@ -186,6 +191,9 @@ class Ends(WithBoth):
             first = [[b"JLI a %d %d" % (it, it) for it in range(1000)]]
             self.both("judyl", "update", lambda: [(it, it) for it in things], first, error)
             self.both("judyl", "update", lambda: enumerate(things), first, error)
+            self.both("judyl", "add_many", lambda: [(it, 1) for it in things], [[b"JLA a %d 1" % it for it in range(1000)]], error)
+            steps = [(5, -MAX - 1 if it == -1 else it) for it in things]
+            self.both("judyl", "add_many", lambda: steps, [[b"JLA a 5 %d" % it for it in range(1000)]], error)
             if error is not ValueError:
                 self.both("judyl", "get_many", lambda: things, [[b"JLG a %d" % it for it in range(1000)]], error)
 
@@ -234,8 +242,9 @@ class Ends(WithBoth):
                 refusing = client(*[b"1"] * 500, b"ERR MEMORY", *[b"FULL"] * (499 + len(odd)))
                 error = result_of(refusing, kind, name, [*odd, *range(2500)])
                 self.assertEqual((error, len(refusing.sent)), (NoMemory, 1))  # it is the first one, and ends the method after its window
-            refusing = client(*[b"V 0"] * 999, b"FULL")
-            self.assertEqual((result_of(refusing, "judyl", "update", [*zip(odd, odd), *zip(range(2500), range(2500))]), len(refusing.sent)), (Full, 1))
+            for name in ("update", "add_many"):
+                refusing = client(*[b"V 0"] * 999, b"FULL")
+                self.assertEqual((result_of(refusing, "judyl", name, [*zip(odd, odd), *zip(range(2500), range(2500))]), len(refusing.sent)), (Full, 1))
 
 
 class Replies(unittest.TestCase):
@@ -251,12 +260,16 @@ class Replies(unittest.TestCase):
         return seen
 
     def test_replies_that_are_none(self):
-        for odd in (b"V 1", b"", b"10", b"OK"):
+        for odd in (b"V 1", b"", b"10", b"OK", b"2"):
             self.assertEqual(self.read(b"1", b"0", b"1", odd, b"1", name="among"), [0, 2])
             self.assertRaisesRegex(JudyError, "no such answer", Kept(b"1", odd).judyl("a").delete_many, range(2))
             self.assertIsNone(Kept(b"1", odd).judy1("a").update(range(2)))  # nobody looks at them
+        for odd in (b"NULL", b"1", b"V -1", b"V ", b"-"):
+            self.assertRaisesRegex(JudyError, "no such answer", Kept(b"V 5", odd, b"V 6").judyl("a").add_many, [(1, 1)] * 3)
         for odd in (b"V", b"V ", b"V x", b"V -1", b"V 1 2", b"V  1", b"V +1", b"V 1_0", b"1", b"NULL ", b""):
             self.assertEqual(self.read(b"V 5", b"NULL", odd), [(0, 5), (1, None)])
+            self.assertEqual(self.read(odd, b"V 5"), [])
+            self.assertEqual(self.read(b"NULL", odd, b"NULL"), [(0, None)])
             self.assertRaisesRegex(JudyError, "no such answer", Kept(odd).judyl("a").insert, 1)
 
 
@@ -315,10 +328,11 @@ class Work(unittest.TestCase):
             (0, lambda: s.update(zip(keys, words))),
             (0, lambda: h.update(zip(texts, words))),
             (1, lambda: ids.difference_update(words)),
-            (2, lambda: list(ids.among(words))),
-            (2, lambda: m.delete_many(words)),
-            (3, lambda: list(m.get_many(words))),
-            (3, lambda: list(h.get_many(texts))),
+            (1, lambda: list(ids.among(words))),
+            (0, lambda: m.add_many(zip(words, words))),
+            (0, lambda: m.delete_many(words)),
+            (1, lambda: list(m.get_many(words))),
+            (1, lambda: list(h.get_many(texts))),
         ):
             self.assertLess(self.calls(job), (1.5 + most) * n)  # one makes the reply
 
@@ -331,8 +345,9 @@ class Work(unittest.TestCase):
             await m.update(zip(range(n), range(n)))
             await ids.difference_update(range(n))
             await m.delete_many(range(n))
+            await m.add_many(zip(range(n), range(n)))
 
-        self.assertLess(self.calls(lambda: asyncio.run(job())), (4 + 2 + 0.5) * n)  # four make the replies
+        self.assertLess(self.calls(lambda: asyncio.run(job())), (5 + 1 + 0.5) * n)  # five make the replies
 
 
 if __name__ == "__main__":

@@ -76,13 +76,16 @@ class Pipelines(WithClient):
         self.assertEqual(client.used().used, 0)
         self.assertRaisesRegex(TypeError, "the window of a pipeline is an int, or None", client.pipeline, "1000")
 
-    def test_a_small_window_makes_no_selector(self):
-        with self.client.pipeline() as pipe:
-            pipe.judyl("m").insert(1, 1)
-        with mock.patch("selectors.DefaultSelector", side_effect=AssertionError), mock.patch("select.epoll", side_effect=AssertionError):
-            for count in (1, 2, 10):
-                self.assertEqual(self.client.lines([b"JLG m 1"] * count), [b"V 1"] * count)
-        self.client.judyl("m").clear()
+    def test_a_window_that_the_buffers_take_makes_no_selector(self):
+        m = self.client.judyl("m")
+        with mock.patch("select.epoll", side_effect=AssertionError), mock.patch("select.poll", side_effect=AssertionError):
+            for count in (1, 2, 10, 1000):
+                self.assertEqual(self.client.lines([b"JLI m 1 1", *[b"JLG m 1"] * (count - 1)])[1:], [b"V 1"] * (count - 1))
+                with self.client.pipeline() as pipe:
+                    late = [pipe.judyl("m").get(1) for _ in range(count)]
+                self.assertEqual([it.result() for it in late], [1] * count)
+            m.update((it, it) for it in range(1000))
+        m.clear()
 
     def test_an_exception_inside(self):
         with self.assertRaises(ZeroDivisionError):

@@ -11,6 +11,7 @@ from unittest import mock
 sys.path.insert(0, os.path.dirname(os.path.abspath(__file__)))
 
 from judyd import Client, ConnectionLost, Restarted, Visitor, aio  # noqa: E402
+from judyd.lines import Lines, cut  # noqa: E402
 from served import WithServer  # noqa: E402
 
 COUNT = 20000
@@ -115,15 +116,15 @@ class Jobs(WithServer):
         client = self.alice(reconnect=True)
         connection = client._link.connection
 
-        def cut(lines):  # the server ends after some replies
-            replies = connection_exchange(lines[:10])
+        def ended(lines):  # the server ends after some replies
+            replies = cut(connection_exchange(Lines.of(lines.each()[:10])))
             self.served.restart()
             connection.close()
             exception = ConnectionLost("the connection was lost")
             exception.replies = replies
             raise exception
 
-        connection_exchange, connection.exchange = connection.exchange, cut
+        connection_exchange, connection.exchange = connection.exchange, ended
         with self.assertRaises(Restarted) as caught, client.pipeline(None) as pipe:
             late = [pipe.judy1("ids").test(i) for i in range(100)]
         self.assertEqual(([it.result() for it in late[:10]], len(caught.exception.replies)), ([False] * 10, 10))

@@ -78,7 +78,7 @@ class Threads(WithClient):
         def interrupted(lines):  # as by a signal handler that makes a call during an exchange
             with self.assertRaisesRegex(JudyError, "interrupted by another call"):
                 self.client.used()
-            said.extend(lines)
+            said.extend(lines.each())
             return type(connection).exchange(connection, lines)
 
         connection.exchange = interrupted

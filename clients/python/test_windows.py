@@ -19,7 +19,7 @@ class Windows(WithClient):
         exchange = self.client._exchange
 
         def counted(lines, is_quiet=False):
-            self.sent.append(len(lines))
+            self.sent.append(lines.count)
             return exchange(lines, is_quiet)
 
         self.client._exchange = counted

@@ -73,6 +73,9 @@ def word_maps(client: judyd.Client) -> None:
     m.insert(b"5", 6)  # wrong
     m.get("5")  # wrong
     m.update({"5": 6})  # wrong
+    sums: List[int] = m.add_many([(5, -1)])
+    print(sums)
+    m.add_many({"5": 6})  # wrong
     m.add("5")  # wrong
     m.add(5, "1")  # wrong
     none: None = m.add(5, n=-1)  # wrong
@@ -150,6 +153,8 @@ async def tasks(client: aio.Client) -> None:
     found: "asyncio.Task[Optional[int]]" = asyncio.create_task(client.judyl("m").get(5))
     await client.judyl("m").update({5: 6})
     await client.judyl("m").update({"5": 6})  # wrong
+    print(await client.judyl("m").add_many({5: -1}))
+    await client.judyl("m").add_many({"5": 6})  # wrong
     await client.judy1("ids").update(["5"])  # wrong
     async with client.pipeline() as pipe:
         late: judyd.Later[bool] = pipe.judy1("ids").set(5)

@@ -4,11 +4,12 @@ from functools import partial
 from itertools import compress
 from typing import Any, AsyncIterator, Callable, Coroutine, Generic, Iterable, List, Mapping, Optional, Tuple, TypeVar, Union, overload
 
-from .calls import Judy1Calls, JudyHSCalls, JudyLCalls, JudySLCalls, MapCalls, given
+from .calls import Judy1Calls, JudyHSCalls, JudyLCalls, JudySLCalls, MapCalls
 from .connection import SameServer
 from .errors import all_checked
-from .fields import MAX, flag, is_word, stop_of, value_or_none, word_of
-from .many import ABSENT, windows
+from .fields import MAX, flags_of, is_word, numbers_of, stop_of, values_of, word_of
+from .lines import Lines, joined
+from .many import ABSENT, add_step, get_key, insert_entry, pairs_of, windows
 from .strings import Item, StringWalk
 from .walks import Ask, RankedWalk, Steps, index_of_item, indexes_of, items_of
 
@@ -31,7 +32,7 @@ async def walked(steps: Steps[T], client: Any) -> AsyncIterator[T]:
         except StopIteration:
             return
         if isinstance(step, Ask):
-            replies = await client._exchange(step)
+            replies = await client._replies(step)
             same.check()
         else:
             replies = []
@@ -45,9 +46,9 @@ class Many:
     _asker: Any
 
     async def _many(
-        self, things: Iterable[T], lines_of: Callable[[List[T]], Optional[List[bytes]]], call: Callable[[Any, T], Any],
+        self, things: Iterable[T], lines_of: Callable[[List[T]], Optional[Lines]], call: Callable[[Any, T], Any],
         is_quiet: bool = False,
-    ) -> AsyncIterator[Tuple[List[T], List[bytes]]]:  # fmt: skip
+    ) -> AsyncIterator[Tuple[List[T], bytes]]:  # fmt: skip
         """These things in windows, each with the replies to its calls. A refusal is raised after the
         window that has it. `lines_of` makes the lines of a window at once. Where it gives none, `call`
         makes the call of each thing."""
@@ -61,12 +62,12 @@ class Many:
             same.check()
             yield window, replies
 
-    async def _piped(self, window: List[T], call: Callable[[Any, T], Any], is_quiet: bool) -> List[bytes]:
+    async def _piped(self, window: List[T], call: Callable[[Any, T], Any], is_quiet: bool) -> bytes:
         """The replies to the calls of these things. If one of them raises an exception, nothing is sent."""
         async with self._asker.pipeline(None, is_quiet=is_quiet) as pipe:
             calls = self._in(pipe)
             late = [call(calls, thing) for thing in window]
-        return [ABSENT if it is None else it._reply for it in late]
+        return joined([ABSENT if it is None else it._reply for it in late])
 
     def _in(self, pipe: Any) -> Any:
         """The calls of this array in a pipeline."""
@@ -101,7 +102,7 @@ class Judy1(Many, Judy1Calls[SoonYes, SoonNumber, SoonFound]):
         at once."""
         words = filter(is_word, indexes)
         async for window, replies in self._many(words, partial(self._lines, b"T"), lambda calls, index: calls.test(index)):
-            for index in compress(window, map(flag, replies)):
+            for index in compress(window, flags_of(replies)):
                 yield index
 
     def walk(self, start: int = 0, stop: Optional[int] = None) -> AsyncIterator[int]:
@@ -137,33 +138,33 @@ class Map(Many, MapCalls[K, SoonYes, SoonNumber, SoonFound], Generic[K]):
 
     async def update(self, entries: Union[Mapping[K, int], Iterable[Tuple[K, int]]]) -> None:
         """Stores all of these entries, with many lines in flight at once. A refusal is raised after
-        the window that has it."""
-        items: Iterable[Tuple[Any, int]] = entries.items() if isinstance(entries, Mapping) else entries
-        async for _ in self._many(items, self._insert_lines, lambda calls, entry: calls.insert(entry[0], given(entry[1])), is_quiet=True):
+        the window that has it: all other entries of that window and of those before are stored."""
+        async for _ in self._many(pairs_of(entries), self._insert_lines, insert_entry, is_quiet=True):
             pass
 
     async def get_many(self, keys: Iterable[K]) -> AsyncIterator[Tuple[K, Optional[int]]]:
         """Each of these keys with its value, or with None, with many lines in flight at once. A key
         that is out of range is absent."""
-        async for window, replies in self._many(keys, partial(self._lines, b"G"), _get_late):
-            for item in zip(window, map(value_or_none, replies)):
+        async for window, replies in self._many(keys, partial(self._lines, b"G"), get_key):
+            for item in zip(window, values_of(replies)):
                 yield item
+
+    async def add_many(self, steps: Union[Mapping[K, int], Iterable[Tuple[K, int]]]) -> List[int]:
+        """Adds to the values of many keys, pairs of a key and what is added to it, with many lines in
+        flight at once. Returns the new values, in the order given. A refusal is raised after the window
+        that has it: all other additions of that window and of those before are made."""
+        values: List[int] = []
+        async for _, replies in self._many(pairs_of(steps), self._add_lines, add_step):
+            values += numbers_of(replies)
+        return values
 
     async def delete_many(self, keys: Iterable[K]) -> int:
         """Removes all of these keys, with many lines in flight at once, and returns how many were
         present."""
         count = 0
         async for _, replies in self._many(keys, partial(self._lines, b"D"), lambda calls, key: calls.delete(key)):
-            count += sum(map(flag, replies))
+            count += sum(flags_of(replies))
         return count
-
-
-def _get_late(calls: Any, key: Any) -> Any:
-    """The later value of a key; None for a key out of range."""
-    try:
-        return calls.get(key)
-    except ValueError:
-        return None
 
 
 class JudyL(Map[int], JudyLCalls[SoonYes, SoonNumber, SoonFound, Coroutine[Any, Any, Optional[Tuple[int, int]]]]):

@@ -11,9 +11,10 @@ from .aiolink import Link, opened_link
 from .bound import Bound
 from .client import TIMEOUT
 from .connection import Address, SameServer, checked_address, checked_timeout, place_of
-from .errors import Closed, ConnectionLost, JudyError, NoServer, Restarted, checked, refusal_of
+from .errors import Closed, ConnectionLost, JudyError, NoServer, Restarted, all_checked, checked, refusal_of
 from .fields import Hello, Used, hello_of, name_field, nothing_of, plain_lines, token_field, used_of
 from .late import LateArrays, Later
+from .lines import Lines, cut
 from .retry import LOGGER, QUERIES, TRIES, Exchange, Retry, checked_retry, rule_of, tenant_of
 
 T = TypeVar("T")
@@ -81,9 +82,9 @@ class Client(Bound):
         """Sends lines as they are, bytes without LF, and returns the list of their replies. If a call
         with an AUTH among them is cancelled, the connection is closed, as by `auth`."""
         plain = plain_lines(lines)
-        if any(line.split()[:1] == [b"AUTH"] for line in plain):
+        if any(b"AUTH" in line and line.split()[:1] == [b"AUTH"] for line in plain):
             return await self._exchange_log_ins(plain)
-        return await self._exchange(plain) if plain else []
+        return await self._replies(plain)
 
     def judy1(self, name: str) -> "Judy1":
         """The set of words with this name."""
@@ -128,13 +129,13 @@ class Client(Bound):
             self._link.lose(JudyError("this client was closed"))
 
     async def _ask(self, line: bytes, read: Callable[[bytes], T], is_quiet: bool = False) -> T:
-        (reply,) = await self._exchange([line], is_quiet)
+        (reply,) = await self._replies([line], is_quiet)
         return read(checked(reply))
 
     async def _exchange_log_ins(self, lines: List[bytes]) -> List[bytes]:
         """The replies to lines, among which are log-ins."""
         try:
-            replies = await self._exchange(lines)
+            replies = await self._replies(lines)
         except asyncio.CancelledError:
             if self._link is not None:
                 self._link.lose(JudyError("a log-in was cancelled"))
@@ -144,14 +145,19 @@ class Client(Bound):
                 self._log_in = line if reply == b"OK" else None
         return replies
 
-    async def _exchange(self, lines: List[bytes], is_quiet: bool = False) -> List[bytes]:
+    async def _replies(self, lines: List[bytes], is_quiet: bool = False) -> List[bytes]:
+        """The replies to lines."""
+        return cut(await self._exchange(Lines.of(lines), is_quiet)) if lines else []
+
+    async def _exchange(self, lines: Lines, is_quiet: bool = False) -> bytes:
+        """The replies to lines, each with its LF."""
         exchange = Exchange(lines, rule_of(self._retry, is_quiet))
         for at in range(TRIES):
             try:
                 link = self._link
                 if link is None or not link.is_open or self._process != os.getpid():
                     link = await self._opened(at)
-                return exchange.replies + await link.ask(exchange.left(link.server))
+                return exchange.whole(await link.ask(exchange.left(link.server)))
             except Restarted:
                 raise
             except NoServer as e:
@@ -189,7 +195,7 @@ class Client(Bound):
         """Logs in on a new connection. A loss there is a loss before any call."""
         try:
             if self._log_in is not None:
-                checked((await link.ask([self._log_in]))[0])
+                all_checked(await link.ask(Lines.of([self._log_in])))
         except ConnectionLost as e:
             raise type(e)("the new connection was lost at the log-in; the calls that need it have not run", False) from e
         except BaseException:
@@ -256,7 +262,7 @@ class Pipeline(LateArrays):
     async def _send(self, calls: List[Tuple[bytes, Later[Any]]]) -> None:
         late = [later for _, later in calls]
         try:
-            replies = await self._client._exchange([line for line, _ in calls], self._is_quiet)
+            replies = await self._client._replies([line for line, _ in calls], self._is_quiet)
         except Closed as e:
             self._lose(late, e)
         except asyncio.CancelledError:

@@ -10,6 +10,7 @@ from typing import Deque, List, Optional, Tuple, Union
 
 from .connection import Address, lost, no_server, server_of
 from .errors import ConnectionLost, JudyError
+from .lines import Lines, cut, joined
 from .many import windows
 
 MOST_LINES = 10000
@@ -19,10 +20,10 @@ MOST_LINES = 10000
 class Window:
     """Lines that are sent together, and the replies that have come."""
 
-    def __init__(self, lines: List[bytes], replies: "asyncio.Future[List[bytes]]") -> None:
-        self.data = b"\n".join(lines) + b"\n"
-        self.missing = len(lines)
-        self.come: List[bytes] = []
+    def __init__(self, lines: Lines, replies: "asyncio.Future[bytes]") -> None:
+        self.data = lines.data()
+        self.missing = lines.count
+        self.come: List[bytes] = []  # the replies, in pieces
         self.replies = replies
         self.sent = 0.0  # when the lines were sent
 
@@ -50,36 +51,56 @@ class Link(asyncio.Protocol):
 
     def data_received(self, data: bytes) -> None:
         self._received = self._loop.time()
-        *replies, self._held = (self._held + data).split(b"\n")
-        for reply in replies:
+        data = self._held + data
+        end = data.rfind(b"\n") + 1
+        self._held = data[end:]
+        self._take(data[:end], data.count(b"\n"))
+
+    def _take(self, replies: bytes, count: int) -> None:
+        """Gives so many replies to the windows that wait for them, and their places to other lines."""
+        if self._waiting and 0 < count <= self._waiting[0].missing:
+            self._give(replies, count)
+            self._leave(count)
+            return
+        each, at = cut(replies), 0
+        while at < count:
             if not self._waiting:
                 self.lose(JudyError("the server sent a reply that nobody waits for"))
                 return
-            window = self._waiting[0]
-            window.come.append(reply)
-            window.missing -= 1
-            if window.missing == 0:
-                self._waiting.popleft()
-                if not window.replies.done():  # its task may be cancelled
-                    window.replies.set_result(window.come)
-        self._leave(len(replies))
+            part = each[at : at + self._waiting[0].missing]
+            self._give(joined(part), len(part))
+            at += len(part)
+        self._leave(count)
+
+    def _give(self, replies: bytes, count: int) -> None:
+        """Gives so many replies to the window that has waited longest."""
+        window = self._waiting[0]
+        window.come.append(replies)
+        window.missing -= count
+        if window.missing == 0:
+            self._waiting.popleft()
+            if not window.replies.done():  # its task may be cancelled
+                window.replies.set_result(b"".join(window.come))
 
     def connection_lost(self, why: Optional[Exception]) -> None:
         self.lose(why or EOFError("the server closed the connection"))
 
-    async def ask(self, lines: List[bytes]) -> List[bytes]:
+    async def ask(self, lines: Lines) -> bytes:
         """The replies to lines. Up to MOST_LINES wait for replies at once; more lines, and those of other
         tasks, wait for their turn. All lines that tasks ask for in one turn of the loop are sent
         together."""
+        if lines.count <= MOST_LINES:
+            await self._place(lines.count)
+            return await self._sent(lines)
         replies: List[bytes] = []
         try:
-            for part in windows(lines, MOST_LINES):
-                await self._place(len(part))
-                replies += await self._sent(part)
+            for part in map(Lines.of, windows(lines.each(), MOST_LINES)):
+                await self._place(part.count)
+                replies.append(await self._sent(part))
         except ConnectionLost as e:
-            e.replies = replies + e.replies
+            e.replies = cut(b"".join(replies)) + e.replies
             raise
-        return replies
+        return b"".join(replies)
 
     async def _place(self, count: int) -> None:
         """Waits until so many more lines may wait for replies."""
@@ -109,7 +130,7 @@ class Link(asyncio.Protocol):
                 self._lines += more
                 turn.set_result(None)
 
-    def _sent(self, lines: List[bytes]) -> "asyncio.Future[List[bytes]]":
+    def _sent(self, lines: Lines) -> "asyncio.Future[bytes]":
         window = Window(lines, self._loop.create_future())
         if not self.is_open:
             window.replies.set_exception(lost(EOFError("it ended at once"), False, self._timeout))
@@ -156,7 +177,7 @@ class Link(asyncio.Protocol):
             for window in windows_of_lines:
                 if not window.replies.done():
                     exception = lost(why, may_have_run, self._timeout)
-                    exception.replies = window.come
+                    exception.replies = cut(b"".join(window.come))
                     window.replies.set_exception(exception)
             windows_of_lines.clear()
         for turn, _ in self._turns:

@@ -9,13 +9,16 @@ None. `K` is the type of keys: int, bytes, or str.
 # mypy: no-warn-return-any
 
 import re
+from binascii import hexlify
+from itertools import chain
 from typing import Any, Callable, Generic, List, Optional, Sequence, Tuple, TypeVar
 
 from .bound import Bound
 from .fields import (
     KEY_LIMIT, MAX, bytes_item_of, bytes_of, count_of, flag, index_of, item_of, key_field, name_field, no_zeros, plain_keys,
-    plain_words, step_field, value_of, value_or_none, word_field,
+    plain_steps, plain_words, step_field, value_of, value_or_none, word_field,
 )  # fmt: skip
+from .lines import FormedLines, Lines
 
 K = TypeVar("K")
 Yes = TypeVar("Yes", covariant=True)
@@ -66,10 +69,10 @@ class Calls(Bound, Generic[Number]):
         """Many keys, as `_form` takes them; None if one of them needs a look of its own."""
         return plain_words(keys)
 
-    def _lines(self, letters: bytes, keys: Sequence[Any]) -> Optional[List[bytes]]:
+    def _lines(self, letters: bytes, keys: Sequence[Any]) -> Optional[Lines]:
         """The lines of a call for many keys, made at once; None if a key needs a look of its own."""
-        formed, line = self._formed(keys), self._line(letters, self._form)
-        return None if formed is None else [line % key for key in formed]
+        formed = self._formed(keys)
+        return None if formed is None else FormedLines(self._line(letters, self._form), formed, len(keys))
 
     def _ask(self, letters: bytes, read: Callable[[bytes], object], *fields: bytes, is_quiet: bool = False) -> Any:
         """The result of a call. It is quiet if nobody looks at the result."""
@@ -174,13 +177,24 @@ class MapCalls(Calls[Number], Generic[K, Yes, Number, Found]):
         as 0, and becomes present. `n` may be negative."""
         return self._add(key, n)
 
-    def _insert_lines(self, entries: Sequence[Any]) -> Optional[List[bytes]]:
+    def _insert_lines(self, entries: Sequence[Any]) -> Optional[Lines]:
         """The lines that store many entries, made at once; None if an entry needs a look of its own."""
-        if not set(map(type, entries)) <= {tuple, list} or set(map(len, entries)) != {2}:
+        return self._pair_lines(b"I", plain_words, entries)
+
+    def _add_lines(self, steps: Sequence[Any]) -> Optional[Lines]:
+        """The lines that add to many keys, made at once; None if a pair needs a look of its own."""
+        return self._pair_lines(b"A", plain_steps, steps)
+
+    def _pair_lines(self, letters: bytes, plain: Callable[[Sequence[Any]], Optional[List[int]]], pairs: Sequence[Any]) -> Optional[Lines]:
+        """The lines of a call for many pairs of a key and a number."""
+        if not set(map(type, pairs)) <= {tuple, list} or set(map(len, pairs)) != {2}:
             return None
-        keys, values = zip(*entries)
-        formed, words, line = self._formed(keys), plain_words(values), self._line(b"I", self._form, b"%d")
-        return None if formed is None or words is None else [line % entry for entry in zip(formed, words)]
+        fields = list(chain.from_iterable(pairs))
+        keys, numbers = self._formed(fields[::2]), plain(fields[1::2])
+        if keys is None or numbers is None:
+            return None
+        fields[::2], fields[1::2] = keys, numbers
+        return FormedLines(self._line(letters, self._form, b"%d"), fields, len(pairs))
 
     def _add(self, key: K, n: int) -> Any:
         return self._put(b"A", value_of, self._key(key), step_field(n))
@@ -242,7 +256,7 @@ class KeyCalls(MapCalls[K, Yes, Number, Found], Generic[K, Yes, Number, Found]):
 
     def _formed(self, keys: Sequence[Any]) -> Optional[List[Any]]:
         plain = self._plain_many(keys)
-        return None if plain is None else [key.hex().encode() for key in plain]
+        return None if plain is None else list(map(hexlify, plain))
 
     def _bound(self, key: Optional[K]) -> Optional[bytes]:
         """The bytes of a key where a walk begins or stops, if there is one."""

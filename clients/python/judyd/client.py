@@ -9,6 +9,7 @@ from .catalogue import Catalogue, listed
 from .connection import Address
 from .errors import checked
 from .fields import Hello, Used, hello_of, name_field, nothing_of, plain_lines, token_field, used_of
+from .lines import Lines, cut
 from .link import Link
 from .maps import JudyHS, JudyL, JudySL
 from .pipeline import Pipeline
@@ -83,10 +84,15 @@ class Arrays(Bound):
         return Pipeline(self, window, raises, is_quiet)
 
     def _ask(self, line: bytes, read: Callable[[bytes], T], is_quiet: bool = False) -> T:
-        (reply,) = self._exchange([line], is_quiet)
+        (reply,) = self._replies([line], is_quiet)
         return read(checked(reply))
 
-    def _exchange(self, lines: List[bytes], is_quiet: bool = False) -> List[bytes]:
+    def _replies(self, lines: List[bytes], is_quiet: bool = False) -> List[bytes]:
+        """The replies to lines."""
+        return cut(self._exchange(Lines.of(lines), is_quiet)) if lines else []
+
+    def _exchange(self, lines: Lines, is_quiet: bool = False) -> bytes:
+        """The replies to lines, each with its LF."""
         raise NotImplementedError
 
     def _held(self) -> ContextManager[None]:
@@ -156,15 +162,16 @@ class Client(Arrays):
         ends the connection: lines after it have no reply, and raise ConnectionLost."""
         plain = plain_lines(lines)
         with self._held():
-            replies = self._exchange(plain)
+            replies = self._replies(plain)
             for line, reply in zip(plain, replies):
-                self._note_log_in(line, reply)
+                if b"AUTH" in line:
+                    self._note_log_in(line, reply)
         return replies
 
     def quit(self) -> None:
         """Sends QUIT, and closes."""
         try:
-            self._exchange([b"QUIT"])
+            self._replies([b"QUIT"])
         finally:
             self.close()
 
@@ -175,7 +182,7 @@ class Client(Arrays):
     def _log_in(self, line: bytes) -> bytes:
         """The reply to a log-in, which is repeated on each new connection."""
         with self._held():
-            (reply,) = self._exchange([line])
+            (reply,) = self._replies([line])
             self._note_log_in(line, reply)
         return reply
 
@@ -189,8 +196,8 @@ class Client(Arrays):
     def _server(self) -> object:
         return self._link.server()
 
-    def _exchange(self, lines: List[bytes], is_quiet: bool = False) -> List[bytes]:
-        return self._link.exchange(lines, rule_of(self._retry, is_quiet)) if lines else []
+    def _exchange(self, lines: Lines, is_quiet: bool = False) -> bytes:
+        return self._link.exchange(lines, rule_of(self._retry, is_quiet))
 
 
 class Visitor(Arrays):
@@ -224,7 +231,7 @@ class Visitor(Arrays):
     def _server(self) -> object:
         return self._latest
 
-    def _exchange(self, lines: List[bytes], is_quiet: bool = False) -> List[bytes]:
+    def _exchange(self, lines: Lines, is_quiet: bool = False) -> bytes:
         if self._client is None:
             self._client = self._open()
         try:

@@ -6,9 +6,10 @@ import socket
 import ssl
 import struct
 import time
-from typing import Callable, List, Optional, Sequence, Tuple, Union
+from typing import Callable, List, Optional, Tuple, Union
 
 from .errors import Closed, ConnectionLost, NoServer, Restarted, TimedOut
+from .lines import Lines, cut
 
 Address = Union[str, bytes, "os.PathLike[str]", "os.PathLike[bytes]", Tuple[str, int]]
 """The path of a socket, or a host and a port."""
@@ -25,6 +26,7 @@ class Connection:
         self._timeout = timeout
         self._pieces: List[bytes] = []
         self._sent = 0  # bytes of the exchange that were sent
+        self._is_local = not isinstance(address, tuple)  # a write to a server that has ended fails at once
         self._sock: Optional[socket.socket] = None
         self.is_open = True  # it was not closed here
         self.server: Optional[int] = None
@@ -48,49 +50,72 @@ class Connection:
         server that has ended the connection has sent its end."""
         return self._sock is not None and not select.select([self._sock], [], [], 0)[0]
 
-    def exchange(self, lines: Sequence[bytes]) -> List[bytes]:
-        """Sends lines and reads as many replies. It reads while it writes, so neither side ever
-        waits for the other to read, however many lines there are. If the connection is lost, the
-        exception has the replies that came."""
+    def exchange(self, lines: Lines) -> bytes:
+        """Sends lines and reads as many replies. Where the buffers take all lines at once, it then
+        only reads. Otherwise it reads while it writes, so neither side ever waits for the other to
+        read, however many lines there are. If the connection is lost, the exception has the replies
+        that came."""
         if self._sock is None:
             raise Closed("the connection is closed")
-        data = b"\n".join(lines) + b"\n"
+        missing = lines.count - sum(piece.count(b"\n") for piece in self._pieces)
         self._sent = 0
         try:
-            if len(lines) == 1:
-                self._sock.sendall(data)
-                self._sent = len(data)
-                self._wait_for_one(self._sock)
+            if (lines.count == 1 or self._is_local) and self._send_at_once(self._sock, lines):
+                self._read(self._sock, missing)
             else:
-                self._exchange_many(self._sock, data, len(lines))
-            *replies, held = b"".join(self._pieces).split(b"\n", len(lines))
-            self._pieces = [held] if held else []
-            return replies
+                self._exchange_both_ways(self._sock, memoryview(lines.data())[self._sent :], missing)
+            return self._replies(lines.count)
         except (OSError, EOFError) as e:
-            raise self._lost(e, data) from e
+            raise self._lost(e, lines.data()) from e
         except BaseException:
             self.close()  # interrupted: the next bytes would answer another line
             raise
 
+    def _replies(self, count: int) -> bytes:
+        """So many replies of those that came. What came after them is held."""
+        data = b"".join(self._pieces)
+        self._pieces = []
+        if not data.endswith(b"\n") or data.count(b"\n") > count:
+            held = data.split(b"\n", count)[count]
+            self._pieces = [held]
+            data = data[: len(data) - len(held)]
+        return data
+
     def _lost(self, why: Exception, data: bytes) -> ConnectionLost:
         """The exception for an exchange that failed. A line has run only if its LF was sent."""
         self.close()
-        replies = b"".join(self._pieces).split(b"\n")[:-1]
+        replies = cut(b"".join(self._pieces))
         exception = lost(why, data.count(b"\n", 0, self._sent) > len(replies), self._timeout)
         exception.replies = replies
         return exception
 
-    def _wait_for_one(self, sock: socket.socket) -> None:
-        piece = b"".join(self._pieces)
-        while b"\n" not in piece:
+    def _send_at_once(self, sock: socket.socket, lines: Lines) -> bool:
+        """Sends what the socket's buffers take without a wait. Returns whether that is all."""
+        try:
+            for piece in lines.pieces():
+                sent = sock.send(piece, socket.MSG_DONTWAIT) if self._is_local else sock.send(piece)
+                self._sent += sent
+                if sent < len(piece):
+                    return False
+            return True
+        except _BUSY:
+            return False
+        except OSError:
+            sock.setblocking(False)
+            self._take(sock, lines.count)  # the replies that came before the end
+            raise
+
+    def _read(self, sock: socket.socket, missing: int) -> None:
+        """Waits for the missing replies, once all lines are sent."""
+        while missing > 0:
             piece = sock.recv(_PIECE)
             if not piece:
                 raise EOFError("the server closed the connection")
             self._pieces.append(piece)
+            missing -= piece.count(b"\n")
 
-    def _exchange_many(self, sock: socket.socket, data: bytes, count: int) -> None:
-        left = memoryview(data)
-        missing = count - sum(piece.count(b"\n") for piece in self._pieces)
+    def _exchange_both_ways(self, sock: socket.socket, left: memoryview, missing: int) -> None:
+        """Sends the rest of the lines, and reads meanwhile."""
         sock.setblocking(False)
         try:
             while True:

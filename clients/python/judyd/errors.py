@@ -3,6 +3,8 @@ server refuses a call."""
 
 from typing import Dict, List, Sequence, Type
 
+from .lines import cut
+
 __all__ = [
     "JudyError", "Error", "Closed", "NoServer", "ConnectionLost", "TimedOut", "Restarted",
     "PoolEmpty", "Refused", "Full", "NoMemory", "ReadOnly", "Frozen", "NotAuthorized", "TooManyClients", "Syntax", "Long", "KeyTooLong",
@@ -145,11 +147,10 @@ def refusal_of(reply: bytes) -> Refused:
     return REFUSALS.get(reply, Refused)(reply.decode("ascii", "replace"))
 
 
-def all_checked(replies: List[bytes]) -> List[bytes]:
-    """The replies. The first refusal among them raises its exception."""
-    joined = b"\n".join(replies)
-    if b"ERR " in joined or b"FULL" in joined:
-        for reply in filter(is_refusal, replies):
+def all_checked(replies: bytes) -> bytes:
+    """These replies, each with its LF. The first refusal among them raises its exception."""
+    if b"ERR " in replies or b"FULL" in replies:
+        for reply in filter(is_refusal, cut(replies)):
             raise refusal_of(reply)
     return replies
 

@@ -5,6 +5,7 @@ import re
 from typing import Any, Iterable, List, NamedTuple, Optional, Sequence, SupportsIndex, Tuple
 
 from .errors import JudyError, KeyTooLong
+from .lines import cut
 
 MAX = 2**64 - 1
 """The greatest word."""
@@ -13,6 +14,7 @@ KEY_LIMIT = 1000
 LINE_LIMIT = 4096
 _NAME = re.compile(r"[A-Za-z0-9_.-]{1,32}\Z")
 _TOKEN = re.compile(r"[!-~]{1,128}\Z")
+_FLAGS = bytes.maketrans(b"01", b"\0\1")
 _HELLO = re.compile(rb"JUDYD (\d+) line (\d+) reply (\d+) name (\d+) token (\d+) key (\d+)(?: .*)?\Z")
 
 
@@ -76,6 +78,8 @@ def word_of(word: SupportsIndex) -> int:
 
 def word_field(word: SupportsIndex) -> bytes:
     """A word, in decimal digits."""
+    if type(word) is int and 0 <= word <= MAX:
+        return b"%d" % word
     return b"%d" % word_of(word)
 
 
@@ -92,11 +96,22 @@ def is_word(thing: Any) -> bool:
 
 def plain_words(things: Sequence[Any]) -> Optional[List[int]]:
     """Many words, checked at once; None if one of the things is no word."""
+    return _plain_numbers(things, 0)
+
+
+def plain_steps(things: Sequence[Any]) -> Optional[List[int]]:
+    """What many additions add, modulo 2^64, checked at once; None if one of the things is no step."""
+    steps = _plain_numbers(things, -MAX)
+    return steps if steps is None or min(steps, default=0) >= 0 else [step % (MAX + 1) for step in steps]
+
+
+def _plain_numbers(things: Sequence[Any], low: int) -> Optional[List[int]]:
+    """Many ints from `low` to MAX, checked at once; None if one of the things is none."""
     try:
-        words = list(map(operator.index, things))
-    except Exception:  # `word_of` raises what there is to say of it
+        numbers = list(map(operator.index, things))
+    except Exception:  # `_number` raises what there is to say of it
         return None
-    return words if min(words, default=0) >= 0 and max(words, default=0) <= MAX else None
+    return numbers if min(numbers, default=0) >= low and max(numbers, default=0) <= MAX else None
 
 
 def step_field(step: SupportsIndex) -> bytes:
@@ -155,11 +170,11 @@ def no_zeros(plain: bytes) -> bytes:
 def plain_lines(lines: Iterable[bytes]) -> List[bytes]:
     """Lines that are sent as they are."""
     is_one_line = isinstance(lines, (str, bytes, bytearray, memoryview))
-    plain = [] if is_one_line else list(lines)
-    if is_one_line or not all(isinstance(line, (bytes, bytearray, memoryview)) for line in plain):
+    given = [] if is_one_line else list(lines)
+    if is_one_line or not all(issubclass(kind, (bytes, bytearray, memoryview)) for kind in set(map(type, given))):
         raise TypeError("lines are a list, and each line is bytes")
-    plain = [bytes(line) for line in plain]
-    if any(b"\n" in line for line in plain):
+    plain = list(map(bytes, given))
+    if b"\n" in b"".join(plain):
         raise ValueError("a line has no LF in it")
     return plain
 
@@ -198,6 +213,31 @@ def value_of(reply: bytes) -> int:
 def value_or_none(reply: bytes) -> Optional[int]:
     """A value, or None."""
     return None if reply == b"NULL" else value_of(reply)
+
+
+def flags_of(replies: bytes) -> Iterable[int]:
+    """Yes or no, 1 or 0, of each of these replies."""
+    digits = replies[::2]
+    if replies[1::2] == b"\n" * len(digits) and not digits.strip(b"01"):
+        return digits.translate(_FLAGS)
+    return map(flag, cut(replies))
+
+
+def numbers_of(replies: bytes) -> List[int]:
+    """The value of each of these replies, none of which is that there is none."""
+    values = list(values_of(replies))
+    if None in values:
+        raise JudyError("no such answer: %r" % b"NULL")
+    return values  # type: ignore[return-value]  # no item is None
+
+
+def values_of(replies: bytes) -> Iterable[Optional[int]]:
+    """The value of each of these replies, or None."""
+    digits = replies.replace(b"NULL\n", b"V -\n")[2:-1].split(b"\nV ")
+    is_plain = replies[:2] in (b"V ", b"NU") and b"-" not in replies and not b"".join(digits).strip(b"-0123456789")
+    if not is_plain or b"" in digits:
+        return map(value_or_none, cut(replies))
+    return [None if it == b"-" else int(it) for it in digits] if b"NULL" in replies else list(map(int, digits))
 
 
 def index_of(reply: bytes) -> Optional[int]:

@@ -5,11 +5,12 @@ import ssl
 import threading
 import time
 from contextlib import contextmanager
-from typing import Callable, Iterator, List, Optional
+from typing import Callable, Iterator, Optional
 from weakref import WeakSet
 
 from .connection import Address, Connection, checked_address, checked_timeout, place_of
-from .errors import Closed, ConnectionLost, JudyError, NoServer, Restarted, checked
+from .errors import Closed, ConnectionLost, JudyError, NoServer, Restarted, all_checked
+from .lines import Lines
 from .retry import LOGGER, TRIES, Exchange, tenant_of
 
 
@@ -69,7 +70,7 @@ class Link:
         """Whether there is a connection, on which nothing has come since the last reply."""
         return not self._is_closed and self.connection is not None and self.connection.is_idle()
 
-    def exchange(self, lines: List[bytes], may_repeat: Callable[[bytes], bool]) -> List[bytes]:
+    def exchange(self, lines: Lines, may_repeat: Callable[[bytes], bool]) -> bytes:
         """The replies to lines. If the connection is lost, the lines without a reply are sent again
         if each of them may be repeated."""
         if self._process != os.getpid():
@@ -83,14 +84,14 @@ class Link:
             finally:
                 self._is_busy = False
 
-    def _exchange(self, lines: List[bytes], may_repeat: Callable[[bytes], bool]) -> List[bytes]:
+    def _exchange(self, lines: Lines, may_repeat: Callable[[bytes], bool]) -> bytes:
         exchange = Exchange(lines, may_repeat)
         for at in range(TRIES):
             try:
                 connection = self.connection
                 if connection is None or not connection.is_open:
                     connection = self._opened(at)
-                return exchange.replies + connection.exchange(exchange.left(self._server))
+                return exchange.whole(connection.exchange(exchange.left(self._server)))
             except Restarted:
                 raise
             except NoServer as e:
@@ -124,7 +125,7 @@ class Link:
         if self.log_in is None:
             return
         try:
-            checked(connection.exchange([self.log_in])[0])
+            all_checked(connection.exchange(Lines.of([self.log_in])))
         except ConnectionLost as e:
             raise type(e)("the new connection was lost at the log-in; the calls that need it have not run", False) from e
 

@@ -4,9 +4,11 @@ import operator
 from itertools import islice
 from typing import Any, Callable, Generic, Iterable, Iterator, List, Optional, Sequence, Tuple, TypeVar, Union, overload
 
+from .calls import given
 from .connection import SameServer
 from .errors import all_checked
 from .fields import MAX, stop_of, word_of
+from .lines import Lines, joined
 from .walks import RankedWalk, walked
 
 T = TypeVar("T")
@@ -27,15 +29,41 @@ def windows(things: Iterable[T], size: int = WINDOW) -> Iterator[List[T]]:
         yield window
 
 
+def pairs_of(entries: Any) -> Iterable[Tuple[Any, int]]:
+    """The pairs of a mapping, or pairs that are given as such."""
+    pairs: Iterable[Tuple[Any, int]] = entries.items() if hasattr(entries, "items") else entries
+    return pairs
+
+
+def insert_entry(calls: Any, entry: Tuple[Any, int]) -> Any:
+    """Stores an entry with the calls of a map."""
+    key, value = entry
+    return calls.insert(key, given(value))
+
+
+def add_step(calls: Any, step: Tuple[Any, int]) -> Any:
+    """Adds to the value of a key with the calls of a map."""
+    key, n = step
+    return calls.add(key, n)
+
+
+def get_key(calls: Any, key: Any) -> Any:
+    """The later value of a key, with the calls of a pipeline; None for a key out of range."""
+    try:
+        return calls.get(key)
+    except ValueError:
+        return None
+
+
 class Many:
     """Calls of an array for many things, with many lines in flight at once."""
 
     _asker: Any
 
     def _many(
-        self, things: Iterable[T], lines_of: Callable[[List[T]], Optional[List[bytes]]], call: Callable[[Any, T], Any],
+        self, things: Iterable[T], lines_of: Callable[[List[T]], Optional[Lines]], call: Callable[[Any, T], Any],
         is_quiet: bool = False,
-    ) -> Iterator[Tuple[List[T], List[bytes]]]:  # fmt: skip
+    ) -> Iterator[Tuple[List[T], bytes]]:  # fmt: skip
         """These things in windows, each with the replies to its calls. A refusal is raised after the
         window that has it. The calls are quiet if nobody looks at their results.
 
@@ -52,12 +80,12 @@ class Many:
             same.check()
             yield window, replies
 
-    def _piped(self, window: List[T], call: Callable[[Any, T], Any], is_quiet: bool) -> List[bytes]:
+    def _piped(self, window: List[T], call: Callable[[Any, T], Any], is_quiet: bool) -> bytes:
         """The replies to the calls of these things. If one of them raises an exception, nothing is sent."""
         with self._asker.pipeline(None, is_quiet=is_quiet) as pipe:
             calls = self._in(pipe)
             late = [call(calls, thing) for thing in window]
-        return [ABSENT if it is None else it._reply for it in late]
+        return joined([ABSENT if it is None else it._reply for it in late])
 
     def _in(self, pipe: Any) -> Any:
         """The calls of this array in a pipeline."""
@@ -157,7 +185,7 @@ class Ranked(Generic[T]):
         found: List[T] = []
         same = SameServer(self._asker._server)
         for window in windows(ranks):
-            found += [entry for entry in self._read(self._asker._exchange([line % (rank + 1) for rank in window])) if entry is not None]
+            found += [entry for entry in self._read(self._asker._replies([line % (rank + 1) for rank in window])) if entry is not None]
             same.check()
         return found
 

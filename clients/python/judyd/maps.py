@@ -10,8 +10,8 @@ from weakref import ReferenceType, ref
 
 from .calls import JudyHSCalls, JudyLCalls, JudySLCalls, MapCalls, given
 from .catalogue import keys_of
-from .fields import MAX, flag, value_or_none
-from .many import Many, Ranked
+from .fields import MAX, flags_of, numbers_of, values_of
+from .many import Many, Ranked, add_step, get_key, insert_entry, pairs_of
 from .strings import Item, Listing, StringWalk
 from .walks import Steps, items_of, walked
 
@@ -160,15 +160,8 @@ class MapBase(Many, MapCalls[K, bool, int, Optional[int]], Generic[K]):
     def get_many(self, keys: Iterable[K]) -> Iterator[Tuple[K, Optional[int]]]:
         """Each of these keys with its value, or with None, with many lines in flight at once. A key
         that is out of range is absent."""
-        for window, replies in self._many(keys, partial(self._lines, b"G"), self._get_late):
-            yield from zip(window, map(value_or_none, replies))
-
-    def _get_late(self, calls: Any, key: K) -> Any:
-        """The later value of a key, with the calls of a pipeline; None for a key out of range."""
-        try:
-            return calls.get(key)
-        except ValueError:
-            return None
+        for window, replies in self._many(keys, partial(self._lines, b"G"), get_key):
+            yield from zip(window, values_of(replies))
 
     def clear(self) -> None:
         """Empties the array (FreeArray)."""
@@ -176,22 +169,25 @@ class MapBase(Many, MapCalls[K, bool, int, Optional[int]], Generic[K]):
 
     def update(self, entries: Union[Mapping[K, int], Iterable[Tuple[K, int]]] = (), /, **more: int) -> None:
         """Stores all of these entries, with many lines in flight at once. A refusal is raised after
-        the window that has it."""
-        items: Iterable[Tuple[Any, int]] = entries.items() if hasattr(entries, "items") else entries
-        for _ in self._many((*items, *more.items()) if more else items, self._insert_lines, _insert, is_quiet=True):
+        the window that has it: all other entries of that window and of those before are stored."""
+        pairs = pairs_of(entries)
+        for _ in self._many((*pairs, *more.items()) if more else pairs, self._insert_lines, insert_entry, is_quiet=True):
             pass
+
+    def add_many(self, steps: Union[Mapping[K, int], Iterable[Tuple[K, int]]]) -> List[int]:
+        """Adds to the values of many keys, pairs of a key and what is added to it, with many lines in
+        flight at once. Returns the new values, in the order given. A refusal is raised after the window
+        that has it: all other additions of that window and of those before are made."""
+        values: List[int] = []
+        for _, replies in self._many(pairs_of(steps), self._add_lines, add_step):
+            values += numbers_of(replies)
+        return values
 
     def delete_many(self, keys: Iterable[K]) -> int:
         """Removes all of these keys, with many lines in flight at once, and returns how many were
         present."""
         found = self._many(keys, partial(self._lines, b"D"), lambda calls, key: calls.delete(key))
-        return sum(flag(reply) for _, replies in found for reply in replies)
-
-
-def _insert(calls: Any, entry: Tuple[Any, int]) -> Any:
-    """Stores an entry with the calls of a map."""
-    key, value = entry
-    return calls.insert(key, given(value))
+        return sum(sum(flags_of(replies)) for _, replies in found)
 
 
 class WalkedMap(MapBase[K], MutableMapping[K, int]):  # type: ignore[misc]

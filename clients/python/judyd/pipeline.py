@@ -69,7 +69,7 @@ class Pipeline(LateArrays):
 
     def _send(self, lines: List[bytes], late: List[Later[Any]]) -> None:
         try:
-            replies = self._client._exchange(lines, self._is_quiet)
+            replies = self._client._replies(lines, self._is_quiet)
         except Closed as e:
             replies = e.replies if isinstance(e, ConnectionLost) else []
             for later in late[len(replies) :]:

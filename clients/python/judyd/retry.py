@@ -6,6 +6,7 @@ from typing import Callable, List, NoReturn, Optional
 
 from .calls import is_query, is_same_twice
 from .errors import ConnectionLost, NoServer, Restarted, TimedOut
+from .lines import Lines, joined
 
 LOGGER = logging.getLogger("judyd")
 """It tells of new connections and of repeated calls, at the level INFO."""
@@ -64,19 +65,26 @@ class Exchange:
     """Lines and their replies, over one connection, or over several if one is lost and the lines
     without a reply may be sent again."""
 
-    def __init__(self, lines: List[bytes], may_repeat: Callable[[bytes], bool]) -> None:
-        self.replies: List[bytes] = []
+    def __init__(self, lines: Lines, may_repeat: Callable[[bytes], bool]) -> None:
+        self.replies: List[bytes] = []  # that came over a connection before it was lost
         self._lines = lines
         self._may_repeat = may_repeat
         self._lost: Optional[ConnectionLost] = None
         self._server: object = None
 
-    def left(self, server: object) -> List[bytes]:
+    def left(self, server: object) -> Lines:
         """The lines for a server. Raises Restarted if another one has answered the first of them."""
         if self.replies and server != self._server:
             raise Restarted(self.replies)
         self._server = server
-        return self._lines[len(self.replies) :] if self.replies else self._lines
+        return Lines.of(self._unanswered()) if self.replies else self._lines
+
+    def whole(self, replies: bytes) -> bytes:
+        """The replies to all lines. Those to the lines that were left are given."""
+        return joined(self.replies) + replies if self.replies else replies
+
+    def _unanswered(self) -> List[bytes]:
+        return self._lines.each()[len(self.replies) :]
 
     def raise_no_server(self, why: NoServer) -> NoReturn:
         """Raises what there is to say if there is no next connection."""
@@ -94,7 +102,7 @@ class Exchange:
             before.replies = lost.replies
         else:
             self._lost = lost
-        left = self._lines[len(self.replies) :]
+        left = self._unanswered()
         is_safe = not lost.may_have_run or all(map(self._may_repeat, left))
         if not reconnect or isinstance(lost, TimedOut) or not is_safe:
             self.raise_lost(lost)

@@ -5,7 +5,7 @@ from itertools import compress
 from typing import Any, Iterable, Iterator, List, MutableSet, Optional, Set
 
 from .calls import Judy1Calls
-from .fields import MAX, flag, is_word, word_field
+from .fields import MAX, flag, flags_of, is_word, word_field
 from .many import Many, Ranked
 from .walks import indexes_of
 
@@ -101,7 +101,7 @@ class Judy1(Ranked[int], Many, Judy1Calls[bool, int, Optional[int]], MutableSet[
         """Those of these indexes that are in the set, in the order given, with many lines in flight
         at once."""
         for window, replies in self._many(filter(is_word, indexes), partial(self._lines, b"T"), lambda calls, index: calls.test(index)):
-            yield from compress(window, map(flag, replies))
+            yield from compress(window, flags_of(replies))
 
     def _in(self, pipe: Any) -> Any:
         return pipe.judy1(self.name)

@@ -259,8 +259,9 @@ def present(wire: Wire, name: str, keys: Iterable[bytes]) -> Iterator[Block]:
     """The entries of those of these keys that a JudyHS has, in blocks of lines. A key is its field."""
     left = iter(keys)
     while some := list(islice(left, WIDTH * 10)):
-        replies = _asked(wire, b"JHSG %b " % name.encode(), some).splitlines()
+        given = _asked(wire, b"JHSG %b " % name.encode(), some)
+        replies = given.splitlines()
         entries = [key + reply[1:] for key, reply in zip(some, replies) if reply[:2] == b"V "]
         if len(entries) + replies.count(b"NULL") != len(some):
-            raise Error("no such reply: %r" % next(reply for reply in all_checked(replies) if reply[:2] != b"V " and reply != b"NULL"))
+            raise Error("no such reply: %r" % next(reply for reply in all_checked(given).splitlines() if reply[:2] != b"V " and reply != b"NULL"))
         yield _joined(b"JHSI %b " % name.encode(), entries)

@@ -41,7 +41,7 @@ def walked(steps: Steps[T], asker: Any) -> Iterator[T]:
         while True:
             step = steps.send(replies) if replies else next(steps)
             if isinstance(step, Ask):
-                replies = asker._exchange(step)
+                replies = asker._replies(step)
                 same.check()
             else:
                 replies = []
