@@ -51,10 +51,10 @@ WAY = [
 # What a start with a journal does, in its order: with what, and what becomes of it. It waits for no client before the sockets.
 START = [
     ("the table", "is read, and the memory of --reserve is taken", PALE),
-    ("the directory", "is taken: no second server; a compaction is waited for", SAND),
+    ("the directory", "is taken: no second server; the files of its manifest are there", SAND),
     ("the snapshot, the segments", "are read, and each record is played, without quotas", SAND),
     ("the quotas of the table", "are put in force; a tenant that holds more: status 3", GREEN),
-    ("the last segment", "loses a torn end, and is opened; or the next one begins", SAND),
+    ("the last segment", "is written anew without a torn end; or the next one begins", SAND),
     ("the sockets", "are made, and the clients that waited connect", PALE),
     ("the first round", "answers", PALE),
 ]
@@ -64,7 +64,7 @@ START = [
 LEFT = [
     ("A's disk is left", ("B gets A's table and journal", "the journal's files: user judyd", "start judyd: it plays the journal", "clients or haproxy: B's address"), ("There: all that was synced,", "with --sync round all answered"), GREEN),
     ("a copy of the journal is left", ("B gets A's table and the copy", "the journal's files: user judyd", "start judyd: it plays the copy", "clients or haproxy: B's address"), ("There: all up to the copy.", "Lost: what was answered since"), SAND),
-    ("the dumps are left", ("B gets A's table, no journal", "start judyd: no arrays yet", "judy restore, tenant by tenant", "clients or haproxy: B's address"), ("There: the arrays of each dump.", "Lost: what was answered since"), SAND),
+    ("the dumps are left", ("B gets A's table, a new journal", "start judyd: no arrays yet", "judy restore, tenant by tenant", "clients or haproxy: B's address"), ("There: the arrays of each dump.", "Lost: what was answered since"), SAND),
 ]  # fmt: skip
 
 
