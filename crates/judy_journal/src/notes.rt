@@ -154,13 +154,7 @@ fn larger(a: Option<u64>, b: Option<u64>) -> Option<u64>
     match (a, b) {
         (None, b) => b,
         (a, None) => a,
-        (Some(a), Some(b)) => {
-            if a <= b {
-                Some(b)
-            } else {
-                Some(a)
-            }
-        }
+        (Some(a), Some(b)) => { if a <= b { Some(b) } else { Some(a) } }
     }
 }
 

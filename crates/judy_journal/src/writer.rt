@@ -140,7 +140,7 @@ impl Writer {
         requires short { length note.now ≤ NOTE_ROOM }
         requires lines { lines ≡ length (lines_of note.now) }
         requires records { IsTrue (list_all is_record (lines_of note.now)) }
-        ensures ended { self.new ≡ ended (record self.old { records = self.old.records ++ lines_of note.now; }) }
+        ensures ended { self.new ≡ ended (record self.old { records = self.old.records ++ lines_of note.now }) }
         ensures commit { IsTrue (is_commit (self.old.records ++ lines_of note.now)) }
     {
         let body = self.body.as_slice();

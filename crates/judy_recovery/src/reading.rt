@@ -14,8 +14,8 @@ use crate::sources::FileReads;
 use itoa::Buffer;
 use judy_disk::{DiskFault, Folder, Found, Place};
 use judy_journal::{
-    Damage, HEADER, LAST_SEGMENT, LINE_ROOM, Notes, Position, Recovery, SNAPSHOT, SUM_LEN, snapshot_sum,
-    what_is_recovered_is_found, what_is_recovered_is_whole,
+    Damage, HEADER, LAST_SEGMENT, LINE_ROOM, Notes, Position, Recovery, SNAPSHOT, SUM_LEN,
+    snapshot_sum, what_is_recovered_is_found, what_is_recovered_is_whole,
 };
 use judy_protocol::cut_line;
 use std::alloc::Global;

@@ -21,12 +21,12 @@ pub returns-then-begins_note : goal.returns-then-begins_note
 returns-then-begins_note c =
     ap (λ b. if b then lines_of c.split_at-2.result.0.now else lines_of c.args.records.now) (sym c.if-begins_note.true)
     ∙ its_changes c.args.records.now c.split_at.result.0.now c.split_at-2.result.0.now c.split_at-2.result.1.now c.start_of_last.result c.begins_note.result
-        c.requires (some_bytes c.args.records.now (sym c.is_empty.ensures ∙ c.if-is_empty.false)) c.split_at.ensures.front c.start_of_last.ensures.bound
-        (record { front = c.start_of_last.ensures.front; last = c.start_of_last.ensures.last }) c.split_at-2.ensures.front c.split_at-2.ensures.back c.begins_note.ensures
+    c.requires (some_bytes c.args.records.now (sym c.is_empty.ensures ∙ c.if-is_empty.false)) c.split_at.ensures.front c.start_of_last.ensures.bound
+    (record { front = c.start_of_last.ensures.front; last = c.start_of_last.ensures.last }) c.split_at-2.ensures.front c.split_at-2.ensures.back c.begins_note.ensures
 
 pub returns : goal.returns
 returns c =
     ap (λ b. if b then lines_of c.split_at-2.result.0.now else lines_of c.args.records.now) (sym c.if-begins_note.false)
     ∙ its_changes c.args.records.now c.split_at.result.0.now c.split_at-2.result.0.now c.split_at-2.result.1.now c.start_of_last.result c.begins_note.result
-        c.requires (some_bytes c.args.records.now (sym c.is_empty.ensures ∙ c.if-is_empty.false)) c.split_at.ensures.front c.start_of_last.ensures.bound
-        (record { front = c.start_of_last.ensures.front; last = c.start_of_last.ensures.last }) c.split_at-2.ensures.front c.split_at-2.ensures.back c.begins_note.ensures
+    c.requires (some_bytes c.args.records.now (sym c.is_empty.ensures ∙ c.if-is_empty.false)) c.split_at.ensures.front c.start_of_last.ensures.bound
+    (record { front = c.start_of_last.ensures.front; last = c.start_of_last.ensures.last }) c.split_at-2.ensures.front c.split_at-2.ensures.back c.begins_note.ensures
