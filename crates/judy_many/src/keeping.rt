@@ -243,12 +243,6 @@ impl Keeper {
         if !keep_commit(network, writer, &mut self.clean) {
             return false;
         }
-        sync_if_due(
-            network,
-            writer,
-            self.rule,
-            &mut self.clean,
-            &mut self.since,
-        )
+        sync_if_due(network, writer, self.rule, &mut self.clean, &mut self.since)
     }
 }
