@@ -6,7 +6,8 @@ usage: bench/client.py [--beside FOLDER] [--program JUDYD] [--rounds N] [--entri
 Without --program a stand-in is the server: a process that answers each line at once, with the reply of an
 empty array, and reads at most 4,096 bytes at once, as judyd does. So what is measured is the client. With
 --beside a second client, of another folder like clients/python, runs each load in turn with the first one.
-Each run is a process of its own. The table has the least CPU time of all rounds, and the greatest rate.
+Each run is a process of its own, which does its load several times. The table has the least CPU time of all,
+and the greatest rate.
 """
 
 import argparse
@@ -25,6 +26,7 @@ import time
 HERE = os.path.dirname(os.path.abspath(__file__))
 CLIENT = os.path.join(HERE, "..", "clients", "python")
 TABLE = '[alice]\nsha256 = "%s"\nquota = 16000000\n' % hashlib.sha256(b"abc").hexdigest()
+TIMES = 7  # how often a run does its load
 FEW = ("pipe-1", "pipe-10", "lines-10", "aio-gather")  # a tenth of the entries
 NAMES = {  # of the loads
     "judy1": "Judy1 `update`",
@@ -158,27 +160,44 @@ def clocks():
     return time.perf_counter(), time.process_time()
 
 
+class Least:
+    """The least wall time and CPU time of a job that is done several times."""
+
+    def __init__(self):
+        self.times = []
+
+    def __iter__(self):
+        for _ in range(TIMES):
+            before = clocks()
+            yield
+            self.times.append([now - then for now, then in zip(clocks(), before)])
+
+    def found(self):
+        """Both times, in seconds."""
+        return list(map(min, zip(*self.times)))
+
+
 def measured(path, load, count):
-    """The seconds of wall time and of CPU time that a load takes."""
+    """The least seconds of wall time and of CPU time that a load takes."""
     import judyd
     from judyd import aio
 
-    things = Things(count)
+    things, least = Things(count), Least()
     gc.freeze()
     if not load.startswith("aio-"):
         with judyd.Client(path).auth("alice", "abc") as client:
             job = jobs_of(client, things)[load]
-            before = clocks()
-            job()
-            return [now - then for now, then in zip(clocks(), before)]
+            for _ in least:
+                job()
+        return least.found()
 
     async def timed():
         async with aio.Client(path) as client:
             await client.auth("alice", "abc")
             job = tasks_of(client, things)[load]
-            before = clocks()
-            await job()
-            return [now - then for now, then in zip(clocks(), before)]
+            for _ in least:
+                await job()
+        return least.found()
 
     return asyncio.run(timed())
 
@@ -223,7 +242,7 @@ def main():
     parser.add_argument("--beside", metavar="FOLDER", help="another client, which runs first in each turn")
     parser.add_argument("--program", metavar="JUDYD", help="a judyd that serves, in the place of the stand-in")
     parser.add_argument("--rounds", type=int, default=7, help="runs of each load")
-    parser.add_argument("--entries", type=int, default=100000, help="entries of a run")
+    parser.add_argument("--entries", type=int, default=20000, help="entries of a load")
     parser.add_argument("--one", metavar="PATH", help=argparse.SUPPRESS)
     parser.add_argument("loads", nargs="*", metavar="LOAD", help=", ".join(NAMES))
     options = parser.parse_args()

@@ -84,8 +84,7 @@ class Arrays(Bound):
         return Pipeline(self, window, raises, is_quiet)
 
     def _ask(self, line: bytes, read: Callable[[bytes], T], is_quiet: bool = False) -> T:
-        (reply,) = self._replies([line], is_quiet)
-        return read(checked(reply))
+        return read(checked(self._exchange(Lines(line + b"\n", 1), is_quiet)[:-1]))
 
     def _replies(self, lines: List[bytes], is_quiet: bool = False) -> List[bytes]:
         """The replies to lines."""

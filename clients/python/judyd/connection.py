@@ -57,7 +57,7 @@ class Connection:
         that came."""
         if self._sock is None:
             raise Closed("the connection is closed")
-        missing = lines.count - sum(piece.count(b"\n") for piece in self._pieces)
+        missing = lines.count - (b"".join(self._pieces).count(b"\n") if self._pieces else 0)
         self._sent = 0
         try:
             if (lines.count == 1 or self._is_local) and self._send_at_once(self._sock, lines):
