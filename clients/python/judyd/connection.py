@@ -90,7 +90,11 @@ class Connection:
         return exception
 
     def _send_at_once(self, sock: socket.socket, lines: Lines) -> bool:
-        """Sends what the socket's buffers take without a wait. Returns whether that is all."""
+        """Sends one line, or what the socket's buffers take without a wait. Returns whether that is all."""
+        if lines.count == 1:  # a server reads a line to its end before it replies
+            sock.sendall(lines.data())
+            self._sent = len(lines.data())
+            return True
         sock.setblocking(False)
         try:
             for piece in lines.pieces():
