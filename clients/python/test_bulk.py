@@ -85,6 +85,14 @@ class Pieces(unittest.TestCase):
             self.assertRaises(ConnectionLost, client.judyl("a").get, 1)
 
 
+    def test_each_reply_is_a_write_of_its_own(self):
+        for length in (20, 100, 150, 200, 300, 450):  # the replies of a window take more than the buffers, and some windows too
+            entries = [(b"%03d" % at + b"k" * (length - 3), at) for at in range(1000)]
+            with scripted([b"V 0"] * 1000) as (path, got), Client(path, 10) as client:
+                client.judysl("a").update(entries)
+            self.assertEqual(len(got), 1000)
+
+
 class Ends(unittest.TestCase):
     """The connection ends after two replies of five."""
 

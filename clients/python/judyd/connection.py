@@ -90,10 +90,15 @@ class Connection:
         return exception
 
     def _send_at_once(self, sock: socket.socket, lines: Lines) -> bool:
-        """Sends what the socket's buffers take without a wait. Returns whether that is all."""
+        """Sends one line, or what the socket's buffers take without a wait. Returns whether that is all."""
+        if lines.count == 1:  # a server reads a line to its end before it replies
+            sock.sendall(lines.data())
+            self._sent = len(lines.data())
+            return True
+        sock.setblocking(False)
         try:
             for piece in lines.pieces():
-                sent = sock.send(piece, socket.MSG_DONTWAIT) if self._is_local else sock.send(piece)
+                sent = sock.send(piece)
                 self._sent += sent
                 if sent < len(piece):
                     return False
@@ -101,9 +106,10 @@ class Connection:
         except _BUSY:
             return False
         except OSError:
-            sock.setblocking(False)
             self._take(sock, lines.count)  # the replies that came before the end
             raise
+        finally:
+            sock.settimeout(self._timeout)
 
     def _read(self, sock: socket.socket, missing: int) -> None:
         """Waits for the missing replies, once all lines are sent."""
