@@ -3,3 +3,4 @@
 mod commits;
 mod directories;
 mod faults;
+mod notes;

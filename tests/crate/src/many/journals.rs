@@ -16,9 +16,9 @@ fn journaled(clients: u32, rule: Sync) -> Limits {
     }
 }
 
-// The records of a journal's text: its lines that are no marks and no headers.
+// The records of a journal's text: its lines that are no marks, no notes and no headers.
 fn is_record(line: &[u8]) -> bool {
-    !line.starts_with(b"# ") && !line.starts_with(b"judyd journal ")
+    !line.starts_with(b"# ") && !line.starts_with(b"@ ") && !line.starts_with(b"judyd journal ")
 }
 
 // Whether the records of the text are these, in this order.
@@ -70,7 +70,8 @@ fn two_clients_share_a_sync(rt: HostRuntime) -> Result<(), Fail> {
     assert_eq!(rt; stage.asked(), b".a0a1r0r1ksw0c0Qw1c1Q".as_slice());
     let text = stage.journal.as_slice();
     assert!(rt; has_records(text, &[b"alice J1S a 1", b"bob JLI b 7 8"]));
-    assert_eq!(rt; count(text, b"# 2 "), 1);
+    assert_eq!(rt; count(text, b"# 3 "), 1);
+    assert_eq!(rt; count(text, b"@ "), 1);
     assert_eq!(rt; stage.scripts.len(), 2);
     assert_eq!(rt; stage.scripts[0].page.bytes(), b"OK\n1\nBYE\n".as_slice());
     Ok(())
