@@ -45,6 +45,17 @@ impl DiskFault {
         }
     }
 
+    /// Whether the disk has no room.
+    pub(crate) fn is_full(&self) -> bool {
+        match self {
+            DiskFault::System { reason, .. } => matches!(
+                reason.kind(),
+                io::ErrorKind::StorageFull | io::ErrorKind::QuotaExceeded
+            ),
+            _ => false,
+        }
+    }
+
     /// Whether a file was not made since it is there.
     pub(crate) fn is_there(&self) -> bool {
         match self {

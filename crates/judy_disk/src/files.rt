@@ -40,6 +40,24 @@ impl<F: Files> Growing<F> {
         done_at(self.place, self.file.sync_data())
     }
 
+    /// Cuts off what follows this number of bytes, and secures the rest. A file that has fewer is at
+    /// fault.
+    fn cut_to(&self, len: u64) -> io::Result<()> {
+        let size = self.file.metadata()?.len();
+        if size < len {
+            return Err(io::Error::from(io::ErrorKind::UnexpectedEof));
+        }
+        if size > len {
+            self.file.set_len(len)?;
+        }
+        self.file.sync_all()
+    }
+
+    /// Cuts off what follows this number of bytes, and secures the rest.
+    pub(crate) fn cut(&self, len: u64) -> Result<(), DiskFault> {
+        done_at(self.place, self.cut_to(len))
+    }
+
     /// A file that has a byte is at fault.
     pub(crate) fn check_empty(&self) -> Result<(), DiskFault> {
         let kind = match self.file.metadata() {

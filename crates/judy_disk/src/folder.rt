@@ -92,6 +92,12 @@ impl<'a, F: Files> Folder<'a, F> {
         }
     }
 
+    /// Opens one of its files, which grows at its end.
+    pub(crate) fn open_growing(&self, place: Place) -> Result<Growing<F>, DiskFault> {
+        let file = self.open_with(OpenOptions::new().append(true), place)?;
+        Ok(Growing::new(file, place))
+    }
+
     /// Gives the snapshot that was written its name, so that it stands for the segments up to this
     /// number. It must be secured before. That it has its name is secured by `sync`.
     pub fn name_snapshot(&self, number: u64) -> Result<(), DiskFault> {

@@ -135,11 +135,9 @@ impl<'a, F: Locks> Folder<'a, F> {
         self.sync()
     }
 
-    /// Goes on in a segment after its first `len` bytes, which are written anew, since nobody knows which
-    /// of them a server before has secured. What follows them is kept beside.
-    ///
-    /// The segment has its old bytes until the new ones are secured. A refusal leaves it as it was.
-    pub fn resume(&self, number: u64, len: u64) -> Result<Growing<F>, DiskFault> {
+    /// Writes the first `len` bytes of a segment anew, and keeps what follows them beside. A refusal leaves
+    /// the segment as it was.
+    fn write_anew(&self, number: u64, len: u64) -> Result<Growing<F>, DiskFault> {
         let place = Place::Segment(number);
         let written = self.try_copy(number, 0, len, Place::NewSegment(number))?;
         if let Err(fault) = self.keep_torn(number, len) {
@@ -149,5 +147,36 @@ impl<'a, F: Locks> Folder<'a, F> {
         self.rename(Place::NewSegment(number), place)?;
         self.sync()?;
         Ok(written.renamed(place))
+    }
+
+    /// Cuts off what follows the first `len` bytes of a segment, and secures these as they are.
+    fn cut(&self, number: u64, len: u64) -> Result<Growing<F>, DiskFault> {
+        let growing = self.open_growing(Place::Segment(number))?;
+        growing.cut(len)?;
+        self.sync()?;
+        Ok(growing)
+    }
+
+    /// Goes on in a segment after its first `len` bytes, which are written anew, since nobody knows which
+    /// of them a server before has secured. What follows them is kept beside. On a disk without room for
+    /// that it is cut off, and the segment is gone on with as it is.
+    ///
+    /// The segment has its old bytes until the new ones are secured. Another refusal leaves it as it was.
+    pub fn resume(&self, number: u64, len: u64) -> Result<Growing<F>, DiskFault> {
+        match self.write_anew(number, len) {
+            Err(fault) if fault.is_full() => self.cut(number, len),
+            written => written,
+        }
+    }
+
+    /// Whether so many torn bytes of a segment are kept beside it.
+    pub fn keeps_torn(&self, number: u64, len: u64) -> bool {
+        let Ok(file) = self.open(Place::Torn(number)) else {
+            return false;
+        };
+        match file.metadata() {
+            Ok(found) => found.len() == len,
+            Err(_) => false,
+        }
     }
 }

@@ -67,6 +67,15 @@ fn tell_cut<F: Locks + Eprint>(rt: &F, folder: &Folder<'_, F>, end: &Option<End>
         );
         return;
     }
+    if !folder.keeps_torn(end.segment, kept) {
+        tell_line(
+            rt,
+            format_args!(
+                "judyd: {path}/{file}: cut off {torn} bytes of a commit that was not finished: no room to keep them"
+            ),
+        );
+        return;
+    }
     tell_line(
         rt,
         format_args!(
