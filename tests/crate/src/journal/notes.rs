@@ -68,7 +68,10 @@ fn a_note_counts_at_its_place_alone(rt: HostRuntime) {
     holds(&rt, !is_torn(1, moved, u64::MAX));
     let (first_line, _) = text.split_at(ends[0] as usize % ROOM);
     holds(&rt, is_torn(1, first_line, 0));
-    holds(&rt, is_torn(1, b"", 0) && is_torn(1, b"\0\0\0\n@ 1 x\n#\n", 0));
+    holds(
+        &rt,
+        is_torn(1, b"", 0) && is_torn(1, b"\0\0\0\n@ 1 x\n#\n", 0),
+    );
     holds(&rt, is_torn(1, b"\n# 1", 0));
     holds(&rt, !is_torn(1, b"\n# 1\n", u64::MAX));
 }
