@@ -163,10 +163,14 @@ impl<'a, F: Locks> Folder<'a, F> {
     ///
     /// The segment has its old bytes until the new ones are secured. Another refusal leaves it as it was.
     pub fn resume(&self, number: u64, len: u64) -> Result<Growing<F>, DiskFault> {
-        match self.write_anew(number, len) {
-            Err(fault) if fault.is_full() => self.cut(number, len),
-            written => written,
+        let fault = match self.write_anew(number, len) {
+            Ok(written) => return Ok(written),
+            Err(fault) => fault,
+        };
+        if fault.is_full() {
+            return self.cut(number, len);
         }
+        Err(fault)
     }
 
     /// Whether so many torn bytes of a segment are kept beside it.
