@@ -15,7 +15,7 @@ import journals
 
 TOP = os.path.dirname(os.path.dirname(os.path.abspath(__file__)))
 SHOWN = 200
-LOGGED = re.compile(rb"judyd: (?:\S+ started: table .*, socket .*, \d+ clients(?:, journal .*)?|\S+: cut off \d+ bytes of a commit that was not finished, (?:kept in \d+\.torn|all of them 0)|stopping|accept failed: .*|log-in refused: .*|out of memory: .*|table (?:not )?read again: .*)\n")
+LOGGED = re.compile(rb"judyd: (?:\S+ started: table .*, socket .*, \d+ clients(?:, journal .*)?|\S+: cut off \d+ bytes of a commit that was not finished, kept in \d+\.torn|\S+: cut off \d+ bytes of a commit that was not finished: no room to keep them|stopping|accept failed: .*|log-in refused: .*|out of memory: .*|table (?:not )?read again: .*)\n")
 
 
 def program():
