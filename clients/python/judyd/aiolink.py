@@ -57,7 +57,7 @@ class Link(asyncio.Protocol):
         self._take(data[:end], data.count(b"\n"))
 
     def _take(self, replies: bytes, count: int) -> None:
-        """Gives so many replies to the windows that wait for them, and their places to other lines."""
+        """Gives this number of replies to the windows that wait for them, and their places to other lines."""
         if self._waiting and 0 < count <= self._waiting[0].missing:
             self._give(replies, count)
             self._leave(count)
@@ -73,7 +73,7 @@ class Link(asyncio.Protocol):
         self._leave(count)
 
     def _give(self, replies: bytes, count: int) -> None:
-        """Gives so many replies to the window that has waited longest."""
+        """Gives this number of replies to the window that has waited longest."""
         window = self._waiting[0]
         window.come.append(replies)
         window.missing -= count
