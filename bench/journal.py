@@ -7,7 +7,8 @@ and with 100 calls in flight. The servers are judyd without a journal, with `--s
 second, the server's processor time of a call, and the bytes on disk of a call that stores.
 
 Then the time from a start to the first answer: a journal of 1,000,000 changing lines, and its snapshot
-(`judyd compact`, redis's BGREWRITEAOF); and the time that the making of the snapshot takes. With --starts
+(`judyd compact`, redis's BGREWRITEAOF); and the time that the making of the snapshot takes. Each has the
+seconds, and the seconds of processor time, which other work on the machine changes less. With --starts
 only these.
 
 Each server's folder is made in DIR (default: the system's temporary folder), which should be on a disk.
@@ -68,12 +69,14 @@ class Judyd:
 
     def bytes_a_store(self):
         """The bytes of the journal for each of its records."""
-        files = glob.glob(os.path.join(self.journal, "*.journal"))
-        count = 0
-        for path in files:
+        count = size = 0
+        for path in glob.glob(os.path.join(self.journal, "*.journal")):
             with open(path, "rb") as file:
-                count += sum(1 for line in file if not line.startswith((b"#", b"judyd ")))
-        return size_of(files) / count if count else 0.0
+                # Behind the last commit are zeros, which the next ones are written over.
+                text = file.read().rstrip(b"\0")
+            size += len(text)
+            count += sum(1 for line in text.splitlines() if not line.startswith((b"#", b"@", b"judyd ")))
+        return size / count if count else 0.0
 
     @staticmethod
     def store(word):
@@ -203,25 +206,32 @@ def fill(server, running):
     return client
 
 
+def processor_time(pid):
+    """The processor time of a process and of its children that have ended, in seconds."""
+    with open("/proc/%d/stat" % pid, encoding="ascii") as file:
+        fields = file.read().rpartition(")")[2].split()
+    return sum(int(ticks) for ticks in fields[11:15]) / os.sysconf("SC_CLK_TCK")
+
+
 def first_answer(server):
-    """Starts a server and returns it with the seconds until its first answer."""
+    """Starts a server and returns it with the seconds until its first answer, and those of processor time."""
     begun = time.monotonic()
     running = server.start()
     client = wait_for(server.socket, running)
     server.greet(client)
-    return running, time.monotonic() - begun
+    return running, (time.monotonic() - begun, processor_time(running.pid))
 
 
-def seconds_of(work):
-    """How long some work takes."""
-    begun = time.monotonic()
+def seconds_of(work, pid):
+    """How long some work takes, and the processor time that this process spends on it meanwhile."""
+    begun, before = time.monotonic(), processor_time(pid)
     work()
-    return time.monotonic() - begun
+    return time.monotonic() - begun, processor_time(pid) - before
 
 
 def starts(disk):
     """The table of starts."""
-    print("\n| server | from 1,000,000 changing lines, s | from the snapshot of 1,000,000 entries, s | making the snapshot, s |\n|---|---|---|---|")
+    print("\n| server | from 1,000,000 changing lines, s (CPU) | from the snapshot of 1,000,000 entries, s (CPU) | making the snapshot, s (CPU) |\n|---|---|---|---|")
     for kind, title, words in ((Judyd, "judyd --sync 1", ["--sync", "1"]), (Redis, "redis, everysec", ["--appendonly", "yes", "--appendfsync", "everysec"])):
         folder = tempfile.mkdtemp(dir=disk)
         server = kind(folder, title, words)
@@ -233,18 +243,17 @@ def starts(disk):
         if kind is Judyd:
             os.unlink(server.socket)
         running, lines = first_answer(server)
-        made = 0.0
         if kind is Redis:
-            made = seconds_of(lambda: server.compact(wait_for(server.socket, running)))
+            made = seconds_of(lambda: server.compact(wait_for(server.socket, running)), running.pid)
         running.terminate()
         running.wait()
         if kind is Judyd:
             os.unlink(server.socket)
-            made = seconds_of(server.compact)
+            made = seconds_of(server.compact, os.getpid())
         running, snapshot = first_answer(server)
         running.terminate()
         running.wait()
-        print("| %s | %.2f | %.2f | %.2f |" % (title, lines, snapshot, made), flush=True)
+        print("| %s | %.2f (%.2f) | %.2f (%.2f) | %.2f (%.2f) |" % (title, *lines, *snapshot, *made), flush=True)
         shutil.rmtree(folder)
 
 

@@ -14,7 +14,7 @@ FUNCTION = re.compile(r"^pub fn \w+(?:<'a>)?\(command: &\[u8\](.*?)\) -> .*?^}$"
 CALL = re.compile(r'b"(J\w+)"(?:\.as_slice\(\) \{\n\s+return| =>) Some\(\w+::(\w+)', re.M)
 LETTERS = {"name": "", "key": "K", "i": "W", "k": "W", "n": "W", "v": "W"}
 CHANGES, INSERTS = {"Set", "Unset", "Insert", "Delete", "Free"}, {"Set", "Insert"}
-REFUSALS = {"ERR READONLY", "ERR FROZEN", "FULL", "ERR MEMORY"}
+REFUSALS = {"ERR JOURNAL", "ERR READONLY", "ERR FROZEN", "FULL", "ERR MEMORY"}
 
 
 def read(path):
@@ -31,7 +31,7 @@ def source():
         form = "".join("K" if "Key" in field else "W" for field in function.group(1).split(",") if field.strip())
         for word, variant in CALL.findall(function.group(0)):
             forms.setdefault(word, set()).add(form)
-            refusals.setdefault(word, set()).update({"ERR READONLY", "ERR FROZEN"} if variant in CHANGES else (), {"FULL", "ERR MEMORY"} if variant in INSERTS else ())
+            refusals.setdefault(word, set()).update({"ERR JOURNAL", "ERR READONLY", "ERR FROZEN"} if variant in CHANGES else (), {"FULL", "ERR MEMORY"} if variant in INSERTS else ())
     return forms, refusals
 
 

@@ -5,8 +5,8 @@ body becomes one more function beside the real one: a copy under another name, w
 the edit in its text, and a copy of the real one's proof. Nothing calls it, so the crate stays as it
 was. A copy without an edit is the control: it must be proved. The only wrong body of a function is put in
 the function's place: that needs no control, since the proof is the real one. A function that calls
-itself, or a method of a trait's impl, can't be copied; it is edited in its place too, one edit of each
-such function at a time. All other functions keep their contracts and lose their proofs: these are holes, which the
+itself is copied with its cycle, into a module of its own; a method of a trait's impl, or a cycle that uses
+private items, can't be copied. It is edited in its place, one edit of each such function at a time. All other functions keep their contracts and lose their proofs: these are holes, which the
 compiler takes as proved, so that only what is tried is checked (`--allow-holes`, `--only`).
 
 A copy that is made without tactics (`#[tactic(none)]`) has its written answers checked, and the check
@@ -16,7 +16,8 @@ that refuses it, all other goals that were left are holes, so that this one alon
 
 import re
 
-from functions import CYCLE, own_impl_around
+from edits import place_in, replaced
+from functions import CYCLE, head_of, own_impl_around
 from holes import imports_of, with_the_hole
 
 TACTIC = re.compile(r"^ *#!?\[tactic\([^\n]*\)\]\n", re.M)
@@ -50,8 +51,9 @@ def functions_in(edit, sources):
     found = set()
     for part in edit.parts:
         if not part.is_import():
-            at = sources.texts[part.file].find(part.old)
-            found.add(sources.around(part.file, at, len(part.old)) if part.file.startswith("src/") else None)
+            at = place_in(sources.texts[part.file], part.old)
+            is_code = part.file.startswith("src/") and at is not None
+            found.add(sources.around(part.file, at, len(part.old)) if is_code else None)
     return found
 
 
@@ -64,14 +66,26 @@ def how_to_try(edit, sources):
     text = sources.texts[function.file][function.start : function.end]
     for part in edit.parts:
         if not part.is_import():
-            if text.count(part.old) != 1:
+            text = replaced(text, part)
+            if text is None:
                 return Try(edit, WHOLE)
-            text = text.replace(part.old, part.new)
     return Try(edit, PLACED if function.cycle or function.of_trait else COPIED, function, text)
 
 
+def unit(function):
+    """What is copied with a function: itself, or its cycle."""
+    return (function.file, function.cycle) if function.cycle else function
+
+
+def name_of_copy(function, number):
+    """The name of a copy of a function. With its cycle it has a module of its own."""
+    if function.cycle:
+        return "@%s_%s_w%d" % (function.module()[-1], function.cycle, number)
+    return "%s_w%d" % (function.name, number)
+
+
 def numbered(tries):
-    """Gives each copy its name."""
+    """Gives each copy a name beside its function, for a run that proves nothing."""
     numbers = {}
     for it in tries:
         numbers[it.function] = numbers.get(it.function, 0) + 1
@@ -81,10 +95,17 @@ def numbered(tries):
 
 def named(tries):
     """Gives each copy its name. The only one of a function has none: it is put in its place."""
-    functions = [it.function for it in tries]
-    for it in numbered(tries):
-        it.name = it.name if functions.count(it.function) > 1 else None
+    units, numbers = [unit(it.function) for it in tries], {}
+    for it, one in zip(tries, units):
+        numbers[one] = numbers.get(one, 0) + 1
+        it.name = name_of_copy(it.function, numbers[one]) if units.count(one) > 1 else None
     return tries
+
+
+def in_cycles(placed, sources):
+    """Those of these that can be copied with their cycles, and the others."""
+    some = [it for it in placed if it.function.cycle and sources.beside(it.function) is not None]
+    return some, [it for it in placed if it not in some]
 
 
 def one_of_each(tries):
@@ -120,11 +141,14 @@ class Batch:
     def __init__(self, crate, sources, holes=None):
         self.crate, self.sources, self.holes = crate, sources, holes
         self.texts, self.changes, self.imports = with_the_hole(holes.texts if holes else sources.texts), {}, {}
-        self.asked, self.spans = [], []
+        self.asked, self.spans, self.dug = [], [], {}
 
     def copy(self, function, text, name, tried=None, goals=None, kept=None):
         """Adds a copy of a function, with this text, under this name. Without tactics if `goals` is None,
         otherwise with a hole for each of these goals. Of its written answers these are kept."""
+        if name.startswith("@"):
+            self.copy_cycle(function, text, name, tried)
+            return
         text = without_tactics(text) if goals is None else text
         shown, at = CYCLE.sub("", re.sub(r"\bfn %s\b" % function.name, "fn " + name, text, count=1)).lstrip("\n"), function.end
         if function.of_trait:
@@ -140,6 +164,32 @@ class Batch:
             self.dig_goals(as_copy + "Answers.antt", cited[1], goals)
         self.asked.append(function.path(name))
 
+    def copy_cycle(self, function, text, name, tried):
+        """Adds a copy of the cycle of a function, in a module of its own, with this text of the function."""
+        source, cycle, beside = self.sources.texts[function.file], self.sources.cycle_of(function), self.sources.beside(function)
+        shown = [text if it is function else source[it.start : it.end] for it in cycle]
+        imports = "use crate::%s::{%s};\n" % ("::".join(function.module()), ", ".join(beside)) if beside else ""
+        file = "src/%s.rt" % "/".join([*function.module()[:-1], name[1:]])
+        if file in self.texts:
+            self.asked.append(function.path(name))
+            return
+        self.texts[file] = head_of(source).rstrip("\n") + "\n" + imports + "\n" + "\n\n".join(it.strip("\n") for it in shown) + "\n"
+        self.spans.append((file, 0, len(self.texts[file]), tried))
+        self.declare(function.module(), name[1:])
+        below, cited = "/".join(["proofs", *function.place("+" + function.cycle)]), self.cited(function)
+        to = "/".join(["proofs", *function.place(name)[:-1], "+" + function.cycle])
+        for path, proof in self.sources.proof_of(function).items():
+            renamed = "Rattle.%s.%s" % (self.crate, to.replace("/", "."))
+            self.texts[to + path[len(below) :]] = re.sub(re.escape(cited) + r"(?![\w-])", renamed, proof)
+        self.asked.append(function.path(name))
+
+    def declare(self, module, name):
+        """Declares a module beside another one."""
+        for root in ["src/%s.rt" % "/".join(module[:-1])] if module[:-1] else ["src/lib.rt", "src/main.rt"]:
+            found = re.search(r"^(?:pub(?:\([a-z]+\))? )?mod %s;$" % module[-1], self.sources.texts.get(root, ""), re.M)
+            if found:
+                self.changes.setdefault(root, []).append((found.end(), found.end(), "\nmod %s;" % name, None))
+
     def keep_answers(self, folder, kept):
         """Makes holes of the written answers of a function but these."""
         path = folder + "Answers.antt"
@@ -153,7 +203,14 @@ class Batch:
         alias = found[1] if found else "goal_of_copy"
         head = "" if found else GOALS % (self.crate, cited.split(".proofs.")[1], alias)
         head += "" if imports_of(self.crate) in text else imports_of(self.crate) + "\n"
+        self.dug[path] = (head + text).count("\n")
         self.texts[path] = head + text + "".join(ANSWER % (it, alias, it, it) for it in goals)
+
+    def is_stale(self, function, name, errors):
+        """Whether a hole of a function, or of a copy of it, has an error: it answers no goal of it, or one that
+        has an answer."""
+        path = "/".join(["proofs", *function.place(name), "Answers.antt"])
+        return path in self.dug and any(file == path and line > self.dug[path] for file, line, _, _ in errors)
 
     def copy_all(self, tries):
         """Adds a copy of the function of each of these, under its name, or puts it in its place."""

@@ -97,8 +97,8 @@ class Counts:
 
     def never_drawn(self):
         """The counters that are 0, except those of connections, of memory that no client can use up, of tenants that are
-        not full, and of frozen ones."""
-        return [(name, label) for name, of in self.wanted().items() for label, number in of.items() if not number and name not in (ENDED, FULL) and label not in ("memory", "frozen")]
+        not full, of frozen ones, and of a journal that is full."""
+        return [(name, label) for name, of in self.wanted().items() for label, number in of.items() if not number and name not in (ENDED, FULL) and label not in ("memory", "frozen", "journal")]
 
 
 class Lines:

@@ -25,9 +25,28 @@ Disk = namedtuple("Disk", "names changes files")
 Left = namedtuple("Left", "contents chosen")
 
 
+def pages_of(text):
+    """The pages of a text. All that are zeros are one object."""
+    pages = (text[at : at + PAGE] for at in range(0, len(text), PAGE))
+    return tuple(ZEROS if page == ZEROS else page for page in pages)
+
+
 def content_of(text):
     """The content of a file with this text."""
-    return Content(tuple(text[at : at + PAGE] for at in range(0, len(text), PAGE)), len(text))
+    return Content(pages_of(text), len(text))
+
+
+def solid(content):
+    """How many bytes the pages have that are not zeros."""
+    return PAGE * (len(content.pages) - content.pages.count(ZEROS))
+
+
+def shortened(content, most):
+    """The content with at most so many pages of zeros at its end."""
+    count = len(content.pages)
+    while count > 0 and content.pages[count - 1] is ZEROS:
+        count -= 1
+    return cut(content, (count + most) * PAGE) if content.size > (count + most) * PAGE else content
 
 
 def cut(content, size):
@@ -41,11 +60,22 @@ def cut(content, size):
 
 def written(content, at, text):
     """The content after a write."""
-    first = min(at, content.size) // PAGE
-    tail = b"".join(content.pages[first:])
-    tail = tail.ljust(at - first * PAGE, b"\0")
-    tail = tail[: at - first * PAGE] + text + tail[at - first * PAGE + len(text) :]
-    return Content(content.pages[:first] + content_of(tail).pages, max(content.size, at + len(text), at))
+    first, behind = min(at, content.size) // PAGE, (at + len(text) + PAGE - 1) // PAGE
+    old = b"".join(content.pages[first:behind]).ljust(at - first * PAGE, b"\0")
+    new = old[: at - first * PAGE] + text + old[at - first * PAGE + len(text) :]
+    return Content(content.pages[:first] + pages_of(new) + content.pages[behind:], max(content.size, at + len(text), at))
+
+
+def filled(content, at, count):
+    """The content after a write of so many zeros."""
+    edge = min(-at % PAGE, count)
+    content = written(content, at, bytes(edge))
+    whole = (count - edge) // PAGE
+    first = (at + edge) // PAGE
+    if whole:
+        pages = content.pages[:first] + (ZEROS,) * whole + content.pages[first + whole :]
+        content = Content(pages, max(content.size, at + edge + whole * PAGE))
+    return written(content, at + edge + whole * PAGE, bytes(count - edge - whole * PAGE))
 
 
 def newest(file):
@@ -82,7 +112,7 @@ def renumbered(events):
     for at, event in enumerate(events):
         if event.kind == "C":
             numbers[event.number] = -1 - at
-        if event.kind in "CWFSRU":
+        if event.kind in "CWZFSRU":
             event = event._replace(number=numbers.get(event.number, event.number))
         found.append(event)
     return found
@@ -102,13 +132,16 @@ def after(disk, event):
     if event.kind == "D":
         names = changed(names, changes)
         return Disk(names, (), files)
-    if event.kind not in ("W", "F", "S"):
+    if event.kind not in ("W", "Z", "F", "S"):
         return disk
     file = files[number]
     if event.kind == "S":
         return Disk(names, changes, {**files, number: File(newest(file), ())})
     now = newest(file)
-    now = written(now, event.at, event.text) if event.kind == "W" else cut(now, event.at)
+    if event.kind == "Z":
+        now = filled(now, event.at, int(event.text))
+    else:
+        now = written(now, event.at, event.text) if event.kind == "W" else cut(now, event.at)
     return Disk(names, changes, {**files, number: File(file.secured, (*file.later, now))})
 
 
@@ -182,16 +215,17 @@ def mixture_of(file, draw, stale, chosen):
         return front_of(file, draw)
     size = sizes_of(file, draw)
     first = min(same_pages(file.secured, content) for content in file.later)
-    numbers = range(first, (size + PAGE - 1) // PAGE)
+    last = (size + PAGE - 1) // PAGE
+    numbers = [number for number in range(first, last) if is_changed(file, number) or number + 1 == last]
     only = draw.choice(numbers) if numbers and how == "one" else None
-    pages = []
+    pages = [page_of(file.later[-1], number) or ZEROS for number in range(first, last)]
     for number in numbers:
         if how == "any":
             kind = draw.choice(("new", "new", *KINDS))
         else:
             kind = draw.choice(KINDS[1:]) if number == only else "new"
         chosen.add(kind)
-        pages.append(left_page(file, number, min(PAGE, size - number * PAGE), kind, draw, stale))
+        pages[number - first] = left_page(file, number, min(PAGE, size - number * PAGE), kind, draw, stale)
     return Content(file.secured.pages[:first] + tuple(pages), size)
 
 
@@ -201,6 +235,11 @@ def same_pages(one, other):
     while count < most and one.pages[count] is other.pages[count] and len(one.pages[count]) == PAGE:
         count += 1
     return count
+
+
+def is_changed(file, number):
+    """Whether a page is another one than that which is secured. Each change writes behind the ones before, or cuts."""
+    return page_of(file.later[-1], number) is not page_of(file.secured, number)
 
 
 def page_of(content, number):

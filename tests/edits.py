@@ -1,12 +1,13 @@
 """The wrong bodies of the crates: the files crates/NAME/wrong/*.edit and crates/NAME/must-fail/*.edit. Its
 lines are `file: PATH`, `old: TEXT` and `new: TEXT`: each text is one line, since the kit reads no more
-of it. A line `by: FUNCTION` or `by: proofs/FILE.antt` names a function of the crate, or a file of
+of it. The old text stands once in the file; in wrong/ it may also be the one line that is equal to it. A line `by: FUNCTION` or `by: proofs/FILE.antt` names a function of the crate, or a file of
 lemmas, that the prover refuses with the edit. Only an edit of a definition needs it, so that not all
 functions are tried. A line `goal: NAME` names the goal of the function that no tactic proves with the
 edit, or to which the written answer is refused. `tests/wrong --record` writes it, so that no other goal
 is searched."""
 
 import os
+import re
 
 TOP = os.path.dirname(os.path.dirname(os.path.realpath(__file__)))
 CRATES = os.path.join(TOP, "crates")
@@ -25,6 +26,20 @@ def write(path, text):
     os.makedirs(os.path.dirname(path), exist_ok=True)
     with open(path, "w", encoding="utf-8") as file:
         file.write(text)
+
+
+def place_in(text, old):
+    """Where an old text stands: at its only place, or where it is a whole line. None if there are several, or none."""
+    places = [it.start() for it in re.finditer(re.escape(old), text)]
+    if len(places) > 1:
+        places = [at for at in places if text[:at].endswith("\n") and text[at + len(old) :].startswith("\n")]
+    return places[0] if len(places) == 1 else None
+
+
+def replaced(text, part):
+    """The text with the change of a part of an edit; None if its old text has no place."""
+    at = place_in(text, part.old)
+    return None if at is None else text[:at] + part.new + text[at + len(part.old) :]
 
 
 class Part:
@@ -70,11 +85,12 @@ class Edit:
             if not part.file.startswith(tuple(it + "/" for it in PARTS)) or not os.path.isfile(whole):
                 return texts, "there is no file " + part.file
             text = texts.get(part.file) or read(whole)
-            if text.count(part.old) != 1:
+            changed = replaced(text, part)
+            if changed is None:
                 return texts, "%s has this text %d times, not once: %s" % (part.file, text.count(part.old), part.old)
             if part.new == part.old:
                 return texts, "it changes nothing: " + part.old
-            texts[part.file] = text.replace(part.old, part.new)
+            texts[part.file] = changed
         return texts, None if texts else "it changes no file"
 
     def files(self):

@@ -7,6 +7,7 @@ import re
 HEAD = re.compile(r"^( *)(?:pub(?:\([a-z]+\))? )?(?:const |unsafe )*fn (\w+)", re.M)
 BLOCK = re.compile(r"^(?:pub(?:\([a-z]+\))? )?(?:unsafe )?(?:impl|trait)\b", re.M)
 CYCLE = re.compile(r"#\[cycle\((\w+)\)\]\s*")
+ITEM = re.compile(r"^(pub(?:\([a-z]+\))? )?(?:const |unsafe )*(?:fn|const|static|struct|enum|type|trait) (?:mut )?(\w+)", re.M)
 TYPE = re.compile(r"^(?:pub(?:\([a-z]+\))? )?(?:struct|enum) (\w+)", re.M)
 
 
@@ -26,7 +27,10 @@ class Function:
         return [] if self.home in ("src/lib.rt", "src/main.rt") else self.home[len("src/") : -len(".rt")].split("/")
 
     def place(self, name=None):
-        """The names that lead to it, or to another function beside it, below the crate."""
+        """The names that lead to it, or to another function beside it, below the crate. A name `@MODULE` leads to a
+        function of its name in that module beside its own."""
+        if name and name.startswith("@"):
+            return [*self.module()[:-1], name[1:], self.name]
         return [*self.module(), *([self.owner] if self.owner else []), name or self.name]
 
     def path(self, name=None):
@@ -116,6 +120,11 @@ def functions_of(file, text):
     return found
 
 
+def head_of(text):
+    """The front of a file: what stands before its first item, its imports among it."""
+    return text[: re.search(r"^(?:///|#\[|(?:pub(?:\([a-z]+\))? )?(?:const|unsafe|fn|static|struct|enum|type|trait|impl)\b)", text, re.M).start()]
+
+
 class Sources:
     """The texts of a crate, by their paths, and its functions."""
 
@@ -139,6 +148,21 @@ class Sources:
                 it.home = homes[it.owner][0]
             if not it.cycle and "/".join(["proofs", *it.place("+" + it.name)]) in folders:
                 it.cycle = it.name
+
+    def cycle_of(self, one):
+        """The functions of the cycle of calls of a function."""
+        return [it for it in self.functions if it.file == one.file and it.cycle == one.cycle]
+
+    def beside(self, one):
+        """The items of its file that the cycle of a function uses; None if one is private, or if the functions can't
+        stand in another module."""
+        if one.owner or len(one.module()) == 0 or one.home != one.file:
+            return None
+        text, cycle = self.texts[one.file], self.cycle_of(one)
+        own = {it.name for it in cycle}
+        used = [(it[1], it[2]) for it in ITEM.finditer(text)
+                if it[2] not in own and any(re.search(r"\b%s\b" % it[2], text[f.start : f.end]) for f in cycle)]
+        return [name for _, name in used] if all(public for public, _ in used) else None
 
     def around(self, file, at, size):
         """The function whose text has this place; None if it is outside of all."""

@@ -1,6 +1,7 @@
 """What the test scripts share: the program, scripts through `judyd run`, a server on a socket, and
 the report of the first difference."""
 
+import contextlib
 import os
 import random
 import re
@@ -45,6 +46,21 @@ def skip(test, why):
     if skips:
         with open(skips, "a", encoding="utf-8") as file:
             file.write(line + "\n")
+
+
+@contextlib.contextmanager
+def small_disk(test, size):
+    """The folder of a disk of this size, or None if none can be mounted."""
+    with tempfile.TemporaryDirectory() as place:
+        mounted = subprocess.run(["mount", "-t", "tmpfs", "-o", "size=" + size, "tmpfs", place], stderr=subprocess.PIPE, check=False)
+        if mounted.returncode != 0:
+            skip(test, "no tmpfs can be mounted")
+            yield None
+            return
+        try:
+            yield place
+        finally:
+            subprocess.run(["umount", place], check=True)
 
 
 def run(table, script, *words):

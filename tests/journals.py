@@ -6,6 +6,8 @@ import re
 
 SUM = 16  # digits of a checksum
 ZEROS = "0" * SUM
+SEGMENT = 64 * 2**20  # bytes from which on a segment is full
+LONG = b"JHSI a x" + b"61" * 1000  # a line without its value
 FACTOR = 1099511628211
 
 # Kills the process before the step DIES_AT of those that change a disk, counted from 1.
@@ -16,6 +18,7 @@ DYING = r"""
 #include <signal.h>
 #include <stdarg.h>
 #include <stdlib.h>
+#include <string.h>
 #include <sys/types.h>
 #include <unistd.h>
 
@@ -27,11 +30,15 @@ static void step(void)
         kill(getpid(), SIGKILL);
 }
 
+/* Zeros are written in many calls, of which only the first is a step. */
 ssize_t write(int fd, const void *bytes, size_t count)
 {
     static ssize_t (*real)(int, const void *, size_t);
+    static int before;
+    int zeros = count >= 4096 && *(const char *)bytes == 0 && memcmp(bytes, (const char *)bytes + 1, count - 1) == 0;
     if (!real) real = dlsym(RTLD_NEXT, "write");
-    if (fd > 2) step();
+    if (fd > 2 && !(zeros && before)) step();
+    before = zeros;
     return real(fd, bytes, count);
 }
 
@@ -171,13 +178,30 @@ def write(folder, segments, first=1, checksum=ZEROS):
     return checksum
 
 
+def nearly_full(folder, tenant=b"alice"):
+    """Writes a segment that a few lines fill: the same commit of a tenant again and again. Returns how many bytes
+    it has, and the checksum after it."""
+    text, checksum = b"".join(b"%s %s %d\n" % (tenant, LONG, n) for n in range(8)), ZEROS
+    parts, own = [b"judyd journal 1 1 %s\n" % checksum.encode()], int(sum_of("", text), 16)
+    factor = pow(FACTOR, len(text), 2**64)
+    for _ in range((SEGMENT - 100) // len(text + mark(8, checksum))):
+        before = int(sum_of(checksum, b""), 16)
+        checksum = "%016x" % ((before * factor + own) % 2**64)
+        parts += [text, mark(8, checksum)]
+    with open(segment_path(folder, 1), "wb") as file:
+        file.write(b"".join(parts))
+    return sum(len(part) for part in parts), checksum
+
+
 def contents(folder):
-    """The bytes of each file of a directory but its locks and its manifest."""
+    """The bytes of each file of a directory but its locks and its manifest, and but the zeros behind the end of a
+    segment."""
     found = {}
     for name in sorted(os.listdir(folder)):
         if not name.endswith("lock") and name != "manifest":
             with open(os.path.join(folder, name), "rb") as file:
-                found[name] = file.read()
+                text = file.read()
+                found[name] = text.rstrip(b"\0") if name.endswith(".journal") else text
     return found
 
 

@@ -9,6 +9,7 @@ from shim import compiled
 
 # What was asked. Numbers name a file or a socket.
 #   C name: made         W bytes, at: written   F at: cut to this size    S: synced     D: the directory synced
+#   Z count, at: so many zeros written, in one or several calls
 #   R names: renamed     U name: removed        I bytes: received         O bytes: sent
 Event = namedtuple("Event", "kind number at text")
 
@@ -103,6 +104,23 @@ static long long place_of(int fd, const struct stat *found)
     return lseek(fd, 0, SEEK_CUR);
 }
 
+/* Whether these are pages of zeros. */
+static int are_zeros(const char *bytes, long count)
+{
+    return count >= 4096 && bytes[0] == 0 && memcmp(bytes, bytes + 1, count - 1) == 0;
+}
+
+/* Notes what was written to a file: of zeros how many. */
+static void note_file(long long number, long long at, const void *bytes, long count)
+{
+    char text[32];
+    if (!are_zeros(bytes, count)) {
+        note('W', number, at, bytes, count);
+        return;
+    }
+    note('Z', number, at, text, snprintf(text, sizeof text, "%ld", count));
+}
+
 ssize_t write(int fd, const void *bytes, size_t count)
 {
     struct stat found;
@@ -113,8 +131,10 @@ ssize_t write(int fd, const void *bytes, size_t count)
     long long at = place_of(fd, &found);
     long n = syscall(SYS_write, fd, bytes, count);
     int error = errno;
-    if (n > 0)
-        note(kind == 's' ? 'O' : 'W', found.st_ino, at, bytes, n);
+    if (n > 0 && kind == 's')
+        note('O', found.st_ino, at, bytes, n);
+    else if (n > 0)
+        note_file(found.st_ino, at, bytes, n);
     return unlocked(n, error);
 }
 
@@ -284,6 +304,15 @@ def events_of(log):
     while at < len(text):
         kind, length, number, place = HEADER.unpack_from(text, at)
         at += HEADER.size
-        events.append(Event(kind.decode(), number, place, text[at : at + length]))
+        put(events, Event(kind.decode(), number, place, text[at : at + length]))
         at += length
     return events
+
+
+def put(events, event):
+    """Puts an event behind others. Zeros behind zeros of the same file are one event."""
+    last = events[-1] if events else event
+    if event.kind == "Z" and last.kind == "Z" and last.number == event.number and last.at + int(last.text) == event.at and events:
+        events[-1] = last._replace(text=b"%d" % (int(last.text) + int(event.text)))
+    else:
+        events.append(event)

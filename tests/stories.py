@@ -73,7 +73,10 @@ class Story:
         rests, self.counts = {}, []
         for event in self.events:
             if event.kind == "W":
-                *lines, rests[event.number] = (rests.get(event.number, b"") + event.text).split(b"\n")
+                # Zeros that were written ahead do not begin a line that is written over them.
+                behind, rest = rests.get(event.number, (0, b""))
+                *lines, rest = ((rest if behind == event.at else b"") + event.text).split(b"\n")
+                rests[event.number] = (event.at + len(event.text), rest)
                 for line in lines:
                     if line in self.asked and line not in self.places:
                         self.places[line] = len(self.records)
@@ -141,20 +144,38 @@ class Story:
             found.append(Moment(disk, must, self.counts[at], at))
         return found
 
+    def begins_segment(self, at):
+        """Whether the next change of the directory after this event gives a segment its name."""
+        change = next((event for event in self.events[at:] if event.kind in "CRU"), None)
+        return change is not None and change.kind == "R" and change.text.endswith(b".journal")
+
+    def cuts(self):
+        """Of each file that was cut before the next segment began, whether it was synced before that has its name."""
+        found = []
+        for at, event in enumerate(self.events):
+            if event.kind == "F" and self.begins_segment(at):
+                named = next(place for place, one in enumerate(self.events[at:], at) if one.kind == "R")
+                found.append(any(one.kind == "S" and one.number == event.number for one in self.events[at:named]))
+        return found
+
     def left_out(self):
-        """The places of the syncs of each kind, by a name."""
+        """The places of the syncs of each kind, by a name, but for those of files that were cut."""
         made = {event.number for event in self.events if event.kind == "C"}
         named = {event.number: at for at, event in enumerate(self.events) if event.kind == "R"}
-        kinds, changes = {}, []
+        kinds, changes, before = {}, [], {}
         for at, event in enumerate(self.events):
-            number = event.number
+            number, last = event.number, before.get(event.number)
+            before[number] = event.kind
             if event.kind in "CR":
                 changes.append((event.kind, number))
+            if event.kind == "S" and last == "F":
+                continue
             if event.kind == "S" and at < named.get(number, -1):
                 kinds.setdefault("of a file before it is renamed", set()).add(at)
             elif event.kind == "S":
-                of_new = number in made and number not in named
-                kinds.setdefault("of a new file" if of_new else "of what was appended", set()).add(at)
+                # A compaction makes the file of a segment at once. Without its first line it is begun anew.
+                if number not in made or number in named:
+                    kinds.setdefault("of what was appended", set()).add(at)
             if event.kind == "D":
                 if any(kind == "R" for kind, _ in changes):
                     kinds.setdefault("of the directory after a file was renamed", set()).add(at)

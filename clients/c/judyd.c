@@ -521,6 +521,7 @@ const char *jd_strerror(int code)
     case JD_REFUSED: return "the server refuses the line for another reason";
     case JD_LINE: return "a line has a line feed, or more than 4096 bytes";
     case JD_FROZEN: return "the tenant is frozen: its arrays are being restored";
+    case JD_JOURNAL: return "the journal takes no records of the tenant now";
     default: return "not a code of this library";
     }
 }

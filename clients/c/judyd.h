@@ -55,7 +55,8 @@ enum {
     JD_LINE = -18, /* a line of jd_line has a line feed, or more than JD_LINE_LIMIT bytes */
 
     /* Refused by the server, as those above. */
-    JD_FROZEN = -19 /* the tenant is frozen: its arrays are being restored */
+    JD_FROZEN = -19, /* the tenant is frozen: its arrays are being restored */
+    JD_JOURNAL = -20 /* the journal takes no records of the tenant now: its disk is full, or it has too many */
 };
 
 /* A connection. One thread may use it at a time. Different threads may use different connections. */

@@ -105,6 +105,7 @@ static int code_of_refusal(struct text t)
         {"FULL", JD_FULL},     {"ERR MEMORY", JD_MEMORY}, {"ERR READONLY", JD_READONLY},
         {"ERR AUTH", JD_AUTH}, {"ERR SYNTAX", JD_SYNTAX}, {"ERR LONG", JD_LONG},
         {"ERR CLIENTS", JD_CLIENTS}, {"ERR FROZEN", JD_FROZEN},
+        {"ERR JOURNAL", JD_JOURNAL},
     };
     for (size_t i = 0; i < sizeof refusals / sizeof *refusals; i++)
         if (is_text(t, refusals[i].reply))

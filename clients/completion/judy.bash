@@ -36,7 +36,7 @@ _judy_words() {
         restore) echo "--control --all $_judy_options --help" ;;
         compact) echo "--when --help" ;;
         move) echo "J1: JL: JSL: JHS: --to --new-token-file --free --part --all $_judy_options --help" ;;
-        table) echo "add set drop-old remove --quota --pieces --token --look --keep-old --help" ;;
+        table) echo "add set drop-old remove --quota --pieces --journal --token --look --keep-old --help" ;;
         digest) echo "--look --help" ;;
     esac
 }
@@ -49,7 +49,7 @@ _judy() {
             mapfile -t COMPREPLY < <(compgen -f -- "$current")
             return
             ;;
-        -t | --tcp | -u | --user | --timeout | --quota | --pieces | --when)
+        -t | --tcp | -u | --user | --timeout | --quota | --pieces | --journal | --when)
             return
             ;;
     esac

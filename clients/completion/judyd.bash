@@ -3,15 +3,16 @@
 # The words that may follow a command.
 _judyd_words() {
     case $1 in
-        '') echo "run serve compact journal help --help --version" ;;
+        '') echo "run serve compact repair journal help --help --version" ;;
         run) echo "--words --batch --help" ;;
         serve)
             echo "--config --socket --status --control --clients --tenant-clients --connections --login --idle --turn" \
-                "--reserve --journal --sync --new-journal --check --help"
+                "--reserve --journal --sync --segment --new-journal --check --help"
             ;;
         journal) echo "--tenant --new --check --help" ;;
         compact) echo "--help" ;;
-        help) echo "run serve compact journal help" ;;
+        repair) echo "--yes --drop-later --help" ;;
+        help) echo "run serve compact repair journal help" ;;
     esac
 }
 
@@ -32,13 +33,13 @@ _judyd() {
             mapfile -t COMPREPLY < <(compgen -W "round never" -- "$current")
             return
             ;;
-        --clients | --tenant-clients | --connections | --login | --idle | --turn | --reserve | --tenant)
+        --clients | --tenant-clients | --connections | --login | --idle | --turn | --reserve | --segment | --tenant)
             return
             ;;
     esac
     mapfile -t COMPREPLY < <(compgen -W "$(_judyd_words "$command")" -- "$current")
     case $command in
-        compact | journal)
+        compact | repair | journal)
             [ ${#COMPREPLY[@]} -gt 0 ] || mapfile -t COMPREPLY < <(compgen -d -- "$current")
             ;;
     esac

@@ -10,7 +10,7 @@ NUMBERS = ["0", "1", "4", "1000", "16777216", "1_000", "0x10", "0o17", "0b11", "
     "1979-05-27T07:32:00Z", "9223372036854775807", "9223372036854775808", "-9223372036854775808", "-9223372036854775809", "99999999999999999999999",
     "0x7fffffffffffffff", "0xffffffffffffffff", "[1]", "{a = 1}", "1__0", "_1", "1_", "0x", "0xG", "1 2", "", "=", "'", "1979-02-30", "{}", "[]", "[1, 2,]", "{a = 1,}",
 ]  # fmt: skip
-KEYS = ["sha256", "quota", "pieces", "read_sha256", "old_sha256", "old_read_sha256", "more", "Quota", '"quota"', "'quota'", "quota.x", "quota .  x", "sha256 ", "read-sha256", "", '"qu\\u006fta"']
+KEYS = ["sha256", "quota", "pieces", "journal", "read_sha256", "old_sha256", "old_read_sha256", "more", "Quota", '"quota"', "'quota'", "quota.x", "quota .  x", "sha256 ", "read-sha256", "", '"qu\\u006fta"']
 ENDS = ["\n"] * 120 + ["\r\n", "\r\n", " # a word\n", "\t\n", "\r", "\n\n", " ", "\x0c\n", "# \x01\n", "\n\u00a0\n", ",\n", "#\x7f\n", "# ä\n"]
 
 
@@ -22,7 +22,7 @@ def value_for(draw, key):
 
 def statements(draw, count):
     """Keys with their values."""
-    keys = ["sha256", "quota"] + [key for key in ("pieces", "read_sha256", "old_sha256", "old_read_sha256") if draw.random() < 0.25]
+    keys = ["sha256", "quota"] + [key for key in ("pieces", "journal", "read_sha256", "old_sha256", "old_read_sha256") if draw.random() < 0.25]
     if draw.random() < 0.1:
         keys.append(draw.choice(KEYS))
     if draw.random() < 0.06:

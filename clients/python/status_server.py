@@ -11,7 +11,7 @@ from judyd import wording
 
 CAUSES = ("quit", "end", "fault", "login", "idle", "turn", "memory", "gone", "kick")
 CALLS = ("AUTH", "QUIT", "USED", *sorted(wording.CALLS), "PING", "HELLO", "none")
-KINDS = {b"FULL": "full", b"ERR MEMORY": "memory", b"ERR AUTH": "auth", b"ERR READONLY": "readonly", b"ERR SYNTAX": "syntax", b"ERR LONG": "long", b"ERR CLIENTS": "clients", b"ERR FROZEN": "frozen"}
+KINDS = {b"FULL": "full", b"ERR MEMORY": "memory", b"ERR AUTH": "auth", b"ERR READONLY": "readonly", b"ERR SYNTAX": "syntax", b"ERR LONG": "long", b"ERR CLIENTS": "clients", b"ERR FROZEN": "frozen", b"ERR JOURNAL": "journal"}
 
 
 class Metric(NamedTuple):
@@ -36,6 +36,8 @@ METRICS = [
     Metric("judyd_journal_bytes_total", "counter", "", "Bytes that were appended to the journal."),
     Metric("judyd_journal_unsynced_bytes", "gauge", "", "Bytes of the journal that are not synced yet."),
     Metric("judyd_journal_syncs_total", "counter", "", "Syncs of the journal."),
+    Metric("judyd_journal_refusing", "gauge", "", "Whether changing lines are refused: there is no room for the next segment."),
+    Metric("judyd_journal_tenant_bytes", "gauge", "tenant", "Bytes of the tenant's records since the last snapshot."),
     Metric("judyd_live_words", "gauge", "", "Words in the blocks of all arrays."),
     Metric("judyd_machine_words", "gauge", "", "Words taken from the machine."),
     Metric("judyd_peak_words", "gauge", "", "The most live words at once so far."),
@@ -78,6 +80,7 @@ class Numbers:
         self.plain.update({"judyd_live_words": 4, "judyd_machine_words": 512, "judyd_peak_words": 512, "judyd_arrays": 1, "judyd_name_bytes": 3, "judyd_uptime_seconds": 1})
         self.labelled: Dict[str, Dict[str, int]] = {
             "judyd_connections_ended_total": dict.fromkeys(CAUSES, 0),
+            "judyd_journal_tenant_bytes": {},
             "judyd_tenant_connections": dict.fromkeys(self.tenants, 0),
             "judyd_lines_total": dict.fromkeys(CALLS, 0),
             "judyd_replies_total": dict.fromkeys(("ok", *KINDS.values()), 0),

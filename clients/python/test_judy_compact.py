@@ -12,7 +12,8 @@ sys.path.insert(0, os.path.join(os.path.dirname(os.path.abspath(__file__)), ".."
 
 import journals  # noqa: E402
 from judy_runs import JudyTest, run_judy  # noqa: E402
-from judyd.compactions import Sizes, growth, sizes_in  # noqa: E402
+from harness import small_disk  # noqa: E402
+from judyd.compactions import ROOM_BESIDE, Sizes, files_read, growth, most_room, sizes_in  # noqa: E402
 from served import PROGRAM, Served  # noqa: E402
 
 COMMITS = [[b"alice J1S ids %d" % (n % 10)] for n in range(100)]
@@ -97,6 +98,45 @@ class Compactions(JudyTest):
         finally:
             server.kill()
             server.wait()
+
+    def test_files_that_are_read(self):
+        paths = [journals.segment_path(self.journal, number) for number in (1, 2, 3)]
+        self.assertEqual(files_read(self.journal, 0), paths)
+        last = os.path.getsize(paths[2])
+        with open(paths[2], "ab") as file:
+            file.write(bytes(100))
+        self.assertEqual(files_read(self.journal, 0), paths[:2])
+        os.truncate(paths[2], last)
+        self.assertEqual(files_read(self.journal, 1), [os.path.join(self.journal, "000000000001.snapshot"), *paths[1:]])
+        with tempfile.TemporaryDirectory() as place:
+            self.assertEqual(files_read(place, 0), [])
+
+    def test_room(self):
+        """Without room for the most that it may take nothing is begun, and the line says which command tries it."""
+        with small_disk("judy_compact", "1m") as place:
+            if place is None:
+                return
+            journals.write(place, [COMMITS * 20, COMMITS])
+            self.journal, before = place, {name: os.stat(os.path.join(place, name)).st_mtime_ns for name in os.listdir(place)}
+            with open(os.path.join(place, ".ballast"), "wb", buffering=0) as file:
+                file.write(bytes(1 << 20))
+            found = os.statvfs(place)
+            most, free = most_room(place, sizes_in(place)), found.f_bavail * found.f_frsize
+            said = "judy: %s: not compacted: it may take %d bytes, and the file system has %d: judyd compact %s tries it\n" % (place, most, free, place)
+            self.assertEqual(self.compact("--when", "0"), (1, "", said))
+            os.remove(os.path.join(place, ".ballast"))
+            self.assertEqual(before, {name: os.stat(os.path.join(place, name)).st_mtime_ns for name in os.listdir(place)})
+            self.assertEqual(self.compact("--when", "0")[::2], (0, ""))
+
+    def test_a_snapshot_takes_no_more(self):
+        """The lines that grow most make a snapshot that takes no more than is looked for."""
+        for record in (b"a JLI a %d", b"a JLA a %d 9", b"a JLA a %d -1", b"a J1S %d -1", b"a JLI %d -1 -1", b"a JSLI a x%d1", b"a JHSI a x%d1"):
+            with tempfile.TemporaryDirectory() as place:
+                journals.write(place, [[[record % (n * 10 + m + 111) for m in range(10)] for n in range(80)], []])
+                self.journal, most = place, most_room(place, sizes_in(place)) - ROOM_BESIDE
+                self.assertEqual(self.compact()[::2], (0, ""), record)
+                self.assertLess(most // 3, sizes_in(place).snapshot)
+                self.assertLessEqual(sizes_in(place).snapshot, most, record)
 
     def test_faults(self):
         shutil.copy(journals.segment_path(self.journal, 1), os.path.join(self.journal, "odd"))

@@ -75,9 +75,10 @@ class Tables(JudyTest):
     def test_the_line_of_each_key(self):
         digest = "%s must be the SHA-256 of a token, 64 hexadecimal digits in quotes: judy digest prints its line (%s)"
         quota, pieces = "quota must be a whole number from 0 to 16777216 (%s)", "pieces must be a whole number from 0 to 2113929216 (%s)"
+        journal = "journal must be a whole number from 1 to 9223372036854775807 (%s)"
         for line, said in (
             ('read_sha256 = "abc"', digest % ("read_sha256", "Digest")), ("read_sha256 = 5", digest % ("read_sha256", "Shape")), ("pieces = -1", pieces % "Pieces"),
-            ('pieces = "4"', pieces % "Shape"), ("more = 1", "the key more is unknown: the keys are sha256, quota, pieces, read_sha256, old_sha256 and old_read_sha256 (Shape)"),
+            ('pieces = "4"', pieces % "Shape"), ("journal = 0", journal % "Quota"), ('journal = "4"', journal % "Shape"), ("more = 1", "the key more is unknown: the keys are sha256, quota, pieces, journal, read_sha256, old_sha256 and old_read_sha256 (Shape)"),
             ('old_sha256 = "abc"', digest % ("old_sha256", "Digest")), ("old_sha256 = []", digest % ("old_sha256", "Shape")), ("old_read_sha256 = 5", digest % ("old_read_sha256", "Shape")),
             ("quota = 5", "quota stands twice: line 6 has it already (Toml)"), ("'quota' = 5", "'quota' stands twice: line 6 has it already (Toml)"), ("x", "this is not TOML (Toml)"),
         ):  # fmt: skip

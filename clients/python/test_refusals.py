@@ -15,7 +15,7 @@ sys.path.insert(0, os.path.dirname(os.path.abspath(__file__)))
 
 import judyd  # noqa: E402
 from judyd import (  # noqa: E402
-    Client, Closed, ConnectionLost, Frozen, Full, Hello, KeyTooLong, Long, NoServer, NotAuthorized, ReadOnly, Refused, Syntax, TimedOut, Visitor,
+    Client, Closed, ConnectionLost, Frozen, Full, Hello, JournalFull, KeyTooLong, Long, NoServer, NotAuthorized, ReadOnly, Refused, Syntax, TimedOut, Visitor,
 )  # fmt: skip
 from judyd.fields import KEY_LIMIT, LINE_LIMIT, hello_of, nothing_of  # noqa: E402
 from served import WithClient, WithServer  # noqa: E402
@@ -216,6 +216,8 @@ class Odd(WithServer):
             with self.assertRaisesRegex(Refused, "ERR"), self.answered(replies).pipeline() as pipe:
                 pipe.judy1("a").update(range(5))
         self.assertRaises(Frozen, self.answered(b"ERR FROZEN\n").judyl("a").insert, 5, 5)
+        with self.assertRaisesRegex(JournalFull, "^ERR JOURNAL: the journal takes no records of the tenant now; try again later$"):
+            self.answered(b"ERR JOURNAL\n").judy1("a").set(5)
 
     def test_an_end_in_a_reply(self):
         self.assertRaises(Closed, self.answered(b"N 1").judy1("a").count)

@@ -122,6 +122,7 @@ static const struct {
     {SET, "ERR SYNTAX", JD_SYNTAX},
     {SET, "ERR LONG", JD_LONG},
     {SET, "ERR FROZEN", JD_FROZEN},
+    {SET, "ERR JOURNAL", JD_JOURNAL},
     {SET, "ERR NEW", JD_REFUSED},
     {SET, "ERR ", JD_REFUSED},
     {SET, "ERRNEW", JD_REPLY},

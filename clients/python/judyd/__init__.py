@@ -22,7 +22,7 @@
 A call of the manual (Judy1Set, JudyLFirstEmpty, ..) is a method in lower case (`set`,
 `first_empty`). A word is an int from 0 to MAX. A key is bytes, bytearray or memoryview, or a str if
 the array has an encoding. A refusal of the server raises `Full`, `NoMemory`, `ReadOnly`, `Frozen`,
-`NotAuthorized`, `TooManyClients`, `Syntax` or `Long`, all of them `Refused`; then nothing has changed. A
+`JournalFull`, `NotAuthorized`, `TooManyClients`, `Syntax` or `Long`, all of them `Refused`; then nothing has changed. A
 refusal that this client does not know is a `Refused` too. `NoServer` says that no server listens. A connection that is lost raises `ConnectionLost`, which says whether the
 call may have run. With `reconnect=True` a client repeats lost calls that change nothing. A walk or an
 `update` that meets a server that was started anew raises `Restarted`. All of these are a `JudyError`.
@@ -35,7 +35,7 @@ of clients, and between two lines others may come.
 
 from .client import TIMEOUT, Client, Visitor
 from .errors import (
-    Closed, ConnectionLost, Error, Frozen, Full, JudyError, KeyTooLong, Long, NoMemory, NoServer, NotAuthorized, PoolEmpty, ReadOnly,
+    Closed, ConnectionLost, Error, Frozen, Full, JournalFull, JudyError, KeyTooLong, Long, NoMemory, NoServer, NotAuthorized, PoolEmpty, ReadOnly,
     Refused, Restarted, Syntax, TimedOut, TooManyClients,
 )  # fmt: skip
 from .fields import MAX, Hello, Used
@@ -49,6 +49,6 @@ from .sets import Judy1
 __all__ = [
     "MAX", "TIMEOUT", "QUERIES", "IDEMPOTENT", "Retry", "Client", "Visitor", "Pool", "Pipeline", "Later", "Used", "Hello", "Judy1", "JudyL", "JudySL", "JudyHS",
     "JudyError", "Error", "Closed", "NoServer", "ConnectionLost", "TimedOut", "Restarted",
-    "PoolEmpty", "Refused", "Full", "NoMemory", "ReadOnly", "Frozen", "NotAuthorized", "TooManyClients", "Syntax", "Long", "KeyTooLong",
+    "PoolEmpty", "Refused", "Full", "NoMemory", "ReadOnly", "Frozen", "JournalFull", "NotAuthorized", "TooManyClients", "Syntax", "Long", "KeyTooLong",
 ]  # fmt: skip
 __version__ = "1.0.0"

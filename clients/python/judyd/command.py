@@ -232,7 +232,7 @@ def new_digests(options: argparse.Namespace) -> Dict[str, str]:
 def changed_table(options: argparse.Namespace, text: str) -> str:
     """The text of a table after judy table FILE add, set, drop-old or remove"""
     tenant = options.tenant
-    keys = {key: str(value) for key, value in (("quota", options.quota), ("pieces", options.pieces)) if value is not None}
+    keys = {key: str(value) for key, value in (("quota", options.quota), ("pieces", options.pieces), ("journal", options.journal)) if value is not None}
     if options.keep_old and not (options.action == "set" and (options.token or options.look)):
         raise ValueError("--keep-old stands beside set with --token or --look")
     if options.action == "remove":
@@ -241,7 +241,7 @@ def changed_table(options: argparse.Namespace, text: str) -> str:
         return tables.without_old(text, tenant)
     if options.action == "set":
         if not (keys or options.token or options.look):
-            raise ValueError("set what? --quota N, --pieces N, --token, --look")
+            raise ValueError("set what? --quota N, --pieces N, --journal BYTES, --token, --look")
         return tables.with_digests(tables.with_keys(text, tenant, keys), tenant, new_digests(options), options.keep_old)
     tables.refuse_known(options.file, text, tenant)
     if "quota" not in keys:

@@ -7,7 +7,7 @@ from .lines import cut
 
 __all__ = [
     "JudyError", "Error", "Closed", "NoServer", "ConnectionLost", "TimedOut", "Restarted",
-    "PoolEmpty", "Refused", "Full", "NoMemory", "ReadOnly", "Frozen", "NotAuthorized", "TooManyClients", "Syntax", "Long", "KeyTooLong",
+    "PoolEmpty", "Refused", "Full", "NoMemory", "ReadOnly", "Frozen", "JournalFull", "NotAuthorized", "TooManyClients", "Syntax", "Long", "KeyTooLong",
 ]  # fmt: skip
 
 
@@ -94,6 +94,13 @@ class Frozen(Refused):
     meaning = "the tenant is frozen while its arrays are restored; try again later"
 
 
+class JournalFull(Refused):
+    """The call may change an array, and the journal takes no records of the tenant: its disk is full, or the
+    tenant has as many records as it may have until the next compaction. Try again later."""
+
+    meaning = "the journal takes no records of the tenant now; try again later"
+
+
 class NotAuthorized(Refused):
     """The tenant of a log-in is unknown or its token is wrong, or nobody has logged in. The server
     gives an unknown tenant and a wrong token the same reply."""
@@ -129,6 +136,7 @@ REFUSALS: Dict[bytes, Type[Refused]] = {
     b"ERR MEMORY": NoMemory,
     b"ERR READONLY": ReadOnly,
     b"ERR FROZEN": Frozen,
+    b"ERR JOURNAL": JournalFull,
     b"ERR AUTH": NotAuthorized,
     b"ERR CLIENTS": TooManyClients,
     b"ERR SYNTAX": Syntax,

@@ -173,6 +173,7 @@ def subcommand(name: str) -> argparse.ArgumentParser:
         sub.add_argument("tenant", nargs="?")
         sub.add_argument("--quota", type=int, metavar="N", help="how many entries the tenant may have")
         sub.add_argument("--pieces", type=int, metavar="N", help="how many pieces it may have")
+        sub.add_argument("--journal", type=int, metavar="BYTES", help="after how many bytes of records since the last snapshot its changes are refused")
         sub.add_argument("--token", action="store_true", help="ask for a new token")
         sub.add_argument("--look", action="store_true", help="ask for a read-only token")
         sub.add_argument("--keep-old", action="store_true", help="the tokens in their place log in still, until drop-old")

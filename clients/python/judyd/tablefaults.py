@@ -17,16 +17,17 @@ PARTS = 200
 _MEANS = {
     "Long": "the table has more than 65,536 bytes",
     "Toml": "this is not TOML",
-    "Shape": 'sha256 = "..." and quota = 1000 must be there, pieces = 1000, read_sha256, old_sha256 and old_read_sha256 may be, and no other key',
+    "Shape": 'sha256 = "..." and quota = 1000 must be there, pieces = 1000, journal = 1000000, read_sha256, old_sha256 and old_read_sha256 may be, and no other key',
     "Count": "a table has 1 to 64 tenants",
     "Name": "the name of a tenant must be 1 to 32 of A-Z a-z 0-9 _ - .",
     "Digest": "a digest must be the SHA-256 of a token, 64 hexadecimal digits in quotes: judy digest prints its line",
     "Quota": "quota must be a whole number from 0 to 16777216",
+    "Journal": "journal must be a whole number from 1 to 9223372036854775807",
     "Pieces": "pieces must be a whole number from 0 to 2113929216",
 }
 _DIGEST_MEANS = "%s must be the SHA-256 of a token, 64 hexadecimal digits in quotes: judy digest prints its line"
 _DIGESTS = ("sha256", "read_sha256", "old_sha256", "old_read_sha256")
-_KEYS = {"quota": _MEANS["Quota"], "pieces": _MEANS["Pieces"], **{key: _DIGEST_MEANS % key for key in _DIGESTS}}
+_KEYS = {"quota": _MEANS["Quota"], "pieces": _MEANS["Pieces"], "journal": _MEANS["Journal"], **{key: _DIGEST_MEANS % key for key in _DIGESTS}}
 _GOOD = {"sha256": 'sha256 = "%s"\n' % ("0" * 64), "quota": "quota = 1\n"}
 _ADD = {"sha256": "add the line that judy digest prints", "quota": "add quota = N, a whole number from 0 to 16777216"}
 
@@ -187,7 +188,7 @@ def _faults_of_tenant(name: str, tenant: _Tenant) -> Iterator[Fault]:
         others = [line for key, line in _GOOD.items() if key != statement.key]
         word = _judged("[t]\n%s%s = %s\n" % ("".join(others), statement.written, statement.value))
         if word not in ("", "Toml"):
-            known = "the keys are sha256, quota, pieces, read_sha256, old_sha256 and old_read_sha256"
+            known = "the keys are sha256, quota, pieces, journal, read_sha256, old_sha256 and old_read_sha256"
             unknown = "the key %s is unknown: %s" % (shown(statement.key), known)
             yield Fault(word, statement.line, name, _KEYS.get(statement.key, unknown))
     for key in _GOOD:

@@ -158,6 +158,7 @@ def advice(request: str, reply: str) -> str:
         "ERR CLIENTS": "the tenant has as many connections as it may have: end one of them",
         "ERR READONLY": "the log-in is read-only",
         "ERR FROZEN": "the tenant is frozen while its arrays are restored: try again later",
+        "ERR JOURNAL": "the journal takes no records of the tenant now: try again later",
         "FULL": "the quota has no room: USED shows it",
         "ERR MEMORY": "the server is out of memory for a new entry",
     }

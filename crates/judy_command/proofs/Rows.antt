@@ -8,7 +8,7 @@ use Rattle.clap.specs.Words.{Text}
 use Rattle.clap.specs.ValueTests.{is_unsigned_in}
 use Rattle.clap.specs.declared.builder.value_parser.ValueParser.TheVariants as parser
 use Rattle.clap.proofs.ValueTestLemmas.{accepts-Accepts, Accepts-accepts}
-use Rattle.judy_command.specs.CommandLine.{IsSync, seconds_in, sync_in, number_in, most_clients, most_count, most_megabytes, IsUsage, StopsBy, judyd_app, job_of, IsCount, IsInRange, IsOptionFault, job_at, served, words_fault}
+use Rattle.judy_command.specs.CommandLine.{IsSync, seconds_in, sync_in, number_in, most_clients, most_count, most_megabytes, most_segment, IsUsage, StopsBy, judyd_app, job_of, IsCount, IsInRange, IsOptionFault, job_at, served, words_fault}
 use Rattle.clap.specs.Kinds.{or_else}
 use Rattle.std.proofs.Common.{◌⊎◌, ◌∷◌, [], inl, inr, subst, sym, Some, None, codes}
 use Rattle.clap.specs.Words.{Row, first_of, Kinds, IsAmong, takes, subcommand_of, fault_of}
@@ -18,7 +18,7 @@ use Rattle.clap.specs.declared.error.ErrorKind.TheVariants as kind
 use Rattle.judy_command.specs.declared.words.Refusal.{Refusal}
 use Rattle.judy_command.specs.declared.words.Refusal.TheVariants.{Help, Usage, Memory}
 use Rattle.judy_command.specs.declared.words.Job.{Job}
-use Rattle.judy_command.specs.declared.words.Job.TheVariants.{Run, Serve, Compact, Journal}
+use Rattle.judy_command.specs.declared.words.Job.TheVariants.{Run, Serve, Compact, Repair, Journal}
 use Rattle.judy_command.specs.declared.words.Sync.{Sync}
 use Rattle.judy_command.specs.declared.words.Sync.TheVariants.{Round, Seconds, Never}
 
@@ -104,20 +104,22 @@ served-in_range rows = (
   counts_given most_count (omega arith) (first_of (codes "turn") rows),
   counts_given most_megabytes (omega arith) (first_of (codes "reserve") rows),
   sync_word (first_of (codes "sync") rows),
+  count_given most_segment 64 (omega arith, omega arith) (first_of (codes "segment") rows),
 )
 
-in_range : (run compact journal : Bool) (a b c d : Job) → IsInRange a → IsInRange b → IsInRange c → IsInRange d
-    → IsInRange (if run then a else if compact then b else if journal then c else d)
-in_range true compact journal a b c d h i j k = h
-in_range false true journal a b c d h i j k = i
-in_range false false true a b c d h i j k = j
-in_range false false false a b c d h i j k = k
+in_range : (run compact repair journal : Bool) (a b c d e : Job) → IsInRange a → IsInRange b → IsInRange c → IsInRange d → IsInRange e
+    → IsInRange (if run then a else if compact then b else if repair then c else if journal then d else e)
+in_range true compact repair journal a b c d e h i j k l = h
+in_range false true repair journal a b c d e h i j k l = i
+in_range false false true journal a b c d e h i j k l = j
+in_range false false false true a b c d e h i j k l = k
+in_range false false false false a b c d e h i j k l = l
 
 pub job_at-in_range : (job : Job) (name : Text) (rows : List Row) → job ≡ job_at name rows → IsInRange job
 job_at-in_range job name rows e =
     let P : Job → Type 0 = λ j. IsInRange j in
-    subst P (sym e) (in_range (bytes_eq name (codes "run")) (bytes_eq name (codes "compact")) (bytes_eq name (codes "journal"))
-    _ _ _ _ tt tt tt (served-in_range rows))
+    subst P (sym e) (in_range (bytes_eq name (codes "run")) (bytes_eq name (codes "compact")) (bytes_eq name (codes "repair")) (bytes_eq name (codes "journal"))
+    _ _ _ _ _ tt tt tt tt (served-in_range rows))
 
 among_moved : (j k : ErrorKind) (kinds : Kinds) → IsAmong k kinds → IsAmong j (k ∷ []) → IsAmong j kinds
 among_moved j k kinds h (inl e) = let P : ErrorKind → Type 0 = λ i. IsAmong i kinds in subst P (sym e) h
@@ -180,22 +182,22 @@ unfolding clap_on_literals
 taken-serve = refl
 
 job-serve : job_of (subcommand_of judyd_app (codes "serve" ∷ codes "--config" ∷ codes "c" ∷ codes "--socket" ∷ codes "s" ∷ []))
-    ≡ Some (Serve (codes "c") (codes "s") None None 64 None 4294967295 10 None None None None Round false false)
+    ≡ Some (Serve (codes "c") (codes "s") None None 64 None 4294967295 10 None None None None Round 64 false false)
 unfolding clap_on_literals
 job-serve = refl
 
 job-status : job_of (subcommand_of judyd_app (codes "serve" ∷ codes "--config" ∷ codes "c" ∷ codes "--socket" ∷ codes "s" ∷ codes "--status" ∷ codes "t" ∷ []))
-    ≡ Some (Serve (codes "c") (codes "s") (Some (codes "t")) None 64 None 4294967295 10 None None None None Round false false)
+    ≡ Some (Serve (codes "c") (codes "s") (Some (codes "t")) None 64 None 4294967295 10 None None None None Round 64 false false)
 unfolding clap_on_literals
 job-status = refl
 
 job-reserve : job_of (subcommand_of judyd_app (codes "serve" ∷ codes "--config" ∷ codes "c" ∷ codes "--socket" ∷ codes "s" ∷ codes
-    "--reserve" ∷ codes "64" ∷ [])) ≡ Some (Serve (codes "c") (codes "s") None None 64 None 4294967295 10 None None (Some 64) None Round false false)
+    "--reserve" ∷ codes "64" ∷ [])) ≡ Some (Serve (codes "c") (codes "s") None None 64 None 4294967295 10 None None (Some 64) None Round 64 false false)
 unfolding clap_on_literals
 job-reserve = refl
 
 job-tenant-clients : job_of (subcommand_of judyd_app (codes "serve" ∷ codes "--config" ∷ codes "c" ∷ codes "--socket" ∷ codes "s" ∷ codes
-    "--tenant-clients" ∷ codes "3" ∷ [])) ≡ Some (Serve (codes "c") (codes "s") None None 64 (Some 3) 4294967295 10 None None None None Round false false)
+    "--tenant-clients" ∷ codes "3" ∷ [])) ≡ Some (Serve (codes "c") (codes "s") None None 64 (Some 3) 4294967295 10 None None None None Round 64 false false)
 unfolding clap_on_literals
 job-tenant-clients = refl
 
@@ -223,7 +225,7 @@ abbrev serve-words : Text → Text → List Text
 serve-words dir when = codes "serve" ∷ codes "--config" ∷ codes "c" ∷ codes "--socket" ∷ codes "s" ∷ codes "--journal" ∷ dir ∷ codes "--sync" ∷ when ∷ []
 
 job-journal : job_of (subcommand_of judyd_app (serve-words (codes "d") (codes "5")))
-    ≡ Some (Serve (codes "c") (codes "s") None None 64 None 4294967295 10 None None None (Some (codes "d")) (Seconds 5) false false)
+    ≡ Some (Serve (codes "c") (codes "s") None None 64 None 4294967295 10 None None None (Some (codes "d")) (Seconds 5) 64 false false)
 unfolding clap_on_literals
 job-journal = refl
 
@@ -236,6 +238,22 @@ refused-sync-alone : words_fault (codes "serve" ∷ codes "--config" ∷ codes "
 unfolding clap_on_literals
 refused-sync-alone = refl
 
+job-segment : job_of (subcommand_of judyd_app (codes "serve" ∷ codes "--config" ∷ codes "c" ∷ codes "--socket" ∷ codes "s" ∷ codes
+    "--journal" ∷ codes "d" ∷ codes "--segment" ∷ codes "1" ∷ []))
+    ≡ Some (Serve (codes "c") (codes "s") None None 64 None 4294967295 10 None None None (Some (codes "d")) Round 1 false false)
+unfolding clap_on_literals
+job-segment = refl
+
+refused-no-segment : fault_of judyd_app (codes "serve" ∷ codes "--config" ∷ codes "c" ∷ codes "--socket" ∷ codes "s" ∷ codes
+    "--journal" ∷ codes "d" ∷ codes "--segment" ∷ codes "0" ∷ []) ≡ kind.ValueValidation ∷ []
+unfolding clap_on_literals
+refused-no-segment = refl
+
+refused-segment-alone : words_fault (codes "serve" ∷ codes "--config" ∷ codes "c" ∷ codes "--socket" ∷ codes "s" ∷ codes "--segment" ∷ codes "1" ∷ [])
+    ≡ kind.MissingRequiredArgument ∷ []
+unfolding clap_on_literals
+refused-segment-alone = refl
+
 job-compact : job_of (subcommand_of judyd_app (codes "compact" ∷ codes "d" ∷ [])) ≡ Some (Compact (codes "d"))
 unfolding clap_on_literals
 job-compact = refl
@@ -244,6 +262,10 @@ job-print : job_of (subcommand_of judyd_app (codes "journal" ∷ codes "--tenant
     ≡ Some (Journal (codes "d") (Some (codes "alice")) false false)
 unfolding clap_on_literals
 job-print = refl
+
+job-repair : job_of (subcommand_of judyd_app (codes "repair" ∷ codes "--yes" ∷ codes "d" ∷ [])) ≡ Some (Repair (codes "d") true false)
+unfolding clap_on_literals
+job-repair = refl
 
 refused-no-directory : fault_of judyd_app (codes "compact" ∷ []) ≡ kind.MissingRequiredArgument ∷ []
 unfolding clap_on_literals
@@ -255,7 +277,7 @@ job-new = refl
 
 job-new-journal : job_of (subcommand_of judyd_app (codes "serve" ∷ codes "--config" ∷ codes "c" ∷ codes "--socket" ∷ codes "s" ∷ codes
     "--new-journal" ∷ codes "--journal" ∷ codes "d" ∷ []))
-    ≡ Some (Serve (codes "c") (codes "s") None None 64 None 4294967295 10 None None None (Some (codes "d")) Round true false)
+    ≡ Some (Serve (codes "c") (codes "s") None None 64 None 4294967295 10 None None None (Some (codes "d")) Round 64 true false)
 unfolding clap_on_literals
 job-new-journal = refl
 

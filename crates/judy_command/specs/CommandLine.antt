@@ -13,14 +13,16 @@ use Rattle.clap.specs.declared.builder.ArgAction.TheVariants.{Set, SetTrue}
 use Rattle.clap.specs.declared.builder.value_parser.ValueParser.TheVariants as parser
 use Rattle.clap.specs.declared.error.ErrorKind.{ErrorKind}
 use Rattle.clap.specs.declared.error.ErrorKind.TheVariants as kind
+use Rattle.judy_command.specs.declared.words.Limits.{Limits}
+use Rattle.judy_command.specs.declared.words.Paths.{Paths}
 use Rattle.judy_command.specs.declared.words.Refusal.{Refusal}
 use Rattle.judy_command.specs.declared.words.Refusal.TheVariants.{Help, Usage, Memory}
 use Rattle.judy_command.specs.declared.words.Job.{Job}
-use Rattle.judy_command.specs.declared.words.Job.TheVariants.{Run, Serve, Compact, Journal}
+use Rattle.judy_command.specs.declared.words.Job.TheVariants.{Run, Serve, Compact, Repair, Journal}
 use Rattle.judy_command.specs.declared.words.Sync.{Sync}
 use Rattle.judy_command.specs.declared.words.Sync.TheVariants.{Round, Seconds, Never}
 
--- ---- the arguments and the four commands
+-- ---- the arguments and the five commands
 
 abbrev pub flag_rule : Text → Rule
 flag_rule name = record (new_rule name) { long = Some name; action = Some SetTrue }
@@ -54,6 +56,9 @@ clients_rule = record (limited_rule (codes "clients")) { defaults = codes "64" �
 abbrev pub tenant_clients_rule : Rule
 tenant_clients_rule = limited_rule (codes "tenant-clients")
 
+abbrev pub segment_rule : Rule
+segment_rule = limited_rule (codes "segment")
+
 -- 4294967295 unless it is given
 abbrev pub connections_rule : Rule
 connections_rule = record (number_rule (codes "connections")) { defaults = codes "4294967295" ∷ [] }
@@ -82,13 +87,13 @@ with_clients a = with_rule (with_rule a clients_rule) tenant_clients_rule
 abbrev pub with_limits : App → App
 with_limits a = with_times (with_rule (with_clients a) connections_rule)
 
--- `[--journal DIR] [--sync WHEN] [--new-journal]`
+-- `[--journal DIR] [--sync WHEN] [--segment MB] [--new-journal]`
 abbrev pub with_journal : App → App
-with_journal a = with_rule (with_rule (with_rule a (valued_rule (codes "journal"))) (valued_rule (codes "sync"))) (flag_rule (codes "new-journal"))
+with_journal a = with_rule (with_rule (with_rule (with_rule a (valued_rule (codes "journal"))) (valued_rule (codes "sync"))) segment_rule) (flag_rule (codes "new-journal"))
 
 -- `serve --config FILE --socket PATH [--status PATH] [--control PATH] [--clients N] [--tenant-clients N]
 -- [--connections N] [--login SECONDS] [--idle SECONDS] [--turn SECONDS] [--reserve MB] [--journal DIR]
--- [--sync WHEN] [--new-journal] [--check]`
+-- [--sync WHEN] [--segment MB] [--new-journal] [--check]`
 abbrev pub serve_app : App
 serve_app = with_rule (with_journal (with_rule (with_limits (with_places (new_app (codes "serve")))) reserve_rule)) (flag_rule (codes "check"))
 
@@ -96,18 +101,22 @@ serve_app = with_rule (with_journal (with_rule (with_limits (with_places (new_ap
 abbrev pub compact_app : App
 compact_app = with_rule (new_app (codes "compact")) (placed_rule (codes "directory"))
 
+-- `repair DIR [--yes] [--drop-later]`
+abbrev pub repair_app : App
+repair_app = with_rule (with_rule (with_rule (new_app (codes "repair")) (placed_rule (codes "directory"))) (flag_rule (codes "yes"))) (flag_rule (codes "drop-later"))
+
 -- `journal DIR [--tenant NAME] [--new] [--check]`
 abbrev pub journal_app : App
 journal_app = with_rule (with_rule (with_rule (with_rule (new_app (codes "journal")) (placed_rule (codes "directory"))) (valued_rule (codes "tenant"))) (flag_rule (codes "new"))) (flag_rule (codes "check"))
 
--- one of the four commands is required; the words do not include the program's name
+-- one of the five commands is required; the words do not include the program's name
 abbrev pub bare_app : App
 bare_app = record (new_app (codes "judyd")) {
   top = record (new_app (codes "judyd")).top { has_version = true; no_binary_name = true; subcommand_required = true };
 }
 
 abbrev pub judyd_app : App
-judyd_app = with_subcommand (with_subcommand (with_subcommand (with_subcommand bare_app run_app.top) serve_app.top) compact_app.top) journal_app.top
+judyd_app = with_subcommand (with_subcommand (with_subcommand (with_subcommand (with_subcommand bare_app run_app.top) serve_app.top) compact_app.top) repair_app.top) journal_app.top
 
 -- ---- what the words ask for
 
@@ -121,6 +130,10 @@ most_clients = 1024
 
 abbrev pub most_megabytes : ℕ
 most_megabytes = 131072
+
+-- the most megabytes of a segment
+abbrev pub most_segment : ℕ
+most_segment = 1024
 
 abbrev pub most_count : ℕ
 most_count = 4294967295
@@ -152,13 +165,39 @@ served rows = Serve (unwrap_or (first_of (codes "config") rows) []) (unwrap_or (
     (unwrap_or (number_given most_count (codes "login") rows) 10)
     (number_given most_count (codes "idle") rows) (number_given most_count (codes "turn") rows)
     (number_given most_megabytes (codes "reserve") rows)
-    (first_of (codes "journal") rows) (sync_given rows) (is_set (codes "new-journal") rows) (is_set (codes "check") rows)
+    (first_of (codes "journal") rows) (sync_given rows) (unwrap_or (number_given most_segment (codes "segment") rows) 64)
+    (is_set (codes "new-journal") rows) (is_set (codes "check") rows)
+
+-- the parts of a job: the paths and the limits of a server, and the directory of a journal
+abbrev pub paths_in : List Row → Paths
+paths_in rows = record {
+  config = unwrap_or (first_of (codes "config") rows) [];
+  socket = unwrap_or (first_of (codes "socket") rows) [];
+  status = first_of (codes "status") rows;
+  control = first_of (codes "control") rows;
+  journal = first_of (codes "journal") rows;
+}
+
+abbrev pub limits_in : List Row → Limits
+limits_in rows = record {
+  clients = unwrap_or (number_given most_clients (codes "clients") rows) 64;
+  tenant_clients = number_given most_clients (codes "tenant-clients") rows;
+  connections = unwrap_or (number_given most_count (codes "connections") rows) most_count;
+  login = unwrap_or (number_given most_count (codes "login") rows) 10;
+  idle = number_given most_count (codes "idle") rows;
+  turn = number_given most_count (codes "turn") rows;
+  reserve = number_given most_megabytes (codes "reserve") rows;
+}
+
+abbrev pub directory_in : List Row → Text
+directory_in rows = unwrap_or (first_of (codes "directory") rows) []
 
 -- the job of the subcommand of this name with these matches
 abbrev pub job_at : Text → List Row → Job
 job_at name rows =
     if bytes_eq name (codes "run") then Run (is_set (codes "words") rows) (is_set (codes "batch") rows)
     else if bytes_eq name (codes "compact") then Compact (unwrap_or (first_of (codes "directory") rows) [])
+    else if bytes_eq name (codes "repair") then Repair (unwrap_or (first_of (codes "directory") rows) []) (is_set (codes "yes") rows) (is_set (codes "drop-later") rows)
     else if bytes_eq name (codes "journal") then Journal (unwrap_or (first_of (codes "directory") rows) []) (first_of (codes "tenant") rows) (is_set (codes "new") rows) (is_set (codes "check") rows)
     else served rows
 
@@ -176,6 +215,11 @@ abbrev pub new_fault : List Row → Kinds
 new_fault rows =
     if is_set (codes "new-journal") rows && not (is_some (first_of (codes "journal") rows)) then kind.MissingRequiredArgument ∷ [] else []
 
+-- nor that `--segment` does
+abbrev pub segment_fault : List Row → Kinds
+segment_fault rows =
+    if is_some (first_of (codes "segment") rows) && not (is_some (first_of (codes "journal") rows)) then kind.MissingRequiredArgument ∷ [] else []
+
 -- nor two of `--tenant`, `--new` and `--check`
 abbrev pub are_two : Bool → Bool → Bool → Bool
 are_two a b c = (a && b) || (a && c) || (b && c)
@@ -185,7 +229,7 @@ two_fault rows =
     if are_two (is_some (first_of (codes "tenant") rows)) (is_set (codes "new") rows) (is_set (codes "check") rows) then kind.ArgumentConflict ∷ [] else []
 
 abbrev pub option_fault : List Row → Kinds
-option_fault rows = or_else (sync_fault rows) (or_else (new_fault rows) (two_fault rows))
+option_fault rows = or_else (sync_fault rows) (or_else (segment_fault rows) (or_else (new_fault rows) (two_fault rows)))
 
 abbrev pub option_fault_of : Option (Text × List Row) → Kinds
 option_fault_of found = option_map_or (λ p. option_fault p.1) found []
@@ -201,7 +245,8 @@ words_fault words = or_else (fault_of judyd_app words) (option_fault_of (subcomm
 abbrev pub job_of : Option (Text × List Row) → Option Job
 job_of = option_map (λ p. job_at p.0 p.1)
 
--- clients, and those of one tenant, are 1 to 1024, megabytes 1 to 131072, connections and seconds 1 to 4294967295
+-- clients, those of one tenant, and the megabytes of a segment are 1 to 1024, those of the arrays 1 to 131072,
+-- connections and seconds 1 to 4294967295
 abbrev pub IsCount : ℕ → ℕ → Type 0
 IsCount most n = (1 ≤ n) × (n ≤ most)
 
@@ -212,11 +257,12 @@ IsSync Never = Unit {0}
 
 abbrev pub IsInRange : Job → Type 0
 IsInRange (Run words batch) = Unit {0}
-IsInRange (Serve config socket status control clients tenant_clients connections login idle turn reserve journal sync new_journal check) =
+IsInRange (Serve config socket status control clients tenant_clients connections login idle turn reserve journal sync segment new_journal check) =
     IsCount most_clients clients × IfSome tenant_clients (IsCount most_clients) × IsCount most_count connections × IsCount most_count login
     × IfSome idle (IsCount most_count) × IfSome turn (IsCount most_count)
-    × IfSome reserve (IsCount most_megabytes) × IsSync sync
+    × IfSome reserve (IsCount most_megabytes) × IsSync sync × IsCount most_segment segment
 IsInRange (Compact directory) = Unit {0}
+IsInRange (Repair directory sure drop_later) = Unit {0}
 IsInRange (Journal directory tenant new check) = Unit {0}
 
 -- a `Help` refusal comes from a request for help or the version, a `Usage` refusal from any other

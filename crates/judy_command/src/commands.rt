@@ -2,9 +2,9 @@
 ghost use Rattle.std.specs.Prelude.{◌≡◌, false, true, IfOk};
 ghost use Rattle.clap.specs.Words.{App, Rule, app_of, new_app, rule_of, with_rule, with_subcommand};
 ghost use Rattle.clap.specs.declared.builder.Command.TheViews.{out-Command as fields_of};
-ghost use Rattle.judy_command.specs.CommandLine.{bare_app, clients_rule, compact_app, connections_rule, flag_rule};
+ghost use Rattle.judy_command.specs.CommandLine.{bare_app, clients_rule, compact_app, connections_rule, flag_rule, repair_app};
 ghost use Rattle.judy_command.specs.CommandLine.{journal_app, judyd_app, limited_rule, login_rule, needed_rule, number_rule, placed_rule};
-ghost use Rattle.judy_command.specs.CommandLine.{reserve_rule, run_app, serve_app, tenant_clients_rule, valued_rule};
+ghost use Rattle.judy_command.specs.CommandLine.{reserve_rule, run_app, segment_rule, serve_app, tenant_clients_rule, valued_rule};
 ghost use Rattle.judy_command.specs.CommandLine.{with_clients, with_journal, with_limits, with_places, with_times};
 
 use clap::{Arg, ArgAction, Command};
@@ -68,6 +68,9 @@ const JOURNAL_HELP: &str = "The directory of the journal: what was answered is t
 const SYNC_HELP: &str =
     "When the journal is secured: round (before each answer), never, or a number of seconds";
 
+const SEGMENT_HELP: &str =
+    "The size of a file of the journal, MB times 1,048,576 bytes, 1 to 1024; 64 by default";
+
 const NEW_JOURNAL_HELP: &str =
     "Begin a new journal: its directory must have no manifest yet, and gets one";
 
@@ -76,6 +79,10 @@ const DIRECTORY_HELP: &str = "The directory of the journal";
 const TENANT_HELP: &str = "Print only the requests of this tenant, without its name";
 
 const NEW_HELP: &str = "Make the manifest of a new journal, or of one of an older version";
+
+const YES_HELP: &str = "Do it: without this nothing is changed";
+
+const DROP_LATER_HELP: &str = "Also where segments follow the damaged one: they go too";
 
 const CHECK_JOURNAL_HELP: &str = "Tell what a start would find, and change nothing";
 
@@ -88,6 +95,18 @@ may use the directory meanwhile.
 
 Statuses: 0 when it is done; 2 for a wrong command line; 3 if the journal is refused, which stays as it
 was; 4 without memory or random bytes. Standard error says which.";
+
+/// The text below the help of `repair`.
+const REPAIR_EXAMPLES: &str = "Examples:
+  judyd repair /var/lib/judyd/journal
+  judyd repair /var/lib/judyd/journal --yes
+
+Without --yes it tells the damage that a start finds, and how many bytes would go, and changes nothing.
+With it the last segment is cut at the damage, and what goes is kept in a file NUMBER.torn. No server may
+have the directory.
+
+Statuses: 0 if nothing is damaged, or it is repaired; 1 if something would go; 2 for a wrong command line;
+3 if the journal is refused, which stays as it was; 4 if memory or a write fails. Standard error says which.";
 
 /// The text below the help of `journal`.
 const PRINT_EXAMPLES: &str = "Examples:
@@ -185,6 +204,14 @@ fn tenant_clients<'a>(alloc: Global) -> Arg<'a>
     ensures local { result.global ≡ false }
 {
     limited(alloc, "tenant-clients", "N", TENANT_CLIENTS_HELP)
+}
+
+/// `--segment MB`; 64 if it is not given.
+fn segment<'a>(alloc: Global) -> Arg<'a>
+    ensures rule { rule_of result ≡ segment_rule }
+    ensures local { result.global ≡ false }
+{
+    limited(alloc, "segment", "MB", SEGMENT_HELP)
 }
 
 /// `--connections N`; the default is the greatest number.
@@ -322,6 +349,7 @@ fn with_journal<'a>(alloc: Global, command: Made<'a>) -> Made<'a>
 {
     let command = with(command, valued(alloc, "journal", "DIR", JOURNAL_HELP));
     let command = with(command, valued(alloc, "sync", "WHEN", SYNC_HELP));
+    let command = with(command, segment(alloc));
     with(command, flag(alloc, "new-journal", NEW_JOURNAL_HELP))
 }
 
@@ -357,6 +385,22 @@ fn compact_command<'a>(alloc: Global) -> Made<'a>
         Ok(command),
         placed(alloc, "directory", "DIR", DIRECTORY_HELP),
     )
+}
+
+/// `repair DIR [--yes] [--drop-later]`.
+fn repair_command<'a>(alloc: Global) -> Made<'a>
+    ensures app { IfOk result (λ c. app_of c ≡ repair_app) }
+    ensures local { IfOk result (λ c. (fields_of c).has_globals ≡ false) }
+{
+    let about = "Cuts off the damage of a journal, and keeps what goes beside";
+    let usage = "judyd repair [OPTIONS] <DIR>";
+    let command = used(alloc, "repair", about, usage, REPAIR_EXAMPLES);
+    let command = with(
+        Ok(command),
+        placed(alloc, "directory", "DIR", DIRECTORY_HELP),
+    );
+    let command = with(command, flag(alloc, "yes", YES_HELP));
+    with(command, flag(alloc, "drop-later", DROP_LATER_HELP))
 }
 
 /// `journal DIR [--tenant NAME] [--new] [--check]`.
@@ -413,5 +457,6 @@ pub fn judyd_command<'a>(alloc: Global) -> Result<Command<'a>, AllocError>
     let command = below(Ok(bare_command(alloc)), run_command(alloc));
     let command = below(command, serve_command(alloc));
     let command = below(command, compact_command(alloc));
+    let command = below(command, repair_command(alloc));
     below(command, journal_command(alloc))
 }

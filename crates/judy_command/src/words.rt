@@ -1,11 +1,11 @@
 //! Reads the words of a command line.
 ghost use Rattle.std.specs.Prelude.{◌≡◌, ◌⊎◌, Some, None, true, IfOk, IfSome, OnOk, IfErr, ◌∷◌, map, string_bytes, unwrap_or, []};
-ghost use Rattle.std.specs.Prelude.{option_map};
+ghost use Rattle.std.specs.Prelude.{codes, option_map};
 ghost use Rattle.clap.specs.Words.{takes, subcommand_of, rows_of, found_of, first_of, kind_of};
 ghost use Rattle.judy_command.specs.CommandLine.{IsInRange, IsUsage, StopsBy, is_set, job_at, job_of, judyd_app, served, seconds_in};
-ghost use Rattle.judy_command.specs.CommandLine.{most_clients, most_count, number_given, number_in, sync_fault};
+ghost use Rattle.judy_command.specs.CommandLine.{most_clients, most_count, number_given, number_in, segment_fault, sync_fault};
 ghost use Rattle.judy_command.specs.CommandLine.{IsOptionFault, are_two, new_fault, option_fault, option_fault_of, two_fault};
-ghost use Rattle.judy_command.specs.CommandLine.{sync_given, sync_in, words_fault};
+ghost use Rattle.judy_command.specs.CommandLine.{directory_in, limits_in, paths_in, sync_given, sync_in, words_fault};
 
 use crate::commands::judyd_command;
 use clap::ArgMatches;
@@ -76,6 +76,8 @@ pub enum Job {
         journal: Option<Word>,
         /// When the journal is secured.
         sync: Sync,
+        /// How many megabytes a segment of the journal has: 1 to 1024.
+        segment: u32,
         /// Whether the journal is a new one.
         new_journal: bool,
         /// Whether to only read the table and report its fault.
@@ -85,6 +87,15 @@ pub enum Job {
     Compact {
         /// The directory of the journal.
         directory: Word,
+    },
+    /// Cut off the damage of a journal.
+    Repair {
+        /// The directory of the journal.
+        directory: Word,
+        /// Whether to do it, and not only to tell of it.
+        sure: bool,
+        /// Whether segments after the damaged one may go too.
+        drop_later: bool,
     },
     /// Print the requests of a journal, or begin or check one.
     Journal {
@@ -116,6 +127,9 @@ const MOST_CLIENTS: u32 = 1024;
 /// The most megabytes that are taken before the socket is made: an arena has at most 2^37 bytes.
 const MOST_MEGABYTES: u32 = 131_072;
 
+/// The most megabytes of a segment of the journal.
+const MOST_SEGMENT: u32 = 1024;
+
 /// What is wrong with a command line whose `--sync` is followed by none of its words.
 const NO_SYNC: &str =
     "error: invalid value for '--sync <WHEN>': it is round, never, or a number of seconds from 1 to 4294967295
@@ -125,6 +139,14 @@ For more information, try '--help'.
 
 /// What is wrong with a command line that has `--sync` and no journal.
 const NO_JOURNAL: &str = "error: the argument '--sync <WHEN>' needs '--journal <DIR>'
+
+Usage: judyd serve [OPTIONS] --config <FILE> --socket <PATH>
+
+For more information, try '--help'.
+";
+
+/// What is wrong with a command line that has `--segment` and no journal.
+const NO_SEGMENT: &str = "error: the argument '--segment <MB>' needs '--journal <DIR>'
 
 Usage: judyd serve [OPTIONS] --config <FILE> --socket <PATH>
 
@@ -232,20 +254,46 @@ fn sync_given(matches: &ArgMatches<'_>) -> Sync
         .unwrap_or(Sync::Round)
 }
 
-/// The job of `serve` with these matches.
-fn served(alloc: Global, matches: &ArgMatches<'_>) -> Result<Job, AllocError>
-    ensures { IfOk result (λ job. job ≡ served (rows_of (found_of matches.now))) }
+/// The paths that a server is given.
+#[derive(Drop)]
+struct Paths {
+    config: Word,
+    socket: Word,
+    status: Option<Word>,
+    control: Option<Word>,
+    journal: Option<Word>,
+}
+
+/// The paths that are given to `serve`.
+fn paths_in(alloc: Global, matches: &ArgMatches<'_>) -> Result<Paths, AllocError>
+    ensures { IfOk result (λ paths. paths ≡ paths_in (rows_of (found_of matches.now))) }
 {
-    let config = word_of(alloc, matches, "config")?;
-    let socket = word_of(alloc, matches, "socket")?;
-    let status = word_given(alloc, matches, "status")?;
-    let control = word_given(alloc, matches, "control")?;
-    let journal = word_given(alloc, matches, "journal")?;
-    Ok(Job::Serve {
-        config,
-        socket,
-        status,
-        control,
+    Ok(Paths {
+        config: word_of(alloc, matches, "config")?,
+        socket: word_of(alloc, matches, "socket")?,
+        status: word_given(alloc, matches, "status")?,
+        control: word_given(alloc, matches, "control")?,
+        journal: word_given(alloc, matches, "journal")?,
+    })
+}
+
+/// The limits that a server is given.
+#[derive(Clone, Copy)]
+struct Limits {
+    clients: u32,
+    tenant_clients: Option<u32>,
+    connections: u32,
+    login: u32,
+    idle: Option<u32>,
+    turn: Option<u32>,
+    reserve: Option<u32>,
+}
+
+/// The limits that are given to `serve`.
+fn limits_in(matches: &ArgMatches<'_>) -> Limits
+    ensures { result ≡ limits_in (rows_of (found_of matches.now)) }
+{
+    Limits {
         clients: number_given(matches, "clients", MOST_CLIENTS).unwrap_or(64),
         tenant_clients: number_given(matches, "tenant-clients", MOST_CLIENTS),
         connections: number_given(matches, "connections", u32::MAX).unwrap_or(u32::MAX),
@@ -253,10 +301,86 @@ fn served(alloc: Global, matches: &ArgMatches<'_>) -> Result<Job, AllocError>
         idle: number_given(matches, "idle", u32::MAX),
         turn: number_given(matches, "turn", u32::MAX),
         reserve: number_given(matches, "reserve", MOST_MEGABYTES),
-        journal,
+    }
+}
+
+/// The job of `serve` with these matches.
+fn served(alloc: Global, matches: &ArgMatches<'_>) -> Result<Job, AllocError>
+    ensures { IfOk result (λ job. job ≡ served (rows_of (found_of matches.now))) }
+{
+    let paths = paths_in(alloc, matches)?;
+    let limits = limits_in(matches);
+    Ok(Job::Serve {
+        config: paths.config,
+        socket: paths.socket,
+        status: paths.status,
+        control: paths.control,
+        clients: limits.clients,
+        tenant_clients: limits.tenant_clients,
+        connections: limits.connections,
+        login: limits.login,
+        idle: limits.idle,
+        turn: limits.turn,
+        reserve: limits.reserve,
+        journal: paths.journal,
         sync: sync_given(matches),
+        segment: number_given(matches, "segment", MOST_SEGMENT).unwrap_or(64),
         new_journal: is_set(matches, "new-journal"),
         check: is_set(matches, "check"),
+    })
+}
+
+/// The job of `run` with these matches.
+fn run_job(matches: &ArgMatches<'_>) -> Job
+    ensures { result ≡ Job.Run (is_set (codes "words") (rows_of (found_of matches.now)))
+        (is_set (codes "batch") (rows_of (found_of matches.now))) }
+{
+    Job::Run {
+        words: is_set(matches, "words"),
+        batch: is_set(matches, "batch"),
+    }
+}
+
+/// The job of `compact` with these matches.
+fn compact_job(alloc: Global, matches: &ArgMatches<'_>) -> Result<Job, AllocError>
+    ensures { IfOk result (λ job. job ≡ Job.Compact (directory_in (rows_of (found_of matches.now)))) }
+{
+    let directory = word_of(alloc, matches, "directory")?;
+    Ok(Job::Compact { directory })
+}
+
+/// The job of `repair` with these matches.
+fn repair_job(alloc: Global, matches: &ArgMatches<'_>) -> Result<Job, AllocError>
+    ensures { IfOk result (λ job. job ≡ Job.Repair (directory_in (rows_of (found_of matches.now)))
+        (is_set (codes "yes") (rows_of (found_of matches.now)))
+        (is_set (codes "drop-later") (rows_of (found_of matches.now)))) }
+{
+    let sure = is_set(matches, "yes");
+    let drop_later = is_set(matches, "drop-later");
+    let directory = word_of(alloc, matches, "directory")?;
+    Ok(Job::Repair {
+        directory,
+        sure,
+        drop_later,
+    })
+}
+
+/// The job of `journal` with these matches.
+fn journal_job(alloc: Global, matches: &ArgMatches<'_>) -> Result<Job, AllocError>
+    ensures { IfOk result (λ job. job ≡ Job.Journal (directory_in (rows_of (found_of matches.now)))
+        (first_of (codes "tenant") (rows_of (found_of matches.now)))
+        (is_set (codes "new") (rows_of (found_of matches.now)))
+        (is_set (codes "check") (rows_of (found_of matches.now)))) }
+{
+    let new = is_set(matches, "new");
+    let check = is_set(matches, "check");
+    let directory = word_of(alloc, matches, "directory")?;
+    let tenant = word_given(alloc, matches, "tenant")?;
+    Ok(Job::Journal {
+        directory,
+        tenant,
+        new,
+        check,
     })
 }
 
@@ -265,24 +389,16 @@ fn job_of(alloc: Global, name: &str, matches: &ArgMatches<'_>) -> Result<Job, Al
     ensures { IfOk result (λ job. job ≡ job_at name.now (rows_of (found_of matches.now))) }
 {
     if name == "run" {
-        return Ok(Job::Run {
-            words: is_set(matches, "words"),
-            batch: is_set(matches, "batch"),
-        });
+        return Ok(run_job(matches));
     }
     if name == "compact" {
-        let directory = word_of(alloc, matches, "directory")?;
-        return Ok(Job::Compact { directory });
+        return compact_job(alloc, matches);
+    }
+    if name == "repair" {
+        return repair_job(alloc, matches);
     }
     if name == "journal" {
-        let directory = word_of(alloc, matches, "directory")?;
-        let tenant = word_given(alloc, matches, "tenant")?;
-        return Ok(Job::Journal {
-            directory,
-            tenant,
-            new: is_set(matches, "new"),
-            check: is_set(matches, "check"),
-        });
+        return journal_job(alloc, matches);
     }
     served(alloc, matches)
 }
@@ -302,6 +418,18 @@ fn sync_fault(matches: &ArgMatches<'_>) -> Option<&'static str>
         Some(_) => None,
         None => Some(NO_JOURNAL),
     }
+}
+
+/// What is wrong with `--segment`, if it is given. `clap` does not see it.
+fn segment_fault(matches: &ArgMatches<'_>) -> Option<&'static str>
+    ensures none { result ≡ None → segment_fault (rows_of (found_of matches.now)) ≡ [] }
+    ensures some { IfSome result (λ text.
+        segment_fault (rows_of (found_of matches.now)) ≡ ErrorKind.MissingRequiredArgument ∷ []) }
+{
+    if text_of(matches, "segment").is_some() && text_of(matches, "journal").is_none() {
+        return Some(NO_SEGMENT);
+    }
+    None
 }
 
 /// What is wrong with `--new-journal`, if it is given. `clap` does not see it.
@@ -343,6 +471,9 @@ fn option_fault(matches: &ArgMatches<'_>) -> Option<&'static str>
     ensures some { IfSome result (λ text. IsOptionFault (option_fault (rows_of (found_of matches.now)))) }
 {
     if let Some(text) = sync_fault(matches) {
+        return Some(text);
+    }
+    if let Some(text) = segment_fault(matches) {
         return Some(text);
     }
     if let Some(text) = new_fault(matches) {

@@ -1,1 +1,9 @@
+pub mod Acts
+pub mod Folders
+pub mod Growth
 pub mod Manifests
+pub mod Names
+pub mod Notes
+pub mod Rooms
+pub mod Scans
+pub mod Spending

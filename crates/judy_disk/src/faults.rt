@@ -1,4 +1,7 @@
 //! What can be wrong with the directory of a journal.
+ghost use Rattle.std.specs.Prelude.{◌≡◌, IsTrue};
+ghost use Rattle.judy_disk.specs.Acts.{IsAbsent, IsToldBy};
+
 use crate::manifest::Lack;
 use crate::names::Place;
 use std::{fmt, io};
@@ -17,7 +20,7 @@ pub enum DiskFault {
     Name(String),
     /// Another server uses the directory.
     InUse,
-    /// Another program compacts the journal, or reads it meanwhile.
+    /// Another program compacts or repairs the journal.
     Compacted,
     /// This file is missing: the manifest names it, or a later one is there.
     Missing(Place),
@@ -33,12 +36,16 @@ pub enum DiskFault {
 
 impl DiskFault {
     /// The system refused something of this file.
-    pub fn at(place: Place, reason: io::Error) -> DiskFault {
+    pub fn at(place: Place, reason: io::Error) -> DiskFault
+        ensures { result ≡ DiskFault.System place reason }
+    {
         DiskFault::System { place, reason }
     }
 
     /// Whether a file is not there.
-    pub(crate) fn is_absent(&self) -> bool {
+    pub(crate) fn is_absent(&self) -> bool
+        ensures { IsTrue result → IsAbsent self.now }
+    {
         match self {
             DiskFault::System { reason, .. } => reason.kind() == io::ErrorKind::NotFound,
             _ => false,
@@ -80,7 +87,9 @@ impl From<Lack> for DiskFault {
 }
 
 /// What was done to a file, or the fault that the system's refusal is.
-pub(crate) fn done_at<T>(place: Place, done: io::Result<T>) -> Result<T, DiskFault> {
+pub(crate) fn done_at<T>(place: Place, done: io::Result<T>) -> Result<T, DiskFault>
+    ensures { IsToldBy place done result }
+{
     match done {
         Ok(value) => Ok(value),
         Err(e) => Err(DiskFault::at(place, e)),
@@ -97,7 +106,7 @@ impl fmt::Display for DiskFault {
             } => write!(f, ": {reason}"),
             DiskFault::System { place, reason } => write!(f, "/{place}: {reason}"),
             DiskFault::InUse => write!(f, ": in use by another server"),
-            DiskFault::Compacted => write!(f, ": in use by another compaction or reader"),
+            DiskFault::Compacted => write!(f, ": in use by another compaction or repair"),
             DiskFault::Name(name) => write!(f, "/{name}: no name of a journal's file"),
             DiskFault::Missing(place) => write!(f, "/{place}: missing"),
             DiskFault::NoManifest => write!(f, "/manifest: missing{NO_MANIFEST}"),

@@ -1,76 +1,167 @@
-//! The files of a journal that grow.
-use crate::faults::{DiskFault, done_at};
-use crate::names::Place;
-use std::fs::{Files, OpenFile};
-use std::io::{self, Write};
+//! The files of a journal that are written.
+ghost use Rattle.std.specs.Prelude.{◌≡◌, [], length, OnErr, OnOk};
+ghost use Rattle.judy_disk.specs.Acts.{Asks, ChecksEmpty, CutsTo, HasFilled};
+ghost use Rattle.judy_disk.specs.Acts.Ask.{Secure, Sync, Write};
+ghost use Rattle.judy_disk.specs.Growth.{acts_of, end_of, file_of, made_of, place_of, room_of};
+ghost use Rattle.judy_disk.specs.Rooms.{piece_of, room_after, room_at, room_filled};
 
-/// A file that grows at its end.
+use crate::faults::DiskFault;
+use crate::names::Place;
+use crate::record::Record;
+use crate::rooms::Room;
+use crate::system::Written;
+use std::fs::Files;
+use std::io;
+
+impl<F: Files> Written<F> {
+    /// A file that has a byte is at fault.
+    pub(crate) fn check_empty(&self, log: &mut Record, place: Place) -> Result<(), DiskFault>
+        ensures { ChecksEmpty place result log.old.acts log.new.acts }
+    {
+        if self.measure(log, place)? == 0 {
+            return Ok(());
+        }
+        let reason = io::Error::from(io::ErrorKind::AlreadyExists);
+        Err(DiskFault::at(place, reason))
+    }
+}
+
+/// A file that is written from its front on. Behind its end it may have zeros, which are written over. It
+/// keeps a log of what was asked of the system about it.
 #[derive(Drop)]
 pub struct Growing<F: Files> {
-    file: F::File,
+    file: Written<F>,
     place: Place,
+    room: Room,
+    log: Record,
 }
 
 impl<F: Files> Growing<F> {
-    /// A file that was opened for appending.
-    pub(crate) fn new(file: F::File, place: Place) -> Self {
-        Growing { file, place }
+    /// A file that was just opened for writing and has this number of bytes. Nothing was asked of it yet.
+    pub(crate) fn new(file: Written<F>, place: Place, len: u64) -> Self
+        ensures place { place_of result ≡ place }
+        ensures room { room_of result ≡ room_at len }
+        ensures acts { acts_of result ≡ [] }
+    {
+        Growing {
+            file,
+            place,
+            room: Room {
+                end: len,
+                made: len,
+            },
+            log: Record::new(),
+        }
     }
 
     /// The same file, which has this name now.
-    pub(crate) fn renamed(self, place: Place) -> Self {
+    pub(crate) fn renamed(self, place: Place) -> Self
+        ensures place { place_of result ≡ place }
+        ensures room { room_of result ≡ room_of self }
+        ensures acts { acts_of result ≡ acts_of self }
+    {
         Growing {
             file: self.file,
             place,
+            room: self.room,
+            log: self.log,
         }
     }
 
     /// Which file it is.
-    pub fn place(&self) -> Place {
+    pub fn place(&self) -> Place
+        ensures { result ≡ place_of self.now }
+    {
         self.place
     }
 
+    /// How much room it has.
+    pub fn room(&self) -> Room
+        ensures { result ≡ room_of self.now }
+    {
+        self.room
+    }
+
     /// Appends all of these bytes. After a fault some of them may be there.
-    pub fn append(&mut self, bytes: &[u8]) -> Result<(), DiskFault> {
-        done_at(self.place, self.file.write_all(bytes))
+    pub fn append(&mut self, bytes: &[u8]) -> Result<(), DiskFault>
+        ensures acts { Asks (Write (place_of self.old) (end_of self.old) bytes.now) result
+            (acts_of self.old) (acts_of self.new) }
+        ensures place { place_of self.new ≡ place_of self.old }
+        ensures done { OnOk result (room_of self.new ≡ room_after (room_of self.old) (length bytes.now)) }
+        ensures undone { OnErr result (room_of self.new ≡ room_of self.old) }
+    {
+        self.file
+            .write(&mut self.log, self.place, self.room.end, bytes)?;
+        self.room = self.room.after(bytes.len() as u64);
+        Ok(())
+    }
+
+    /// Writes a piece of zeros behind what the file has, if it has fewer bytes than this. After a fault it
+    /// takes no more room than before.
+    pub fn fill(&mut self, size: u64) -> Result<(), DiskFault>
+        ensures acts { HasFilled (place_of self.old) (made_of self.old) (piece_of (room_of self.old) size) result
+            (acts_of self.old) (acts_of self.new) }
+        ensures place { place_of self.new ≡ place_of self.old }
+        ensures done { OnOk result (room_of self.new ≡ room_filled (room_of self.old) size) }
+        ensures undone { OnErr result (room_of self.new ≡ room_of self.old) }
+    {
+        let (from, len) = (self.room.made, self.room.piece(size));
+        if let Err(fault) = self.file.fill(&mut self.log, self.place, from, len) {
+            let _cut = self.file.cut(&mut self.log, self.place, from);
+            return Err(fault);
+        }
+        self.room.made = from.saturating_add(len);
+        Ok(())
     }
 
     /// Secures the bytes that were appended.
-    pub fn sync(&self) -> Result<(), DiskFault> {
-        done_at(self.place, self.file.sync_data())
+    pub fn sync(&mut self) -> Result<(), DiskFault>
+        ensures acts { Asks (Sync (place_of self.old)) result (acts_of self.old) (acts_of self.new) }
+        ensures place { place_of self.new ≡ place_of self.old }
+        ensures room { room_of self.new ≡ room_of self.old }
+    {
+        self.file.sync(&mut self.log, self.place)
     }
 
     /// Cuts off what follows this number of bytes, and secures the rest. A file that has fewer is at
-    /// fault.
-    fn cut_to(&self, len: u64) -> io::Result<()> {
-        let size = self.file.metadata()?.len();
+    /// fault. The next byte goes behind them.
+    pub(crate) fn cut(&mut self, len: u64) -> Result<(), DiskFault>
+        ensures acts { CutsTo (place_of self.old) len result (acts_of self.old) (acts_of self.new) }
+        ensures place { place_of self.new ≡ place_of self.old }
+        ensures done { OnOk result (room_of self.new ≡ room_at len) }
+        ensures undone { OnErr result (room_of self.new ≡ room_of self.old) }
+    {
+        let size = self.file.measure(&mut self.log, self.place)?;
         if size < len {
-            return Err(io::Error::from(io::ErrorKind::UnexpectedEof));
+            let reason = io::Error::from(io::ErrorKind::UnexpectedEof);
+            return Err(DiskFault::at(self.place, reason));
         }
         if size > len {
-            self.file.set_len(len)?;
+            self.file.cut(&mut self.log, self.place, len)?;
         }
-        self.file.sync_all()
-    }
-
-    /// Cuts off what follows this number of bytes, and secures the rest.
-    pub(crate) fn cut(&self, len: u64) -> Result<(), DiskFault> {
-        done_at(self.place, self.cut_to(len))
-    }
-
-    /// A file that has a byte is at fault.
-    pub(crate) fn check_empty(&self) -> Result<(), DiskFault> {
-        let kind = match self.file.metadata() {
-            Ok(found) if found.len() == 0 => return Ok(()),
-            Ok(_) => io::Error::from(io::ErrorKind::AlreadyExists),
-            Err(e) => e,
+        self.file.secure(&mut self.log, self.place)?;
+        self.room = Room {
+            end: len,
+            made: len,
         };
-        Err(DiskFault::at(self.place, kind))
+        Ok(())
+    }
+
+    /// Cuts off the zeros behind the end, and secures the file. Nothing is appended afterwards.
+    pub fn close(&mut self) -> Result<(), DiskFault>
+        ensures acts { CutsTo (place_of self.old) (end_of self.old) result (acts_of self.old) (acts_of self.new) }
+        ensures place { place_of self.new ≡ place_of self.old }
+    {
+        self.cut(self.room.end)
     }
 
     /// Secures the file whole.
-    pub(crate) fn secure(&self) -> Result<(), DiskFault> {
-        done_at(self.place, self.file.sync_all())
+    pub(crate) fn secure(&mut self) -> Result<(), DiskFault>
+        ensures acts { Asks (Secure (place_of self.old)) result (acts_of self.old) (acts_of self.new) }
+        ensures place { place_of self.new ≡ place_of self.old }
+        ensures room { room_of self.new ≡ room_of self.old }
+    {
+        self.file.secure(&mut self.log, self.place)
     }
 }
 
@@ -82,17 +173,27 @@ pub struct NewSnapshot<F: Files> {
 
 impl<F: Files> NewSnapshot<F> {
     /// A snapshot with no byte yet.
-    pub(crate) fn new(file: Growing<F>) -> Self {
+    pub(crate) fn new(file: Growing<F>) -> Self
+        ensures { file_of result ≡ file }
+    {
         NewSnapshot { file }
     }
 
     /// Appends all of these bytes.
-    pub fn append(&mut self, bytes: &[u8]) -> Result<(), DiskFault> {
+    pub fn append(&mut self, bytes: &[u8]) -> Result<(), DiskFault>
+        ensures acts { Asks (Write (place_of (file_of self.old)) (end_of (file_of self.old)) bytes.now) result
+            (acts_of (file_of self.old)) (acts_of (file_of self.new)) }
+        ensures place { place_of (file_of self.new) ≡ place_of (file_of self.old) }
+    {
         self.file.append(bytes)
     }
 
     /// Secures the bytes.
-    pub fn secure(&self) -> Result<(), DiskFault> {
+    pub fn secure(&mut self) -> Result<(), DiskFault>
+        ensures acts { Asks (Secure (place_of (file_of self.old))) result
+            (acts_of (file_of self.old)) (acts_of (file_of self.new)) }
+        ensures place { place_of (file_of self.new) ≡ place_of (file_of self.old) }
+    {
         self.file.secure()
     }
 }

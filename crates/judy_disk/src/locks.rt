@@ -11,6 +11,12 @@ pub trait Locks: Files {
     /// Locks a file until it is closed, once no other program has locked it.
     fn lock(&self, file: &Self::File) -> io::Result<()>;
 
+    /// Locks a file until it is closed, beside others who do so too. False if a program has locked it alone.
+    fn try_lock_shared(&self, file: &Self::File) -> io::Result<bool>;
+
+    /// Locks a file until it is closed, beside others who do so too, once no program has locked it alone.
+    fn lock_shared(&self, file: &Self::File) -> io::Result<()>;
+
     /// Gives a file to a user and a group, by their numbers.
     fn give(&self, file: &Self::File, user: u32, group: u32) -> io::Result<()>;
 }
@@ -26,6 +32,18 @@ impl Locks for HostRuntime {
 
     fn lock(&self, file: &std::fs::File) -> io::Result<()> {
         file.lock()
+    }
+
+    fn try_lock_shared(&self, file: &std::fs::File) -> io::Result<bool> {
+        match file.try_lock_shared() {
+            Ok(()) => Ok(true),
+            Err(TryLockError::WouldBlock) => Ok(false),
+            Err(TryLockError::Error(e)) => Err(e),
+        }
+    }
+
+    fn lock_shared(&self, file: &std::fs::File) -> io::Result<()> {
+        file.lock_shared()
     }
 
     fn give(&self, file: &std::fs::File, user: u32, group: u32) -> io::Result<()> {

@@ -1,5 +1,5 @@
 //! The manifest of a journal's directory: which files must be there.
-ghost use Rattle.std.specs.Prelude.{◌≡◌, ◌≤◌, ◌+◌, ◌++◌, ◌∷◌, length, max, IfSome};
+ghost use Rattle.std.specs.Prelude.{◌≡◌, ◌≤◌, ◌+◌, ◌++◌, ◌∷◌, length, max, unwrap_or, IfSome};
 ghost use Rattle.hex.specs.Hex.{encode_lower};
 ghost use Rattle.judy_disk.specs.Manifests.{check_of, front_of, lack_of, number_after, number_text, text_of};
 
@@ -90,7 +90,9 @@ fn put_number(text: &mut ArrayVec<u8, MANIFEST_ROOM>, number: u64)
 
 impl Manifest {
     /// The manifest of a directory with these files.
-    pub fn of(found: &Found) -> Manifest {
+    pub fn of(found: &Found) -> Manifest
+        ensures { result ≡ record { snapshot = unwrap_or found.now.snapshot 0; last = unwrap_or found.now.last 0 } }
+    {
         Manifest {
             snapshot: found.snapshot.unwrap_or(0),
             last: found.last.unwrap_or(0),

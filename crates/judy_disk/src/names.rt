@@ -1,5 +1,7 @@
 //! The names of the files of a journal's directory.
-ghost use Rattle.std.specs.Prelude.{◌≡◌, ◌≤◌, ℕ, IfSome};
+ghost use Rattle.std.specs.Prelude.{◌≡◌};
+ghost use Rattle.std.specs.Str.{all_ascii_digits};
+ghost use Rattle.judy_disk.specs.Names.{NumbersAreRead, begins, ends, is_fixed, is_passed, named_of, number_before, number_in, torn_of};
 
 use std::fmt;
 
@@ -15,6 +17,11 @@ pub enum Place {
     Lock,
     /// The file that a compaction locks.
     CompactLock,
+    /// The file that those lock who read the journal, and a compaction before it removes files.
+    ReadLock,
+    /// The file that a server locks while it takes the directory, and a compaction while it has the directory
+    /// in place of a server.
+    StartLock,
     /// The segment with this number.
     Segment(u64),
     /// The segment with this number as it is written anew.
@@ -41,6 +48,8 @@ impl fmt::Display for Place {
             Place::Folder => Ok(()),
             Place::Lock => write!(f, "lock"),
             Place::CompactLock => write!(f, "compact.lock"),
+            Place::ReadLock => write!(f, "read.lock"),
+            Place::StartLock => write!(f, "start.lock"),
             Place::Segment(number) => write!(f, "{number:012}.journal"),
             Place::NewSegment(number) => write!(f, "{number:012}.journal.new"),
             Place::Torn(number) => write!(f, "{number:012}.torn"),
@@ -70,43 +79,109 @@ pub enum Named {
     Other,
 }
 
-/// The number in a file's name: all of its 12 digits, from 1 on.
-fn read_number(digits: &str) -> Option<u64>
-    ensures { IfSome result (λ n. 1 ≤ n) }
+/// Whether all bytes of a text are digits.
+fn all_digits(text: &[u8]) -> bool
+    ensures { result ≡ all_ascii_digits text.now }
 {
-    if digits.len() != DIGITS || !digits.bytes().all(|b| b.is_ascii_digit()) {
+    for byte in text {
+        if !byte.is_ascii_digit() {
+            return false;
+        }
+    }
+    true
+}
+
+/// The number in a file's name: all of its 12 digits, from 1 on.
+#[tactic(auto, using(crate::proofs::Texts::parsed))]
+fn read_number(digits: &str) -> Option<u64>
+    ensures { result ≡ number_in digits.now }
+{
+    if digits.len() != DIGITS || !all_digits(digits.as_bytes()) {
         return None;
     }
-    digits.parse::<u64>().ok().filter(|number| *number >= 1)
+    match digits.parse::<u64>() {
+        Ok(number) if number >= 1 => Some(number),
+        _ => None,
+    }
+}
+
+/// The number before this end of a name.
+#[tactic(auto, using(crate::proofs::Texts::stripped))]
+fn number_before(name: &str, tail: &str) -> Option<u64>
+    ensures { result ≡ number_before tail.now name.now }
+{
+    match name.strip_suffix(tail) {
+        Some(digits) => read_number(digits),
+        None => None,
+    }
 }
 
 /// Whether this is the name of a lock or of the manifest.
-fn is_fixed(name: &str) -> bool {
-    name == "lock" || name == "compact.lock" || name == "manifest.lock" || name == "manifest"
+fn is_fixed(name: &str) -> bool
+    ensures { result ≡ is_fixed name.now }
+{
+    name == "lock"
+        || name == "compact.lock"
+        || name == "read.lock"
+        || name == "start.lock"
+        || name == "manifest.lock"
+        || name == "manifest"
+}
+
+/// Whether a name ends so.
+#[tactic(auto, using(crate::proofs::Texts::ends_text))]
+fn ends(name: &str, tail: &str) -> bool
+    ensures { result ≡ ends name.now tail.now }
+{
+    name.ends_with(tail)
+}
+
+/// Whether a name begins so.
+#[tactic(auto, using(crate::proofs::Texts::starts_text))]
+fn begins(name: &str, head: &str) -> bool
+    ensures { result ≡ begins name.now head.now }
+{
+    name.starts_with(head)
 }
 
 /// Whether a file of this name is no segment and no snapshot, and may be there.
-fn is_passed(name: &str) -> bool {
-    is_fixed(name) || name == "lost+found" || name.starts_with(".") || name.ends_with(".new")
+fn is_passed(name: &str) -> bool
+    ensures { result ≡ is_passed name.now }
+{
+    is_fixed(name) || name == "lost+found" || begins(name, ".") || ends(name, ".new")
+}
+
+/// What a file that was set aside is, by its name.
+fn torn_of(name: &str) -> Named
+    ensures { result ≡ torn_of name.now }
+{
+    if !ends(name, ".torn") {
+        return Named::Other;
+    }
+    match number_before(name, ".torn") {
+        Some(number) => Named::Torn(number),
+        None => Named::Passed,
+    }
 }
 
 /// What a file is, by its name.
-pub fn read_name(name: &str) -> Named {
+#[tactic(auto, unfolding(crate::specs::Names::named_of))]
+pub fn read_name(name: &str) -> Named
+    ensures { result ≡ named_of name.now }
+{
     if is_passed(name) {
         return Named::Passed;
     }
-    if let Some(digits) = name.strip_suffix(".journal")
-        && let Some(number) = read_number(digits)
-    {
+    if let Some(number) = number_before(name, ".journal") {
         return Named::Segment(number);
     }
-    if let Some(digits) = name.strip_suffix(".snapshot")
-        && let Some(number) = read_number(digits)
-    {
+    if let Some(number) = number_before(name, ".snapshot") {
         return Named::Snapshot(number);
     }
-    if let Some(digits) = name.strip_suffix(".torn") {
-        return read_number(digits).map_or(Named::Passed, |number| Named::Torn(number));
-    }
-    Named::Other
+    torn_of(name)
 }
+
+/// A segment, a snapshot and torn bytes are read as what their names say.
+pub fn numbers_are_read()
+    ensures { NumbersAreRead }
+{}

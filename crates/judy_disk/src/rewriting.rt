@@ -1,9 +1,12 @@
 //! Writes the last segment anew at a start, and keeps what is torn beside it.
+ghost use Rattle.std.specs.Prelude.{◌≤◌, length};
+
 use crate::faults::{DiskFault, done_at};
 use crate::files::Growing;
 use crate::folder::Folder;
 use crate::locks::Locks;
 use crate::names::Place;
+use bstr::ByteSlice;
 use std::fs::{Files, OpenFile};
 use std::io::{self, Read, Seek, SeekFrom};
 
@@ -11,14 +14,13 @@ use std::io::{self, Read, Seek, SeekFrom};
 const PIECE: usize = 65536;
 
 /// How many of the bytes come before the zeros at their end.
-fn len_before_zeros(bytes: &[u8]) -> usize {
-    let mut len = 0;
-    for at in 0..bytes.len() {
-        if bytes[at] != 0 {
-            len = at + 1;
-        }
+pub fn len_before_zeros(bytes: &[u8]) -> usize
+    ensures bound { result ≤ length bytes.now }
+{
+    match bytes.rfind_not_byteset(b"\0") {
+        Some(at) => at + 1,
+        None => 0,
     }
-    len
 }
 
 /// Where the bytes end that are not zeros, after a piece that begins here. They ended there before.
@@ -95,7 +97,7 @@ impl<'a, F: Files> Folder<'a, F> {
 impl<'a, F: Locks> Folder<'a, F> {
     /// Writes `len` bytes of a segment, from a place on, to a new file, and secures it.
     fn write_copy(
-        &self,
+        &mut self,
         number: u64,
         from: u64,
         len: u64,
@@ -110,7 +112,7 @@ impl<'a, F: Locks> Folder<'a, F> {
 
     /// The same. If it cannot be written whole, there is no such file.
     fn try_copy(
-        &self,
+        &mut self,
         number: u64,
         from: u64,
         len: u64,
@@ -125,7 +127,7 @@ impl<'a, F: Locks> Folder<'a, F> {
 
     /// Keeps what follows the first `len` bytes of a segment beside it, but for zeros at the end. If there
     /// is nothing else, an older file stays as it is.
-    fn keep_torn(&self, number: u64, len: u64) -> Result<(), DiskFault> {
+    fn keep_torn(&mut self, number: u64, len: u64) -> Result<(), DiskFault> {
         let torn = self.torn_len(number, len)?;
         if torn == 0 {
             return Ok(());
@@ -137,7 +139,7 @@ impl<'a, F: Locks> Folder<'a, F> {
 
     /// Writes the first `len` bytes of a segment anew, and keeps what follows them beside. A refusal leaves
     /// the segment as it was.
-    fn write_anew(&self, number: u64, len: u64) -> Result<Growing<F>, DiskFault> {
+    fn write_anew(&mut self, number: u64, len: u64) -> Result<Growing<F>, DiskFault> {
         let place = Place::Segment(number);
         let written = self.try_copy(number, 0, len, Place::NewSegment(number))?;
         if let Err(fault) = self.keep_torn(number, len) {
@@ -150,8 +152,8 @@ impl<'a, F: Locks> Folder<'a, F> {
     }
 
     /// Cuts off what follows the first `len` bytes of a segment, and secures these as they are.
-    fn cut(&self, number: u64, len: u64) -> Result<Growing<F>, DiskFault> {
-        let growing = self.open_growing(Place::Segment(number))?;
+    fn cut(&mut self, number: u64, len: u64) -> Result<Growing<F>, DiskFault> {
+        let mut growing = self.open_growing(Place::Segment(number))?;
         growing.cut(len)?;
         self.sync()?;
         Ok(growing)
@@ -162,7 +164,7 @@ impl<'a, F: Locks> Folder<'a, F> {
     /// that it is cut off, and the segment is gone on with as it is.
     ///
     /// The segment has its old bytes until the new ones are secured. Another refusal leaves it as it was.
-    pub fn resume(&self, number: u64, len: u64) -> Result<Growing<F>, DiskFault> {
+    pub fn resume(&mut self, number: u64, len: u64) -> Result<Growing<F>, DiskFault> {
         let fault = match self.write_anew(number, len) {
             Ok(written) => return Ok(written),
             Err(fault) => fault,
@@ -173,7 +175,19 @@ impl<'a, F: Locks> Folder<'a, F> {
         Err(fault)
     }
 
-    /// Whether so many torn bytes of a segment are kept beside it.
+    /// Writes the first `len` bytes of a segment anew, secures them, and keeps what follows them beside. A refusal
+    /// leaves the segment as it was.
+    pub fn cut_keeping(&mut self, number: u64, len: u64) -> Result<(), DiskFault> {
+        self.write_anew(number, len)?;
+        Ok(())
+    }
+
+    /// Keeps a segment whole as torn bytes: there is no such segment afterwards. That is secured by `sync`.
+    pub fn set_aside(&mut self, number: u64) -> Result<(), DiskFault> {
+        self.rename(Place::Segment(number), Place::Torn(number))
+    }
+
+    /// Whether this number of torn bytes of a segment is kept beside it.
     pub fn keeps_torn(&self, number: u64, len: u64) -> bool {
         let Ok(file) = self.open(Place::Torn(number)) else {
             return false;

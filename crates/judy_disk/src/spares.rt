@@ -3,8 +3,9 @@ use crate::folder::Folder;
 use crate::names::Place;
 use std::fs::Files;
 
-/// Two descriptors of a directory, which are given up when a segment is begun: one for its file, and one
-/// to sync the directory. So it is begun also where the process may have no more files open.
+/// Two descriptors of a directory, which are given up when a segment is begun, to sync the directory and to
+/// raise the manifest. One of them is given up for the file of a segment that is made ahead. So both are
+/// done also where the process may have no more files open.
 #[derive(Drop)]
 pub struct Spares<F: Files> {
     first: Option<F::File>,
@@ -18,6 +19,11 @@ impl<F: Files> Spares<F> {
             first: None,
             second: None,
         }
+    }
+
+    /// Gives one up.
+    pub fn give_one(&mut self) {
+        self.second = None;
     }
 
     /// Gives them up.

@@ -1,2 +1,3 @@
 -- The lemmas that proofs of other crates may cite. All other files here are private to this crate.
 pub mod ReplayLemmas
+pub mod LeavingLemmas

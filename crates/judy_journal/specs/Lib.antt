@@ -2,6 +2,7 @@ pub mod Acts
 pub mod Crashes
 pub mod Disks
 pub mod Journals
+pub mod Leaving
 pub mod Notes
 pub mod Noting
 pub mod Readings

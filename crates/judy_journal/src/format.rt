@@ -28,9 +28,6 @@ pub const BODY_LIMIT: usize = COMMIT_LIMIT - NOTE_ROOM;
 /// The most bytes of a record: a name, a space, a request and a line feed.
 pub const RECORD_LIMIT: usize = NAME_LIMIT + 1 + LINE_LIMIT + 1;
 
-/// A segment with at least this many bytes is full: the next commit begins the next one.
-pub const SEGMENT_LIMIT: u64 = 67108864;
-
 /// The number of the last segment. There is none after it, however many bytes it has.
 pub const LAST_SEGMENT: u64 = 999999999999;
 

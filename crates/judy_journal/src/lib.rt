@@ -9,6 +9,7 @@
 mod damage;
 mod format;
 mod laws;
+mod leaving;
 mod notes;
 mod reader;
 mod records;
@@ -18,13 +19,13 @@ mod writer;
 
 pub use damage::Damage;
 pub use format::{
-    COMMIT_LIMIT, HEADER, LAST_SEGMENT, LINE_ROOM, RECORD_LIMIT, SEGMENT_LIMIT, SNAPSHOT, SUM_LEN,
-    TEXT_LIMIT,
+    COMMIT_LIMIT, HEADER, LAST_SEGMENT, LINE_ROOM, RECORD_LIMIT, SNAPSHOT, SUM_LEN, TEXT_LIMIT,
 };
 pub use laws::{
     crashes_keep_marks, journal_is_exact, recovery_is_exact, what_is_read_is_found,
     what_is_recovered_is_found, what_is_recovered_is_whole,
 };
+pub use leaving::{add_gone, begin_gone, read_gone};
 pub use notes::Notes;
 pub use reader::{Read, Reader};
 pub use records::{read_record, snapshot_sum};

@@ -11,7 +11,7 @@ use judy_model::laws::{
 pub enum Unplayed {
     /// It is not a tenant's name, a space, and a line that asks for a call that changes arrays.
     Record,
-    /// There is no tenant of this name.
+    /// There is no tenant of this name, and 64 other such names were noted.
     Tenant,
     /// The call was refused: a new entry, or its pieces, would exceed the tenant's quota.
     Full,

@@ -7,8 +7,8 @@ ghost use Rattle.judy_journal.specs.declared.format.TheConstants.{COMMIT_LIMIT, 
 ghost use Rattle.judy_journal.specs.Writes.{IsShortRecord, begun, ended, has_room as has_room_for, secured, snapshot_line, with_note};
 
 use crate::format::{
-    BODY_LIMIT, HEADER, LAST_SEGMENT, MARK, RECORD_LIMIT, SEGMENT_LIMIT, SNAPSHOT, SUM_LEN,
-    TEXT_LIMIT, numbered_line, put, sum_of,
+    BODY_LIMIT, HEADER, LAST_SEGMENT, MARK, RECORD_LIMIT, SNAPSHOT, SUM_LEN, TEXT_LIMIT,
+    numbered_line, put, sum_of,
 };
 use crate::notes::note_line;
 use arrayvec::ArrayVec;
@@ -191,14 +191,11 @@ impl Writer {
         self.text.as_slice()
     }
 
-    /// Whether the next segment is due: this one has at least `SEGMENT_LIMIT` bytes, and is not the
-    /// last.
-    pub fn is_full(&self) -> bool
-        ensures size { result ≡ true → SEGMENT_LIMIT ≤ self.now.size }
-        ensures number { result ≡ true → self.now.segment < LAST_SEGMENT }
-        ensures room { result ≡ false → self.now.segment < LAST_SEGMENT → self.now.size < SEGMENT_LIMIT }
+    /// How many bytes the segment has.
+    pub fn size(&self) -> u64
+        ensures { result ≡ self.now.size }
     {
-        self.segment < LAST_SEGMENT && self.size >= SEGMENT_LIMIT
+        self.size
     }
 
     /// Begins the next segment: its text is the first line.

@@ -29,7 +29,7 @@ admitted_all speaker admits zero (t ∷ slots) h k = absurd (omega arith)
 admitted_all speaker admits (suc n) (t ∷ slots) h k = (k.0, admitted_all speaker admits n slots (omega arith) k.1)
 
 -- what holds of a table that was put in force, or the service is as it was
-pub changed_or : {S : Type 0} (rules : Rules S) (changed : Bool) (log log' : Acts) (before after : S) (A : Type 0)
-    → HasChanged rules changed log log' before after → (changed ≡ true → A) → (after ≡ before) ⊎ A
-changed_or rules true log log' before after A h then' = inr (then' refl)
-changed_or rules false log log' before after A h then' = inl h.0
+pub changed_or : {S : Type 0} (rules : Rules S) (keep changed : Bool) (left : List (List ℕ)) (log log' : Acts) (before after : S) (A : Type 0)
+    → HasChanged rules keep changed left log log' before after → (changed ≡ true → A) → (after ≡ before) ⊎ A
+changed_or rules keep true left log log' before after A h then' = inr (then' refl)
+changed_or rules keep false left log log' before after A h then' = inl h.0

@@ -70,6 +70,7 @@ crowd_first line view rules limits first start began slots free sized small allo
       awake = awake_none;
       each = each_none;
       limited = tt;
+      inquired = tt;
       asked = tt;
       stage = refl;
       single = λ e. tt;

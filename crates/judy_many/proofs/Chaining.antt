@@ -10,7 +10,6 @@ use Rattle.judy_model.specs.Service.{ServingGoesOn, ServingIsStepwise, own}
 use Rattle.judy_model.specs.Solo.{IsSolo, SoloGoesOn, SoloIsDetermined}
 use Rattle.judy_model.specs.Speakers.{Event, attempt_of}
 use Rattle.judy_model.specs.declared.replies.Reply.{Reply}
-use Rattle.judy_model.specs.Stream.{event_of}
 use Rattle.judy_model.specs.Worlds.{served-worlds}
 use Rattle.judy_protocol.specs.Services.{AreMade, Seen}
 use Rattle.judy_protocol.proofs.Ending.{are_served}
@@ -19,7 +18,7 @@ use Rattle.std.proofs.Common.{append_assoc}
 use Rattle.judy_many.specs.Changes.{AreGone, Chain, HasChanged, IsAlone, IsAloneFor, IsChange, exchanges}
 use Rattle.judy_many.specs.Nets.{Act, Acts}
 use Rattle.judy_many.specs.Rules.{Rules}
-use Rattle.judy_many.specs.Sessions.{Turn, events_in, replies_in}
+use Rattle.judy_many.specs.Sessions.{Turn, calls_of, events_in, replies_in}
 use Rattle.judy_many.specs.Statuses.{Keeps, Passes}
 use Rattle.judy_many.specs.Stories.{Story, first_with, runs_in, turns_in}
 use Rattle.judy_many.specs.Stories.Moment.{Changed, Did, Ran}
@@ -30,13 +29,13 @@ abbrev pub Stays : {S : Type 0} → Rules S → Type 0
 Stays {S} rules = (before after : S) (text : List ℕ) → rules.changed before text after → IsChange (rules.seen before) (rules.seen after)
 
 -- nothing was changed
-pub unchanged_service : {S : Type 0} (rules : Rules S) (changed : Bool) (log log' : Acts) (before after : S) → HasChanged rules changed log log' before after
-    → changed ≡ false → after ≡ before
-unchanged_service rules true log log' before after h e = absurd (never e)
+pub unchanged_service : {S : Type 0} (rules : Rules S) (keep changed : Bool) (left : List (List ℕ)) (log log' : Acts) (before after : S)
+    → HasChanged rules keep changed left log log' before after → changed ≡ false → (after ≡ before) × (left ≡ [])
+unchanged_service rules keep true left log log' before after h e = absurd (never e)
   where
     never : true ≡ false → ⊥
     never e = cc
-unchanged_service rules false log log' before after h e = h.0
+unchanged_service rules keep false left log log' before after h e = (h.0, h.1)
 
 pub gone_then : (a b : List Act) → AreGone a → AreGone b → AreGone (a ++ b)
 gone_then [] b h k = k
@@ -49,7 +48,7 @@ pub record AreCalled (before : Seen) (turns : List Turn) (after : Seen) : Type 0
 
 pub events_in-append : (ts us : List Turn) → events_in (ts ++ us) ≡ events_in ts ++ events_in us
 events_in-append [] us = refl
-events_in-append (t ∷ ts) us = ap (λ v. event_of t.line t.who ++ v) (events_in-append ts us) ∙ sym (append_assoc (event_of t.line t.who) (events_in ts) (events_in us))
+events_in-append (t ∷ ts) us = ap (λ v. calls_of t ++ v) (events_in-append ts us) ∙ sym (append_assoc (calls_of t) (events_in ts) (events_in us))
 
 pub replies_in-append : (ts us : List Turn) → replies_in (ts ++ us) ≡ replies_in ts ++ replies_in us
 replies_in-append [] us = refl
@@ -107,8 +106,8 @@ module _ {S : Type 0} (rules : Rules S) (apart : KeepsApart rules) (unseen : IsU
   runs_called past before after (Ran n turns ∷ story) (mid, first, rest) =
       let seen = turns_seen rules apart unseen before mid turns first in
       chain_with (rules.seen before) (rules.seen mid) (rules.seen after) turns (runs_in story) (record { count = seen.0; calls = seen.1 }) (runs_called (past ++ Ran n turns ∷ []) mid after story rest)
-  runs_called past before after (Changed text ∷ story) (mid, step, rest) =
-      chain_after (rules.seen before) (rules.seen mid) (rules.seen after) (runs_in story) (stays before mid text step) (runs_called (past ++ Changed text ∷ []) mid after story rest)
+  runs_called past before after (Changed text left ∷ story) (mid, step, rest) =
+      chain_after (rules.seen before) (rules.seen mid) (rules.seen after) (runs_in story) (stays before mid text step) (runs_called (past ++ Changed text left ∷ []) mid after story rest)
 
   module _ (goes_on : ServingGoesOn) (one : ServingIsStepwise) (equal : SoloIsDetermined) where
     alone : (a b : Seen) (ts : List Turn) → AreCalled a ts b → IsAlone a ts b
@@ -133,9 +132,9 @@ module _ {S : Type 0} (rules : Rules S) (apart : KeepsApart rules) (unseen : IsU
         = subst (λ q. IsSolo q ((rules.seen mid).states t) (exchanges t (turns_in story)) last) (ap (λ q. q t) here.quotas) (solo_of steps t (past ++ Ran n turns ∷ []) mid after story rest k) in
         subst (λ p. IsSolo quota state p last) (sym (exchanges-append t turns (turns_in story) seen.0))
         ((steps quota state (exchanges t turns) (exchanges t (turns_in story)) last).1 ((rules.seen mid).states t, here.solo.solo t, later))
-    solo_of steps t past before after (Changed text ∷ story) (mid, step, rest) (quota, state, k) =
+    solo_of steps t past before after (Changed text left ∷ story) (mid, step, rest) (quota, state, k) =
         subst (λ s. IsSolo ((rules.seen before).quotas t) s (exchanges t (turns_in story)) ((rules.seen after).states t)) state
-        (subst (λ q. IsSolo q ((rules.seen mid).states t) (exchanges t (turns_in story)) ((rules.seen after).states t)) quota (solo_of steps t (past ++ Changed text ∷ []) mid after story rest k))
+        (subst (λ q. IsSolo q ((rules.seen mid).states t) (exchanges t (turns_in story)) ((rules.seen after).states t)) quota (solo_of steps t (past ++ Changed text left ∷ []) mid after story rest k))
 
     pub kept_alone : SoloGoesOn → (past : Story) (before after : S) (story : Story) (h : Passes rules past before story after) (t : ℕ) → Keeps rules t past before story after h
         → IsAloneFor t (rules.seen before) (turns_in story) (rules.seen after)

@@ -12,9 +12,9 @@ use Rattle.judy_many.specs.Watches.{Queued, nobody, unqueued}
 use Rattle.judy_many.specs.Lives.{IsServed, View}
 use Rattle.judy_many.specs.Journaling.{AreKept, Carries, IsFailure, MayKeep}
 use Rattle.judy_many.specs.Nets.{Act, Acts, DidLog}
-use Rattle.judy_many.specs.Nets.Act.{Came, Refused, Read, Dry, Ended, Broke, Wrote, Failed, Closed, Waited, Lost, Asked, Questioned, Reported, Warned, Tabled, Untabled, Named, Replied, Began, Kept, Unkept, Synced, Unsynced}
+use Rattle.judy_many.specs.Nets.Act.{Came, Refused, Read, Dry, Ended, Broke, Wrote, Failed, Closed, Waited, Lost, Asked, Questioned, Reported, Warned, Tabled, Untabled, Named, Replied, Began, Kept, Unkept, Synced, Unsynced, Took}
 use Rattle.judy_many.specs.Present.{speakers_at}
-use Rattle.judy_many.specs.Questions.{AreAsked, Stage, last_stage, stage_since}
+use Rattle.judy_many.specs.Questions.{AreAsked, Stage, IsLastStage, stage_since}
 use Rattle.judy_many.specs.Rules.{Rules}
 use Rattle.judy_many.specs.Statuses.{HasAnswered, Lasts, Passes}
 use Rattle.judy_many.specs.Stories.{AreRead, AreWithin, Phase, IsPhased, Share, Story, acts_in, came_in, closed_in, own, times, writes_since}
@@ -29,6 +29,7 @@ use Rattle.judy_many.proofs.Beginning.{crowd_first}
 use Rattle.judy_many.proofs.Beside.{stage_past}
 use Rattle.judy_many.proofs.Journals.{is_quiet, keeps_quiet}
 use Rattle.judy_many.proofs.Singles.{quiet_single}
+use Rattle.judy_many.proofs.Inquiring.{inquired_quiet}
 use Rattle.judy_many.proofs.Limiting.{foreign_quiet, limited_quiet}
 use Rattle.judy_many.proofs.Owning.{own-append}
 use Rattle.judy_many.proofs.Chaining.{Stays, kept_alone, runs_alone}
@@ -55,12 +56,12 @@ are_kept (Some i) j story h = h.0
 -- the server ends, after these last answers
 crowd_ends : {B S : Type 0} (view : B → View) (rules : Rules S) (apart : KeepsApart rules) (unseen : IsUnseen rules) (stays : Stays rules)
     → ServingGoesOn → ServingIsStepwise → SoloIsDetermined → SoloGoesOn
-    → (first : S) (start mid log : Acts) (writer : Option Writing) (phase : Phase) (had : Queued) (waits : ℕ) (journal : Option Journal) (lost : ℕ) (slots : List (Option B)) (count : ℕ) (now : S) (limits : Limits) (how : Ending) (more : Story)
+    → (first : S) (start mid log : Acts) (writer : Option Writing) (phase : Phase) (had : Queued) (waits : ℕ) (journal : Option Journal) (from stage : Stage) (lost : ℕ) (slots : List (Option B)) (count : ℕ) (now : S) (limits : Limits) (how : Ending) (more : Story)
     → (how ≡ ending.Done → (limits.connections ≤ count) × AreFree slots)
-    → (h : Crowd view rules limits first start phase had (past_of waits (opened limits.journal writer) journal) mid slots count now)
-    → ((n : ℕ) → own n more ≡ []) → IsTold rules limits first start phase lost (at_stage (last_stage how) (past_of waits (opened limits.journal writer) journal)) log slots count now (h.story ++ more) → IsCaused how (h.story ++ more)
+    → (h : Crowd view rules limits first start phase had (at_stage from (past_of waits (opened limits.journal writer) journal)) mid slots count now)
+    → ((n : ℕ) → own n more ≡ []) → IsTold rules limits first start phase lost (at_stage stage (past_of waits (opened limits.journal writer) journal)) log slots count now (h.story ++ more) → IsLastStage how stage → IsCaused how (h.story ++ more)
     → HasServedMany rules limits writer how start log first now
-crowd_ends view rules apart unseen stays goes_on one equal steps first start mid log writer phase had waits journal lost slots count now limits how more done h none told cause =
+crowd_ends view rules apart unseen stays goes_on one equal steps first start mid log writer phase had waits journal from stage lost slots count now limits how more done h none told ended cause =
     let story = h.story ++ more in
     record {
       story = story;
@@ -72,6 +73,7 @@ crowd_ends view rules apart unseen stays goes_on one equal steps first start mid
       awake = told.awake;
       each = told.each;
       limited = told.limited;
+      inquired = told.inquired;
       single = told.single;
       few = told.few;
       total = let e = told.total in let f = told.capped in omega (arith, e, f);
@@ -85,7 +87,7 @@ crowd_ends view rules apart unseen stays goes_on one equal steps first start mid
             | inr q ↦ absurd (free_at slots q.i q.b all.1 q.there)
           ];
       asked = told.asked;
-      answered = told.stage;
+      answered = subst (IsLastStage how) (sym told.stage) ended;
       told = told.run;
       reads = told.reads;
       lasts = told.lasts;
@@ -101,27 +103,27 @@ crowd_ends view rules apart unseen stays goes_on one equal steps first start mid
 module _ {B S : Type 0} (view : B → View) (rules : Rules S) (apart : KeepsApart rules) (unseen : IsUnseen rules) (stays : Stays rules)
     (goes_on : ServingGoesOn) (one : ServingIsStepwise) (equal : SoloIsDetermined) (steps : SoloGoesOn)
     (first : S) (start : Acts) (limits : Limits) (writer : Option Writing) where
-  told_on : (phase : Phase) (had : Queued) (waits : ℕ) (journal : Option Journal) (stage : Stage) (lost : ℕ) (mid log : Acts) (slots : List (Option B)) (count : ℕ) (now : S)
-      (h : Crowd view rules limits first start phase had (past_of waits (opened limits.journal writer) journal) mid slots count now) (more : Story)
+  told_on : (phase : Phase) (had : Queued) (waits : ℕ) (journal : Option Journal) (from stage : Stage) (lost : ℕ) (mid log : Acts) (slots : List (Option B)) (count : ℕ) (now : S)
+      (h : Crowd view rules limits first start phase had (at_stage from (past_of waits (opened limits.journal writer) journal)) mid slots count now) (more : Story)
       → ((n : ℕ) → own n more ≡ []) → DidLog mid (acts_in more) log → Passes rules h.story now more now → Lasts rules (is_some limits.journal) now more now → came_in (acts_in more) ≡ 0 → closed_in (acts_in more) ≡ 0 → AreWithin limits (acts_in more)
       → ((wrote : Bool) → IsPhased wrote more × (writes_since wrote more ≡ wrote)) → ((share : Share) → times share more ≡ 0)
-      → AreAsked Stage.Unasked more → stage_since Stage.Unasked more ≡ stage → lost ≡ lost_in (acts_in more) → waits_in (acts_in more) ≡ 0 → is_quiet more ≡ true → ((last : Option (List ℕ)) → AreRead limits last more)
+      → AreAsked from more → stage_since from more ≡ stage → lost ≡ lost_in (acts_in more) → waits_in (acts_in more) ≡ 0 → is_quiet more ≡ true → ((last : Option (List ℕ)) → AreRead limits last more)
       → IsTold rules limits first start phase lost (at_stage stage (past_of waits (opened limits.journal writer) journal)) log slots count now (h.story ++ more)
-  told_on phase had waits journal stage lost mid log slots count now h more none k r l came closed within phases silent asked is lose wait quiet reads =
-      told_more rules limits first start phase phase 0 lost (past_of waits (opened limits.journal writer) journal) (at_stage stage (past_of waits (opened limits.journal writer) journal)) mid log slots slots count count now now h.story more h.is_told k r l
+  told_on phase had waits journal from stage lost mid log slots count now h more none k r l came closed within phases silent asked is lose wait quiet reads =
+      told_more rules limits first start phase phase 0 lost (at_stage from (past_of waits (opened limits.journal writer) journal)) (at_stage stage (past_of waits (opened limits.journal writer) journal)) mid log slots slots count count now now h.story more h.is_told k r l
       (omega (arith, came)) h.is_told.capped (omega (arith, came, closed))
       (let a = taken_most slots in let b = h.is_told.sized in omega (arith, a, b, came)) (omega arith) within
       (phases (writes_since false h.story)).0 (λ e. (phases (writes_since false h.story)).1 ∙ h.is_told.quiet e)
-      (still h.story more h.is_told.fair silent) (omega (arith, lose)) (stage_past phase (past_of waits (opened limits.journal writer) journal) stage more wait (keeps_quiet journal more quiet) h.is_told.settled asked is) reads (no_looks h.story more wait)
-      (limited_quiet limits.tenant_clients h.story more (foreign_quiet more none)) (λ e. quiet_single more (foreign_quiet more none))
+      (still h.story more h.is_told.fair silent) (omega (arith, lose)) (stage_past phase (at_stage from (past_of waits (opened limits.journal writer) journal)) stage more wait (keeps_quiet journal more quiet) h.is_told.settled asked is) reads (no_looks h.story more wait)
+      (limited_quiet limits.tenant_clients h.story more (foreign_quiet more none)) (inquired_quiet (is_some limits.journal) h.story more (foreign_quiet more none)) (λ e. quiet_single more (foreign_quiet more none))
 
   pub ends_here : (log : Acts) (phase : Phase) (had : Queued) (waits : ℕ) (journal : Option Journal) (slots : List (Option B)) (count : ℕ) (now : S) (how : Ending)
-      → last_stage how ≡ Stage.Unasked → (how ≡ ending.Done → (limits.connections ≤ count) × AreFree slots)
+      → IsLastStage how Stage.Unasked → (how ≡ ending.Done → (limits.connections ≤ count) × AreFree slots)
       → (h : Crowd view rules limits first start phase had (past_of waits (opened limits.journal writer) journal) log slots count now)
       → IsCaused how (h.story ++ []) → HasServedMany rules limits writer how start log first now
   ends_here log phase had waits journal slots count now how unasked done h cause =
-      crowd_ends view rules apart unseen stays goes_on one equal steps first start log log writer phase had waits journal 0 slots count now limits how [] done h (λ n. refl)
-      (told_on phase had waits journal (last_stage how) 0 log log slots count now h [] (λ n. refl) (no_log log) refl refl refl refl tt (λ wrote. (tt, refl)) (λ share. refl) tt (sym unasked) refl refl refl (λ last. tt)) cause
+      crowd_ends view rules apart unseen stays goes_on one equal steps first start log log writer phase had waits journal Stage.Unasked Stage.Unasked 0 slots count now limits how [] done h (λ n. refl)
+      (told_on phase had waits journal Stage.Unasked Stage.Unasked 0 log log slots count now h [] (λ n. refl) (no_log log) refl refl refl refl tt (λ wrote. (tt, refl)) (λ share. refl) tt refl refl refl refl (λ last. tt)) unasked cause
 
   -- before anything was asked of the system
   pub ends_first : (line : Line) (slots : List (Option B)) → AreFree slots → length slots ≤ limits.clients → length slots ≤ 1024 → HasServedMany rules limits writer ending.Memory start start first first
@@ -155,8 +157,8 @@ module _ {B S : Type 0} (view : B → View) (rules : Rules S) (apart : KeepsApar
       → DidLog mid (Lost ∷ []) log → Crowd view rules limits first start phase had (past_of waits (opened limits.journal writer) journal) mid slots count now
       → HasServedMany rules limits writer ending.Socket start log first now
   ends_lost mid log phase had waits journal slots count now k h =
-      crowd_ends view rules apart unseen stays goes_on one equal steps first start mid log writer phase had waits journal 1 slots count now limits ending.Socket (Did Lost ∷ []) (λ e. absurd (socket_not e)) h (λ n. refl)
-      (told_on phase had waits journal Stage.Unasked 1 mid log slots count now h (Did Lost ∷ []) (λ n. refl) k (tt, refl) refl refl refl (tt, tt) (λ wrote. ((tt, tt), refl)) (λ share. refl) (refl, tt) refl refl refl refl (λ last. tt))
+      crowd_ends view rules apart unseen stays goes_on one equal steps first start mid log writer phase had waits journal Stage.Unasked Stage.Unasked 1 slots count now limits ending.Socket (Did Lost ∷ []) (λ e. absurd (socket_not e)) h (λ n. refl)
+      (told_on phase had waits journal Stage.Unasked Stage.Unasked 1 mid log slots count now h (Did Lost ∷ []) (λ n. refl) k (tt, refl) refl refl refl (tt, tt) (λ wrote. ((tt, tt), refl)) (λ share. refl) (refl, tt) refl refl refl refl (λ last. tt)) refl
       (inl (record { before = h.story; last = refl; once = h.is_told.unlost }))
     where
       socket_not : ending.Socket ≡ ending.Done → ⊥
@@ -168,8 +170,8 @@ module _ {B S : Type 0} (view : B → View) (rules : Rules S) (apart : KeepsApar
       → HasServedMany rules limits writer ending.Stopped start log first now
   ends_stopped mid log phase had waits journal slots count now false e bad h = absurd bad
   ends_stopped mid log phase had waits journal slots count now true e k h =
-      crowd_ends view rules apart unseen stays goes_on one equal steps first start mid log writer phase had waits journal 1 slots count now limits ending.Stopped (Did (Questioned question.Stop) ∷ []) (λ e. absurd (stopped_not e)) h (λ n. refl)
-      (told_on phase had waits journal (Stage.Asks question.Stop) 1 mid log slots count now h (Did (Questioned question.Stop) ∷ []) (λ n. refl) k (tt, refl) refl refl refl (e, tt) (λ wrote. ((tt, tt), refl)) (λ share. refl) (refl, tt) refl refl refl refl (λ last. tt))
+      crowd_ends view rules apart unseen stays goes_on one equal steps first start mid log writer phase had waits journal Stage.Unasked (Stage.Asks question.Stop) 1 slots count now limits ending.Stopped (Did (Questioned question.Stop) ∷ []) (λ e. absurd (stopped_not e)) h (λ n. refl)
+      (told_on phase had waits journal Stage.Unasked (Stage.Asks question.Stop) 1 mid log slots count now h (Did (Questioned question.Stop) ∷ []) (λ n. refl) k (tt, refl) refl refl refl (e, tt) (λ wrote. ((tt, tt), refl)) (λ share. refl) (refl, tt) refl refl refl refl (λ last. tt)) refl
       (record { before = h.story; last = refl; once = h.is_told.unlost })
     where
       stopped_not : ending.Stopped ≡ ending.Done → ⊥
@@ -195,11 +197,11 @@ module _ {B S : Type 0} (view : B → View) (rules : Rules S) (apart : KeepsApar
 
       ended : (a : Act) → IsFailure a → lost_in (a ∷ []) ≡ 1 → AreWithin limits (a ∷ []) → DidLog f.mid (a ∷ []) log → ((n : ℕ) → own n (Did a ∷ []) ≡ [])
           → came_in (a ∷ []) ≡ 0 → closed_in (a ∷ []) ≡ 0 → ((wrote : Bool) → IsPhased wrote (Did a ∷ []) × (writes_since wrote (Did a ∷ []) ≡ wrote))
-          → ((share : Share) → times share (Did a ∷ []) ≡ 0) → AreAsked Stage.Unasked (Did a ∷ []) → stage_since Stage.Unasked (Did a ∷ []) ≡ Stage.Unasked → waits_in (a ∷ []) ≡ 0 → is_quiet (Did a ∷ []) ≡ true → Passes rules f.crowd.story now (Did a ∷ []) now
+          → ((share : Share) → times share (Did a ∷ []) ≡ 0) → AreAsked f.stage (Did a ∷ []) → stage_since f.stage (Did a ∷ []) ≡ f.stage → waits_in (a ∷ []) ≡ 0 → is_quiet (Did a ∷ []) ≡ true → Passes rules f.crowd.story now (Did a ∷ []) now
           → HasServedMany rules limits writer ending.Journal start log first now
       ended a fails lost within k none came closed phases silent asked is wait quiet passes =
-          crowd_ends view rules apart unseen stays goes_on one equal steps first start f.mid log writer Phase.Reads unqueued f.waits f.journal 1 slots count now limits ending.Journal (Did a ∷ []) (λ e. absurd (journal_not e)) f.crowd none
-          (told_on Phase.Reads unqueued f.waits f.journal Stage.Unasked 1 f.mid log slots count now f.crowd (Did a ∷ []) none k passes refl came closed within phases silent asked is (sym lost) wait quiet (λ last. tt))
+          crowd_ends view rules apart unseen stays goes_on one equal steps first start f.mid log writer f.phase unqueued f.waits f.journal f.stage f.stage 1 slots count now limits ending.Journal (Did a ∷ []) (λ e. absurd (journal_not e)) f.crowd none
+          (told_on f.phase unqueued f.waits f.journal f.stage f.stage 1 f.mid log slots count now f.crowd (Did a ∷ []) none k passes refl came closed within phases silent asked is (sym lost) wait quiet (λ last. tt)) f.may
           (record { before = f.crowd.story; act = a; fails = fails; last = refl; once = f.crowd.is_told.unlost })
 
       failed : (a : Act) → IsFailure a → DidLog f.mid (a ∷ []) log → HasServedMany rules limits writer ending.Journal start log first now

@@ -2,8 +2,10 @@
 use Rattle.std.proofs.Common.{◌≡◌, ◌≢◌, ◌⊎◌, inl, inr, ◌<◌, ◌≤◌, ◌+◌, ℕ, zero, suc, Bool, true, false, List, [], ◌∷◌, ◌++◌, length, Option, None, Some, arith, sym, ◌∙◌, ap, subst, refl, append-nil, slice_set, slice_index_or}
 use Rattle.std.specs.Prelude.{if◌then◌else◌, is_some, option_map}
 use Rattle.std.proofs.lemmas.Bool.Decides.{eqb_tells}
+use Rattle.judy_journal.specs.Leaving.{gone_records}
+use Rattle.judy_many.specs.Barred.{IsInquired, SpeaksIn}
 use Rattle.judy_many.specs.Books.{Journal}
-use Rattle.judy_many.specs.Changes.{HasChanged, KeepsTenants, SlotGone}
+use Rattle.judy_many.specs.Changes.{HasChanged, HasSaid, SlotGone}
 use Rattle.judy_many.specs.Crowds.{At, Crowd, HasFailed, IsThere, IsTold, Past, at_stage, past_of, taken, taken_by}
 use Rattle.judy_many.specs.Endings.{lost_in, waits_in}
 use Rattle.judy_many.specs.Journaling.{AreSettled, AreWritten, Carries, Writes}
@@ -15,12 +17,12 @@ use Rattle.std.specs.List.{list_any}
 use Rattle.judy_many.specs.Arrivals.{Arrives, IsArrival}
 use Rattle.judy_many.specs.Others.{AreLimited, IsLimited}
 use Rattle.judy_many.specs.Present.{speaker_since, speakers_at}
-use Rattle.judy_many.specs.Questions.{AreAsked, MayReply, Stage, asks_kick, asks_reload, gones_in, read_stage, stage_since}
+use Rattle.judy_many.specs.Questions.{AreAsked, MayFail, MayReply, Stage, asks_kick, asks_reload, gones_in, read_stage, stage_since}
 use Rattle.judy_many.specs.Rules.{Rules}
 use Rattle.judy_many.specs.Sessions.{AreTurns, records_in}
 use Rattle.judy_many.specs.Statuses.{HasAnswered, IsStatus, Lasts, Passes}
 use Rattle.judy_many.specs.Warnings.{HasWarned, warning_acts}
-use Rattle.judy_many.specs.Stories.{AreRead, AreSingle, AreWithin, BeginsWith, Phase, InPhase, IsPhased, IsWarning, Mine, Share, Story, acts_in, came_in, closed_in, most, own, times, told, told_head, turns_in, turns_since, writes_since}
+use Rattle.judy_many.specs.Stories.{AreRead, AreSingle, AreWithin, Phase, InPhase, IsLate, IsOnce, IsPhased, IsWarning, Mine, Share, Story, acts_in, came_in, closed_in, most, own, times, told, turns_in, turns_since, writes_since}
 use Rattle.judy_many.specs.Stories.Moment.{Changed, Did}
 use Rattle.judy_many.specs.Watches.{Alert, IsAlert, IsClosedOr, IsOpen, Looks, Queued, is_seat, Rests, everybody, nobody, those_before, unqueued, upto_wait, watch}
 use Rattle.judy_many.specs.declared.serve.Limits.{Limits}
@@ -32,12 +34,13 @@ use Rattle.judy_many.proofs.Queueing.{before_later, before_none, before_only}
 use Rattle.judy_many.proofs.Seats.{At-here, At-index, At-keep, At-only, At-set, At-some, At-within, long_set, taken_at, taken_free, taken_most}
 use Rattle.judy_many.proofs.Turning.{GoOn, fair-append, lost-append, mine_plain, since-append, since_fresh, since_most, since_other, since_quiet, still, takes_turn, waits-append}
 use Rattle.judy_many.proofs.Singles.{AreSingle-append, quiet_single}
+use Rattle.judy_many.proofs.Inquiring.{IsInquired-append, inquired_quiet, late_unasked}
 use Rattle.judy_many.proofs.Limiting.{IsLimited-append, foreign_quiet, limited_quiet, limited_turn}
 use Rattle.judy_many.proofs.Presence.{present, speaks_since}
 use Rattle.judy_many.proofs.Passing.{AreRead-append, Lasts-append, Passes-append, lasts_plain, passes_plain, reads_plain}
 use Rattle.judy_many.proofs.Beside.{IsAside, IsBeside, Passed, after_lines, beside, keeping, keeping_passes, later, reads_not_writes, stage_past, stays_past, told_lasts}
-use Rattle.judy_many.proofs.Questioning.{AreAsked-append, is_unasked, keeping_unasked, mine_unasked, stage-append, unasked_since}
-use Rattle.judy_many.proofs.Journals.{Carries-append, keeps_allowed, keeps_quiet, keeps_turn, settled_turn}
+use Rattle.judy_many.proofs.Questioning.{AreAsked-append, is_unasked, keeping_unasked, mine_unasked, slot_stays, stage-append, unasked_since}
+use Rattle.judy_many.proofs.Journals.{Carries-append, keeps_allowed, keeps_change, keeps_quiet, keeps_reply, keeps_turn, settled_turn}
 use Rattle.judy_many.proofs.Recording.{noted_none}
 use Rattle.judy_many.proofs.Living.{cut_log, then_log}
 use Rattle.judy_many.proofs.Watching.{alert_anew, alert_beside, alert_comes, alert_keep, alert_looks, alert_read, alert_swept, alert_told, alert_turned, alert_waits, awake-append, each-append, no_looks}
@@ -56,9 +59,10 @@ module _ {B S : Type 0} (rules : Rules S) (limits : Limits) (first : S) (start :
       → AreWithin limits (acts_in more)
       → IsPhased (writes_since false story) more
       → (phase' ≡ Phase.Reads → writes_since (writes_since false story) more ≡ false)
-      → GoOn story more → lost' ≡ lost + lost_in (acts_in more) → Passed phase' past more past' → ((last : Option (List ℕ)) → AreRead limits last more) → Looks story more → IsLimited limits.tenant_clients story more → (limits.clients ≡ 1 → AreSingle more)
+      → GoOn story more → lost' ≡ lost + lost_in (acts_in more) → Passed phase' past more past' → ((last : Option (List ℕ)) → AreRead limits last more) → Looks story more → IsLimited limits.tenant_clients story more → IsInquired (is_some limits.journal) story more
+      → (limits.clients ≡ 1 → AreSingle more)
       → IsTold rules limits first start phase' lost' past' log' slots' count' after (story ++ more)
-  told_more phase phase' lost lost' past past' log log' slots slots' count count' now after story more h k r l counts capped sums room sized within phases quiet turns lose passed reads looks limited single = record {
+  told_more phase phase' lost lost' past past' log log' slots slots' count count' now after story more h k r l counts capped sums room sized within phases quiet turns lose passed reads looks limited inquired single = record {
     logged = subst (λ a. DidLog start a log') (sym (acts_in-append story more)) (then_log start log log' (acts_in story) (acts_in more) h.logged k);
     run = Passes-append rules [] first now after story more h.run r;
     lasts = Lasts-append rules (is_some limits.journal) first now after story more h.lasts l;
@@ -84,6 +88,7 @@ module _ {B S : Type 0} (rules : Rules S) (limits : Limits) (first : S) (start :
     awake = awake-append story more h.awake looks;
     each = each-append story more h.each looks;
     limited = IsLimited-append limits.tenant_clients [] story more h.limited limited;
+    inquired = IsInquired-append (is_some limits.journal) [] story more h.inquired inquired;
     asked = AreAsked-append Stage.Unasked story more h.asked (subst (λ s. AreAsked s more) (sym h.stage) passed.asked);
     stage = stage-append Stage.Unasked story more ∙ ap (λ s. stage_since s more) h.stage ∙ sym passed.stage;
     single = λ e. AreSingle-append story more (h.single e) (single e);
@@ -125,8 +130,16 @@ below_or (suc n) (suc count) = elim (below_or n count) [ inl p ↦ inl (omega (a
 
 reads_most : (share : Share) → most Phase.Reads share ≤ 1
 reads_most Share.Reading = omega arith
+reads_most Share.Asking = omega arith
 reads_most Share.Running = omega arith
 reads_most Share.Writing = omega arith
+
+pub sweeps_not_writes : Phase.Sweeps ≡ Phase.Writes → ⊥
+sweeps_not_writes e = cc
+
+-- where nobody left no record is added
+nobody_left : (left : List (List ℕ)) (past : Past) → left ≡ [] → after_lines (gone_records left) past ≡ past
+nobody_left left past none = ap (λ l. after_lines (gone_records l) past) none ∙ ap (λ j. record past { journal = j }) (sym (noted_none past.journal))
 
 module _ {B S : Type 0} (view : B → View) (rules : Rules S) (limits : Limits) (first : S) (start : Acts) where
   abbrev Now : Phase → Queued → Past → Acts → List (Option B) → ℕ → S → Type 0
@@ -328,7 +341,7 @@ module _ {B S : Type 0} (view : B → View) (rules : Rules S) (limits : Limits) 
       (told_more rules limits first start phase phase 0 0 past past' log log' slots slots count count now after h.story more h.is_told k (r h) l (omega (arith, came)) h.is_told.capped
       (omega (arith, came, closed)) (let a = taken_most slots in let b = h.is_told.sized in omega (arith, a, b, came)) (omega arith) a.within
       (a.phases (writes_since false h.story)).0 (λ e. (a.phases (writes_since false h.story)).1 ∙ h.is_told.quiet e)
-      (still h.story more h.is_told.fair a.silent) (omega (arith, lost)) passed a.reads (no_looks h.story more a.waited) (limited_quiet limits.tenant_clients h.story more (foreign_quiet more a.foreign)) (λ e. quiet_single more (foreign_quiet more a.foreign)))
+      (still h.story more h.is_told.fair a.silent) (omega (arith, lost)) passed a.reads (no_looks h.story more a.waited) (limited_quiet limits.tenant_clients h.story more (foreign_quiet more a.foreign)) (inquired_quiet (is_some limits.journal) h.story more (foreign_quiet more a.foreign)) (λ e. quiet_single more (foreign_quiet more a.foreign)))
       (λ j c at. at) (λ j c at. at) (open_still phase had had past log slots count now h more (λ j k. k) a.silent)
       (λ j c at. alert_keep phase had j (view c) h.story more (a.foreign (view c).number) a.waited (h.alert j c at))
 
@@ -402,7 +415,7 @@ module _ {B S : Type 0} (view : B → View) (rules : Rules S) (limits : Limits) 
       (let a = taken_most slots in let b = h.is_told.sized in omega (arith, a, b)) (omega arith) (tt, tt) (tt, tt) (λ e. refl)
       (still h.story last h.is_told.fair (λ share. refl)) refl
       (record { waited = refl; began = refl; keeps = keeps_quiet past.journal last refl; settled = λ e. absurd (reads_not_writes e); asked = (unasked, tt); stage = refl }) (λ last. tt)
-      (looks_waits line past log slots count now sleeps slots_told asleep h) tt (λ e. tt))
+      (looks_waits line past log slots count now sleeps slots_told asleep h) tt tt (λ e. tt))
       (λ j c at. at) (λ j c at. at) (λ j c at not share.
       let e : turns_since (view c).number share 0 (h.story ++ last) ≡ 0 = since-append (view c).number share 0 h.story last in
       let f = reads_most share in
@@ -479,11 +492,11 @@ module _ {B S : Type 0} (view : B → View) (rules : Rules S) (limits : Limits) 
   )
 
   -- the table was read, and put in force if it could be
-  pub has_changed : (phase : Phase) (had : Queued) (past : Past) (log log' : Acts) (slots : List (Option B)) (count : ℕ) (now after : S) (changed : Bool) → limits.status ≡ true → past.stage ≡ asks_reload
-      → (changed ≡ true → (is_some limits.journal) ≡ true → KeepsTenants (rules.seen now) (rules.seen after))
-      → HasChanged rules changed log log' now after → Now phase had past log slots count now → Now phase had (at_stage (read_stage changed) past) log' slots count after
-  has_changed phase had past log log' slots count now after true e asked keeps (text, k, step) h =
-      asks phase had past Stage.Renewed log log' slots count now after (Did (Tabled text) ∷ Changed text ∷ [])
+  pub has_changed : (had : Queued) (past : Past) (log log' : Acts) (slots : List (Option B)) (count : ℕ) (now after : S) (changed : Bool) (left : List (List ℕ)) → limits.status ≡ true → past.stage ≡ asks_reload
+      → HasChanged rules (is_some limits.journal) changed left log log' now after → Now Phase.Sweeps had past log slots count now
+      → Now Phase.Sweeps had (at_stage (read_stage changed) (after_lines (gone_records left) past)) log' slots count after
+  has_changed had past log log' slots count now after true left e asked (text, k, step, told) h =
+      aside_to Phase.Sweeps had past (at_stage Stage.Renewed (after_lines (gone_records left) past)) log log' slots count now after (Did (Tabled text) ∷ Changed text left ∷ [])
       (record {
         foreign = λ n. refl;
         came = refl;
@@ -494,16 +507,19 @@ module _ {B S : Type 0} (view : B → View) (rules : Rules S) (limits : Limits) 
         unlost = refl;
         waited = refl;
         reads = λ last. (refl, e, tt);
-        quiet = refl;
-      }) (asked, (refl, tt)) refl k (λ h. (tt, (after, step, refl))) (after, step, keeps refl, refl) h
-  has_changed phase had past log log' slots count now after false e asked keeps (same, inl k) h =
-      subst (λ s. Now phase had (at_stage Stage.Fetched past) log' slots count s) (sym same)
-      (asks phase had past Stage.Fetched log log' slots count now now (Did Untabled ∷ [])
-      (record { foreign = λ n. refl; came = refl; closed = refl; within = (e, tt); phases = λ wrote. ((tt, tt), refl); silent = λ share. refl; unlost = refl; waited = refl; reads = λ last. tt; quiet = refl }) (asked, tt) refl k (λ h. (tt, refl)) refl h)
-  has_changed phase had past log log' slots count now after false e asked keeps (same, inr (text, k)) h =
-      subst (λ s. Now phase had (at_stage Stage.Fetched past) log' slots count s) (sym same)
-      (asks phase had past Stage.Fetched log log' slots count now now (Did (Tabled text) ∷ [])
-      (record { foreign = λ n. refl; came = refl; closed = refl; within = (e, tt); phases = λ wrote. ((tt, tt), refl); silent = λ share. refl; unlost = refl; waited = refl; reads = λ last. tt; quiet = refl }) (asked, tt) refl k (λ h. (tt, refl)) refl h)
+      })
+      (record { waited = omega arith; began = refl; keeps = keeps_change past.journal text left; settled = λ e. absurd (sweeps_not_writes e); asked = (asked, (refl, tt)); stage = refl })
+      k (λ h. (tt, (after, step, refl))) (after, step, told, refl) h
+  has_changed had past log log' slots count now after false left e asked (same, none, inl k) h =
+      subst (λ p. Now Phase.Sweeps had (at_stage Stage.Fetched p) log' slots count after) (sym (nobody_left left past none))
+      (subst (λ s. Now Phase.Sweeps had (at_stage Stage.Fetched past) log' slots count s) (sym same)
+      (asks Phase.Sweeps had past Stage.Fetched log log' slots count now now (Did Untabled ∷ [])
+      (record { foreign = λ n. refl; came = refl; closed = refl; within = (e, tt); phases = λ wrote. ((tt, tt), refl); silent = λ share. refl; unlost = refl; waited = refl; reads = λ last. tt; quiet = refl }) (asked, tt) refl k (λ h. (tt, refl)) refl h))
+  has_changed had past log log' slots count now after false left e asked (same, none, inr (text, k)) h =
+      subst (λ p. Now Phase.Sweeps had (at_stage Stage.Fetched p) log' slots count after) (sym (nobody_left left past none))
+      (subst (λ s. Now Phase.Sweeps had (at_stage Stage.Fetched past) log' slots count s) (sym same)
+      (asks Phase.Sweeps had past Stage.Fetched log log' slots count now now (Did (Tabled text) ∷ [])
+      (record { foreign = λ n. refl; came = refl; closed = refl; within = (e, tt); phases = λ wrote. ((tt, tt), refl); silent = λ share. refl; unlost = refl; waited = refl; reads = λ last. tt; quiet = refl }) (asked, tt) refl k (λ h. (tt, refl)) refl h))
 
   -- it is asked to close the connections of a tenant
   pub asked_kick : (phase : Phase) (had : Queued) (waits : ℕ) (began journal : Option Journal) (log log' : Acts) (slots : List (Option B)) (count : ℕ) (now : S) (watches : Bool) → limits.status ≡ watches
@@ -523,28 +539,31 @@ module _ {B S : Type 0} (view : B → View) (rules : Rules S) (limits : Limits) 
       asks phase had past Stage.Chosen log log' slots count now now (Did (Named name) ∷ []) (record { foreign = λ n. refl; came = refl; closed = refl; within = (e, tt); phases = λ wrote. ((tt, tt), refl); silent = λ share. refl; unlost = refl; waited = refl; reads = λ last. tt; quiet = refl }) (asked, tt) refl k (λ h. (tt, refl)) refl h
 
   -- the asker was answered
-  pub has_answered : (phase : Phase) (had : Queued) (past : Past) (log log' : Acts) (slots : List (Option B)) (count : ℕ) (now : S) (reply : List ℕ) → limits.status ≡ true → MayReply past.stage
+  pub has_answered : (phase : Phase) (had : Queued) (past : Past) (log log' : Acts) (slots : List (Option B)) (count : ℕ) (now : S) (reply : List ℕ) → limits.status ≡ true → MayReply past.stage → AreSettled past.journal
       → DidLog log (Replied reply ∷ []) log' → Now phase had past log slots count now → Now phase had (at_stage Stage.Unasked past) log' slots count now
-  has_answered phase had past log log' slots count now reply e may k h =
-      asks phase had past Stage.Unasked log log' slots count now now (Did (Replied reply) ∷ []) (record { foreign = λ n. refl; came = refl; closed = refl; within = (e, tt); phases = λ wrote. ((tt, tt), refl); silent = λ share. refl; unlost = refl; waited = refl; reads = λ last. tt; quiet = refl }) (may, tt) refl k (λ h. (tt, refl)) refl h
+  has_answered phase had past log log' slots count now reply e may settled k h =
+      aside_to phase had past (at_stage Stage.Unasked past) log log' slots count now now (Did (Replied reply) ∷ [])
+      (record { foreign = λ n. refl; came = refl; closed = refl; within = (e, tt); phases = λ wrote. ((tt, tt), refl); silent = λ share. refl; unlost = refl; waited = refl; reads = λ last. tt })
+      (stage_past phase past Stage.Unasked (Did (Replied reply) ∷ []) refl (keeps_reply past.journal reply [] settled refl) (λ e. settled) (may, tt) refl) k (λ h. (tt, refl)) refl h
 
   -- the asker was answered, and the operator told
-  pub has_replied : (phase : Phase) (had : Queued) (past : Past) (log log' : Acts) (slots : List (Option B)) (count : ℕ) (now : S) (order changed : Bool) (reply line : List ℕ) → limits.status ≡ true → MayReply past.stage
-      → BeginsWith (told_head order changed) line → DidLog log (Replied reply ∷ Warned line ∷ []) log' → Now phase had past log slots count now → Now phase had (at_stage Stage.Unasked past) log' slots count now
-  has_replied phase had past log log' slots count now order changed reply line e may is k h =
-      asks phase had past Stage.Unasked log log' slots count now now (Did (Replied reply) ∷ Did (Warned line) ∷ [])
+  pub has_replied : (phase : Phase) (had : Queued) (past : Past) (log log' : Acts) (slots : List (Option B)) (count : ℕ) (now : S) (changed : Bool) → limits.status ≡ true → MayReply past.stage → AreSettled past.journal
+      → HasSaid changed log log' → Now phase had past log slots count now → Now phase had (at_stage Stage.Unasked past) log' slots count now
+  has_replied phase had past log log' slots count now changed e may settled s h =
+      aside_to phase had past (at_stage Stage.Unasked past) log log' slots count now now (Did (Replied s.reply) ∷ Did (Warned s.line) ∷ [])
       (record {
         foreign = λ n. refl;
         came = refl;
         closed = refl;
-        within = (e, (inr (inr (e, (order, changed, is))), tt));
+        within = (e, (inr (inr (e, (s.order, changed, s.told))), tt));
         phases = λ wrote. ((tt, (tt, tt)), refl);
         silent = λ share. refl;
         unlost = refl;
         waited = refl;
         reads = λ last. tt;
-        quiet = refl;
-      }) (may, (tt, tt)) refl k (λ h. (tt, (tt, refl))) refl h
+      })
+      (stage_past phase past Stage.Unasked (Did (Replied s.reply) ∷ Did (Warned s.line) ∷ []) refl (keeps_reply past.journal s.reply (Did (Warned s.line) ∷ []) settled refl) (λ e. settled) (may, (tt, tt)) refl)
+      s.last (λ h. (tt, (tt, refl))) refl h
 
   -- the next phase of a round begins, or more slots are said to have had a turn
   next_phase : (phase phase' : Phase) (had had' : Queued) (past : Past) (log : Acts) (slots : List (Option B)) (count : ℕ) (now : S) (h : Now phase had past log slots count now)
@@ -576,6 +595,7 @@ module _ {B S : Type 0} (view : B → View) (rules : Rules S) (limits : Limits) 
       awake = h.is_told.awake;
       each = h.is_told.each;
       limited = h.is_told.limited;
+      inquired = h.is_told.inquired;
       asked = h.is_told.asked;
       stage = h.is_told.stage;
       single = h.is_told.single;
@@ -623,34 +643,37 @@ module _ {B S : Type 0} (view : B → View) (rules : Rules S) (limits : Limits) 
       (λ j c s at k. alert_read line (IsBefore line.order place) j (view c) s (λ e. let p = found j e in let few = p.1 in (p.0, omega (arith, few, all), p.2)) k) h)
 
   -- these answers were those of writing the journal
-  written_acts : (had : Queued) (waits : ℕ) (began : Option Journal) (i j : Journal) (log log' : Acts) (slots : List (Option B)) (count : ℕ) (now : S) (acts : List Act) → DidLog log acts log'
-      → Writes i acts j → Now Phase.Reads had (past_of waits began (Some i)) log slots count now → Now Phase.Reads had (past_of waits began (Some j)) log' slots count now
-  written_acts had waits began i j log log' slots count now acts k w h =
+  written_acts : (phase : Phase) → (phase ≡ Phase.Writes → ⊥) → (had : Queued) (waits : ℕ) (began : Option Journal) (stage : Stage) (i j : Journal) (log log' : Acts) (slots : List (Option B)) (count : ℕ) (now : S) (acts : List Act)
+      → DidLog log acts log' → Writes i acts j → Now phase had (at_stage stage (past_of waits began (Some i))) log slots count now → Now phase had (at_stage stage (past_of waits began (Some j))) log' slots count now
+  written_acts phase other had waits began stage i j log log' slots count now acts k w h =
       let b = keeping limits acts h.is_told.allowed w.keeping in
       let none = b.waited in
-      let u = unasked_since Stage.Unasked (told acts) (keeping_unasked acts w.keeping) in
-      aside_to Phase.Reads had (past_of waits began (Some i)) (past_of waits began (Some j)) log log' slots count now now (told acts) b
-      (record { waited = omega (arith, none); began = refl; keeps = (w.kept, ap Some w.after_is); settled = λ e. absurd (reads_not_writes e); asked = u.0; stage = sym u.1 })
+      let u = unasked_since stage (told acts) (keeping_unasked acts w.keeping) in
+      aside_to phase had (at_stage stage (past_of waits began (Some i))) (at_stage stage (past_of waits began (Some j))) log log' slots count now now (told acts) b
+      (record { waited = omega (arith, none); began = refl; keeps = (w.kept, ap Some w.after_is); settled = λ e. absurd (other e); asked = u.0; stage = sym u.1 })
       (subst (λ a. DidLog log a log') (sym (acts_in-told acts)) k) (λ h. keeping_passes rules acts now w.keeping h.story) (told_lasts rules (is_some limits.journal) acts now) h
 
   -- the journal was written, if there is one
-  pub has_written : (had : Queued) (waits : ℕ) (began i j : Option Journal) (log log' : Acts) (slots : List (Option B)) (count : ℕ) (now : S) → AreWritten true i j log log'
-      → Now Phase.Reads had (past_of waits began i) log slots count now → Now Phase.Reads had (past_of waits began j) log' slots count now
-  has_written had waits began None j log log' slots count now w h =
-      subst (λ k. Now Phase.Reads had (past_of waits began k) log' slots count now) (sym w.0) (idle Phase.Reads had (past_of waits began None) log log' slots count now w.1 h)
-  has_written had waits began (Some i) None log log' slots count now w h = absurd w
-  has_written had waits began (Some i) (Some j) log log' slots count now (acts, k, w) h = written_acts had waits began i j log log' slots count now acts k w h
+  pub has_written : (phase : Phase) → (phase ≡ Phase.Writes → ⊥) → (had : Queued) (waits : ℕ) (began : Option Journal) (stage : Stage) (i j : Option Journal) (log log' : Acts) (slots : List (Option B)) (count : ℕ) (now : S) → AreWritten true i j log log'
+      → Now phase had (at_stage stage (past_of waits began i)) log slots count now → Now phase had (at_stage stage (past_of waits began j)) log' slots count now
+  has_written phase other had waits began stage None j log log' slots count now w h =
+      subst (λ k. Now phase had (at_stage stage (past_of waits began k)) log' slots count now) (sym w.0) (idle phase had (at_stage stage (past_of waits began None)) log log' slots count now w.1 h)
+  has_written phase other had waits began stage (Some i) None log log' slots count now w h = absurd w
+  has_written phase other had waits began stage (Some i) (Some j) log log' slots count now (acts, k, w) h = written_acts phase other had waits began stage i j log log' slots count now acts k w h
 
   -- it failed
-  pub has_failed : (had : Queued) (waits : ℕ) (began i j : Option Journal) (log log' : Acts) (slots : List (Option B)) (count : ℕ) (now : S) → AreWritten false i j log log'
-      → Now Phase.Reads had (past_of waits began i) log slots count now → HasFailed view rules limits first start began log' slots count now
-  has_failed had waits began None j log log' slots count now w h = absurd w
-  has_failed had waits began (Some i) j log log' slots count now (acts, mid, reached, last, k, w, fails, logged) h = record {
+  pub has_failed : (phase : Phase) → (phase ≡ Phase.Writes → ⊥) → (had : Queued) (waits : ℕ) (began : Option Journal) (stage : Stage) (i j : Option Journal) (log log' : Acts) (slots : List (Option B)) (count : ℕ) (now : S) → MayFail stage → AreWritten false i j log log'
+      → Now phase had (at_stage stage (past_of waits began i)) log slots count now → HasFailed view rules limits first start began log' slots count now
+  has_failed phase other had waits began stage None j log log' slots count now may w h = absurd w
+  has_failed phase other had waits began stage (Some i) j log log' slots count now may (acts, mid, reached, last, k, w, fails, logged) h = record {
+    phase = phase;
     waits = waits;
     journal = Some reached;
+    stage = stage;
     mid = mid;
     last = last;
-    crowd = widen Phase.Reads had unqueued (past_of waits began (Some reached)) mid slots count now (λ j k. tt) (λ j c s at k. tt) (written_acts had waits began i reached log mid slots count now acts k w h);
+    may = may;
+    crowd = widen phase had unqueued (at_stage stage (past_of waits began (Some reached))) mid slots count now (λ j k. tt) (λ j c s at k. tt) (written_acts phase other had waits began stage i reached log mid slots count now acts k w h);
     some = refl;
     fails = fails;
     logged = logged;
@@ -668,6 +691,7 @@ module _ {B S : Type 0} (view : B → View) (rules : Rules S) (limits : Limits) 
 
       unwritten : (n : ℕ) (share : Share) → turns_since n share 0 h.story + most Phase.Writes share ≤ 1
       unwritten n Share.Reading = let e = h.is_told.fair h.story [] (sym (append-nil h.story)) n Share.Reading in omega (arith, e)
+      unwritten n Share.Asking = let e = h.is_told.fair h.story [] (sym (append-nil h.story)) n Share.Asking in omega (arith, e)
       unwritten n Share.Running = let e = h.is_told.fair h.story [] (sym (append-nil h.story)) n Share.Running in omega (arith, e)
       unwritten n Share.Writing = let e = since_quiet n false 0 h.story (λ e. refl) (h.is_told.quiet refl) in omega (arith, e)
 
@@ -702,39 +726,56 @@ module _ {B S : Type 0} (view : B → View) (rules : Rules S) (limits : Limits) 
       swept Phase.Sweeps (nobody line) line' past log slots count now (λ j c s at k. alert_swept line line' (λ j. ⊥) (λ j. ⊥) j (view c) s (stay j) k) h
 
   -- What happened closes no connection whose speaker is gone; or only such a one, where that is told.
-  abbrev IsCalm : Past → Story → S → Story → S → Type 0
-  IsCalm past story now more after = (gones_in (acts_in more) ≡ 0) ⊎ ((AreAsked past.stage more × (stage_since past.stage more ≡ past.stage)) × Passes rules story now more after)
+  abbrev IsCalm : Phase → Past → Story → S → Story → S → Type 0
+  IsCalm phase past story now more after = (IsLate phase × (gones_in (acts_in more) ≡ 0)) ⊎ ((AreAsked past.stage more × (stage_since past.stage more ≡ past.stage)) × Passes rules story now more after)
 
-  calm_passes : (past : Past) (story : Story) (now after : S) (n : ℕ) (more : Story) → Mine n more → AreTurns rules now (turns_in more) after → IsCalm past story now more after → Passes rules story now more after
-  calm_passes past story now after n more mine r (inl none) = let plain = mine_plain n more mine in passes_plain rules story now after more plain.2 none plain.3 r
-  calm_passes past story now after n more mine r (inr k) = k.1
+  calm_passes : (phase : Phase) (past : Past) (story : Story) (now after : S) (n : ℕ) (more : Story) → Mine n more → IsOnce phase more → AreTurns rules now (turns_in more) after
+      → IsCalm phase past story now more after → Passes rules story now more after
+  calm_passes phase past story now after n more mine once r (inl (late, none)) =
+      let plain = mine_plain n more mine in
+      passes_plain rules story now after more plain.2 none (late_unasked phase more late once) plain.3 r
+  calm_passes phase past story now after n more mine once r (inr k) = k.1
 
-  calm_asks : (past : Past) (story : Story) (now after : S) (n : ℕ) (more : Story) → Mine n more → IsCalm past story now more after → AreAsked past.stage more × (stage_since past.stage more ≡ past.stage)
-  calm_asks past story now after n more mine (inl none) = unasked_since past.stage more (mine_unasked n more mine none)
-  calm_asks past story now after n more mine (inr k) = k.0
+  calm_asks : (phase : Phase) (past : Past) (story : Story) (now after : S) (n : ℕ) (more : Story) → Mine n more → IsCalm phase past story now more after
+      → AreAsked past.stage more × (stage_since past.stage more ≡ past.stage)
+  calm_asks phase past story now after n more mine (inl (late, none)) = unasked_since past.stage more (mine_unasked n more mine none)
+  calm_asks phase past story now after n more mine (inr k) = k.0
 
   -- a client was closed, since its speaker is gone after a table was put in force
   pub gone_calm : (phase : Phase) (had : Queued) (past : Past) (log : Acts) (slots : List (Option B)) (count : ℕ) (now : S) (h : Now phase had past log slots count now) (i : ℕ) (d : Option B) (more : Story)
-      → past.stage ≡ Stage.Renewed → i < length slots → d ≡ slice_index_or slots i d → SlotGone (option_map view d) more → IsCalm past h.story now more now
-  gone_calm phase had past log slots count now h i None more asked within is none = inl (ap (λ m. gones_in (acts_in m)) none)
-  gone_calm phase had past log slots count now h i (Some b) more asked within is (inl none) = inl (ap (λ m. gones_in (acts_in m)) none)
-  gone_calm phase had past log slots count now h i (Some b) more asked within is (inr (one, who, speaks)) =
+      → IsLate phase → past.stage ≡ Stage.Renewed → i < length slots → d ≡ slice_index_or slots i d → SlotGone (option_map view d) more → IsCalm phase past h.story now more now
+  gone_calm phase had past log slots count now h i None more late asked within is none = inl (late, ap (λ m. gones_in (acts_in m)) none)
+  gone_calm phase had past log slots count now h i (Some b) more late asked within is (inl none) = inl (late, ap (λ m. gones_in (acts_in m)) none)
+  gone_calm phase had past log slots count now h i (Some b) more late asked within is (inr (one, who, speaks)) =
       let mine = own (view b).number h.story in
       let l = h.live i b (At-index slots i (Some b) b within is refl) in
       let last : speaker_since None (turns_in mine) ≡ Some who = sym (speaks_since None (turns_in mine) (view b).who l.live.speaks) ∙ speaks in
-      subst (λ m. IsCalm past h.story now m now) (sym one) (inr (((asked, tt), refl), ((who, last), refl)))
+      subst (λ m. IsCalm phase past h.story now m now) (sym one) (inr (((asked, tt), refl), ((who, last), refl)))
+
+  -- lines of a client were run, or it was read in vain
+  pub calm_reads : (phase : Phase) (had : Queued) (past : Past) (log : Acts) (slots : List (Option B)) (count : ℕ) (now after : S) (h : Now phase had past log slots count now) (i : ℕ) (d s' : Option B) (more : Story)
+      → i < length slots → d ≡ slice_index_or slots i d → ((limits : Limits) → SlotDid limits Phase.Reads (option_map view d) (option_map view s') more)
+      → ((p : Story) → SpeaksIn p (option_map view d) → Passes rules p now more after) → IsCalm phase past h.story now more after
+  calm_reads phase had past log slots count now after h i None s' more within is did passed =
+      inr (subst (λ m. AreAsked past.stage m × (stage_since past.stage m ≡ past.stage)) (sym (did limits).1) (tt, refl), passed h.story tt)
+  calm_reads phase had past log slots count now after h i (Some b) s' more within is did passed =
+      let l = h.live i b (At-index slots i (Some b) b within is refl) in
+      inr (
+        unasked_since past.stage more (mine_unasked (view b).number more (did limits).0 (slot_stays limits Phase.Reads (Some (view b)) (option_map view s') more did)),
+        passed h.story (sym (speaks_since None (turns_in (own (view b).number h.story)) (view b).who l.live.speaks)),
+      )
 
   -- what happened to the client of a slot that had no turn in this phase
   pub crowd_turn : (phase : Phase) (had had' : Queued) (past : Past) (log log' : Acts) (slots : List (Option B)) (count : ℕ) (now after : S) (i : ℕ) (d s' : Option B) (more : Story)
       → ((j : ℕ) → had.had j → had'.had j) → (had.had i → ⊥) → had'.had i
-      → (h : Now phase had past log slots count now) → IsCalm past h.story now more after → i < length slots → d ≡ slice_index_or slots i d → DidLog log (acts_in more) log' → AreTurns rules now (turns_in more) after
-      → AreLimited limits.tenant_clients (speakers_at view (slice_set slots i None)) (turns_in more) → (limits.clients ≡ 1 → AreSingle more)
+      → (h : Now phase had past log slots count now) → IsCalm phase past h.story now more after → i < length slots → d ≡ slice_index_or slots i d → DidLog log (acts_in more) log' → AreTurns rules now (turns_in more) after
+      → AreLimited limits.tenant_clients (speakers_at view (slice_set slots i None)) (turns_in more) → ((past : Story) → IsInquired (is_some limits.journal) past more) → (limits.clients ≡ 1 → AreSingle more)
       → SlotDid limits phase (option_map view d) (option_map view s') more
       → ((j : ℕ) → j ≢ i → (v : View) (s : Story) → Alert phase had j v s → Alert phase had' j v s)
       → ((b c : B) (s : Story) → d ≡ Some b → s' ≡ Some c → (view c).number ≡ (view b).number → Mine (view b).number more → came_in (acts_in more) ≡ 0 → waits_in (acts_in more) ≡ 0
       → Alert phase had i (view b) s → Alert phase had' i (view c) (s ++ more))
       → Now phase had' (after_lines (records_in (turns_in more)) past) log' (slice_set slots i s') count after
-  crowd_turn phase had had' past log log' slots count now after i None None more wider new done h calm within is k r l single did beside turn =
+  crowd_turn phase had had' past log log' slots count now after i None None more wider new done h calm within is k r l asks single did beside turn =
       let same : after ≡ now = subst (λ m. AreTurns rules now (turns_in m) after) did.1 r in
       let quiet : DidLog log [] log' = subst (λ m. DidLog log (acts_in m) log') did.1 k in
       let free : (b : B) → At slots i b → ⊥ = λ b there. nobody_is b (At-some slots i None b is there) in
@@ -747,7 +788,7 @@ module _ {B S : Type 0} (view : B → View) (rules : Rules S) (limits : Limits) 
       (let a = count_is.0 in omega (arith, a))
       (let a = taken_most slots in let b = h.is_told.sized in omega (arith, a, b))
       (let a = long_set slots i None in omega (arith, a)) tt tt h.is_told.quiet
-      (still h.story [] h.is_told.fair (λ share. refl)) refl (stays_past phase past [] refl (keeps_quiet past.journal [] refl) h.is_told.settled (tt, refl)) (λ last. tt) (no_looks h.story [] refl) tt (λ e. tt))
+      (still h.story [] h.is_told.fair (λ share. refl)) refl (stays_past phase past [] refl (keeps_quiet past.journal [] refl) h.is_told.settled (tt, refl)) (λ last. tt) (no_looks h.story [] refl) tt tt (λ e. tt))
       (λ j c there. others j c (At-set slots i None j c there))
       (λ j c there. At-keep slots i None j c (λ e. free c (subst (λ j. At slots j c) e there)) there)
       (open_still phase had had' past log slots count now h [] wider (λ share. refl))
@@ -759,12 +800,13 @@ module _ {B S : Type 0} (view : B → View) (rules : Rules S) (limits : Limits) 
       others : (j : ℕ) (c : B) → ((j ≡ i) × (None ≡ Some c)) ⊎ ((j ≢ i) × At slots j c) → At slots j c
       others j c (inl p) = absurd (nobody_is c p.1)
       others j c (inr p) = p.1
-  crowd_turn phase had had' past log log' slots count now after i None (Some b) more wider new done h calm within is k r l single did beside turn = absurd (none (view b) did.0)
+  crowd_turn phase had had' past log log' slots count now after i None (Some b) more wider new done h calm within is k r l asks single did beside turn = absurd (none (view b) did.0)
     where
       none : (v : View) → Some v ≡ None → ⊥
       none v e = cc
-  crowd_turn phase had had' past log log' slots count now after i (Some b) None more wider new done h calm within is k r l single (mine, came, closing, part, once, (close, goes)) beside turn =
+  crowd_turn phase had had' past log log' slots count now after i (Some b) None more wider new done h calm within is k r l asks single (mine, came, closing, part, once, (close, goes)) beside turn =
       let at = At-index slots i (Some b) b within is refl in
+      let inquired = asks h.story in
       let limited = limited_turn view rules limits first start phase had past log slots count now h i b at limits.tenant_clients more mine came l in
       let n = (view b).number in
       let fits = told_phase rules limits first start phase 0 past log slots count now h.story more h.is_told part in
@@ -775,18 +817,19 @@ module _ {B S : Type 0} (view : B → View) (rules : Rules S) (limits : Limits) 
       let lost = plain.1 in
       let waited = plain.0 in
       let later_past = after_lines (records_in (turns_in more)) past in
-      let asked = calm_asks past h.story now after n more mine calm in
+      let asked = calm_asks phase past h.story now after n more mine calm in
       let passed : Passed phase past more later_past
       = record { waited = omega (arith, waited); began = refl; keeps = keeps_turn phase n past.journal more mine once h.is_told.settled; settled = settled_turn phase past.journal more once h.is_told.settled; asked = asked.0; stage = sym asked.1 } in
       gone phase had had' wider past later_past log log' slots count now after h n more mine waited i b beside at refl
-      (told_more rules limits first start phase phase 0 0 past later_past log log' slots (slice_set slots i None) count count now after h.story more h.is_told k (calm_passes past h.story now after n more mine r calm) (lasts_plain rules (is_some limits.journal) now after more plain.3 r)
+      (told_more rules limits first start phase phase 0 0 past later_past log log' slots (slice_set slots i None) count count now after h.story more h.is_told k (calm_passes phase past h.story now after n more mine once r calm) (lasts_plain rules (is_some limits.journal) now after more plain.3 r)
       (omega (arith, came)) h.is_told.capped (omega (arith, came, close, count_is))
       (let a = taken_most slots in let b = h.is_told.sized in omega (arith, a, b, came))
       (let a = long_set slots i None in omega (arith, a)) closing fits.0 fits.1
-      (takes_turn h.story more n (most phase) h.is_told.fair mine once (h.ready i b at new)) (omega (arith, lost)) passed (reads_plain limits more plain.3) (no_looks h.story more waited) limited single)
+      (takes_turn h.story more n (most phase) h.is_told.fair mine once (h.ready i b at new)) (omega (arith, lost)) passed (reads_plain limits more plain.3) (no_looks h.story more waited) limited inquired single)
       (omega (arith, all, unclosed, close)) (goes (own n h.story) (h.live i b at))
-  crowd_turn phase had had' past log log' slots count now after i (Some b) (Some s) more wider new done h calm within is k r l single (mine, came, closing, part, once, (same, close, goes)) beside turn =
+  crowd_turn phase had had' past log log' slots count now after i (Some b) (Some s) more wider new done h calm within is k r l asks single (mine, came, closing, part, once, (same, close, goes)) beside turn =
       let at = At-index slots i (Some b) b within is refl in
+      let inquired = asks h.story in
       let limited = limited_turn view rules limits first start phase had past log slots count now h i b at limits.tenant_clients more mine came l in
       let n = (view b).number in
       let fits = told_phase rules limits first start phase 0 past log slots count now h.story more h.is_told part in
@@ -795,25 +838,25 @@ module _ {B S : Type 0} (view : B → View) (rules : Rules S) (limits : Limits) 
       let lost = plain.1 in
       let waited = plain.0 in
       let later_past = after_lines (records_in (turns_in more)) past in
-      let asked = calm_asks past h.story now after n more mine calm in
+      let asked = calm_asks phase past h.story now after n more mine calm in
       let passed : Passed phase past more later_past
       = record { waited = omega (arith, waited); began = refl; keeps = keeps_turn phase n past.journal more mine once h.is_told.settled; settled = settled_turn phase past.journal more once h.is_told.settled; asked = asked.0; stage = sym asked.1 } in
       seated phase had had' wider past later_past log log' slots count now after h n more mine waited i count s beside (turn b s h.story refl refl same mine came waited (h.alert i b at)) within (omega arith) (λ e. absurd (omega (arith, e)))
       (λ m q d e. d (sym q.is ∙ ap (λ c. (view c).number) (At-only slots i q.b b (subst (λ j. At slots j q.b) e q.there) at)))
       same (omega arith) (h.below i b at)
       (λ j c d there e. d (h.apart j i c b there at e))
-      (told_more rules limits first start phase phase 0 0 past later_past log log' slots (slice_set slots i (Some s)) count count now after h.story more h.is_told k (calm_passes past h.story now after n more mine r calm) (lasts_plain rules (is_some limits.journal) now after more plain.3 r)
+      (told_more rules limits first start phase phase 0 0 past later_past log log' slots (slice_set slots i (Some s)) count count now after h.story more h.is_told k (calm_passes phase past h.story now after n more mine once r calm) (lasts_plain rules (is_some limits.journal) now after more plain.3 r)
       (omega (arith, came)) h.is_told.capped (omega (arith, came, close, count_is))
       (let a = taken_most slots in let b = h.is_told.sized in omega (arith, a, b, came))
       (let a = long_set slots i (Some s) in omega (arith, a)) closing fits.0 fits.1
-      (takes_turn h.story more n (most phase) h.is_told.fair mine once (h.ready i b at new)) (omega (arith, lost)) passed (reads_plain limits more plain.3) (no_looks h.story more waited) limited single)
+      (takes_turn h.story more n (most phase) h.is_told.fair mine once (h.ready i b at new)) (omega (arith, lost)) passed (reads_plain limits more plain.3) (no_looks h.story more waited) limited inquired single)
       (λ not. absurd (not done))
       (goes (own n h.story) (h.live i b at))
 
   -- the same, where no line was run
   pub crowd_still : (phase : Phase) (had had' : Queued) (past : Past) (log log' : Acts) (slots : List (Option B)) (count : ℕ) (now : S) (i : ℕ) (d s' : Option B) (more : Story)
       → ((j : ℕ) → had.had j → had'.had j) → (had.had i → ⊥) → had'.had i
-      → (h : Now phase had past log slots count now) → IsCalm past h.story now more now → i < length slots → d ≡ slice_index_or slots i d → DidLog log (acts_in more) log' → turns_in more ≡ []
+      → (h : Now phase had past log slots count now) → IsCalm phase past h.story now more now → i < length slots → d ≡ slice_index_or slots i d → DidLog log (acts_in more) log' → turns_in more ≡ []
       → SlotDid limits phase (option_map view d) (option_map view s') more
       → ((j : ℕ) → j ≢ i → (v : View) (s : Story) → Alert phase had j v s → Alert phase had' j v s)
       → ((b c : B) (s : Story) → d ≡ Some b → s' ≡ Some c → (view c).number ≡ (view b).number → Mine (view b).number more → came_in (acts_in more) ≡ 0 → waits_in (acts_in more) ≡ 0
@@ -822,11 +865,11 @@ module _ {B S : Type 0} (view : B → View) (rules : Rules S) (limits : Limits) 
   crowd_still phase had had' past log log' slots count now i d s' more wider new done h calm within is k none did beside turn =
       subst (λ p. Now phase had' p log' (slice_set slots i s') count now) (ap (λ t. after_lines (records_in t) past) none ∙ sym (ap (λ j. record past { journal = j }) (noted_none past.journal)))
       (crowd_turn phase had had' past log log' slots count now now i d s' more wider new done h calm within is k (subst (λ t. AreTurns rules now t now) (sym none) refl)
-      (subst (AreLimited limits.tenant_clients (speakers_at view (slice_set slots i None))) (sym none) tt) (λ e. quiet_single more none) did beside turn)
+      (subst (AreLimited limits.tenant_clients (speakers_at view (slice_set slots i None))) (sym none) tt) (λ past. inquired_quiet (is_some limits.journal) past more none) (λ e. quiet_single more none) did beside turn)
 
   -- a client was closed after the turns, or is as it was
   pub crowd_closed : (line line' : Line) (past : Past) (log log' : Acts) (slots : List (Option B)) (count : ℕ) (now : S) (i : ℕ) (d s' : Option B) (more : Story) (closed : Bool)
-      → (h : Now Phase.Sweeps (nobody line) past log slots count now) → IsCalm past h.story now more now → i < length slots → d ≡ slice_index_or slots i d → DidLog log (acts_in more) log' → turns_in more ≡ []
+      → (h : Now Phase.Sweeps (nobody line) past log slots count now) → IsCalm Phase.Sweeps past h.story now more now → i < length slots → d ≡ slice_index_or slots i d → DidLog log (acts_in more) log' → turns_in more ≡ []
       → SlotDid limits Phase.Sweeps (option_map view d) (option_map view s') more → IsClosedOr closed (option_map view d) (option_map view s') more
       → ((j : ℕ) → j ≢ i → awake_in line' j ≡ awake_in line j) → (closed ≡ false → line' ≡ line)
       → Now Phase.Sweeps (nobody line') past log' (slice_set slots i s') count now
@@ -860,12 +903,12 @@ module _ {B S : Type 0} (view : B → View) (rules : Rules S) (limits : Limits) 
       let lost = a.unlost in
       let waited = a.waited in
       told_more rules limits first start Phase.Reads Phase.Reads 0 0 past past log log' slots (slice_set slots i s) count (count + came) now now h.story more h.is_told k
-      (passes_plain rules h.story now now more a.untold a.stay a.unchanged (subst (λ t. AreTurns rules now t now) (sym a.none) refl))
+      (passes_plain rules h.story now now more a.untold a.stay (a.silent Share.Asking) a.unchanged (subst (λ t. AreTurns rules now t now) (sym a.none) refl))
       (lasts_plain rules (is_some limits.journal) now now more a.unchanged (subst (λ t. AreTurns rules now t now) (sym a.none) refl))
       (omega (arith, came_is)) capped (let e = count_is.0 in omega (arith, came_is, closed_is, sums, e))
       (let e = count_is.1 in omega (arith, came_is, one, e, sized))
       (let e = long_set slots i s in omega (arith, e)) (a.within limits) fits.0 fits.1
-      (still h.story more h.is_told.fair a.silent) (omega (arith, lost)) (stays_past Phase.Reads past more waited (a.unkept past.journal) (λ e. absurd (reads_not_writes e)) (a.unasked past.stage)) (reads_plain limits more a.unchanged) (no_looks h.story more waited) (limited_quiet limits.tenant_clients h.story more a.none) (λ e. quiet_single more a.none)
+      (still h.story more h.is_told.fair a.silent) (omega (arith, lost)) (stays_past Phase.Reads past more waited (a.unkept past.journal) (λ e. absurd (reads_not_writes e)) (a.unasked past.stage)) (reads_plain limits more a.unchanged) (no_looks h.story more waited) (limited_quiet limits.tenant_clients h.story more a.none) (inquired_quiet (is_some limits.journal) h.story more a.none) (λ e. quiet_single more a.none)
 
   pub crowd_seat : (line line' : Line) (past : Past) (log log' : Acts) (slots : List (Option B)) (count : ℕ) (now : S) (i : ℕ) (came : Bool) (s : Option B) (more : Story)
       → StayAwake line line' → (came ≡ true → i < 1024 → awake_in line' i ≡ true)

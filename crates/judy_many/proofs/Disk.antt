@@ -1,22 +1,22 @@
 -- The acts of the loop on the disk are those of a writer.
 --     on_disk             what is on the disk after a story
---     stories_are_written, answers_are_kept
+--     stories_are_written, answers_are_kept, replies_are_kept
 use Rattle.std.proofs.Common.{◌≡◌, ℕ, length, inl, inr, Bool, true, false, List, [], ◌∷◌, ◌++◌, sym, ◌∙◌, ap, subst, refl, append_assoc, append-nil}
 use Rattle.judy_journal.specs.Acts.{IsWriting}
 use Rattle.judy_journal.specs.Acts.DiskAct.{Kept as FileKept}
 use Rattle.judy_journal.specs.Journals.{Commit}
 use Rattle.judy_journal.specs.Journals.{joined, numbered}
+use Rattle.judy_journal.specs.Leaving.{gone_records}
 use Rattle.judy_journal.specs.Notes.{changes_in, note}
 use Rattle.judy_journal.specs.Writes.{all_records, size_with}
 use Rattle.judy_many.specs.Books.{Journal, commit_of, noted}
 use Rattle.judy_many.specs.declared.network.Sync.{Sync}
 use Rattle.judy_many.specs.declared.network.Sync.TheVariants as sync
-use Rattle.judy_many.specs.Journaling.{AnswersAreKept, IsJournaled, IsOnDisk, IsSecured, IsText, StoriesAreWritten, disk_acts, journal_after, journal_since, kept_after, phase_of, writer_at}
-use Rattle.judy_many.specs.Nets.Act.{Came, Refused, Read, Dry, Ended, Broke, Wrote, Failed, Closed, Waited, Lost, Asked, Questioned, Reported, Warned, Tabled, Untabled, Named, Replied, Began, Kept, Unkept, Synced, Unsynced}
-use Rattle.judy_many.specs.Sessions.{Turn, records_in}
-use Rattle.judy_many.specs.Stories.{Moment, Story, acts_in, turns_in}
+use Rattle.judy_many.specs.Journaling.{AnswersAreKept, IsJournaled, IsOnDisk, IsSecured, IsSettled, IsText, RepliesAreKept, StoriesAreWritten, disk_acts, journal_after, journal_since, kept_after, phase_of, writer_at}
+use Rattle.judy_many.specs.Nets.Act.{Came, Refused, Read, Dry, Ended, Broke, Wrote, Failed, Closed, Waited, Lost, Asked, Questioned, Reported, Warned, Tabled, Untabled, Named, Replied, Began, Kept, Unkept, Synced, Unsynced, Took}
+use Rattle.judy_many.specs.Sessions.{records_in}
+use Rattle.judy_many.specs.Stories.{Moment, Story, acts_in, recorded_in}
 use Rattle.judy_many.specs.Stories.Moment.{Changed, Did, Ran}
-use Rattle.judy_many.proofs.Recording.{records_in-append}
 
 never : false ≡ true → ⊥
 never e = cc
@@ -39,11 +39,10 @@ one_more kept more j =
     ∙ all_records-append (kept ++ more) (commit_of j ∷ []) ∙ ap (λ v. all_records (kept ++ more) ++ v) (append-nil (changes_in (commit_of j))
     ∙ without_its_note j.records j.segment (size_with j.size (length (joined j.records))) j.synced)
 
--- lines were run
-more_lines : (before records : Commit) (turns more : List Turn) → (before ++ (records ++ records_in turns)) ++ records_in more ≡ (before ++ records) ++ records_in (turns ++ more)
-more_lines before records turns more =
-    ap (λ v. v ++ records_in more) (sym (append_assoc before records (records_in turns))) ∙ append_assoc (before ++ records) (records_in turns) (records_in more)
-    ∙ ap (λ v. (before ++ records) ++ v) (sym (records_in-append turns more))
+-- lines were run, or tenants left
+more_records : (before records some more : Commit) → (before ++ (records ++ some)) ++ more ≡ (before ++ records) ++ (some ++ more)
+more_records before records some more =
+    ap (λ v. v ++ more) (sym (append_assoc before records some)) ∙ append_assoc (before ++ records) some more
 
 pub on_disk : (j : Journal) (kept more : List Commit) (story : Story) → IsJournaled j story → (j.clean ≡ true → more ≡ [])
     → (kept' : List Commit) × (more' : List Commit) × IsOnDisk j kept more story kept' more'
@@ -75,7 +74,7 @@ on_disk j kept more (Did (Kept text) ∷ story) h c = text_kept j.begun refl h.0
     Goal : Journal → Type 0
     Goal i = (kept' : List Commit) × (more' : List Commit)
         × (IsWriting (writer_at j kept more) (FileKept text ∷ disk_acts (acts_in story)) (writer_at (journal_since i story) kept' more')
-        × (all_records (kept' ++ more') ++ (journal_since i story).records ≡ (all_records (kept ++ more) ++ j.records) ++ records_in (turns_in story))
+        × (all_records (kept' ++ more') ++ (journal_since i story).records ≡ (all_records (kept ++ more) ++ j.records) ++ recorded_in story)
         × ((journal_since i story).clean ≡ true → more' ≡ []))
 
     text_kept : (b : Bool) → j.begun ≡ b → IsText b j text → IsJournaled (kept_after b j) story
@@ -88,7 +87,7 @@ on_disk j kept more (Did (Kept text) ∷ story) h c = text_kept j.begun refl h.0
           more',
           (
             (writer_at (kept_after true j) kept (more ++ commit ∷ []), inr (record { headed = ap phase_of e; commit = commit; commit_is = t.1; text_is = t.2; now = refl }), d.0),
-            d.1 ∙ ap (λ r. r ++ records_in (turns_in story)) (one_more kept more j),
+            d.1 ∙ ap (λ r. r ++ recorded_in story) (one_more kept more j),
             d.2,
           ),
         )
@@ -102,15 +101,18 @@ on_disk j kept more (Did Synced ∷ story) h c =
       more',
       (
         (writer_at (record j { synced = j.size; clean = true }) (kept ++ more) [], refl, d.0),
-        d.1 ∙ ap (λ r. (all_records r ++ j.records) ++ records_in (turns_in story)) (append-nil (kept ++ more)),
+        d.1 ∙ ap (λ r. (all_records r ++ j.records) ++ recorded_in story) (append-nil (kept ++ more)),
         d.2,
       ),
     )
 on_disk j kept more (Did Unsynced ∷ story) h c = on_disk j kept more story h.1 c
+on_disk j kept more (Did (Took m name limit takes) ∷ story) h c = on_disk j kept more story h.1 c
 on_disk j kept more (Ran n turns ∷ story) h c =
     let (kept', more', d) = on_disk (noted (records_in turns) j) kept more story h.1 c in
-    (kept', more', (d.0, d.1 ∙ more_lines (all_records (kept ++ more)) j.records turns (turns_in story), d.2))
-on_disk j kept more (Changed text ∷ story) h c = on_disk j kept more story h.1 c
+    (kept', more', (d.0, d.1 ∙ more_records (all_records (kept ++ more)) j.records (records_in turns) (recorded_in story), d.2))
+on_disk j kept more (Changed text left ∷ story) h c =
+    let (kept', more', d) = on_disk (noted (gone_records left) j) kept more story h.1 c in
+    (kept', more', (d.0, d.1 ∙ more_records (all_records (kept ++ more)) j.records (gone_records left) (recorded_in story), d.2))
 
 -- ---- a story that is cut
 
@@ -151,8 +153,9 @@ rule_after j (Did (Kept text)) = stays j.begun
 rule_after j (Did Unkept) = refl
 rule_after j (Did Synced) = refl
 rule_after j (Did Unsynced) = refl
+rule_after j (Did (Took m name limit takes)) = refl
 rule_after j (Ran n turns) = refl
-rule_after j (Changed text) = refl
+rule_after j (Changed text left) = refl
 
 rule_since : (j : Journal) (p : Story) → (journal_since j p).rule ≡ j.rule
 rule_since j [] = refl
@@ -164,11 +167,11 @@ stories_are_written j kept more story p q h c cut = on_disk j kept more p (front
 secured : (rule : Sync) (clean : Bool) → rule ≡ sync.Round → IsSecured rule clean → clean ≡ true
 secured rule clean e h = subst (λ r. IsSecured r clean) e h
 
-pub answers_are_kept : AnswersAreKept
-answers_are_kept j kept more story p q n bytes h c cut =
-    let rest = Did (Wrote n bytes) ∷ q in
-    let whole = subst (IsJournaled j) cut h in
-    let (settled, later) = back j p rest whole in
+-- before an answer: what settles the journal before it
+settled_before : (j : Journal) (kept more : List Commit) (p rest : Story) → IsJournaled j (p ++ rest) → IsSettled (journal_since j p) → (j.clean ≡ true → more ≡ [])
+    → (kept' : List Commit) × (more' : List Commit) × IsOnDisk j kept more p kept' more'
+    × (all_records (kept' ++ more') ≡ (all_records (kept ++ more) ++ j.records) ++ recorded_in p) × (j.rule ≡ sync.Round → more' ≡ [])
+settled_before j kept more p rest whole settled c =
     let (kept', more', d) = on_disk j kept more p (front j p rest whole) c in (
       kept',
       more',
@@ -176,3 +179,15 @@ answers_are_kept j kept more story p q n bytes h c cut =
       sym (ap (λ r. all_records (kept' ++ more') ++ r) settled.0 ∙ append-nil (all_records (kept' ++ more'))) ∙ d.1,
       λ e. d.2 (secured (journal_since j p).rule (journal_since j p).clean (rule_since j p ∙ e) settled.1),
     )
+
+pub answers_are_kept : AnswersAreKept
+answers_are_kept j kept more story p q n bytes h c cut =
+    let rest = Did (Wrote n bytes) ∷ q in
+    let whole = subst (IsJournaled j) cut h in
+    settled_before j kept more p rest whole (back j p rest whole).0 c
+
+pub replies_are_kept : RepliesAreKept
+replies_are_kept j kept more story p q text h c cut =
+    let rest = Did (Replied text) ∷ q in
+    let whole = subst (IsJournaled j) cut h in
+    settled_before j kept more p rest whole (back j p rest whole).0 c

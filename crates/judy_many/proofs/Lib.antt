@@ -1,5 +1,6 @@
 mod Accepting
 mod Admitted
+mod Inquiring
 mod Beginning
 mod Beside
 pub mod Chaining

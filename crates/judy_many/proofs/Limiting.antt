@@ -1,13 +1,14 @@
 -- Log-ins that are refused since their tenant has enough connections.
 --     limited_quiet      where no line is run there is nothing to refuse
 --     limited_turn       the lines of one client, while the others stay in their slots
---     own_let_in         without a limit no log-in is refused for it
+--     own_let_in         without a limit and without a journal no line is refused for them
 use Rattle.std.proofs.Common.{◌≡◌, ◌≢◌, ◌⊎◌, inl, inr, ◌<◌, ◌≤◌, ◌+◌, ℕ, zero, suc, Bool, true, false, List, [], ◌∷◌, ◌++◌, Option, None, Some, arith, sym, ◌∙◌, ap, refl, subst, cond, append-nil, append_assoc, length, slice_set}
 use Rattle.std.specs.Prelude.{◌==◌, count_by, if◌then◌else◌, nat_le}
 use Rattle.std.proofs.lemmas.Bool.{eqb-true}
 use Rattle.std.proofs.lemmas.Bool.Decides.{eqb_tells}
 use Rattle.std.proofs.lemmas.List.Sums.{sum_by-append, sum_by-cons}
 use Rattle.judy_model.specs.Speakers.{Speaker}
+use Rattle.judy_many.specs.Barred.{AreFree, IsInquired}
 use Rattle.judy_many.specs.Crowds.{At, Crowd, Past}
 use Rattle.judy_many.specs.Lives.{View}
 use Rattle.judy_many.specs.Nets.{Acts}
@@ -49,26 +50,26 @@ limited_alike : (most : Option ℕ) (others others' : List (Option Speaker)) (ts
 limited_alike most others others' [] alike h = tt
 limited_alike most others others' (t ∷ ts) alike h = (h.0 ∙ crowded_alike most others others' t.claim alike, limited_alike most others others' ts alike h.1)
 
-let_in_all : (others : List (Option Speaker)) (ts : List Turn) → AreLimited None others ts → AreLetIn ts
-let_in_all others [] h = tt
-let_in_all others (t ∷ ts) h = (h.0, let_in_all others ts h.1)
+let_in_all : (others : List (Option Speaker)) (ts : List Turn) → AreLimited None others ts → AreFree ts → AreLetIn ts
+let_in_all others [] h k = tt
+let_in_all others (t ∷ ts) h k = (h.0, k.0, let_in_all others ts h.1 k.1)
 
 AreLetIn-append : (ts us : List Turn) → AreLetIn ts → AreLetIn us → AreLetIn (ts ++ us)
 AreLetIn-append [] us h k = k
-AreLetIn-append (t ∷ ts) us h k = (h.0, AreLetIn-append ts us h.1 k)
+AreLetIn-append (t ∷ ts) us h k = (h.0, h.1, AreLetIn-append ts us h.2 k)
 
-pub own_let_in : (n : ℕ) (past story : Story) → IsLimited None past story → AreLetIn (turns_in (own n story))
-own_let_in n past [] h = tt
-own_let_in n past (Did a ∷ story) h =
+pub own_let_in : (n : ℕ) (past story : Story) → IsLimited None past story → IsInquired false past story → AreLetIn (turns_in (own n story))
+own_let_in n past [] h k = tt
+own_let_in n past (Did a ∷ story) h k =
     elim (belongs n (Did a)) as (λ b. AreLetIn (turns_in (if b then Did a ∷ own n story else own n story))) [
-      | true ↦ own_let_in n (past ++ Did a ∷ []) story h
-      | false ↦ own_let_in n (past ++ Did a ∷ []) story h
+      | true ↦ own_let_in n (past ++ Did a ∷ []) story h k
+      | false ↦ own_let_in n (past ++ Did a ∷ []) story h k
     ]
-own_let_in n past (Changed text ∷ story) h = own_let_in n (past ++ Changed text ∷ []) story h
-own_let_in n past (Ran m turns ∷ story) h =
+own_let_in n past (Changed text left ∷ story) h k = own_let_in n (past ++ Changed text left ∷ []) story h k
+own_let_in n past (Ran m turns ∷ story) h k =
     elim (belongs n (Ran m turns)) as (λ b. AreLetIn (turns_in (if b then Ran m turns ∷ own n story else own n story))) [
-      | true ↦ AreLetIn-append turns (turns_in (own n story)) (let_in_all (others_in m past) turns h.0) (own_let_in n (past ++ Ran m turns ∷ []) story h.1)
-      | false ↦ own_let_in n (past ++ Ran m turns ∷ []) story h.1
+      | true ↦ AreLetIn-append turns (turns_in (own n story)) (let_in_all (others_in m past) turns h.0 k.0.1) (own_let_in n (past ++ Ran m turns ∷ []) story h.1 k.1)
+      | false ↦ own_let_in n (past ++ Ran m turns ∷ []) story h.1 k.1
     ]
 
 -- ---- stories
@@ -80,9 +81,9 @@ pub IsLimited-append : (most : Option ℕ) (past a b : Story) → IsLimited most
 IsLimited-append most past [] b h k = subst (λ p. IsLimited most p b) (append-nil past) k
 IsLimited-append most past (Did x ∷ a) b h k = IsLimited-append most (past ++ Did x ∷ []) a b h (onward most past (Did x) a b k)
 IsLimited-append most past (Ran n turns ∷ a) b h k = (h.0, IsLimited-append most (past ++ Ran n turns ∷ []) a b h.1 (onward most past (Ran n turns) a b k))
-IsLimited-append most past (Changed text ∷ a) b h k = IsLimited-append most (past ++ Changed text ∷ []) a b h (onward most past (Changed text) a b k)
+IsLimited-append most past (Changed text left ∷ a) b h k = IsLimited-append most (past ++ Changed text left ∷ []) a b h (onward most past (Changed text left) a b k)
 
-first_none : (ts us : List Turn) → ts ++ us ≡ [] → (ts ≡ []) × (us ≡ [])
+pub first_none : (ts us : List Turn) → ts ++ us ≡ [] → (ts ≡ []) × (us ≡ [])
 first_none [] us e = (refl, e)
 first_none (t ∷ ts) us e = absurd (some t (ts ++ us) e)
   where
@@ -92,7 +93,7 @@ first_none (t ∷ ts) us e = absurd (some t (ts ++ us) e)
 pub limited_quiet : (most : Option ℕ) (past story : Story) → turns_in story ≡ [] → IsLimited most past story
 limited_quiet most past [] e = tt
 limited_quiet most past (Did a ∷ story) e = limited_quiet most (past ++ Did a ∷ []) story e
-limited_quiet most past (Changed text ∷ story) e = limited_quiet most (past ++ Changed text ∷ []) story e
+limited_quiet most past (Changed text left ∷ story) e = limited_quiet most (past ++ Changed text left ∷ []) story e
 limited_quiet most past (Ran n turns ∷ story) e =
     let none = first_none turns (turns_in story) e in
     (subst (AreLimited most (others_in n past)) (sym none.0) tt, limited_quiet most (past ++ Ran n turns ∷ []) story none.1)
@@ -108,7 +109,7 @@ foreign_quiet (Did a ∷ story) none = foreign_quiet story (λ n. rest n (belong
         some : Did a ∷ own n story ≡ [] → ⊥
         some e = cc
     rest n false e = e
-foreign_quiet (Changed text ∷ story) none = foreign_quiet story none
+foreign_quiet (Changed text left ∷ story) none = foreign_quiet story none
 foreign_quiet (Ran m turns ∷ story) none = absurd (some (sym (ap (λ b. if b then Ran m turns ∷ own m story else own m story) (same_eq m)) ∙ none m))
   where
     some : Ran m turns ∷ own m story ≡ [] → ⊥
@@ -147,7 +148,7 @@ module _ (n : ℕ) where
       let e = came-append (Did a ∷ []) more in
       limited_mine most (past ++ Did a ∷ []) more others mine.1 (omega (arith, e, none))
       (λ test. alike test ∙ ap (count_by test) (sym (others_kept past (Did a) mine.0 (omega (arith, e, none))))) h
-  limited_mine most past (Changed text ∷ more) others mine none alike h = absurd (never (sym mine.0))
+  limited_mine most past (Changed text left ∷ more) others mine none alike h = absurd (never (sym mine.0))
   limited_mine most past (Ran m turns ∷ more) others mine none alike h =
       let parts = limited_parts most others turns (turns_in more) h in (
         subst (λ k. AreLimited most (others_in k past) turns) (sym (eqb-true m n mine.0)) (limited_alike most others (others_in n past) turns alike parts.0),

@@ -9,7 +9,7 @@ use Rattle.judy_model.specs.Speakers.{Speaker}
 use Rattle.judy_model.specs.Stream.{Login, answer, event_of, events_from, answer_from, speaker_after}
 use Rattle.judy_many.specs.Lives.{IsWhole, read_in, wrote_in}
 use Rattle.judy_many.specs.Nets.{Act}
-use Rattle.judy_many.specs.Sessions.{AreLetIn, ComeByLogin, Speaks, Turn, UseLogin, crowded_answer, lines_in, replies_in, text_of, texts, unless_crowded}
+use Rattle.judy_many.specs.Sessions.{AreLetIn, ComeByLogin, Speaks, Turn, UseLogin, answer_if, calls_if, crowded_answer, lines_in, replies_in, text_of, texts, unless_crowded}
 use Rattle.judy_many.specs.Stories.{Story, belongs, own, turns_in}
 use Rattle.judy_many.specs.Stories.Moment.{Changed, Did, Ran}
 use Rattle.judy_many.proofs.Stepping.{answer_is}
@@ -19,11 +19,12 @@ pub texts_are : (login : Login) (who last : Option Speaker) (ts : List Turn) →
     → texts ts ≡ answer_from login who (lines_in ts) (replies_in ts)
 texts_are login who last [] kept h = refl
 texts_are login who last (t ∷ ts) kept h =
+    let (let_in, taken, by, more) = kept in
     let one : length t.replies ≡ length (events_from login who (t.line ∷ []))
-    = h.1 ∙ ap (λ w. length (event_of t.line w)) h.0 ∙ ap length (sym (append-nil (event_of t.line who))) in
-    let (let_in, by, more) = kept in
+    = h.1 ∙ ap (λ b. length (calls_if b t.line t.who)) taken ∙ ap (λ w. length (event_of t.line w)) h.0 ∙ ap length (sym (append-nil (event_of t.line who))) in
     let text : text_of t ≡ answer_from login t.who (t.line ∷ []) t.replies
-    = ap (λ b. if b then crowded_answer else answer_from (λ name token. t.after) t.who (t.line ∷ []) t.replies) let_in
+    = ap (λ b. if b then crowded_answer else answer_if t.barred t.after t.who t.line t.replies) let_in
+    ∙ ap (λ b. answer_if b t.after t.who t.line t.replies) taken
     ∙ ap (λ w. answer_from (λ name token. w) t.who (t.line ∷ []) t.replies) by ∙ sym (answer_is login t.who t.line t.replies) in
     let later : t.after ≡ speaker_after login who t.line = by ∙ ap (λ w. speaker_after login w t.line) h.0 in
     ap (λ v. v ++ texts ts) (text ∙ ap (λ w. answer_from login w (t.line ∷ []) t.replies) h.0)
@@ -53,7 +54,7 @@ own_come login n (Did a ∷ story) h =
       | true ↦ own_come login n story h
       | false ↦ own_come login n story h
     ]
-own_come login n (Changed text ∷ story) h = own_come login n story h
+own_come login n (Changed text left ∷ story) h = own_come login n story h
 own_come login n (Ran m turns ∷ story) h =
     let parts = first_come login turns (turns_in story) h in
     elim (belongs n (Ran m turns)) as (λ b. ComeByLogin login (turns_in (if b then Ran m turns ∷ own n story else own n story))) [
@@ -61,10 +62,10 @@ own_come login n (Ran m turns ∷ story) h =
       | false ↦ own_come login n story parts.1
     ]
 
--- where no log-in was refused since its tenant has enough connections
+-- where no log-in was refused since its tenant has enough connections, and no line for the journal
 come_use : (login : Login) (ts : List Turn) → ComeByLogin login ts → AreLetIn ts → UseLogin login ts
 come_use login [] h k = tt
-come_use login (t ∷ ts) h k = (k.0, h.0 ∙ ap (λ b. unless_crowded b (speaker_after login t.who t.line)) k.0, come_use login ts h.1 k.1)
+come_use login (t ∷ ts) h k = (k.0, k.1, h.0 ∙ ap (λ b. unless_crowded b (speaker_after login t.who t.line)) k.0, come_use login ts h.1 k.2)
 
 pub own_use : (login : Login) (n : ℕ) (story : Story) → ComeByLogin login (turns_in story) → AreLetIn (turns_in (own n story)) → UseLogin login (turns_in (own n story))
 own_use login n story h k = come_use login (turns_in (own n story)) (own_come login n story h) k

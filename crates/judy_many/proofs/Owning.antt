@@ -4,7 +4,7 @@ use Rattle.std.specs.Prelude.{◌==◌, if◌then◌else◌}
 use Rattle.std.proofs.lemmas.Bool.{eqb-true}
 use Rattle.std.proofs.lemmas.Bool.Decides.{eqb_tells}
 use Rattle.judy_many.specs.Nets.{Act}
-use Rattle.judy_many.specs.Nets.Act.{Came, Refused, Read, Dry, Ended, Broke, Wrote, Failed, Closed, Waited, Lost, Asked, Questioned, Reported, Warned, Tabled, Untabled, Named, Replied, Began, Kept, Unkept, Synced, Unsynced}
+use Rattle.judy_many.specs.Nets.Act.{Came, Refused, Read, Dry, Ended, Broke, Wrote, Failed, Closed, Waited, Lost, Asked, Questioned, Reported, Warned, Tabled, Untabled, Named, Replied, Began, Kept, Unkept, Synced, Unsynced, Took}
 use Rattle.judy_many.specs.Stories.{Mine, Moment, Story, belongs, is_of, own}
 use Rattle.judy_many.specs.Stories.Moment.{Changed, Did, Ran}
 
@@ -35,12 +35,13 @@ is_other n m (Broke k) e d = eq_other k n m e d
 is_other n m (Wrote k bytes) e d = eq_other k n m e d
 is_other n m (Failed k) e d = eq_other k n m e d
 is_other n m (Closed k how) e d = eq_other k n m e d
+is_other n m (Took k name limit takes) e d = eq_other k n m e d
 is_other n m act e d = absurd (never e)
 
 pub belongs_other : (n m : ℕ) (x : Moment) → belongs n x ≡ true → m ≢ n → belongs m x ≡ false
 belongs_other n m (Did a) e d = is_other n m a e d
 belongs_other n m (Ran k turns) e d = eq_other k n m e d
-belongs_other n m (Changed text) e d = absurd (never e)
+belongs_other n m (Changed text left) e d = absurd (never e)
 
 pub own-other : (n m : ℕ) (a : Story) → Mine n a → m ≢ n → own m a ≡ []
 own-other n m [] h d = refl

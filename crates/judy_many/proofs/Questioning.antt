@@ -10,7 +10,7 @@ use Rattle.judy_many.specs.Journaling.{AreKeeping, IsKeeping}
 use Rattle.judy_many.specs.Kicks.{kick_act}
 use Rattle.judy_many.specs.Lives.{SlotDid, View}
 use Rattle.judy_many.specs.Nets.{Act}
-use Rattle.judy_many.specs.Nets.Act.{Came, Refused, Read, Dry, Ended, Broke, Wrote, Failed, Closed, Waited, Lost, Asked, Questioned, Reported, Warned, Tabled, Untabled, Named, Replied, Began, Kept, Unkept, Synced, Unsynced}
+use Rattle.judy_many.specs.Nets.Act.{Came, Refused, Read, Dry, Ended, Broke, Wrote, Failed, Closed, Waited, Lost, Asked, Questioned, Reported, Warned, Tabled, Untabled, Named, Replied, Began, Kept, Unkept, Synced, Unsynced, Took}
 use Rattle.judy_many.specs.Questions.{AreAsked, MayClose, MayDo, MayReply, Stage, gone_how, gones_by, gones_in, read_stage, stage_after, stage_by, stage_since}
 use Rattle.judy_many.specs.Stories.{AreWithin, IsAllowed, IsWithin, Mine, Phase, Story, acts_in, is_of, told}
 use Rattle.judy_many.specs.Stories.Moment.{Changed, Did, Ran}
@@ -51,7 +51,7 @@ abbrev pub is_unasked : Story → Bool
 is_unasked [] = true
 is_unasked (Did a ∷ story) = is_unasked_act a && is_unasked story
 is_unasked (Ran n turns ∷ story) = is_unasked story
-is_unasked (Changed text ∷ story) = false
+is_unasked (Changed text left ∷ story) = false
 
 never : false ≡ true → ⊥
 never e = cc
@@ -87,7 +87,7 @@ unasked_since stage (Did a ∷ story) e =
     let rest = unasked_since stage story (right _ _ e) in
     ((one.0, subst (λ s. AreAsked s story) (sym one.1) rest.0), ap (λ s. stage_since s story) one.1 ∙ rest.1)
 unasked_since stage (Ran n turns ∷ story) e = let rest = unasked_since stage story e in ((tt, rest.0), rest.1)
-unasked_since stage (Changed text ∷ story) e = absurd (never e)
+unasked_since stage (Changed text left ∷ story) e = absurd (never e)
 
 -- ---- the moments of a connection
 
@@ -114,7 +114,7 @@ pub mine_unasked : (n : ℕ) (more : Story) → Mine n more → gones_in (acts_i
 mine_unasked n [] h none = refl
 mine_unasked n (Did a ∷ more) h none = both _ _ (unasked_one n a h.0 (omega (arith, none))) (mine_unasked n more h.1 (omega (arith, none)))
 mine_unasked n (Ran m turns ∷ more) h none = mine_unasked n more h.1 none
-mine_unasked n (Changed text ∷ more) h none = absurd (never h.0)
+mine_unasked n (Changed text left ∷ more) h none = absurd (never h.0)
 
 -- a reply may come after the file of the table was read
 pub may_reply : (changed : Bool) → MayReply (read_stage changed)
@@ -123,7 +123,7 @@ may_reply false = tt
 
 -- ---- slots
 
-stays_how : (limits : Limits) (h : How) → IsAllowed (record limits { status = false }) h → gone_how h ≡ 0
+pub stays_how : (limits : Limits) (h : How) → IsAllowed (record limits { status = false }) h → gone_how h ≡ 0
 stays_how limits how.Gone e = absurd (never e)
 stays_how limits other e = refl
 

@@ -22,7 +22,7 @@ use Rattle.judy_protocol.proofs.lemmas.ShortLines.{short-request}
 use Rattle.judy_protocol.specs.Talks.{HasNoLf, heard_bare}
 use Rattle.judy_many.specs.Books.{Journal, noted_by}
 use Rattle.judy_many.specs.Records.{IsRecord, IsRecorded, records_of}
-use Rattle.judy_many.specs.Sessions.{Turn, records_in}
+use Rattle.judy_many.specs.Sessions.{Turn, calls_if, records_in}
 
 -- ---- the record of a line
 
@@ -67,6 +67,13 @@ recorded login names (Asked (request.Call call)) bare (Some who) who' (reply ∷
     subst (λ w. IsRecord (counts (record { speaker = who; call = call }) reply) (names who.tenant) call (records_of changed names w bare)) (sym f)
     (subst (λ c. IsRecord (counts (record { speaker = who; call = call }) reply) (names who.tenant) call (records_of c names (Some who) bare)) (sym g)
     (is_record names call who bare (counts (record { speaker = who; call = call }) reply) e))
+
+-- a line that is refused for the journal leaves none
+pub recorded_unless : (barred : Bool) (login : Login) (names : ℕ → List ℕ) (line : Heard) (bare : Option (List ℕ)) (who who' : Option Speaker) (replies : List Reply) (changed : Bool)
+    → line ≡ heard_bare bare → who' ≡ speaker_after login who line → changed ≡ has_changed (calls_if barred line who) replies
+    → IsRecorded names (calls_if barred line who) replies (records_of changed names who' bare)
+recorded_unless true login names line bare who who' replies changed e f g = unrecorded names who' bare changed g
+recorded_unless false login names line bare who who' replies changed e f g = recorded login names line bare who who' replies changed e f g
 
 -- ---- a record that fits
 

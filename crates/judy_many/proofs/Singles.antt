@@ -13,7 +13,7 @@ pub AreSingle-append : (a b : Story) → AreSingle a → AreSingle b → AreSing
 AreSingle-append [] b h k = k
 AreSingle-append (Did x ∷ a) b h k = AreSingle-append a b h k
 AreSingle-append (Ran n turns ∷ a) b h k = (h.0, AreSingle-append a b h.1 k)
-AreSingle-append (Changed text ∷ a) b h k = AreSingle-append a b h k
+AreSingle-append (Changed text left ∷ a) b h k = AreSingle-append a b h k
 
 -- only answers of the system
 pub told_single : (acts : List Act) → AreSingle (told acts)
@@ -33,7 +33,7 @@ quiet_single (Ran n turns ∷ story) none =
       where
         some : t ∷ (ts ++ turns_in story) ≡ [] → ⊥
         some e = cc
-quiet_single (Changed text ∷ story) none = quiet_single story none
+quiet_single (Changed text left ∷ story) none = quiet_single story none
 
 -- ---- the lines of one turn
 

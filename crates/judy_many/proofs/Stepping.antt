@@ -1,5 +1,5 @@
 -- Steps of one session, one after another.
-use Rattle.std.proofs.Common.{◌≡◌, ℕ, Bool, true, false, ◌||◌, List, [], ◌∷◌, ◌++◌, map, Option, None, Some, sym, ◌∙◌, ap, subst, refl, append_assoc, append-nil}
+use Rattle.std.proofs.Common.{◌≡◌, ℕ, Bool, true, false, ◌&&◌, ◌||◌, List, [], ◌∷◌, ◌++◌, map, Option, None, Some, sym, ◌∙◌, ap, subst, refl, append_assoc, append-nil}
 use Rattle.std.specs.Prelude.{if◌then◌else◌}
 use Rattle.std.proofs.lemmas.List.{map-append}
 use Rattle.std.proofs.lemmas.List.Folds.{list_any-append}
@@ -7,20 +7,21 @@ use Rattle.judy_model.proofs.lemmas.LineLemmas.{lines_of-push, rest_of-push, lin
 use Rattle.judy_model.proofs.lemmas.StreamLemmas.{through_quit-none}
 use Rattle.judy_model.specs.declared.requests.Line.TheVariants as request
 use Rattle.judy_model.specs.Speakers.{Speaker}
-use Rattle.judy_model.specs.Stream.{Heard, Login, event_of, lines_of, rest_of, heard, is_quit, through_quit, speaker_after, answer_from}
+use Rattle.judy_model.specs.Stream.{Heard, Login, lines_of, rest_of, heard, is_quit, through_quit, speaker_after, answer_from}
 use Rattle.judy_model.specs.Stream.Heard.{TooLong, Unclear, Asked}
 use Rattle.judy_model.specs.declared.replies.Reply.{Reply}
 use Rattle.judy_protocol.specs.Services.{HasLoggedIn}
 use Rattle.judy_protocol.specs.Serving.{heard_in, asks_to_quit}
-use Rattle.judy_protocol.specs.Talks.{HasNoLf, HasRun, Holds, LineGrows, heard_bare}
+use Rattle.judy_protocol.specs.Talks.{HasNoLf, Holds, LineGrows, heard_bare}
 use Rattle.judy_protocol.specs.declared.held.Held.{Held}
+use Rattle.judy_many.specs.Barred.{AreBarred, HasRunUnless, asks_change}
 use Rattle.judy_many.specs.Books.{Journal, noted_by}
 use Rattle.judy_many.specs.Others.{AreLimited, claim_in, is_crowded}
 use Rattle.judy_many.specs.Records.{IsRecorded, records_of}
 use Rattle.judy_many.specs.Rules.{Rules}
-use Rattle.judy_many.specs.Sessions.{Turn, crowded_answer, lines_in, records_in, text_of, texts, unless_crowded, Speaks, AreTurns, Hears, Steps}
-use Rattle.judy_many.proofs.Claims.{claim_is, crowded_claims, no_record}
-use Rattle.judy_many.proofs.Recording.{noted_none, noted_then, recorded, records_in-append}
+use Rattle.judy_many.specs.Sessions.{Turn, answer_if, barred_answer, calls_if, crowded_answer, lines_in, records_in, text_of, texts, unless_crowded, Speaks, AreTurns, Hears, Steps}
+use Rattle.judy_many.proofs.Claims.{claim_is, crowded_claims, no_record_unless}
+use Rattle.judy_many.proofs.Recording.{noted_none, noted_then, recorded_unless, records_in-append}
 
 -- ---- lists of turns
 
@@ -114,28 +115,32 @@ module _ {S : Type 0} (rules : Rules S) where
     noted = noted_none journal;
   }
 
-  -- one line was run, and then refused if it was a log-in whose tenant has enough connections
+  -- one line was run, or refused for the journal, and then refused if it was a log-in whose tenant has enough
+  -- connections
   pub Steps-line : (chunk : List ℕ) (line : Heard) (quit : Bool) (held held' : Held) (who who' last : Option Speaker) (before mid after : S)
-      (answers answers' text said : List ℕ) (journal journal' : Option Journal) (names : ℕ → List ℕ) (bare : Option (List ℕ)) (changed crowded : Bool) (most : Option ℕ) (others : List (Option Speaker)) → HasNoLf chunk → HasLoggedIn (rules.seen before).speakers who
+      (answers answers' text said : List ℕ) (journal journal' : Option Journal) (names : ℕ → List ℕ) (bare : Option (List ℕ)) (changed crowded barred bars : Bool) (most : Option ℕ) (others : List (Option Speaker)) → HasNoLf chunk → HasLoggedIn (rules.seen before).speakers who
       → ((rest : List ℕ) → Holds rest held → line ≡ heard (rest ++ chunk)) → Holds [] held'
-      → HasRun rules.made (rules.seen before).logins line who who' before mid text changed
+      → HasRunUnless rules.made (rules.seen before).logins barred line who who' before mid text changed → barred ≡ (bars && asks_change who line)
       → crowded ≡ is_crowded most others (claim_in line who') → last ≡ unless_crowded crowded who' → said ≡ (if crowded then crowded_answer else text)
       → rules.noted mid last line said after
       → answers' ≡ answers ++ said → quit ≡ is_quit line
       → line ≡ heard_bare bare → names ≡ (rules.seen before).names → journal' ≡ noted_by (records_of changed names last bare) journal
-      → (turn : Turn) × AreLimited most others (turn ∷ []) × Steps rules (chunk ++ 10 ∷ []) (turn ∷ []) quit held held' who last before after answers answers' journal journal'
-  Steps-line chunk line quit held held' who who' last before mid after answers answers' text said journal journal' names bare changed crowded most others lacks known is empty ran judged left says noted appended quits spelled same kept =
-      let t = ran.turn in
+      → (turn : Turn) × AreLimited most others (turn ∷ []) × AreBarred bars who (turn ∷ [])
+      × Steps rules (chunk ++ 10 ∷ []) (turn ∷ []) quit held held' who last before after answers answers' journal journal'
+  Steps-line chunk line quit held held' who who' last before mid after answers answers' text said journal journal' names bare changed crowded barred bars most others lacks known is empty t bar judged left says noted appended quits spelled same kept =
       let logins = (rules.seen before).logins in
       let claim = claim_in line who' in
       let records = records_of changed names last bare in
-      let turn : Turn = record { who = who; line = line; replies = t.replies; after = last; records = records; claim = claim; crowded = crowded } in
+      let turn : Turn = record { who = who; line = line; replies = t.replies; after = last; records = records; claim = claim; crowded = crowded; barred = barred } in
       let claims : claim ≡ speaker_after logins None line = ap (claim_in line) t.speaks ∙ claim_is logins who line in
       let right = crowded_claims most others claim crowded judged in
+      let spoken : answer_from logins who (line ∷ []) t.replies ≡ answer_from (λ name token. who') who (line ∷ []) t.replies
+      = answer_is logins who line t.replies ∙ ap (λ w. answer_from (λ name token. w) who (line ∷ []) t.replies) (sym t.speaks) in
       let told : said ≡ text_of turn
-      = says ∙ answered crowded line who who' last t.replies text left (t.text_is ∙ answer_is logins who line t.replies ∙ ap (λ w. answer_from (λ name token. w) who (line ∷ []) t.replies) (sym t.speaks)) in (
+      = says ∙ answered crowded barred line who who' last t.replies text left (t.text_is ∙ ap (λ a. if barred then barred_answer else a) spoken) in (
         turn,
         (judged, tt),
+        (refl, bar, tt),
         record {
           hears = record {
             lines = λ stream h.
@@ -155,10 +160,10 @@ module _ {S : Type 0} (rules : Rules S) where
               count = t.count;
               calls = t.run;
               noted = subst (λ w. rules.noted mid last line w after) told noted;
-              recorded = subst (λ n. IsRecorded n (event_of line who) t.replies records) same
-                  (subst (IsRecorded names (event_of line who) t.replies)
-                  (sym (no_record names line bare who who' last t.replies changed crowded left (λ e. right e) ran.changed_is))
-                  (recorded logins names line bare who who' t.replies changed spelled t.speaks ran.changed_is));
+              recorded = subst (λ n. IsRecorded n (calls_if barred line who) t.replies records) same
+                  (subst (IsRecorded names (calls_if barred line who) t.replies)
+                  (sym (no_record_unless barred names line bare who who' last t.replies changed crowded left (λ e. right e) t.changed_is))
+                  (recorded_unless barred logins names line bare who who' t.replies changed spelled t.speaks t.changed_is));
             },
             refl,
           );
@@ -169,11 +174,11 @@ module _ {S : Type 0} (rules : Rules S) where
         },
       )
     where
-      answered : (crowded : Bool) (line : Heard) (who who' last : Option Speaker) (replies : List Reply) (text : List ℕ) → last ≡ unless_crowded crowded who'
-          → text ≡ answer_from (λ name token. who') who (line ∷ []) replies
-          → (if crowded then crowded_answer else text) ≡ (if crowded then crowded_answer else answer_from (λ name token. last) who (line ∷ []) replies)
-      answered true line who who' last replies text e f = refl
-      answered false line who who' last replies text e f = f ∙ ap (λ w. answer_from (λ name token. w) who (line ∷ []) replies) (sym e)
+      answered : (crowded barred : Bool) (line : Heard) (who who' last : Option Speaker) (replies : List Reply) (text : List ℕ) → last ≡ unless_crowded crowded who'
+          → text ≡ answer_if barred who' who line replies
+          → (if crowded then crowded_answer else text) ≡ (if crowded then crowded_answer else answer_if barred last who line replies)
+      answered true barred line who who' last replies text e f = refl
+      answered false barred line who who' last replies text e f = f ∙ ap (λ w. answer_if barred w who line replies) (sym e)
 
   pub Steps-append : (used more : List ℕ) (ts us : List Turn) (quit : Bool) (a b c : Held) (who mid last : Option Speaker) (first between after : S)
       (answers answers' answers'' : List ℕ) (i j l : Option Journal)

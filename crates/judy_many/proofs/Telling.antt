@@ -1,5 +1,5 @@
 -- What one moment after another does to a client.
-use Rattle.std.proofs.Common.{◌≡◌, ◌⊎◌, inl, inr, ℕ, suc, ◌+◌, ◌≤◌, Bool, true, false, ◌||◌, List, [], ◌∷◌, ◌++◌, length, None, Some, arith, sym, ◌∙◌, ap, subst, refl, append_assoc, append-nil}
+use Rattle.std.proofs.Common.{◌≡◌, ◌⊎◌, inl, inr, ℕ, suc, ◌+◌, ◌≤◌, Bool, true, false, ◌||◌, List, [], ◌∷◌, ◌++◌, length, Option, None, Some, arith, sym, ◌∙◌, ap, subst, refl, append_assoc, append-nil}
 use Rattle.std.proofs.lemmas.Bool.{eq-eqb}
 use Rattle.std.proofs.lemmas.List.{length-append}
 use Rattle.std.proofs.lemmas.List.Folds.{list_any-append}
@@ -12,7 +12,7 @@ use Rattle.judy_many.specs.declared.serve.Limits.{Limits}
 use Rattle.judy_many.specs.Fates.{Ends, IsLeft, Leaves, Stays}
 use Rattle.judy_many.specs.Lives.{HasReason, HearsWhenReady, IsLive, IsOrdered, IsReady, IsReason, IsPart, IsServed, IsWhole, Lives, View, end_well, ends_well, is_orderly, read_in, wrote_in}
 use Rattle.judy_many.specs.Nets.{Act}
-use Rattle.judy_many.specs.Nets.Act.{Came, Refused, Read, Dry, Ended, Broke, Wrote, Failed, Closed, Waited, Lost, Asked, Questioned, Reported, Warned, Tabled, Untabled, Named, Replied, Began, Kept, Unkept, Synced, Unsynced}
+use Rattle.judy_many.specs.Nets.Act.{Came, Refused, Read, Dry, Ended, Broke, Wrote, Failed, Closed, Waited, Lost, Asked, Questioned, Reported, Warned, Tabled, Untabled, Named, Replied, Began, Kept, Unkept, Synced, Unsynced, Took}
 use Rattle.judy_many.specs.Sessions.{Speaks, Turn}
 use Rattle.judy_many.specs.Stories.{AreReads, AreWell, AreWithin, AreWrites, Phase, InPhase, IsOnce, IsPhased, IsPiece, IsRead, IsWrite, Mine, Moment, Share, Story, acts_by, acts_in, came_by, came_in, closed_by, closed_in, hears, is_end, is_fault, is_read, reading, running, share_of, times, told, turns_by, turns_in, writes_after, writes_since}
 use Rattle.judy_many.specs.Stories.Moment.{Did, Ran}
@@ -562,6 +562,28 @@ reaches_send v m n acts pending waiting more same writes few wrote read =
     subst (λ w. Reaches v (record v { pending = pending; waiting = w; number = n; more = more }) (told acts)) (sym same)
     (reaches_did v (record v { pending = pending; number = n; more = more }) acts few plain.0 plain.1 (writes_hear v m acts writes)
     (λ did ran live. renumber (did ++ acts) ran (record v { pending = pending }) n more (live_send did ran v live acts pending wrote read (plain_ends acts plain.1))))
+
+-- the system was asked whether the journal takes records of its tenant
+live_took : (did : List Act) (ran : List Turn) (v : View) (n : ℕ) (name : List ℕ) (limit : Option ℕ) (takes : Bool) → IsLive did ran v → IsLive (did ++ Took n name limit takes ∷ []) ran v
+live_took did ran v n name limit takes l = record {
+  heard = l.heard;
+  read = read_in-append did (Took n name limit takes ∷ []) ∙ append-nil (read_in did) ∙ l.read;
+  ran = l.ran;
+  holds = l.holds;
+  speaks = l.speaks;
+  text = ap (λ w. w ++ v.pending) (wrote_in-append did (Took n name limit takes ∷ []) ∙ append-nil (wrote_in did)) ∙ l.text;
+  last = l.last;
+  asked = l.asked;
+  stays = end_well-append did (Took n name limit takes ∷ []) ∙ ap (λ b. b || false) l.stays;
+}
+
+pub stays_took : (v : View) (n : ℕ) (name : List ℕ) (limit : Option ℕ) (takes : Bool) → Stays v v (told (Took n name limit takes ∷ []))
+stays_took v n name limit takes =
+    stays_well v v (Took n name limit takes ∷ []) (refl, refl)
+    (reaches_did v v (Took n name limit takes ∷ []) (omega arith) refl refl ((λ e. absurd (never e)), tt) (λ did ran l. live_took did ran v n name limit takes l))
+  where
+    never : false ≡ true → ⊥
+    never e = cc
 
 -- a read, and then lines
 pub acts_heard : (n : ℕ) (acts : List Act) (turns : List Turn) → acts_in (told acts ++ Ran n turns ∷ []) ≡ acts

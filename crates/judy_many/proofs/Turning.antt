@@ -4,7 +4,7 @@ use Rattle.std.specs.Prelude.{◌==◌, if◌then◌else◌}
 use Rattle.std.proofs.lemmas.Bool.Decides.{eqb_tells}
 use Rattle.judy_many.specs.Endings.{lost_by, lost_in, reports_by, reports_in, waits_in}
 use Rattle.judy_many.specs.Nets.{Act}
-use Rattle.judy_many.specs.Nets.Act.{Came, Refused, Read, Dry, Ended, Broke, Wrote, Failed, Closed, Waited, Lost, Asked, Questioned, Reported, Warned, Tabled, Untabled, Named, Replied, Began, Kept, Unkept, Synced, Unsynced}
+use Rattle.judy_many.specs.Nets.Act.{Came, Refused, Read, Dry, Ended, Broke, Wrote, Failed, Closed, Waited, Lost, Asked, Questioned, Reported, Warned, Tabled, Untabled, Named, Replied, Began, Kept, Unkept, Synced, Unsynced, Took}
 use Rattle.judy_many.specs.Stories.{HasTurns, Mine, Moment, Share, Story, acts_in, belongs, changes_in, is_of, is_wait, own, share_by, times, turns_after, turns_since, waits_by, writes_after, writes_since}
 use Rattle.judy_many.specs.Stories.Moment.{Changed, Did, Ran}
 use Rattle.judy_many.proofs.Owning.{belongs_other}
@@ -136,6 +136,7 @@ since_quiet n wrote count (m ∷ story) h e = since_quiet n (writes_after wrote 
     after (Did (Wrote k bytes)) e = absurd (never e)
     after (Did (Failed k)) e = absurd (never e)
     after (Did (Closed k how)) e = same (k == n) e
+    after (Did (Took k name limit takes)) e = same (k == n) e
     after (Did (Waited sleeps told)) e = refl
     after (Ran k turns) e = same (k == n) e
     after moment e = h e
@@ -153,6 +154,7 @@ no_wait n (Broke m) e = (refl, refl, refl)
 no_wait n (Wrote m bytes) e = (refl, refl, refl)
 no_wait n (Failed m) e = (refl, refl, refl)
 no_wait n (Closed m how) e = (refl, refl, refl)
+no_wait n (Took m name limit takes) e = (refl, refl, refl)
 no_wait n (Waited sleeps told) e = absurd (never e)
   where
     never : false ≡ true → ⊥
@@ -227,7 +229,7 @@ mine_plain n (Did a ∷ more) h =
     let reports = rest.2 in
     (omega (arith, none, waits), omega (arith, all, lost), omega (arith, untold, reports), rest.3)
 mine_plain n (Ran m turns ∷ more) h = mine_plain n more h.1
-mine_plain n (Changed text ∷ more) h = absurd (never h.0)
+mine_plain n (Changed text left ∷ more) h = absurd (never h.0)
   where
     never : false ≡ true → ⊥
     never e = cc

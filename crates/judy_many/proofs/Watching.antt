@@ -50,7 +50,7 @@ no_wait (Did a) more h = none (is_wait a) (waits_in (acts_in more)) h
     none true k e = absurd (omega (arith, e))
     none false k e = (refl, omega (arith, e))
 no_wait (Ran n turns) more h = (refl, h)
-no_wait (Changed text) more h = (refl, h)
+no_wait (Changed text left) more h = (refl, h)
 
 upto_same : (upto before more : Story) → NoWait more → upto_since upto before more ≡ upto
 upto_same upto before [] h = refl

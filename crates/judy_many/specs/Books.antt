@@ -38,7 +38,7 @@ journal_of rule clean w = record {
 abbrev pub commit_of : Journal → Commit
 commit_of j = noted_commit j.segment j.size j.synced j.records
 
--- lines with these records were run
+-- lines with these records were run, or tenants left with this one
 abbrev pub noted : Commit → Journal → Journal
 noted records j = record j { records = j.records ++ records }
 

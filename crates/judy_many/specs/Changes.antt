@@ -1,18 +1,23 @@
 -- A table that is read again, or a tenant that is frozen or thawed, while connections stay open.
 --     IsChange before after       a change keeps or empties each tenant's arrays
---     KeepsTenants before after   it keeps all of them
+--     AreLeft keep leavers left   which tenants are told as those that left
+--     AreLeavers left first ..    who leaves, as it was found
 --     is_gone admits speaker      the speaker of a connection does not go on
 --     HasReloaded ..              what the server did when it was asked to read the table again, or to freeze or thaw a tenant
 --     IsAlone before turns after  over these lines each tenant's replies are those that it would get alone
 --     IsAloneFor t ..             so are those of this tenant
 --     Chain P before runs after   P holds of each run of lines, and changes join them
 use Rattle.std.specs.Prelude.{◌≡◌, ◌⊎◌, ℕ, Bool, true, false, not, List, [], ◌∷◌, Option, Some, None, codes, zip}
+use Rattle.judy_journal.specs.Leaving.{gone_records, gone_request}
+use Rattle.judy_journal.specs.Writes.{IsShortRecord}
 use Rattle.judy_model.specs.Service.{AreServed, own}
 use Rattle.judy_model.specs.Solo.{Exchanges, IsSolo, attempts_of, refusals}
 use Rattle.judy_model.specs.Speakers.{Speaker}
 use Rattle.judy_model.specs.Tenant.{State, no_arrays}
 use Rattle.judy_model.specs.Worlds.{AreTheOnly}
 use Rattle.judy_protocol.specs.Services.{Seen}
+use Rattle.judy_many.specs.Books.{Journal, noted_by}
+use Rattle.judy_many.specs.Journaling.{AreWritten}
 use Rattle.judy_many.specs.Lives.{View}
 use Rattle.judy_many.specs.Nets.{Act, Acts, DidLog}
 use Rattle.judy_many.specs.Nets.Act.{Closed, Replied, Tabled, Untabled, Warned}
@@ -26,16 +31,24 @@ use Rattle.judy_many.specs.declared.network.How.TheVariants as how
 abbrev pub IsChange : Seen → Seen → Type 0
 IsChange before after = (t : ℕ) → (after.states t ≡ before.states t) ⊎ (after.states t ≡ no_arrays)
 
--- Each tenant stays, with its arrays. A place that had a name keeps it.
-pub record KeepsTenants (before after : Seen) : Type 0 where
-  pub states : (t : ℕ) → after.states t ≡ before.states t
-  pub names : (t : ℕ) → (before.names t ≡ []) ⊎ (after.names t ≡ before.names t)
+-- with a journal these are the tenants that a table leaves out; without one none is told
+abbrev pub AreLeft : Bool → List (List ℕ) → List (List ℕ) → Type 0
+AreLeft keep leavers left = (keep ≡ true → left ≡ leavers) × (keep ≡ false → left ≡ [])
 
--- The file of the table was read, and its table was put in force; or an order was carried out. Or it was not
--- read, or not put in force or carried out; then nothing has changed.
-abbrev pub HasChanged : {S : Type 0} → Rules S → Bool → Acts → Acts → S → S → Type 0
-HasChanged rules true log log' before after = (text : List ℕ) × DidLog log (Tabled text ∷ []) log' × rules.changed before text after
-HasChanged rules false log log' before after = (after ≡ before) × (DidLog log (Untabled ∷ []) log' ⊎ ((text : List ℕ) × DidLog log (Tabled text ∷ []) log'))
+-- Who leaves, as it was found: nobody; or these, the first by its name and all others in the request of their
+-- record, which is short.
+abbrev pub AreLeavers : List (List ℕ) → Option (List ℕ) → List ℕ → Type 0
+AreLeavers leavers None request = leavers ≡ []
+AreLeavers leavers (Some first) request =
+    (others : List (List ℕ)) × (leavers ≡ first ∷ others) × (request ≡ gone_request others) × IsShortRecord first request
+
+-- The file of the table was read, and its table was put in force, with which these tenants left; or an order was
+-- carried out. Or it was not read, or not put in force or carried out; then nothing has changed.
+abbrev pub HasChanged : {S : Type 0} → Rules S → Bool → Bool → List (List ℕ) → Acts → Acts → S → S → Type 0
+HasChanged rules keep true left log log' before after =
+    (text : List ℕ) × DidLog log (Tabled text ∷ []) log' × rules.changed before text after × AreLeft keep (rules.leavers before text) left
+HasChanged rules keep false left log log' before after =
+    (after ≡ before) × (left ≡ []) × (DidLog log (Untabled ∷ []) log' ⊎ ((text : List ℕ) × DidLog log (Tabled text ∷ []) log'))
 
 -- somebody has logged in on a connection, and does not go on
 abbrev pub is_gone : {P : Type 0} → (P → Bool) → Option P → Bool
@@ -62,22 +75,34 @@ abbrev pub AreClosed : Bool → List Act → Type 0
 AreClosed true acts = AreGone acts
 AreClosed false acts = acts ≡ []
 
--- What the server did, in this order: it read the table or the order, closed the connections whose speakers are
--- gone, answered, and told the operator.
-pub record HasReloaded {S : Type 0} (rules : Rules S) (log log' : Acts) (before after : S) : Type 0 where
+-- the asker was answered, and then the operator was told; or nothing was said, since the journal failed
+pub record HasSaid (changed : Bool) (log log' : Acts) : Type 0 where
   pub order : Bool
-  pub changed : Bool
-  pub tabled : Acts
-  pub closed : Acts
-  pub gone : List Act
   pub reply : List ℕ
   pub line : List ℕ
-  pub change : HasChanged rules changed log tabled before after
-  pub closes : DidLog tabled gone closed
-  pub are_gone : AreClosed changed gone
   pub replied : BeginsWith (reply_head changed) reply
   pub told : BeginsWith (told_head order changed) line
-  pub last : DidLog closed (Replied reply ∷ Warned line ∷ []) log'
+  pub last : DidLog log (Replied reply ∷ Warned line ∷ []) log'
+
+abbrev pub SaysIf : Bool → Bool → Acts → Acts → Type 0
+SaysIf true changed log log' = HasSaid changed log log'
+SaysIf false changed log log' = (changed ≡ true) × (log' ≡ log)
+
+-- What the server did, in this order: it read the table or the order, closed the connections whose speakers are
+-- gone, kept the record of the tenants that left, answered, and told the operator. If the journal failed it did
+-- not answer.
+pub record HasReloaded {S : Type 0} (rules : Rules S) (keep well : Bool) (log log' : Acts) (before after : S) (journal journal' : Option Journal) : Type 0 where
+  pub changed : Bool
+  pub left : List (List ℕ)
+  pub tabled : Acts
+  pub closed : Acts
+  pub kept : Acts
+  pub gone : List Act
+  pub change : HasChanged rules keep changed left log tabled before after
+  pub closes : DidLog tabled gone closed
+  pub are_gone : AreClosed changed gone
+  pub written : AreWritten well (noted_by (gone_records left) journal) journal' closed kept
+  pub says : SaysIf well changed kept log'
 
 -- Over these lines each tenant's replies are those that it would get alone, without the calls that were
 -- refused for memory. Another server that agrees on a tenant's quota, arrays, calls and refusals would

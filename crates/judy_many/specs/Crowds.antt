@@ -3,6 +3,7 @@
 --                            those that it would get alone
 use Rattle.std.specs.Prelude.{◌≡◌, ◌⊎◌, ◌<◌, ◌≤◌, ◌+◌, ℕ, zero, suc, Option, Some, None, List, [], ◌∷◌, ◌++◌, false, true, is_some, length}
 use Rattle.judy_journal.specs.Writes.{Writing}
+use Rattle.judy_many.specs.Barred.{IsInquired}
 use Rattle.judy_many.specs.Books.{Journal, opened}
 use Rattle.judy_many.specs.Changes.{Chain, IsAlone, IsAloneFor}
 use Rattle.judy_many.specs.declared.serve.Ending.{Ending}
@@ -13,7 +14,7 @@ use Rattle.judy_many.specs.Journaling.{AreKept, AreSettled, Carries, IsFailure, 
 use Rattle.judy_many.specs.Lives.{IsPart, IsServed, Lives, View}
 use Rattle.judy_many.specs.Nets.{Act, Acts, DidLog}
 use Rattle.judy_many.specs.Others.{IsLimited}
-use Rattle.judy_many.specs.Questions.{AreAsked, Stage, last_stage, stage_since}
+use Rattle.judy_many.specs.Questions.{AreAsked, IsLastStage, MayFail, Stage, stage_since}
 use Rattle.judy_many.specs.Rules.{Rules}
 use Rattle.judy_many.specs.Statuses.{Keeps, Lasts, Passes}
 use Rattle.judy_many.specs.Stories.{AreRead, AreSingle, AreWithin, HasTurns, IsPhased, Phase, Share, Story, acts_in, came_in, closed_in, most, own, runs_in, turns_in, turns_since, writes_since}
@@ -91,6 +92,7 @@ pub record IsTold {B S : Type 0} (rules : Rules S) (limits : Limits) (first : S)
   pub awake : IsAwake story
   pub each : HasEach story
   pub limited : IsLimited limits.tenant_clients [] story
+  pub inquired : IsInquired (is_some limits.journal) [] story
   pub asked : AreAsked Stage.Unasked story
   pub stage : stage_since Stage.Unasked story ≡ past.stage
   pub single : limits.clients ≡ 1 → AreSingle story
@@ -112,11 +114,14 @@ pub record Crowd {B S : Type 0} (view : B → View) (rules : Rules S) (limits : 
 
 -- After a crowd so far the journal failed, which is the last answer.
 pub record HasFailed {B S : Type 0} (view : B → View) (rules : Rules S) (limits : Limits) (first : S) (start : Acts) (began : Option Journal) (log : Acts) (slots : List (Option B)) (count : ℕ) (now : S) : Type 0 where
+  pub phase : Phase
   pub waits : ℕ
   pub journal : Option Journal
+  pub stage : Stage
   pub mid : Acts
   pub last : Act
-  pub crowd : Crowd view rules limits first start Phase.Reads unqueued (past_of waits began journal) mid slots count now
+  pub may : MayFail stage
+  pub crowd : Crowd view rules limits first start phase unqueued (at_stage stage (past_of waits began journal)) mid slots count now
   pub some : is_some journal ≡ true
   pub fails : IsFailure last
   pub logged : DidLog mid (last ∷ []) log
@@ -124,8 +129,8 @@ pub record HasFailed {B S : Type 0} (view : B → View) (rules : Rules S) (limit
 -- Connections were served at once. Each of them, at any time, had run the first of the lines that it
 -- gave, and was sent the first part of their answers; if it was closed in order, all of them. The lines
 -- of all connections were run one after another. As long as the table stays, each tenant's replies are
--- those that it would get alone, without the calls that were refused for memory; another server that
--- agrees on a tenant's quota, arrays, calls and refusals would give it the same replies, whatever else
+-- those that it would get alone, without the calls that were refused for memory or for the journal; another
+-- server that agrees on a tenant's quota, arrays, calls and refusals would give it the same replies, whatever else
 -- that server holds and does. A new table keeps or empties each tenant's arrays. A tenant whose quota and
 -- arrays each new table kept gets over all lines the replies that it would get alone.
 pub record HasServedMany {S : Type 0} (rules : Rules S) (limits : Limits) (writer : Option Writing) (how : Ending) (log log' : Acts) (before after : S) : Type 0 where
@@ -153,6 +158,10 @@ pub record HasServedMany {S : Type 0} (rules : Rules S) (limits : Limits) (write
   -- A log-in is refused since its tenant has enough connections exactly where there is a limit, the name
   -- and the token are right, and the tenant speaks on as many of the other open connections.
   pub limited : IsLimited limits.tenant_clients [] story
+  -- With a journal, directly before lines of a speaker are run, the system was asked whether the journal takes
+  -- records of its tenant. If it said no, exactly those of these lines that ask for a call that changes arrays are
+  -- refused for it: they make no call. Otherwise, and without a journal, none is.
+  pub inquired : IsInquired (is_some limits.journal) [] story
   -- connections were closed for their time only where it has a limit, there are questions only where
   -- there is a status socket, and nothing else was asked
   pub within : AreWithin limits (acts_in story)
@@ -164,17 +173,19 @@ pub record HasServedMany {S : Type 0} (rules : Rules S) (limits : Limits) (write
   -- the table is read only where that is asked for, and only after it a new table is put in force.
   -- Connections are closed since their speakers are gone only then, before that question is answered.
   pub asked : AreAsked Stage.Unasked story
-  -- no question is left without its answer, but the one for a stop
-  pub answered : stage_since Stage.Unasked story ≡ last_stage how
+  -- no question is left without its answer, but the one for a stop, and the one for a table whose record the
+  -- journal does not take
+  pub answered : IsLastStage how (stage_since Stage.Unasked story)
   -- Each status that was told is that of the service and of the open connections at this moment. Somebody
-  -- speaks on a connection that is closed since its speaker is gone. Nothing but lines and tables changes
-  -- the service.
+  -- speaks on a connection that is closed since its speaker is gone. Whether the journal takes records is asked
+  -- for the name and the limit of who speaks on the connection. Nothing but lines and tables changes the service.
   pub told : Passes rules [] before story after
   -- each table that was put in force is the one that was just read; without a status socket there is none
   pub reads : AreRead limits None story
-  -- with a journal: no answer was written before the records of all lines that were run were kept in it
+  -- with a journal: no answer was written before the records of all lines that were run and of all tenants that
+  -- left were kept in it
   pub journaled : AreKept (opened limits.journal writer) story
-  -- with a journal each new table keeps all tenants, with their names and arrays
+  -- with a journal each new table is told with the names of the tenants that it leaves out
   pub lasts : Lasts rules (is_some limits.journal) before story after
   -- between changes of the table each tenant's replies are those that it would get alone
   pub alone : Chain IsAlone (rules.seen before) (runs_in story) (rules.seen after)

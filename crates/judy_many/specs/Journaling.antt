@@ -1,7 +1,8 @@
 -- The journal over a story.
 --     journal_after, journal_since    the journal after a moment, and after a story
 --     IsSettled j                     answers may be written: all records are kept, and synced if they have to be
---     IsJournaled j story             at each moment, what was kept, and that answers were written only then
+--     IsJournaled j story             at each moment, what was kept, and that answers were written only then, to
+--                                     clients and to the operator
 --     Carries, AreKept, AreSettled    the same, if there is a journal
 use Rattle.std.specs.Prelude.{◌≡◌, ℕ, ◌+◌, ◌<◌, Bool, true, false, List, [], ◌∷◌, ◌++◌, length, IsTrue, is_some, Option, Some, None}
 use Rattle.judy_journal.specs.Acts.{DiskAct, IsWriting, Phase as FilePhase, Journal as Written}
@@ -14,9 +15,10 @@ use Rattle.judy_many.specs.declared.serve.Limits.{Limits}
 use Rattle.judy_many.specs.declared.network.Sync.{Sync}
 use Rattle.judy_many.specs.declared.network.Sync.TheVariants as sync
 use Rattle.judy_many.specs.Nets.{Act, Acts, DidLog}
-use Rattle.judy_many.specs.Nets.Act.{Came, Refused, Read, Dry, Ended, Broke, Wrote, Failed, Closed, Waited, Lost, Asked, Questioned, Reported, Warned, Tabled, Untabled, Named, Replied, Began, Kept, Unkept, Synced, Unsynced}
+use Rattle.judy_many.specs.Nets.Act.{Came, Refused, Read, Dry, Ended, Broke, Wrote, Failed, Closed, Waited, Lost, Asked, Questioned, Reported, Warned, Tabled, Untabled, Named, Replied, Began, Kept, Unkept, Synced, Unsynced, Took}
+use Rattle.judy_journal.specs.Leaving.{gone_records}
 use Rattle.judy_many.specs.Sessions.{records_in}
-use Rattle.judy_many.specs.Stories.{Moment, Story, acts_in, told, turns_in}
+use Rattle.judy_many.specs.Stories.{Moment, Story, acts_in, recorded_in, told}
 use Rattle.judy_many.specs.Stories.Moment.{Changed, Did, Ran}
 
 -- after a text was kept: it is the header of the segment, or a commit of all records and a note
@@ -34,6 +36,7 @@ journal_after j (Did (Began k)) = record j { segment = k; begun = false; size = 
 journal_after j (Did (Kept text)) = kept_after j.begun j
 journal_after j (Did Synced) = record j { synced = j.size; clean = true }
 journal_after j (Ran n turns) = noted (records_in turns) j
+journal_after j (Changed text left) = noted (gone_records left) j
 journal_after j moment = j
 
 abbrev pub journal_since : Journal → Story → Journal
@@ -46,12 +49,12 @@ IsSecured sync.Round clean = clean ≡ true
 IsSecured (sync.Seconds s) clean = Unit {0}
 IsSecured sync.Never clean = Unit {0}
 
--- the records of all lines that were run are kept, and synced if they have to be
+-- the records of all lines that were run and of all tenants that left are kept, and synced if they have to be
 abbrev pub IsSettled : Journal → Type 0
 IsSettled j = (j.records ≡ []) × IsSecured j.rule j.clean
 
--- what may be kept: one commit of all records of lines that were run since the last one, with a note of how much
--- of the segment is synced; or, in a new segment, its header
+-- what may be kept: one commit of all records since the last one, with a note of how much of the segment is
+-- synced; or, in a new segment, its header
 abbrev pub IsText : Bool → Journal → List ℕ → Type 0
 IsText true j text = (0 < length j.records) × IsTrue (is_commit (commit_of j)) × (text ≡ commit_text j.sum (commit_of j))
 IsText false j text = text ≡ header_text j.segment j.sum
@@ -67,6 +70,7 @@ pub record IsNext (j : Journal) (segment : ℕ) : Type 0 where
 abbrev pub MayHappen : Journal → Moment → Type 0
 MayHappen j (Did (Wrote m bytes)) = IsSettled j
 MayHappen j (Did (Failed m)) = IsSettled j
+MayHappen j (Did (Replied text)) = IsSettled j
 MayHappen j (Did (Began k)) = IsNext j k
 MayHappen j (Did (Kept text)) = IsText j.begun j text
 MayHappen j moment = Unit {0}
@@ -118,11 +122,12 @@ abbrev pub writer_at : Journal → List Commit → List Commit → Written
 writer_at j kept more = record { segment = j.segment; sum = j.sum; phase = phase_of j.begun; clean = j.clean; kept = kept; more = more }
 
 -- What is on the disk after a story: commits that are synced, and commits that were kept since. Their
--- records, and those that are to be kept, are those of all lines that were run, in order.
+-- records, and those that are to be kept, are those of all lines that were run and of all tenants that left, in
+-- order.
 abbrev pub IsOnDisk : Journal → List Commit → List Commit → Story → List Commit → List Commit → Type 0
 IsOnDisk j kept more story kept' more' =
     IsWriting (writer_at j kept more) (disk_acts (acts_in story)) (writer_at (journal_since j story) kept' more')
-    × (all_records (kept' ++ more') ++ (journal_since j story).records ≡ (all_records (kept ++ more) ++ j.records) ++ records_in (turns_in story))
+    × (all_records (kept' ++ more') ++ (journal_since j story).records ≡ (all_records (kept ++ more) ++ j.records) ++ recorded_in story)
     × ((journal_since j story).clean ≡ true → more' ≡ [])
 
 -- The acts of the loop are those of a writer, at each moment.
@@ -130,13 +135,20 @@ abbrev pub StoriesAreWritten : Type 0
 StoriesAreWritten = (j : Journal) (kept more : List Commit) (story p q : Story) → IsJournaled j story → (j.clean ≡ true → more ≡ []) → story ≡ p ++ q
     → (kept' : List Commit) × (more' : List Commit) × IsOnDisk j kept more p kept' more'
 
--- Before an answer is written, the records of all lines that were run are on the disk, or kept; where each
--- round is synced, they are on the disk.
+-- Before an answer is written, the records of all lines that were run and of all tenants that left are on the
+-- disk, or kept; where each round is synced, they are on the disk.
 abbrev pub AnswersAreKept : Type 0
 AnswersAreKept = (j : Journal) (kept more : List Commit) (story p q : Story) (n : ℕ) (bytes : List ℕ) → IsJournaled j story → (j.clean ≡ true → more ≡ [])
     → story ≡ p ++ Did (Wrote n bytes) ∷ q
     → (kept' : List Commit) × (more' : List Commit) × IsOnDisk j kept more p kept' more'
-    × (all_records (kept' ++ more') ≡ (all_records (kept ++ more) ++ j.records) ++ records_in (turns_in p)) × (j.rule ≡ sync.Round → more' ≡ [])
+    × (all_records (kept' ++ more') ≡ (all_records (kept ++ more) ++ j.records) ++ recorded_in p) × (j.rule ≡ sync.Round → more' ≡ [])
+
+-- So it is before the operator is answered: a table from which tenants are gone is answered when their record is kept.
+abbrev pub RepliesAreKept : Type 0
+RepliesAreKept = (j : Journal) (kept more : List Commit) (story p q : Story) (text : List ℕ) → IsJournaled j story → (j.clean ≡ true → more ≡ [])
+    → story ≡ p ++ Did (Replied text) ∷ q
+    → (kept' : List Commit) × (more' : List Commit) × IsOnDisk j kept more p kept' more'
+    × (all_records (kept' ++ more') ≡ (all_records (kept ++ more) ++ j.records) ++ recorded_in p) × (j.rule ≡ sync.Round → more' ≡ [])
 
 -- ---- what is asked of the system for the journal
 

@@ -1,4 +1,5 @@
 pub mod Arrivals
+pub mod Barred
 pub mod Books
 pub mod Came
 pub mod Changes

@@ -82,6 +82,9 @@ pub data Act : Type 0 where
   -- all that was appended to the journal is on the disk; or the sync failed
   Synced : Act
   Unsynced : Act
+  -- before lines of this connection were run: whether the journal takes records of the tenant of this name, with
+  -- this limit, and the answer
+  Took : ℕ → List ℕ → Option ℕ → Bool → Act
 
 -- the answers so far, where they are known
 abbrev pub Acts : Type 0
@@ -155,6 +158,10 @@ keep_acts false bytes = Unkept ∷ []
 abbrev pub sync_acts : Bool → List Act
 sync_acts true = Synced ∷ []
 sync_acts false = Unsynced ∷ []
+
+-- whether the journal takes records of the tenant of this name, with this limit
+abbrev pub takes_acts : Bool → ℕ → List ℕ → Option ℕ → List Act
+takes_acts takes number name limit = Took number name limit takes ∷ []
 
 -- the file of the table was read again, or not
 abbrev pub table_acts : Result (Unit {0}) Unread → List ℕ → List Act

@@ -1,7 +1,7 @@
 -- The acts that a note of the system's record stands for.
 --     acts_of numbers more bytes    the acts by their number, other numbers and bytes
 --     come_acts, step_if            the answer to an accept, and a step that was made or was not
-use Rattle.std.specs.Prelude.{ℕ, Bool, true, false, List, [], ◌∷◌, slice_index, ◌==◌, if◌then◌else◌, None}
+use Rattle.std.specs.Prelude.{ℕ, Bool, true, false, List, [], ◌∷◌, slice_index, ◌==◌, if◌then◌else◌, Option, None, Some}
 use Rattle.judy_many.specs.Nets.{Act, Step}
 use Rattle.judy_many.specs.declared.network.Accept.{Accept}
 use Rattle.judy_many.specs.declared.network.Accept.TheVariants as accept
@@ -31,9 +31,14 @@ question_of n =
     else if n == 2 then question.Reload
     else question.Kick
 
--- an act of a connection: its number, that of the connection, another number, and bytes
-abbrev pub connection_act : ℕ → ℕ → ℕ → List ℕ → Act
-connection_act act n m bytes =
+-- an optional number, as a list
+abbrev pub first_of : List ℕ → Option ℕ
+first_of [] = None
+first_of (n ∷ more) = Some n
+
+-- an act of a connection: its number, that of the connection, another number, more of them, and bytes
+abbrev pub connection_act : ℕ → ℕ → ℕ → List ℕ → List ℕ → Act
+connection_act act n m more bytes =
     if act == 0 then Act.Came n m
     else if act == 1 then Act.Read n bytes
     else if act == 2 then Act.Dry n
@@ -41,7 +46,8 @@ connection_act act n m bytes =
     else if act == 4 then Act.Broke n
     else if act == 5 then Act.Wrote n bytes
     else if act == 6 then Act.Failed n
-    else Act.Closed n (how_of m)
+    else if act == 7 then Act.Closed n (how_of m)
+    else Act.Took n bytes (first_of more) (m == 1)
 
 -- an act of the server: its number, another number, more of them, and bytes
 abbrev pub server_act : ℕ → ℕ → List ℕ → List ℕ → Act
@@ -80,7 +86,7 @@ step_of step bytes =
 -- the number of the group, and the numbers of the act in it
 abbrev pub act_of : List ℕ → List ℕ → List ℕ → Act
 act_of numbers more bytes =
-    if slice_index numbers 0 == 0 then connection_act (slice_index numbers 1) (slice_index numbers 2) (slice_index numbers 3) bytes
+    if slice_index numbers 0 == 0 then connection_act (slice_index numbers 1) (slice_index numbers 2) (slice_index numbers 3) more bytes
     else if slice_index numbers 0 == 1 then server_act (slice_index numbers 1) (slice_index numbers 2) more bytes
     else Act.Asked (step_of (slice_index numbers 1) bytes)
 

@@ -56,4 +56,4 @@ abbrev pub IsLimited : Option ℕ → Story → Story → Type 0
 IsLimited most past [] = Unit {0}
 IsLimited most past (Did a ∷ story) = IsLimited most (past ++ Did a ∷ []) story
 IsLimited most past (Ran n turns ∷ story) = AreLimited most (others_in n past) turns × IsLimited most (past ++ Ran n turns ∷ []) story
-IsLimited most past (Changed text ∷ story) = IsLimited most (past ++ Changed text ∷ []) story
+IsLimited most past (Changed text left ∷ story) = IsLimited most (past ++ Changed text left ∷ []) story

@@ -11,7 +11,7 @@ use Rattle.judy_many.specs.declared.network.Question.TheVariants as question
 use Rattle.judy_many.specs.declared.serve.Ending.{Ending}
 use Rattle.judy_many.specs.declared.serve.Ending.TheVariants as ending
 use Rattle.judy_many.specs.Nets.{Act}
-use Rattle.judy_many.specs.Nets.Act.{Came, Refused, Read, Dry, Ended, Broke, Wrote, Failed, Closed, Waited, Lost, Asked, Questioned, Reported, Warned, Tabled, Untabled, Named, Replied, Began, Kept, Unkept, Synced, Unsynced}
+use Rattle.judy_many.specs.Nets.Act.{Came, Refused, Read, Dry, Ended, Broke, Wrote, Failed, Closed, Waited, Lost, Asked, Questioned, Reported, Warned, Tabled, Untabled, Named, Replied, Began, Kept, Unkept, Synced, Unsynced, Took}
 use Rattle.judy_many.specs.Stories.{Moment, Story}
 use Rattle.judy_many.specs.Stories.Moment.{Changed, Did, Ran}
 
@@ -46,7 +46,7 @@ stage_by stage act = stage
 abbrev pub stage_after : Stage → Moment → Stage
 stage_after stage (Did a) = stage_by stage a
 stage_after stage (Ran n turns) = stage
-stage_after stage (Changed text) = Stage.Renewed
+stage_after stage (Changed text left) = Stage.Renewed
 
 abbrev pub stage_since : Stage → Story → Stage
 stage_since stage [] = stage
@@ -88,16 +88,24 @@ MayDo stage act = Unit {0}
 abbrev pub MayFollow : Stage → Moment → Type 0
 MayFollow stage (Did a) = MayDo stage a
 MayFollow stage (Ran n turns) = Unit {0}
-MayFollow stage (Changed text) = stage ≡ Stage.Fetched
+MayFollow stage (Changed text left) = stage ≡ Stage.Fetched
 
 abbrev pub AreAsked : Stage → Story → Type 0
 AreAsked stage [] = Unit {0}
 AreAsked stage (m ∷ story) = MayFollow stage m × AreAsked (stage_after stage m) story
 
--- no question is left without its answer, but the one for a stop, which ends the server
-abbrev pub last_stage : Ending → Stage
-last_stage ending.Stopped = Stage.Asks question.Stop
-last_stage other = Stage.Unasked
+-- where the journal fails, nothing is asked, or a new table was just put in force
+abbrev pub MayFail : Stage → Type 0
+MayFail Stage.Unasked = Unit {0}
+MayFail Stage.Renewed = Unit {0}
+MayFail other = ⊥
+
+-- No question is left without its answer, but the one for a stop, which ends the server, and the one for a table
+-- whose record the journal does not take, which ends it too.
+abbrev pub IsLastStage : Ending → Stage → Type 0
+IsLastStage ending.Stopped stage = stage ≡ Stage.Asks question.Stop
+IsLastStage ending.Journal stage = MayFail stage
+IsLastStage other stage = stage ≡ Stage.Unasked
 
 -- how often a connection was closed since its speaker is gone
 abbrev pub gone_how : How → ℕ

@@ -20,6 +20,13 @@ pub record Rules (S : Type 0) : Type 1 where
   pub status : S → List (Option Speaker) → List ℕ
   -- the step in which the table of a text is put in force
   pub changed : S → List ℕ → S → Type 0
+  -- after how many bytes of records since the last snapshot the journal takes no more of the tenant at a place, if
+  -- it has such a limit
+  pub caps : S → ℕ → Option ℕ
+  -- the names of the tenants that are gone once the table of a text is in force
+  pub leavers : S → List ℕ → List (List ℕ)
 
-abbrev pub rules_of : {S : Type 0} → Made S → (S → Seen) → Noted S → (S → List (Option Speaker) → List ℕ) → (S → List ℕ → S → Type 0) → Rules S
-rules_of made seen noted status changed = record { made = made; seen = seen; noted = noted; status = status; changed = changed }
+abbrev pub rules_of : {S : Type 0} → Made S → (S → Seen) → Noted S → (S → List (Option Speaker) → List ℕ) → (S → List ℕ → S → Type 0) → (S → ℕ → Option ℕ)
+    → (S → List ℕ → List (List ℕ)) → Rules S
+rules_of made seen noted status changed caps leavers =
+    record { made = made; seen = seen; noted = noted; status = status; changed = changed; caps = caps; leavers = leavers }

@@ -1,6 +1,7 @@
 -- What happened, in order.
 --     Moment                       an answer of the system, lines of one connection that were run, or a new table
 --     acts_in, turns_in            the answers of a story, and its lines
+--     recorded_in                  its records in a journal
 --     own n story                  the moments of one connection
 --     hears m                      whether a connection is read, or lines of it are run
 --     came_in, closed_in           how many connections came, and how many were closed
@@ -10,6 +11,8 @@
 --     AreWithin limits             why connections were closed, and that nothing else was asked
 use Rattle.std.specs.List.{list_any}
 use Rattle.std.specs.Prelude.{◌≡◌, ◌⊎◌, ◌==◌, ◌≤◌, ◌+◌, ℕ, Bool, true, false, List, [], ◌∷◌, ◌++◌, codes, is_some, if◌then◌else◌, length, Option, Some, None}
+use Rattle.judy_journal.specs.Journals.{Commit}
+use Rattle.judy_journal.specs.Leaving.{gone_records}
 use Rattle.judy_many.specs.declared.network.How.{How}
 use Rattle.judy_many.specs.declared.network.How.TheVariants as how
 use Rattle.judy_many.specs.declared.buffers.Sent.{Sent}
@@ -18,15 +21,16 @@ use Rattle.judy_many.specs.declared.network.Got.{Got}
 use Rattle.judy_many.specs.declared.network.Got.TheVariants as got
 use Rattle.judy_many.specs.declared.serve.Limits.{Limits}
 use Rattle.judy_many.specs.Nets.{Act}
-use Rattle.judy_many.specs.Nets.Act.{Came, Refused, Read, Dry, Ended, Broke, Wrote, Failed, Closed, Waited, Lost, Asked, Questioned, Reported, Warned, Tabled, Untabled, Named, Replied, Began, Kept, Unkept, Synced, Unsynced}
-use Rattle.judy_many.specs.Sessions.{Turn}
+use Rattle.judy_many.specs.Nets.Act.{Came, Refused, Read, Dry, Ended, Broke, Wrote, Failed, Closed, Waited, Lost, Asked, Questioned, Reported, Warned, Tabled, Untabled, Named, Replied, Began, Kept, Unkept, Synced, Unsynced, Took}
+use Rattle.judy_many.specs.Sessions.{Turn, records_in}
 
 -- an answer of the system, or lines of one connection that were run one after another, or the table of
--- this text was put in force, or the order that this text is was carried out
+-- this text was put in force, or the order that this text is was carried out; with a journal, the tenants of these
+-- names left with that
 pub data Moment : Type 0 where
   Did : Act → Moment
   Ran : ℕ → List Turn → Moment
-  Changed : List ℕ → Moment
+  Changed : List ℕ → List (List ℕ) → Moment
 
 abbrev pub Story : Type 0
 Story = List Moment
@@ -35,7 +39,7 @@ Story = List Moment
 abbrev pub acts_by : Moment → List Act
 acts_by (Did a) = a ∷ []
 acts_by (Ran n turns) = []
-acts_by (Changed text) = []
+acts_by (Changed text left) = []
 
 abbrev pub acts_in : Story → List Act
 acts_in [] = []
@@ -45,11 +49,21 @@ acts_in (m ∷ story) = acts_by m ++ acts_in story
 abbrev pub turns_by : Moment → List Turn
 turns_by (Did a) = []
 turns_by (Ran n turns) = turns
-turns_by (Changed text) = []
+turns_by (Changed text left) = []
 
 abbrev pub turns_in : Story → List Turn
 turns_in [] = []
 turns_in (m ∷ story) = turns_by m ++ turns_in story
+
+-- the records: those of the lines, and one for the tenants that left at one change
+abbrev pub recorded_by : Moment → Commit
+recorded_by (Did a) = []
+recorded_by (Ran n turns) = records_in turns
+recorded_by (Changed text left) = gone_records left
+
+abbrev pub recorded_in : Story → Commit
+recorded_in [] = []
+recorded_in (m ∷ story) = recorded_by m ++ recorded_in story
 
 -- only these answers
 abbrev pub told : List Act → Story
@@ -66,13 +80,14 @@ is_of n (Broke m) = m == n
 is_of n (Wrote m bytes) = m == n
 is_of n (Failed m) = m == n
 is_of n (Closed m how) = m == n
+is_of n (Took m name limit takes) = m == n
 is_of n act = false
 
 -- whether a moment is this connection's
 abbrev pub belongs : ℕ → Moment → Bool
 belongs n (Did a) = is_of n a
 belongs n (Ran m turns) = m == n
-belongs n (Changed text) = false
+belongs n (Changed text left) = false
 
 -- the moments of one connection
 abbrev pub own : ℕ → Story → Story
@@ -149,13 +164,13 @@ abbrev pub AreSingle : Story → Type 0
 AreSingle [] = Unit {0}
 AreSingle (Did a ∷ story) = AreSingle story
 AreSingle (Ran n turns ∷ story) = (length turns ≤ 1) × AreSingle story
-AreSingle (Changed text ∷ story) = AreSingle story
+AreSingle (Changed text left ∷ story) = AreSingle story
 
 -- whether a connection is read, or lines of it are run
 abbrev pub hears : Moment → Bool
 hears (Did a) = is_read a
 hears (Ran n turns) = true
-hears (Changed text) = false
+hears (Changed text left) = false
 
 -- how many connections came
 abbrev pub came_by : Act → ℕ
@@ -191,7 +206,7 @@ writes_since wrote (m ∷ story) = writes_since (writes_after wrote m) story
 abbrev pub MayCome : Bool → Moment → Type 0
 MayCome wrote (Did a) = Unit {0}
 MayCome wrote (Ran n turns) = wrote ≡ false
-MayCome wrote (Changed text) = Unit {0}
+MayCome wrote (Changed text left) = Unit {0}
 
 abbrev pub IsPhased : Bool → Story → Type 0
 IsPhased wrote [] = Unit {0}
@@ -252,7 +267,7 @@ abbrev pub changes_in : Story → List (List ℕ)
 changes_in [] = []
 changes_in (Did a ∷ story) = changes_in story
 changes_in (Ran n turns ∷ story) = changes_in story
-changes_in (Changed text ∷ story) = text ∷ changes_in story
+changes_in (Changed text left ∷ story) = text ∷ changes_in story
 
 -- the text of the table or the order that was just read, if one was
 abbrev pub just_read : Act → Option (List ℕ)
@@ -265,7 +280,7 @@ abbrev pub AreRead : Limits → Option (List ℕ) → Story → Type 0
 AreRead limits last [] = Unit {0}
 AreRead limits last (Did a ∷ story) = AreRead limits (just_read a) story
 AreRead limits last (Ran n turns ∷ story) = AreRead limits None story
-AreRead limits last (Changed text ∷ story) = (last ≡ Some text) × (limits.status ≡ true) × AreRead limits None story
+AreRead limits last (Changed text left ∷ story) = (last ≡ Some text) × (limits.status ≡ true) × AreRead limits None story
 
 -- the lines that were run between changes of the table
 abbrev pub first_with : List Turn → List (List Turn) → List (List Turn)
@@ -276,7 +291,7 @@ abbrev pub runs_in : Story → List (List Turn)
 runs_in [] = [] ∷ []
 runs_in (Did a ∷ story) = runs_in story
 runs_in (Ran n turns ∷ story) = first_with turns (runs_in story)
-runs_in (Changed text ∷ story) = [] ∷ runs_in story
+runs_in (Changed text left ∷ story) = [] ∷ runs_in story
 
 -- the phases of a round: clients are read and their lines run, then they are written, then those whose
 -- time is over are closed
@@ -294,22 +309,32 @@ InPhase Phase.Sweeps more = (wrote : Bool) → IsPhased wrote more
 -- the shares of a turn
 pub data Share : Type 0 where
   Reading : Share
+  Asking : Share
   Running : Share
   Writing : Share
 
 -- each as a number: 1 for the share itself, 0 for the others
 abbrev pub reading : Share → ℕ
 reading Share.Reading = 1
+reading Share.Asking = 0
 reading Share.Running = 0
 reading Share.Writing = 0
 
+abbrev pub asking : Share → ℕ
+asking Share.Reading = 0
+asking Share.Asking = 1
+asking Share.Running = 0
+asking Share.Writing = 0
+
 abbrev pub running : Share → ℕ
 running Share.Reading = 0
+running Share.Asking = 0
 running Share.Running = 1
 running Share.Writing = 0
 
 abbrev pub writing : Share → ℕ
 writing Share.Reading = 0
+writing Share.Asking = 0
 writing Share.Running = 0
 writing Share.Writing = 1
 
@@ -319,6 +344,7 @@ share_of (Read m bytes) share = reading share
 share_of (Dry m) share = reading share
 share_of (Ended m) share = reading share
 share_of (Broke m) share = reading share
+share_of (Took m name limit takes) share = asking share
 share_of (Wrote m bytes) share = writing share
 share_of (Failed m) share = writing share
 share_of act share = 0
@@ -326,7 +352,7 @@ share_of act share = 0
 abbrev pub share_by : Moment → Share → ℕ
 share_by (Did a) share = share_of a share
 share_by (Ran n turns) share = running share
-share_by (Changed text) share = 0
+share_by (Changed text left) share = 0
 
 abbrev pub times : Share → Story → ℕ
 times share [] = 0
@@ -334,9 +360,15 @@ times share (m ∷ story) = share_by m share + times share story
 
 -- the most of them that one client has in a phase
 abbrev pub most : Phase → Share → ℕ
-most Phase.Reads share = reading share + running share
+most Phase.Reads share = reading share + asking share + running share
 most Phase.Writes share = writing share
 most Phase.Sweeps share = 0
+
+-- a phase in which no line is run
+abbrev pub IsLate : Phase → Type 0
+IsLate Phase.Reads = ⊥
+IsLate Phase.Writes = Unit {0}
+IsLate Phase.Sweeps = Unit {0}
 
 abbrev pub IsOnce : Phase → Story → Type 0
 IsOnce phase more = (share : Share) → times share more ≤ most phase share
@@ -349,7 +381,7 @@ is_wait act = false
 abbrev pub waits_by : Moment → Bool
 waits_by (Did a) = is_wait a
 waits_by (Ran n turns) = false
-waits_by (Changed text) = false
+waits_by (Changed text left) = false
 
 -- How often a connection had this share of a turn since the server last waited, if this says how often
 -- it had before.
@@ -360,8 +392,9 @@ abbrev pub turns_since : ℕ → Share → ℕ → Story → ℕ
 turns_since n share count [] = count
 turns_since n share count (m ∷ story) = turns_since n share (turns_after n share count m) story
 
--- At each moment: since the server last waited, each connection was read at most once, had lines run at
--- most once, and was written at most once.
+-- At each moment: since the server last waited, each connection was read at most once, the system was asked at
+-- most once whether the journal takes records of its tenant, it had lines run at most once, and it was written
+-- at most once.
 abbrev pub HasTurns : Story → Type 0
 HasTurns story = (p q : Story) → story ≡ p ++ q → (n : ℕ) (share : Share) → turns_since n share 0 p ≤ 1
 

@@ -53,7 +53,7 @@ own_after (Did (Closed m how)) w = record w { turned = true }
 own_after (Did act) w = w
 own_after (Ran m []) w = w
 own_after (Ran m (t ∷ turns)) w = record w { unasked = true; turned = true }
-own_after (Changed text) w = w
+own_after (Changed text left) w = w
 
 -- and after a wait, which may tell of its slot
 abbrev pub woken : ℕ → Moment → Watch → Watch

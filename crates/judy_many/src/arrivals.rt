@@ -123,11 +123,13 @@ pub fn accept<S: Shows, N: Network>(
     now: Option<u64>,
 ) -> bool
     ensures crowd { (first now : S) (start : Acts) (past : Past)
-        → Crowd (λ b. view_of S.who N.number b.value) (rules_of S.made S.seen S.noted S.status S.changed) limits first
-        start Reads (nobody clients.old.queue) past (N.log network.old) clients.old.slots.items clients.old.accepted now
+        → Crowd (λ b. view_of S.who N.number b.value)
+        (rules_of S.made S.seen S.noted S.status S.changed S.caps S.leavers) limits first start Reads
+        (nobody clients.old.queue) past (N.log network.old) clients.old.slots.items clients.old.accepted now
         → (mid : Acts) × DidLog mid (lost_unless result) (N.log network.new)
-        × Crowd (λ b. view_of S.who N.number b.value) (rules_of S.made S.seen S.noted S.status S.changed) limits first
-        start Reads (nobody clients.new.queue) past mid clients.new.slots.items clients.new.accepted now }
+        × Crowd (λ b. view_of S.who N.number b.value)
+        (rules_of S.made S.seen S.noted S.status S.changed S.caps S.leavers) limits first start Reads
+        (nobody clients.new.queue) past mid clients.new.slots.items clients.new.accepted now }
     ensures known { (speakers : Speaker → Bool)
         → AreKnown (λ b. option_map S.who b.value.session.speaker) speakers clients.old.slots.items
         → AreKnown (λ b. option_map S.who b.value.session.speaker) speakers clients.new.slots.items }

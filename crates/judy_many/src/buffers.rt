@@ -1,7 +1,8 @@
 //! The buffers of a connection: what it sent and is not heard yet, and what is not written yet.
-ghost use Rattle.std.specs.Prelude.{◌≡◌, ◌<◌, ◌≤◌, ◌++◌, ℕ, IsTrue, List, [], length, true, false, option_map};
+ghost use Rattle.std.specs.Prelude.{◌≡◌, ◌<◌, ◌≤◌, ◌++◌, ℕ, IsTrue, List, [], is_some, length, true, false, option_map};
 ghost use Rattle.judy_protocol.specs.Services.{HasLoggedIn};
 ghost use Rattle.judy_many.specs.Nets.{Act, DidLog, gives};
+ghost use Rattle.judy_many.specs.Barred.{AreBarred, AreFree};
 ghost use Rattle.judy_many.specs.Books.{has_room};
 ghost use Rattle.judy_many.specs.Lives.{read_in, view_of, wrote_in};
 ghost use Rattle.judy_many.specs.Others.{AreLimited};
@@ -190,8 +191,10 @@ impl Answers {
             × (used ++ rest ≡ bytes.now) × (length rest ≡ result.left)
             × LeavesLine result.quit rest × ((HasLine bytes.now × IsTrue (has_room keeper.old)) → 0 < length turns)
             × AreLimited limits.tenant_clients (speakers_at (λ b. view_of S.who N.number b.value) others.now) turns
+            × (is_some limits.journal ≡ true → AreBarred session.old.barred (option_map S.who session.old.speaker) turns)
+            × (session.old.barred ≡ false → AreFree turns)
             × (limits.clients ≡ 1 → length turns ≤ 1)
-            × Steps (rules_of S.made S.seen S.noted S.status S.changed) used turns result.quit
+            × Steps (rules_of S.made S.seen S.noted S.status S.changed S.caps S.leavers) used turns result.quit
             session.old.held session.new.held
             (option_map S.who session.old.speaker) (option_map S.who session.new.speaker)
             service.old service.new [] self.new keeper.old keeper.new }

@@ -1,18 +1,21 @@
 //! A client, and the two halves of its turn.
-ghost use Rattle.std.specs.Prelude.{◌≡◌, ◌⊎◌, ◌≤◌, ◌++◌, IsTrue, length, List, [], None, true, false, option_map};
+ghost use Rattle.std.specs.Prelude.{◌≡◌, ◌⊎◌, ◌≤◌, ◌++◌, Bool, IsTrue, length, List, [], None, true, false, is_some, not, option_map};
 ghost use Rattle.judy_protocol.specs.Services.{HasLoggedIn};
+ghost use Rattle.judy_many.specs.Barred.{AreBarred, AreFree, Inquires, IsInquired};
 ghost use Rattle.judy_many.specs.Books.{has_room, noted_by};
 ghost use Rattle.judy_many.specs.Fates.{FateGoes, HeardGoes};
 ghost use Rattle.judy_many.specs.Lives.{IsLive, view_of};
 ghost use Rattle.judy_many.specs.Nets.{Act, DidLog};
 ghost use Rattle.judy_many.specs.Others.{AreLimited};
-ghost use Rattle.judy_many.specs.Present.{speakers_at};
+ghost use Rattle.judy_many.specs.Present.{speaker_since, speakers_at};
 ghost use Rattle.judy_many.specs.Rules.{rules_of};
 ghost use Rattle.judy_many.specs.Sessions.{AreTurns, Turn, records_in};
-ghost use Rattle.judy_many.specs.Stories.{AreSingle, IsPiece, Story, acts_in, has_failed, turns_in};
+ghost use Rattle.judy_many.specs.Statuses.{Passes};
+ghost use Rattle.judy_many.specs.Stories.{AreSingle, IsPiece, Story, acts_in, has_failed, own, turns_in};
 ghost use Rattle.judy_many.specs.Stories.Phase.{Reads, Writes};
 ghost use Rattle.judy_many.specs.Watches.{FateTells, HearsAll, Listens};
 
+use crate::barring::takes;
 use crate::buffers::{Answers, Input, Sent};
 use crate::keeping::Keeper;
 use crate::network::{Got, How, Network};
@@ -79,9 +82,11 @@ fn is_ready<P: Copy, C: Drop>(client: &Client<P, C>) -> bool
 }
 
 /// Runs the lines that have come, as long as there is room for the longest answer and record. At least
-/// one is run, if there is room for its record; and no more, where there is one client at most.
+/// one is run, if there is room for its record; and no more, where there is one client at most. Before that the
+/// system is asked whether the journal takes records of the client's tenant.
 fn hear<S: Shows, N: Network>(
     alloc: Global,
+    network: &mut N,
     service: &mut S,
     rooms: &mut Rooms,
     client: &mut Client<S::Speaker, N::Connection>,
@@ -93,8 +98,13 @@ fn hear<S: Shows, N: Network>(
     requires empty { client.old.answers ≡ [] }
     requires known { HasLoggedIn (S.seen service.old).speakers
         (option_map S.who client.old.session.speaker) }
-    ensures turns { (turns : List Turn)
-        × AreTurns (rules_of S.made S.seen S.noted S.status S.changed) service.old turns service.new
+    ensures turns { (turns : List Turn) × (takes : Bool)
+        × Inquires (S.seen service.old).names (S.caps service.old) (is_some limits.journal) (N.number client.old.connection)
+        (option_map S.who client.old.session.speaker) takes (N.log network.old) (N.log network.new)
+        × (is_some limits.journal ≡ true → AreBarred (not takes) (option_map S.who client.old.session.speaker) turns)
+        × (takes ≡ true → AreFree turns)
+        × AreTurns (rules_of S.made S.seen S.noted S.status S.changed S.caps S.leavers)
+        service.old turns service.new
         × ((acts : List Act) (ran : List Turn)
         → IsLive acts ran (view_of S.who N.number client.old)
         → IsLive acts (ran ++ turns) (view_of S.who N.number client.new))
@@ -109,6 +119,8 @@ fn hear<S: Shows, N: Network>(
     ensures known { HasLoggedIn (S.seen service.new).speakers
         (option_map S.who client.new.session.speaker) }
 {
+    let keep = limits.journal.is_some();
+    client.session.barred = !takes(network, &*service, &*client, keep);
     let ran = client.answers.run::<S, N>(
         alloc,
         &mut client.session,
@@ -142,12 +154,17 @@ pub fn listen<S: Shows, N: Network>(
     requires room { IsTrue (has_room keeper.old) }
     ensures goes { (more : Story) × DidLog (N.log network.old) (acts_in more) (N.log network.new)
         × IsPiece (N.number client.old.connection) Reads more
-        × AreTurns (rules_of S.made S.seen S.noted S.status S.changed) service.old (turns_in more) service.new
+        × AreTurns (rules_of S.made S.seen S.noted S.status S.changed S.caps S.leavers)
+        service.old (turns_in more) service.new
         × HeardGoes result (view_of S.who N.number client.old)
         (view_of S.who N.number client.new) more
         × (keeper.new ≡ noted_by (records_in (turns_in more)) keeper.old)
         × AreLimited limits.tenant_clients (speakers_at (λ b. view_of S.who N.number b.value) others.now) (turns_in more)
         × (limits.clients ≡ 1 → AreSingle more)
+        × ((past : Story) → IsInquired (is_some limits.journal) past more)
+        × ((past : Story) → speaker_since None (turns_in (own (N.number client.old.connection) past))
+        ≡ option_map S.who client.old.session.speaker
+        → Passes (rules_of S.made S.seen S.noted S.status S.changed S.caps S.leavers) past service.old more service.new)
         × Listens (view_of S.who N.number client.old) (view_of S.who N.number client.new) more }
     ensures same { N.number client.new.connection ≡ N.number client.old.connection }
     ensures logins { (S.seen service.new).logins ≡ (S.seen service.old).logins }
@@ -159,13 +176,17 @@ pub fn listen<S: Shows, N: Network>(
         return None;
     }
     if !client.input.is_empty() {
-        hear::<S, N>(alloc, service, rooms, client, others, keeper, limits);
+        hear(
+            alloc, network, service, rooms, client, others, keeper, limits,
+        );
         return None;
     }
     match client.input.fill(network, &mut client.connection) {
         Got::Bytes(_) => {
             client.since = now;
-            hear::<S, N>(alloc, service, rooms, client, others, keeper, limits);
+            hear(
+                alloc, network, service, rooms, client, others, keeper, limits,
+            );
             None
         }
         Got::Nothing => None,

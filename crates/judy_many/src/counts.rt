@@ -1,9 +1,11 @@
 //! What the sockets count, and its text. The counts saturate.
+ghost use Rattle.std.specs.Prelude.{◌≡◌};
 
 use crate::limits::COUNTS_LIMIT;
 use crate::network::How;
 use arrayvec::ArrayVec;
 use itoa::Buffer;
+use judy_model::Name;
 
 /// The text, as it grows.
 type Text = ArrayVec<u8, COUNTS_LIMIT>;
@@ -34,6 +36,27 @@ pub struct JournalCounts {
     bytes: u64,
     unsynced: u64,
     syncs: u64,
+    /// Whether changing lines are refused, since there is no room for the next segment.
+    refusing: bool,
+}
+
+/// The bytes of a tenant's records since the last snapshot.
+#[derive(Drop)]
+pub struct TenantBytes {
+    /// The tenant.
+    pub tenant: Name,
+    /// The bytes.
+    pub bytes: u64,
+}
+
+impl Default for TenantBytes {
+    /// No bytes of nobody.
+    fn default() -> TenantBytes {
+        TenantBytes {
+            tenant: Name::of(b""),
+            bytes: 0,
+        }
+    }
 }
 
 impl JournalCounts {
@@ -44,7 +67,29 @@ impl JournalCounts {
             bytes: 0,
             unsynced: 0,
             syncs: 0,
+            refusing: false,
         }
+    }
+
+    /// The segment that is written: 0 if there is none.
+    pub fn segment(&self) -> u64
+        ensures { result ≡ self.now.segment }
+    {
+        self.segment
+    }
+
+    /// Whether changing lines are refused, since there is no room for the next segment.
+    pub fn is_refusing(&self) -> bool
+        ensures { result ≡ self.now.refusing }
+    {
+        self.refusing
+    }
+
+    /// Changing lines are refused from now on, since there is no room for the next segment; or no longer.
+    pub fn refuse(&mut self, refusing: bool)
+        ensures { self.new ≡ record self.old { refusing = refusing } }
+    {
+        self.refusing = refusing;
     }
 
     /// A segment was begun.
@@ -90,6 +135,27 @@ impl JournalCounts {
             b"Syncs of the journal.",
             self.syncs,
         );
+        add_gauge(
+            text,
+            b"judyd_journal_refusing",
+            b"Whether changing lines are refused: there is no room for the next segment.",
+            self.refusing as u64,
+        );
+    }
+}
+
+/// Appends the bytes of the tenants' records.
+fn add_tenants(text: &mut Text, tenants: &[TenantBytes]) {
+    add_heading(
+        text,
+        b"judyd_journal_tenant_bytes",
+        b"Bytes of the tenant's records since the last snapshot.",
+        b"gauge",
+    );
+    for of_tenant in tenants {
+        push(text, b"judyd_journal_tenant_bytes{tenant=\"");
+        push(text, of_tenant.tenant.as_bytes());
+        add(text, b"\"}", of_tenant.bytes);
     }
 }
 
@@ -303,8 +369,8 @@ impl Counts {
         );
     }
 
-    /// The text, with the seconds since the start, and the numbers of the journal.
-    pub fn text(&self, seconds: u64, journal: JournalCounts) -> Text {
+    /// The text, with the seconds since the start, and the numbers of the journal: the bytes of its tenants too.
+    pub fn text(&self, seconds: u64, journal: JournalCounts, tenants: &[TenantBytes]) -> Text {
         let mut text = ArrayVec::new();
         self.add_connections(&mut text);
         self.add_bytes(&mut text);
@@ -321,6 +387,7 @@ impl Counts {
             seconds,
         );
         journal.add_to(&mut text);
+        add_tenants(&mut text, tenants);
         text
     }
 }

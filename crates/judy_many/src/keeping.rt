@@ -10,7 +10,7 @@ ghost use Rattle.judy_many.specs.declared.network.Sync.{Sync as SyncLem};
 
 use crate::network::{Network, Sync};
 use crate::times::is_past;
-use judy_journal::Writer;
+use judy_journal::{LAST_SEGMENT, Writer};
 use std::marker::Model;
 
 /// Appends the text that a writer made last. False if that fails.
@@ -72,7 +72,7 @@ fn next_if_full<N: Network>(network: &mut N, writer: &mut Writer, clean: &mut bo
     ensures written { (rule : SyncLem) → HasWritten result (journal_of rule clean.old writer.old)
         (journal_of rule clean.new writer.new) (N.log network.old) (N.log network.new) }
 {
-    if !writer.is_full() {
+    if writer.segment() >= LAST_SEGMENT || !network.is_full(writer.size()) {
         return true;
     }
     if !sync_all(network, writer, clean) {

@@ -4,6 +4,7 @@ ghost use Rattle.judy_model.specs.Speakers.{Speaker};
 ghost use Rattle.judy_protocol.specs.Services.{HasLoggedIn};
 ghost use Rattle.judy_many.specs.Crowds.{Crowd, Past, at_stage};
 ghost use Rattle.judy_many.specs.Kicks.{HasKicked, after_kick, kick_act, kick_acts, kick_reply, speaks_as};
+ghost use Rattle.judy_many.specs.Journaling.{AreSettled};
 ghost use Rattle.judy_many.specs.Lives.{SlotDid, view_of};
 ghost use Rattle.judy_many.specs.Nets.{Acts, DidLog};
 ghost use Rattle.judy_many.specs.Questions.{asks_kick};
@@ -90,10 +91,12 @@ fn close_all<S: Shows, N: Network>(
     requires known { AreKnown (λ b. option_map S.who b.value.session.speaker)
         (S.seen service.now).speakers clients.old.slots.items }
     ensures crowd { (limits : Limits) (first now : S) (start : Acts) (past : Past) → limits.status ≡ true
-        → Crowd (λ b. view_of S.who N.number b.value) (rules_of S.made S.seen S.noted S.status S.changed) limits first
-        start Sweeps (nobody clients.old.queue) past (N.log network.old) clients.old.slots.items clients.old.accepted now
-        → Crowd (λ b. view_of S.who N.number b.value) (rules_of S.made S.seen S.noted S.status S.changed) limits first
-        start Sweeps (nobody clients.new.queue) past (N.log network.new) clients.new.slots.items clients.new.accepted now }
+        → Crowd (λ b. view_of S.who N.number b.value)
+        (rules_of S.made S.seen S.noted S.status S.changed S.caps S.leavers) limits first start Sweeps
+        (nobody clients.old.queue) past (N.log network.old) clients.old.slots.items clients.old.accepted now
+        → Crowd (λ b. view_of S.who N.number b.value)
+        (rules_of S.made S.seen S.noted S.status S.changed S.caps S.leavers) limits first start Sweeps
+        (nobody clients.new.queue) past (N.log network.new) clients.new.slots.items clients.new.accepted now }
     ensures slots { map (option_map (λ b. view_of S.who N.number b.value)) clients.new.slots.items
         ≡ map (after_kick (speaks_as (S.seen service.now).names name.now))
         (map (option_map (λ b. view_of S.who N.number b.value)) clients.old.slots.items) }
@@ -134,11 +137,13 @@ pub fn kick<S: Shows, N: Network>(network: &mut N, service: &S, clients: &mut Cl
     requires known { AreKnown (λ b. option_map S.who b.value.session.speaker)
         (S.seen service.now).speakers clients.old.slots.items }
     ensures crowd { (limits : Limits) (first now : S) (start : Acts) (past : Past) → limits.status ≡ true
-        → past.stage ≡ asks_kick
-        → Crowd (λ b. view_of S.who N.number b.value) (rules_of S.made S.seen S.noted S.status S.changed) limits first
-        start Sweeps (nobody clients.old.queue) past (N.log network.old) clients.old.slots.items clients.old.accepted now
-        → Crowd (λ b. view_of S.who N.number b.value) (rules_of S.made S.seen S.noted S.status S.changed) limits first
-        start Sweeps (nobody clients.new.queue) (at_stage Unasked past) (N.log network.new)
+        → past.stage ≡ asks_kick → AreSettled past.journal
+        → Crowd (λ b. view_of S.who N.number b.value)
+        (rules_of S.made S.seen S.noted S.status S.changed S.caps S.leavers) limits first start Sweeps
+        (nobody clients.old.queue) past (N.log network.old) clients.old.slots.items clients.old.accepted now
+        → Crowd (λ b. view_of S.who N.number b.value)
+        (rules_of S.made S.seen S.noted S.status S.changed S.caps S.leavers) limits first start Sweeps
+        (nobody clients.new.queue) (at_stage Unasked past) (N.log network.new)
         clients.new.slots.items clients.new.accepted now }
     ensures kicked { HasKicked (S.seen service.now).names
         (map (option_map (λ b. view_of S.who N.number b.value)) clients.old.slots.items)

@@ -3,6 +3,7 @@
 
 mod arrivals;
 mod asking;
+mod barring;
 mod buffers;
 mod client;
 mod clients;
@@ -30,11 +31,11 @@ mod warnings;
 
 pub use buffers::{Answers, Input, Sent};
 pub use client::{Client, Fate, listen, tell};
-pub use counts::JournalCounts;
+pub use counts::{JournalCounts, TenantBytes};
 pub use judy_protocol::ANSWERS_LIMIT;
 pub use keeping::{Keeper, begin_segment};
-pub use laws::{answers_are_kept, stories_are_written};
-pub use limits::CLIENTS_LIMIT;
+pub use laws::{answers_are_kept, replies_are_kept, stories_are_written};
+pub use limits::{CLIENTS_LIMIT, TENANTS_SHOWN};
 pub use lines::tell_line;
 pub use network::{Accept, Got, How, Network, Put, Question, Sync, Unread};
 pub use queue::{Left, Queue};

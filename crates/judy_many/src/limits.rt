@@ -23,4 +23,7 @@ pub const KICKED_LIMIT: usize = 32;
 pub const QUESTION_LIMIT: usize = 4096;
 
 /// The most bytes of the text of what the sockets count.
-pub const COUNTS_LIMIT: usize = 4096;
+pub const COUNTS_LIMIT: usize = 16384;
+
+/// The most tenants whose bytes in the journal are told.
+pub const TENANTS_SHOWN: usize = 128;

@@ -1,6 +1,6 @@
 //! What the loop asks of the system: to wait, to accept, to read, to write and to close.
 ghost use Rattle.std.specs.Prelude.{◌≡◌, ◌<◌, ℕ, [], ◌∷◌, length};
-ghost use Rattle.judy_many.specs.Nets.{Acts, DidLog, Fits, Takes, begin_acts, keep_acts, may_sleep, question_acts, read_acts, sync_acts, table_acts, write_acts};
+ghost use Rattle.judy_many.specs.Nets.{Acts, DidLog, Fits, Takes, begin_acts, keep_acts, may_sleep, question_acts, read_acts, sync_acts, table_acts, takes_acts, write_acts};
 ghost use Rattle.judy_many.specs.Nets.Act.{Closed, Named, Replied, Reported, Warned};
 ghost use Rattle.judy_many.specs.Comes.{HasCome};
 ghost use Rattle.judy_many.specs.Queues.{StayAwake};
@@ -157,6 +157,9 @@ pub trait Network {
     fn seconds(&mut self) -> Option<u64>
         ensures { DidLog (log self.old) [] (log self.new) };
 
+    /// Whether a segment of the journal with this many bytes is full, so that the next one is begun.
+    fn is_full(&self, size: u64) -> bool;
+
     /// What the operator asks for on the status socket or the control socket, if there is one.
     fn ask(&mut self) -> Question
         ensures { DidLog (log self.old) (question_acts result) (log self.new) };
@@ -181,6 +184,12 @@ pub trait Network {
     /// Answers what was asked last, with this text alone.
     fn reply(&mut self, text: &[u8])
         ensures { DidLog (log self.old) (Replied text.now ∷ []) (log self.new) };
+
+    /// Whether the journal takes records of the tenant of this name, which may have this many bytes of them since
+    /// the last snapshot, if there is a limit. It is asked before lines of this connection are run.
+    fn takes(&mut self, connection: &Self::Connection, tenant: &[u8], limit: Option<u64>) -> bool
+        ensures { DidLog (log self.old)
+            (takes_acts result (number connection.now) tenant.now limit) (log self.new) };
 
     /// Makes the file of this segment of the journal, and syncs its directory. False if that fails.
     fn begin(&mut self, segment: u64) -> bool

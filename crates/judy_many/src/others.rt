@@ -77,7 +77,7 @@ fn is_crowded<S: Shows, N: Network>(
 }
 
 /// Whether a line is a log-in.
-fn is_login(asked: &Result<Line<'_>, Refusal>) -> bool
+pub fn is_login(asked: &Result<Line<'_>, Refusal>) -> bool
     ensures { result ≡ is_login (as_heard asked.now) }
 {
     match asked {

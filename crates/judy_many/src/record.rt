@@ -1,7 +1,7 @@
 //! What was asked of the system, and its answers: a list that only clauses read.
 ghost use Rattle.std.specs.Prelude.{◌≡◌, ℕ, List, [], ◌∷◌, ◌++◌, length, None};
 ghost use Rattle.std.specs.Borrow.{ftrue};
-ghost use Rattle.judy_many.specs.Nets.{Act, Fits, Takes, begin_acts, keep_acts, question_acts, read_acts, sync_acts, table_acts, wait_acts, write_acts};
+ghost use Rattle.judy_many.specs.Nets.{Act, Fits, Takes, begin_acts, keep_acts, question_acts, read_acts, sync_acts, table_acts, takes_acts, wait_acts, write_acts};
 ghost use Rattle.judy_many.specs.Nets.Act.{Asked, Closed, Named, Replied, Reported, Warned};
 ghost use Rattle.judy_many.specs.Nets.Step.{Bound, Controlled, Drawn, Opened, Shut, Unbound, Uncontrolled, Undrawn, Unopened, Unwatched, Watched};
 ghost use Rattle.judy_many.specs.Notes.{act_of, come_acts, how_of, question_of, step_if};
@@ -126,6 +126,18 @@ impl Record {
         ensures { self.new.acts ≡ self.old.acts ++ Closed connection how ∷ [] }
     {
         self.of_connection(7, connection, number_of(how), &[]);
+    }
+
+    /// Notes whether the journal takes records of a tenant with this limit, before lines of a connection are run.
+    pub fn took(&mut self, connection: u64, takes: bool, tenant: &[u8], limit: Option<u64>)
+        ensures { self.new.acts ≡ self.old.acts ++ takes_acts takes connection tenant.now limit }
+    {
+        match limit {
+            Some(limit) => {
+                self.note(&[0, 8, connection, u64::from(takes)], &[limit], tenant);
+            }
+            None => self.of_connection(8, connection, u64::from(takes), tenant),
+        }
     }
 
     /// Notes what the operator asked.

@@ -1,6 +1,7 @@
 //! A round: each client that is ready has a turn, in two halves.
-ghost use Rattle.std.specs.Prelude.{◌≡◌, ◌<◌, ◌+◌, ℕ, Bool, IsTrue, [], length, true, false, Option, option_map, List, Bool};
+ghost use Rattle.std.specs.Prelude.{◌≡◌, ◌<◌, ◌+◌, ℕ, Bool, IsTrue, [], is_some, length, true, false, Option, option_map, List, Bool};
 ghost use Rattle.judy_model.specs.Speakers.{Speaker};
+ghost use Rattle.judy_many.specs.Barred.{IsInquired, SpeaksIn};
 ghost use Rattle.judy_many.specs.Books.{Journal, has_room, noted_by};
 ghost use Rattle.judy_many.specs.Crowds.{Crowd, HasFailed, Past, past_of};
 ghost use Rattle.judy_many.specs.Others.{AreLimited};
@@ -11,6 +12,7 @@ ghost use Rattle.judy_many.specs.Lives.{SlotDid, view_of};
 ghost use Rattle.judy_many.specs.Nets.{Acts, DidLog};
 ghost use Rattle.judy_many.specs.Rules.{rules_of};
 ghost use Rattle.judy_many.specs.Sessions.{AreTurns, records_in};
+ghost use Rattle.judy_many.specs.Statuses.{Passes};
 ghost use Rattle.judy_many.specs.Stories.{AreSingle, Story, acts_in, turns_in};
 ghost use Rattle.judy_many.specs.Stories.Phase.{Reads, Sweeps, Writes};
 ghost use Rattle.judy_many.specs.Watches.{SlotListens, SlotTells, everybody, nobody, those_before};
@@ -43,13 +45,17 @@ fn listen_at<S: Shows, N: Network>(
         (S.seen service.old).speakers slot.old }
     requires room { IsTrue (has_room keeper.old) }
     ensures did { (more : Story) × DidLog (N.log network.old) (acts_in more) (N.log network.new)
-        × AreTurns (rules_of S.made S.seen S.noted S.status S.changed) service.old (turns_in more) service.new
+        × AreTurns (rules_of S.made S.seen S.noted S.status S.changed S.caps S.leavers)
+        service.old (turns_in more) service.new
         × ((any : Limits) → SlotDid any Reads
         (option_map (λ b. view_of S.who N.number b.value) slot.old)
         (option_map (λ b. view_of S.who N.number b.value) slot.new) more)
         × (keeper.new ≡ noted_by (records_in (turns_in more)) keeper.old)
         × AreLimited limits.tenant_clients (speakers_at (λ b. view_of S.who N.number b.value) others.now) (turns_in more)
         × (limits.clients ≡ 1 → AreSingle more)
+        × ((past : Story) → IsInquired (is_some limits.journal) past more)
+        × ((past : Story) → SpeaksIn past (option_map (λ b. view_of S.who N.number b.value) slot.old)
+        → Passes (rules_of S.made S.seen S.noted S.status S.changed S.caps S.leavers) past service.old more service.new)
         × SlotListens (option_map (λ b. view_of S.who N.number b.value) slot.old)
         (option_map (λ b. view_of S.who N.number b.value) slot.new) more }
     ensures logins { (S.seen service.new).logins ≡ (S.seen service.old).logins }
@@ -96,11 +102,13 @@ fn listen_to<S: Shows, N: Network>(
     requires apart { AreApart clients.old.queue.order }
     requires room { IsTrue (has_room keeper.old) }
     ensures crowd { (first : S) (start : Acts) (waits : ℕ) (began : Option Journal)
-        → Crowd (λ b. view_of S.who N.number b.value) (rules_of S.made S.seen S.noted S.status S.changed) limits first
-        start Reads (those_before clients.old.queue place) (past_of waits began keeper.old)
+        → Crowd (λ b. view_of S.who N.number b.value)
+        (rules_of S.made S.seen S.noted S.status S.changed S.caps S.leavers) limits first start Reads
+        (those_before clients.old.queue place) (past_of waits began keeper.old)
         (N.log network.old) clients.old.slots.items clients.old.accepted service.old
-        → Crowd (λ b. view_of S.who N.number b.value) (rules_of S.made S.seen S.noted S.status S.changed) limits first
-        start Reads (those_before clients.old.queue (place + 1)) (past_of waits began keeper.new)
+        → Crowd (λ b. view_of S.who N.number b.value)
+        (rules_of S.made S.seen S.noted S.status S.changed S.caps S.leavers) limits first start Reads
+        (those_before clients.old.queue (place + 1)) (past_of waits began keeper.new)
         (N.log network.new) clients.new.slots.items clients.new.accepted service.new }
     ensures queue { clients.new.queue ≡ clients.old.queue }
     ensures logins { (S.seen service.new).logins ≡ (S.seen service.old).logins }
@@ -144,18 +152,22 @@ pub fn listen_all<S: Shows, N: Network>(
     requires known { AreKnown (λ b. option_map S.who b.value.session.speaker)
         (S.seen service.old).speakers clients.old.slots.items }
     ensures crowd { (first : S) (start : Acts) (waits : ℕ) (began : Option Journal)
-        → result ≡ true → Crowd (λ b. view_of S.who N.number b.value) (rules_of S.made S.seen S.noted S.status S.changed) limits first
-        start Reads (nobody clients.old.queue) (past_of waits began keeper.old)
+        → result ≡ true → Crowd (λ b. view_of S.who N.number b.value)
+        (rules_of S.made S.seen S.noted S.status S.changed S.caps S.leavers) limits first start Reads
+        (nobody clients.old.queue) (past_of waits began keeper.old)
         (N.log network.old) clients.old.slots.items clients.old.accepted service.old
-        → Crowd (λ b. view_of S.who N.number b.value) (rules_of S.made S.seen S.noted S.status S.changed) limits first
-        start Reads (everybody clients.new.queue) (past_of waits began keeper.new)
+        → Crowd (λ b. view_of S.who N.number b.value)
+        (rules_of S.made S.seen S.noted S.status S.changed S.caps S.leavers) limits first start Reads
+        (everybody clients.new.queue) (past_of waits began keeper.new)
         (N.log network.new) clients.new.slots.items clients.new.accepted service.new }
     ensures failed { (first : S) (start : Acts) (waits : ℕ) (began : Option Journal)
-        → result ≡ false → Crowd (λ b. view_of S.who N.number b.value) (rules_of S.made S.seen S.noted S.status S.changed) limits first
-        start Reads (nobody clients.old.queue) (past_of waits began keeper.old)
+        → result ≡ false → Crowd (λ b. view_of S.who N.number b.value)
+        (rules_of S.made S.seen S.noted S.status S.changed S.caps S.leavers) limits first start Reads
+        (nobody clients.old.queue) (past_of waits began keeper.old)
         (N.log network.old) clients.old.slots.items clients.old.accepted service.old
-        → HasFailed (λ b. view_of S.who N.number b.value) (rules_of S.made S.seen S.noted S.status S.changed) limits first
-        start began (N.log network.new) clients.new.slots.items clients.new.accepted service.new }
+        → HasFailed (λ b. view_of S.who N.number b.value)
+        (rules_of S.made S.seen S.noted S.status S.changed S.caps S.leavers) limits first start began
+        (N.log network.new) clients.new.slots.items clients.new.accepted service.new }
     ensures queue { clients.new.queue ≡ clients.old.queue }
     ensures logins { (S.seen service.new).logins ≡ (S.seen service.old).logins }
     ensures speakers { (S.seen service.new).speakers ≡ (S.seen service.old).speakers }
@@ -216,11 +228,13 @@ fn tell_to<S: Shows, N: Network>(
     requires within { place < length clients.old.queue.order }
     requires apart { AreApart clients.old.queue.order }
     ensures crowd { (limits : Limits) (first now : S) (start : Acts) (past : Past)
-        → Crowd (λ b. view_of S.who N.number b.value) (rules_of S.made S.seen S.noted S.status S.changed) limits first
-        start Writes (those_before clients.old.queue place) past
+        → Crowd (λ b. view_of S.who N.number b.value)
+        (rules_of S.made S.seen S.noted S.status S.changed S.caps S.leavers) limits first start Writes
+        (those_before clients.old.queue place) past
         (N.log network.old) clients.old.slots.items clients.old.accepted now
-        → Crowd (λ b. view_of S.who N.number b.value) (rules_of S.made S.seen S.noted S.status S.changed) limits first
-        start Writes (those_before clients.new.queue (place + 1)) past
+        → Crowd (λ b. view_of S.who N.number b.value)
+        (rules_of S.made S.seen S.noted S.status S.changed S.caps S.leavers) limits first start Writes
+        (those_before clients.new.queue (place + 1)) past
         (N.log network.new) clients.new.slots.items clients.new.accepted now }
     ensures order { clients.new.queue.order ≡ clients.old.queue.order }
     ensures stands { (i : ℕ) → stands_in clients.new.queue i ≡ stands_in clients.old.queue i }
@@ -241,10 +255,12 @@ fn tell_to<S: Shows, N: Network>(
 /// The second half of a round: each client in the queue, in its order, writes once. No line is run.
 pub fn tell_all<S: Shows, N: Network>(network: &mut N, clients: &mut Clients<S, N>, now: u64)
     ensures crowd { (limits : Limits) (first now : S) (start : Acts) (past : Past)
-        → Crowd (λ b. view_of S.who N.number b.value) (rules_of S.made S.seen S.noted S.status S.changed) limits first
-        start Writes (nobody clients.old.queue) past (N.log network.old) clients.old.slots.items clients.old.accepted now
-        → Crowd (λ b. view_of S.who N.number b.value) (rules_of S.made S.seen S.noted S.status S.changed) limits first
-        start Sweeps (nobody clients.new.queue) past (N.log network.new) clients.new.slots.items clients.new.accepted now }
+        → Crowd (λ b. view_of S.who N.number b.value)
+        (rules_of S.made S.seen S.noted S.status S.changed S.caps S.leavers) limits first start Writes
+        (nobody clients.old.queue) past (N.log network.old) clients.old.slots.items clients.old.accepted now
+        → Crowd (λ b. view_of S.who N.number b.value)
+        (rules_of S.made S.seen S.noted S.status S.changed S.caps S.leavers) limits first start Sweeps
+        (nobody clients.new.queue) past (N.log network.new) clients.new.slots.items clients.new.accepted now }
     ensures known { (speakers : Speaker → Bool)
         → AreKnown (λ b. option_map S.who b.value.session.speaker) speakers clients.old.slots.items
         → AreKnown (λ b. option_map S.who b.value.session.speaker) speakers clients.new.slots.items }

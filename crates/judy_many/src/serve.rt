@@ -3,6 +3,7 @@ ghost use Rattle.std.specs.Prelude.{◌≡◌, ℕ, List, Bool, [], false, true,
 ghost use Rattle.judy_many.specs.Books.{Journal};
 ghost use Rattle.judy_many.specs.Crowds.{Crowd, HasFailed, HasServedMany, past_of};
 ghost use Rattle.judy_many.specs.Endings.{waited_if};
+ghost use Rattle.judy_many.specs.Journaling.{AreSettled};
 ghost use Rattle.judy_many.specs.Lives.{view_of};
 ghost use Rattle.judy_many.specs.Nets.{Acts, DidLog, may_sleep};
 ghost use Rattle.judy_many.specs.Present.{speakers_at};
@@ -156,18 +157,23 @@ fn take_turns<S: Shows, N: Network>(
     requires known { AreKnown (λ b. option_map S.who b.value.session.speaker)
         (S.seen service.old).speakers clients.old.slots.items }
     ensures crowd { (first : S) (start : Acts) (waits : ℕ) (began : Option Journal) → result ≡ true
-        → Crowd (λ b. view_of S.who N.number b.value) (rules_of S.made S.seen S.noted S.status S.changed) limits first
-        start Reads (nobody clients.old.queue) (past_of waits began keeper.old)
+        → Crowd (λ b. view_of S.who N.number b.value)
+        (rules_of S.made S.seen S.noted S.status S.changed S.caps S.leavers) limits first start Reads
+        (nobody clients.old.queue) (past_of waits began keeper.old)
         (N.log network.old) clients.old.slots.items clients.old.accepted service.old
-        → Crowd (λ b. view_of S.who N.number b.value) (rules_of S.made S.seen S.noted S.status S.changed) limits first
-        start Sweeps (nobody clients.new.queue) (past_of waits began keeper.new)
+        → Crowd (λ b. view_of S.who N.number b.value)
+        (rules_of S.made S.seen S.noted S.status S.changed S.caps S.leavers) limits first start Sweeps
+        (nobody clients.new.queue) (past_of waits began keeper.new)
         (N.log network.new) clients.new.slots.items clients.new.accepted service.new }
     ensures failed { (first : S) (start : Acts) (waits : ℕ) (began : Option Journal) → result ≡ false
-        → Crowd (λ b. view_of S.who N.number b.value) (rules_of S.made S.seen S.noted S.status S.changed) limits first
-        start Reads (nobody clients.old.queue) (past_of waits began keeper.old)
+        → Crowd (λ b. view_of S.who N.number b.value)
+        (rules_of S.made S.seen S.noted S.status S.changed S.caps S.leavers) limits first start Reads
+        (nobody clients.old.queue) (past_of waits began keeper.old)
         (N.log network.old) clients.old.slots.items clients.old.accepted service.old
-        → HasFailed (λ b. view_of S.who N.number b.value) (rules_of S.made S.seen S.noted S.status S.changed) limits first
-        start began (N.log network.new) clients.new.slots.items clients.new.accepted service.new }
+        → HasFailed (λ b. view_of S.who N.number b.value)
+        (rules_of S.made S.seen S.noted S.status S.changed S.caps S.leavers) limits first start began
+        (N.log network.new) clients.new.slots.items clients.new.accepted service.new }
+    ensures settled { result ≡ true → AreSettled keeper.new }
     ensures known { AreKnown (λ b. option_map S.who b.value.session.speaker)
         (S.seen service.new).speakers clients.new.slots.items }
 {
@@ -186,27 +192,58 @@ fn take_turns<S: Shows, N: Network>(
     true
 }
 
+/// What comes of a question of the operator.
+#[derive(Clone, Copy, Debug, PartialEq, Eq)]
+enum Asked {
+    /// The serving goes on.
+    GoesOn,
+    /// A stop was asked for.
+    Stops,
+    /// The journal failed, and the question has no answer.
+    Fails,
+}
+
+/// What comes of a question for another table, if this says whether the journal is well.
+fn after_reload(well: bool) -> Asked
+    ensures goes { result ≡ Asked.GoesOn → well ≡ true }
+    ensures fails { result ≡ Asked.Fails → well ≡ false }
+    ensures stops { result ≡ Asked.Stops → ⊥ }
+{
+    if well { Asked::GoesOn } else { Asked::Fails }
+}
+
 /// Answers one question of the operator, and reads the table again, or closes the connections of a tenant,
 /// if that is what it asks for.
-/// Returns whether it asks for a stop.
 fn ask<S: Shows, N: Network>(
     alloc: Global,
     network: &mut N,
     service: &mut S,
     clients: &mut Clients<S, N>,
+    keeper: &mut Keeper,
     limits: Limits,
     text: &mut Vec<u8>,
-) -> bool
+) -> Asked
     requires known { AreKnown (λ b. option_map S.who b.value.session.speaker)
         (S.seen service.old).speakers clients.old.slots.items }
-    ensures crowd { (first : S) (start : Acts) (waits : ℕ) (began journal : Option Journal) → result ≡ false
-        → Crowd (λ b. view_of S.who N.number b.value) (rules_of S.made S.seen S.noted S.status S.changed) limits first
-        start Sweeps (nobody clients.old.queue) (past_of waits began journal)
+    requires settled { AreSettled keeper.old }
+    ensures crowd { (first : S) (start : Acts) (waits : ℕ) (began : Option Journal) → result ≡ Asked.GoesOn
+        → Crowd (λ b. view_of S.who N.number b.value)
+        (rules_of S.made S.seen S.noted S.status S.changed S.caps S.leavers) limits first start Sweeps
+        (nobody clients.old.queue) (past_of waits began keeper.old)
         (N.log network.old) clients.old.slots.items clients.old.accepted service.old
-        → Crowd (λ b. view_of S.who N.number b.value) (rules_of S.made S.seen S.noted S.status S.changed) limits first
-        start Sweeps (nobody clients.new.queue) (past_of waits began journal)
+        → Crowd (λ b. view_of S.who N.number b.value)
+        (rules_of S.made S.seen S.noted S.status S.changed S.caps S.leavers) limits first start Sweeps
+        (nobody clients.new.queue) (past_of waits began keeper.new)
         (N.log network.new) clients.new.slots.items clients.new.accepted service.new }
-    ensures stop { result ≡ true
+    ensures failed { (first : S) (start : Acts) (waits : ℕ) (began : Option Journal) → result ≡ Asked.Fails
+        → Crowd (λ b. view_of S.who N.number b.value)
+        (rules_of S.made S.seen S.noted S.status S.changed S.caps S.leavers) limits first start Sweeps
+        (nobody clients.old.queue) (past_of waits began keeper.old)
+        (N.log network.old) clients.old.slots.items clients.old.accepted service.old
+        → HasFailed (λ b. view_of S.who N.number b.value)
+        (rules_of S.made S.seen S.noted S.status S.changed S.caps S.leavers) limits first
+        start began (N.log network.new) clients.new.slots.items clients.new.accepted service.new }
+    ensures stop { result ≡ Asked.Stops
         → HasAnswered limits.status Next.Stop (S.status service.old
         (speakers_at (λ b. view_of S.who N.number b.value) clients.old.slots.items))
         (N.log network.old) (N.log network.new)
@@ -215,17 +252,16 @@ fn ask<S: Shows, N: Network>(
         (S.seen service.new).speakers clients.new.slots.items }
 {
     match answer(alloc, network, &*service, &*clients, limits, text) {
-        Next::Round => false,
+        Next::Round => Asked::GoesOn,
         Next::Reload => {
             let keep = limits.journal.is_some();
-            reload(alloc, network, service, clients, keep, text);
-            false
+            after_reload(reload(alloc, network, service, clients, keeper, keep, text))
         }
         Next::Kick => {
             kick(network, &*service, clients);
-            false
+            Asked::GoesOn
         }
-        Next::Stop => true,
+        Next::Stop => Asked::Stops,
     }
 }
 
@@ -235,7 +271,7 @@ fn ask<S: Shows, N: Network>(
 /// In each round every client that is ready has a turn, in the order in which they became so: first
 /// all of them read and run their lines, then all write their answers. After that the operator is told
 /// what was refused, and one question of the operator is answered. If it asks for that, the table is read
-/// again.
+/// again, and the record of the tenants that left with it is kept before the answer.
 ///
 /// With a rule when it is synced, the writer goes on with a journal. Then in each round the records of
 /// the lines that may have changed arrays are kept before the answers are written.
@@ -246,7 +282,7 @@ pub fn serve_many<S: Shows, N: Network>(
     limits: Limits,
     writer: Option<Box<Writer>>,
 ) -> Ending
-    ensures { HasServedMany (rules_of S.made S.seen S.noted S.status S.changed) limits
+    ensures { HasServedMany (rules_of S.made S.seen S.noted S.status S.changed S.caps S.leavers) limits
         (option_map (λ w. w.value) writer) result
         (N.log network.old) (N.log network.new) service.old service.new }
 {
@@ -291,8 +327,18 @@ pub fn serve_many<S: Shows, N: Network>(
             return Ending::Journal;
         }
         warnings.tell(network, &*service);
-        if ask(alloc, network, service, &mut clients, limits, &mut text) {
-            return Ending::Stopped;
+        match ask(
+            alloc,
+            network,
+            service,
+            &mut clients,
+            &mut keeper,
+            limits,
+            &mut text,
+        ) {
+            Asked::GoesOn => {}
+            Asked::Stops => return Ending::Stopped,
+            Asked::Fails => return Ending::Journal,
         }
     }
     Ending::Socket

@@ -1,7 +1,8 @@
 //! A session: the lines of one connection, run as they come, with their answers in a buffer.
-ghost use Rattle.std.specs.Prelude.{◌≡◌, false, true, ◌<◌, ◌≤◌, ◌+◌, ◌++◌, ◌∷◌, ℕ, List, [], None, length, IfSome, IsTrue, option_map};
+ghost use Rattle.std.specs.Prelude.{◌≡◌, false, true, ◌<◌, ◌≤◌, ◌+◌, ◌++◌, ◌∷◌, ℕ, List, [], None, length, IfSome, IsTrue, is_some, option_map};
 ghost use Rattle.judy_protocol.specs.Services.{HasLoggedIn};
 ghost use Rattle.judy_protocol.specs.Talks.{HasNoLf, Holds};
+ghost use Rattle.judy_many.specs.Barred.{AreBarred, AreFree};
 ghost use Rattle.judy_many.specs.Books.{has_room, noted_by};
 ghost use Rattle.judy_many.specs.Lives.{view_of};
 ghost use Rattle.judy_many.specs.Others.{AreLimited};
@@ -11,16 +12,17 @@ ghost use Rattle.judy_many.specs.Rules.{rules_of};
 ghost use Rattle.judy_many.specs.Sessions.{Steps, Turn};
 ghost use Rattle.judy_many.specs.Watches.{HasLine, LeavesLine};
 
+use crate::barring::{is_barred, run_unless};
 use crate::client::Client;
 use crate::keeping::Keeper;
 use crate::network::Network;
-use crate::others::limit_login;
+use crate::others::{is_login, limit_login};
 use crate::serve::Limits;
 use crate::shows::Shows;
 use arrayvec::ArrayVec;
 use judy_model::{KEY_LIMIT, LINE_LIMIT};
 use judy_protocol::{
-    ANSWERS_LIMIT, Held, REPLY_LIMIT, asks_to_quit, cut_line, hear_line, join_line, run, squeeze,
+    ANSWERS_LIMIT, Held, REPLY_LIMIT, asks_to_quit, cut_line, hear_line, join_line, squeeze,
     whole_line,
 };
 use std::alloc::Global;
@@ -47,14 +49,19 @@ impl Rooms {
     }
 }
 
-/// What a connection keeps from one line to the next: what has come of the next line, and who
-/// speaks.
+/// What a connection keeps from one line to the next: what has come of the next line, who speaks, and
+/// whether its lines are refused.
 #[derive(Drop)]
 pub struct Session<P: Copy> {
     /// What has come of the next line.
     pub held: Held,
     /// Who has logged in.
     pub speaker: Option<P>,
+    /// Whether lines that would change arrays are refused in this turn: the journal does not take records of
+    /// the speaker's tenant.
+    pub barred: bool,
+    /// Whether the last line was a log-in. With a journal it ends the turn, and the journal is asked again.
+    pub fresh: bool,
 }
 
 impl<P: Copy> Session<P> {
@@ -66,6 +73,8 @@ impl<P: Copy> Session<P> {
         Session {
             held: Held::new(),
             speaker: None,
+            barred: false,
+            fresh: false,
         }
     }
 }
@@ -121,8 +130,8 @@ fn note_line<S: Shows>(
 }
 
 /// Runs the line that is held and ends with the chunk, counts it, notes its record, and appends its
-/// answer. A log-in is refused if its tenant speaks on `most` of the other connections. Returns whether
-/// the line asked to quit.
+/// answer. A line whose record the journal does not take is refused, and so is a log-in if its tenant speaks on
+/// `most` of the other connections. Returns whether the line asked to quit.
 pub fn run_line<S: Shows, N: Network>(
     alloc: Global,
     session: &mut Session<S::Speaker>,
@@ -140,18 +149,25 @@ pub fn run_line<S: Shows, N: Network>(
     requires known { HasLoggedIn (S.seen service.old).speakers (option_map S.who session.old.speaker) }
     ensures steps { (turn : Turn)
         × AreLimited most (speakers_at (λ b. view_of S.who N.number b.value) others.now) (turn ∷ [])
-        × Steps (rules_of S.made S.seen S.noted S.status S.changed) (chunk.now ++ 10 ∷ []) (turn ∷ []) result
+        × AreBarred session.old.barred (option_map S.who session.old.speaker) (turn ∷ [])
+        × Steps (rules_of S.made S.seen S.noted S.status S.changed S.caps S.leavers)
+        (chunk.now ++ 10 ∷ []) (turn ∷ []) result
         session.old.held session.new.held
         (option_map S.who session.old.speaker) (option_map S.who session.new.speaker)
         service.old service.new answers.old.items answers.new.items keeper.old keeper.new }
     ensures logins { (S.seen service.new).logins ≡ (S.seen service.old).logins }
     ensures speakers { (S.seen service.new).speakers ≡ (S.seen service.old).speakers }
     ensures known { HasLoggedIn (S.seen service.new).speakers (option_map S.who session.new.speaker) }
+    ensures barred { session.new.barred ≡ session.old.barred }
+    ensures fresh { session.new.fresh ≡ false
+        → option_map S.who session.new.speaker ≡ option_map S.who session.old.speaker }
 {
     let joined = join_line(&mut session.held, chunk);
     let line = whole_line(&session.held, chunk, joined);
     let asked = hear_line(line, &mut rooms.key);
-    let changed = run(
+    let barred = is_barred::<S>(session.barred, session.speaker, &asked);
+    let changed = run_unless(
+        barred,
         alloc,
         service,
         &mut session.speaker,
@@ -178,16 +194,18 @@ pub fn run_line<S: Shows, N: Network>(
     );
     append(answers, rooms.reply.as_slice());
     let quit = asks_to_quit(&asked);
+    session.fresh = is_login(&asked);
     session.held.clear();
     quit
 }
 
-/// Whether no further line is run in this turn: where there is one client at most, one line is.
-fn is_enough(limits: Limits, ran: bool) -> bool
-    ensures none { ran ≡ false → result ≡ false }
-    ensures one { limits.clients ≡ 1 → ran ≡ true → result ≡ true }
+/// Whether no further line is run in this turn: where there is one client at most, one line is, and with a
+/// journal a log-in is the last.
+fn is_enough<P: Copy>(limits: Limits, session: &Session<P>) -> bool
+    ensures one { limits.clients ≡ 1 → result ≡ true }
+    ensures fresh { result ≡ false → is_some limits.journal ≡ true → session.now.fresh ≡ false }
 {
-    ran && limits.clients == 1
+    limits.clients == 1 || (session.fresh && limits.journal.is_some())
 }
 
 /// Whether the next line is run in this turn: enough were not, and there is room for the longest answer
@@ -208,8 +226,8 @@ fn may_run(answers: &ArrayVec<u8, ANSWERS_LIMIT>, keeper: &Keeper, enough: bool)
 }
 
 /// Runs the lines that the bytes complete, as long as there is room for the longest answer and for the
-/// longest record, and up to a line that asks to quit; where there is one client at most, one line. Holds
-/// what comes after the last line feed.
+/// longest record, and up to a line that asks to quit or, with a journal, to a log-in; where there is one
+/// client at most, one line. Holds what comes after the last line feed.
 pub fn run_lines<S: Shows, N: Network>(
     alloc: Global,
     session: &mut Session<S::Speaker>,
@@ -227,8 +245,11 @@ pub fn run_lines<S: Shows, N: Network>(
         × LeavesLine result.quit rest
         × ((HasLine bytes.now × IsTrue (has_room keeper.old) × (answers.old.items ≡ [])) → 0 < length turns)
         × AreLimited limits.tenant_clients (speakers_at (λ b. view_of S.who N.number b.value) others.now) turns
+        × (is_some limits.journal ≡ true → AreBarred session.old.barred (option_map S.who session.old.speaker) turns)
+        × (session.old.barred ≡ false → AreFree turns)
         × (limits.clients ≡ 1 → length turns ≤ 1)
-        × Steps (rules_of S.made S.seen S.noted S.status S.changed) used turns result.quit
+        × Steps (rules_of S.made S.seen S.noted S.status S.changed S.caps S.leavers)
+        used turns result.quit
         session.old.held session.new.held
         (option_map S.who session.old.speaker) (option_map S.who session.new.speaker)
         service.old service.new answers.old.items answers.new.items keeper.old keeper.new }
@@ -239,9 +260,9 @@ pub fn run_lines<S: Shows, N: Network>(
     ensures known { HasLoggedIn (S.seen service.new).speakers (option_map S.who session.new.speaker) }
 {
     let mut rest = bytes;
-    let mut ran = false;
+    let mut enough = false;
     while let Some((chunk, after)) = cut_line(rest) {
-        if !may_run(&*answers, &*keeper, is_enough(limits, ran)) {
+        if !may_run(&*answers, &*keeper, enough) {
             return Ran {
                 left: rest.len(),
                 quit: false,
@@ -264,7 +285,7 @@ pub fn run_lines<S: Shows, N: Network>(
                 quit: true,
             };
         }
-        ran = true;
+        enough = is_enough(limits, &*session);
     }
     session.held.hold(rest);
     Ran {

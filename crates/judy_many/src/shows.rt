@@ -1,12 +1,14 @@
 //! A service that counts its lines, tells its status, and changes its table.
-ghost use Rattle.std.specs.Prelude.{◌≡◌, ◌++◌, ℕ, Bool, List, [], Option, map, option_map, true, false, MatchBool, OnOk};
+ghost use Rattle.std.specs.Prelude.{◌≡◌, ◌++◌, ℕ, Bool, List, [], Option, map, option_map, true, false, IfOk, MatchBool, OnOk};
 ghost use Rattle.judy_model.specs.Speakers.{Speaker};
 ghost use Rattle.judy_model.specs.Stream.{Heard};
 ghost use Rattle.judy_protocol.specs.Services.{IsKnown};
 ghost use Rattle.judy_protocol.specs.Talks.{as_heard};
-ghost use Rattle.judy_many.specs.Changes.{IsChange, KeepsTenants};
+ghost use Rattle.judy_many.specs.Changes.{AreLeavers, IsChange};
 ghost use Rattle.judy_many.specs.Kicks.{HasName};
 
+use arrayvec::ArrayVec;
+use judy_model::{LINE_LIMIT, Name};
 use judy_protocol::{Line, Refusal, Served};
 use std::alloc::{AllocError, Global};
 
@@ -24,6 +26,14 @@ pub trait Shows: Served {
 
     /// The table of this text was put in force, or the order that it is was carried out.
     ghost changed: { Self → List ℕ → Self → Type 0 };
+
+    /// After how many bytes of records since the last snapshot the journal takes no more of the tenant at a
+    /// place, if it has such a limit.
+    ghost caps: { Self → ℕ → Option ℕ };
+
+    /// The names of the tenants that are gone once the table of this text is in force. None are for an order,
+    /// and for a text that is no table.
+    ghost leavers: { Self → List ℕ → List (List ℕ) };
 
     /// The token with which a speaker logged in gives its right by the table in force.
     ghost admits: { Self → Self.Speaker → Bool };
@@ -58,11 +68,17 @@ pub trait Shows: Served {
     fn change(&mut self, alloc: Global, text: &[u8], told: &mut Vec<u8>) -> bool
         ensures { MatchBool result (changed self.old text.now self.new) (self.new ≡ self.old) };
 
-    /// Whether the table of this text has each tenant that is in force, so that its arrays stay. True for an
-    /// order.
-    fn keeps(&self, alloc: Global, text: &[u8]) -> bool
-        ensures { result ≡ true → (after : Self) → changed self.now text.now after
-            → KeepsTenants (Self.seen self.now) (Self.seen after) };
+    /// Finds the tenants that are gone once the table of this text is in force: returns the name of the first of
+    /// them, and puts the request of their record into `request`, with the names of all others. None if nobody
+    /// leaves. It fails only for memory.
+    fn find_leavers(
+        &self,
+        alloc: Global,
+        text: &[u8],
+        request: &mut ArrayVec<u8, LINE_LIMIT>,
+    ) -> Result<Option<Name>, AllocError>
+        ensures { IfOk result (λ first.
+            AreLeavers (leavers self.now text.now) first request.new.items) };
 
     /// Whether a speaker goes on: after a change of the table its tenant or its token may be gone. One
     /// that goes on may speak.
@@ -73,6 +89,11 @@ pub trait Shows: Served {
     /// The number of a speaker's tenant.
     fn tenant(&self, speaker: Self::Speaker) -> usize
         ensures { result ≡ (Self.who speaker).tenant };
+
+    /// After how many bytes of records since the last snapshot the journal takes no more of a speaker's tenant, if
+    /// it has such a limit.
+    fn journal_limit(&self, speaker: Self::Speaker) -> Option<u64>
+        ensures { result ≡ caps self.now (Self.who speaker).tenant };
 
     /// Whether a tenant has this name.
     fn has(&self, name: &[u8]) -> bool

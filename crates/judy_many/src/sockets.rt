@@ -4,7 +4,7 @@ ghost use Rattle.judy_many.specs.Comes.{HasNumber};
 ghost use Rattle.judy_many.specs.Nets.{Fits, Takes};
 ghost use Rattle.judy_many.specs.Queues.{AreAwake, StayAwake};
 
-use crate::counts::{Counts, JournalCounts};
+use crate::counts::{Counts, JournalCounts, TenantBytes};
 use crate::desk::{CONTROL, Desk, Purpose, STATUS};
 use crate::limits::{CLIENTS_LIMIT, EVENTS_LIMIT};
 use crate::lines::tell_line;
@@ -354,9 +354,9 @@ impl<'a, F: Files + Net + Clock + Eprint> Sockets<'a, F> {
 
     /// Answers what was asked last, with the numbers of the journal. What the asker does not take at
     /// once is dropped.
-    pub fn report(&mut self, text: &[u8], journal: JournalCounts) {
+    pub fn report(&mut self, text: &[u8], journal: JournalCounts, tenants: &[TenantBytes]) {
         let seconds = self.seconds().unwrap_or(0);
-        let first = self.counts.text(seconds, journal);
+        let first = self.counts.text(seconds, journal, tenants);
         if let Some(desk) = &mut self.status {
             desk.answer(first.as_slice(), text);
         }

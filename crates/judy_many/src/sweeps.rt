@@ -93,10 +93,12 @@ pub fn sweep<S: Shows, N: Network>(
     now: Option<u64>,
 )
     ensures crowd { (first now : S) (start : Acts) (past : Past)
-        → Crowd (λ b. view_of S.who N.number b.value) (rules_of S.made S.seen S.noted S.status S.changed) limits first
-        start Sweeps (nobody clients.old.queue) past (N.log network.old) clients.old.slots.items clients.old.accepted now
-        → Crowd (λ b. view_of S.who N.number b.value) (rules_of S.made S.seen S.noted S.status S.changed) limits first
-        start Sweeps (nobody clients.new.queue) past (N.log network.new) clients.new.slots.items clients.new.accepted now }
+        → Crowd (λ b. view_of S.who N.number b.value)
+        (rules_of S.made S.seen S.noted S.status S.changed S.caps S.leavers) limits first start Sweeps
+        (nobody clients.old.queue) past (N.log network.old) clients.old.slots.items clients.old.accepted now
+        → Crowd (λ b. view_of S.who N.number b.value)
+        (rules_of S.made S.seen S.noted S.status S.changed S.caps S.leavers) limits first start Sweeps
+        (nobody clients.new.queue) past (N.log network.new) clients.new.slots.items clients.new.accepted now }
     ensures known { (speakers : Speaker → Bool)
         → AreKnown (λ b. option_map S.who b.value.session.speaker) speakers clients.old.slots.items
         → AreKnown (λ b. option_map S.who b.value.session.speaker) speakers clients.new.slots.items }

@@ -13,7 +13,7 @@ use Rattle.judy_journal.specs.Writes.{Writing}
 use Rattle.judy_many.specs.declared.serve.Limits.{Limits}
 use Rattle.judy_protocol.specs.Serving.{MaybeBytes}
 use Rattle.judy_programs.specs.Asking.{Log, Logs}
-use Rattle.judy_programs.specs.Hosting.{Checks, Desks, HasBegun, HasNoReserve, HasServedAll, Hosts, IsServing, Makes, Refuses, Serves, Watches, desks_at, made_at, watched}
+use Rattle.judy_programs.specs.Hosting.{Checks, Desks, HasBegun, HasNoReserve, HasServedAll, Hosts, IsServing, Makes, Refuses, Serves, Watches, desks_at, hosted_by, made_at, watched}
 use Rattle.judy_programs.specs.Opening.{HasOpened, IsShut}
 use Rattle.judy_programs.specs.declared.socket.Hosted.{Hosted}
 use Rattle.judy_programs.specs.declared.socket.Hosted.TheVariants as hosted
@@ -125,6 +125,15 @@ module _ {S : Type 0} (rules : Rules S) (socket : List ℕ) (watch : Desks) (lim
     asked = logs_then log bound mid (Asked (Bound socket) ∷ []) (map Asked (watched watch)) first watches.1;
     hosted = hosted;
   }
+
+  -- the same, by how the server ended
+  pub serves : (how : Ending) (log log' : Log) (before after : S) → IsServing rules socket watch limits writer how log log' before after
+      → Serves rules (hosted_by how) socket watch limits writer log log' before after
+  serves ending.Done log log' before after h = h
+  serves ending.Stopped log log' before after h = h
+  serves ending.Memory log log' before after h = h
+  serves ending.Journal log log' before after h = h
+  serves ending.Socket log log' before after h = inr h
 
 module _ {S : Type 0} (rules : Rules S) (is_new : Option ℕ → List Tenant → S → Type 0) (reserve : Option ℕ) where
   -- the file gave a service, which served without a journal

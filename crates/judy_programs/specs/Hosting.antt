@@ -130,6 +130,14 @@ pub record IsServing {S : Type 0} (rules : Rules S) (socket : List ℕ) (watch :
   pub asked : Logs log (Bound socket ∷ watched watch) mid
   pub hosted : HasServedMany rules limits writer how mid log' before after
 
+-- how a server ended whose connections ended so
+abbrev pub hosted_by : Ending → Hosted
+hosted_by ending.Done = hosted.Done
+hosted_by ending.Stopped = hosted.Stopped
+hosted_by ending.Memory = hosted.Memory
+hosted_by ending.Journal = hosted.Journal
+hosted_by ending.Socket = hosted.Socket
+
 -- what a service did, by how it ended
 module _ {S : Type 0} (rules : Rules S) where
   abbrev pub Serves : Hosted → List ℕ → Desks → Limits → Option Writing → Log → Log → S → S → Type 0

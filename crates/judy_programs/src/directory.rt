@@ -2,23 +2,39 @@
 ghost use Rattle.std.specs.Prelude.{IfOk, IfSome, IsTrue, OnOk};
 ghost use Rattle.judy_recovery.specs.Whole.{HasPlayedJournal, HasResumed, Kept};
 
+use crate::ahead::{Ahead, SEGMENT_LIMIT, fill};
 use crate::journals::Readies;
-use judy_disk::{DiskFault, Folder, Found, Growing, Locks, Manifest, Place, Spares};
+use crate::spending::count_in;
+use judy_disk::{DiskFault, Folder, Found, Growing, Locks, Manifest, Place, Spares, Spent};
 use judy_many::{JournalCounts, tell_line};
 use judy_recovery::{End, JournalFault, Resumed, recover, resume};
 use std::alloc::Global;
 use std::io::{self, Eprint};
+use std::rt::Clock;
+use std::time::Instant;
 
 /// The directory of a journal that a server has taken, and its current file. It is no journal before
 /// it is resumed.
 #[derive(Drop)]
 pub struct Directory<'a, F: Locks> {
-    rt: &'a F,
-    folder: Option<Folder<'a, F>>,
+    pub(crate) rt: &'a F,
+    pub(crate) folder: Option<Folder<'a, F>>,
     lock: Option<F::File>,
-    current: Option<Growing<F>>,
-    spares: Spares<F>,
-    counts: JournalCounts,
+    pub(crate) current: Option<Growing<F>>,
+    pub(crate) ahead: Ahead<F>,
+    pub(crate) spares: Spares<F>,
+    pub(crate) counts: JournalCounts,
+    pub(crate) spent: Option<Spent>,
+    /// Whether the next bytes are the first line of a segment, which is nobody's.
+    at_first: bool,
+    /// Whether the current segment has commits and no note yet, as those of an older program. Zeros behind
+    /// these would look like damage.
+    pub(crate) is_plain: bool,
+    pub(crate) began: Option<Instant>,
+    /// The second at which there was no room for the next segment, if that was so.
+    pub(crate) failed: Option<u64>,
+    /// The second at which a newer snapshot was looked for last.
+    pub(crate) looked: Option<u64>,
     fault: Option<JournalFault>,
     is_new: bool,
 }
@@ -84,41 +100,82 @@ fn tell_cut<F: Locks + Eprint>(rt: &F, folder: &Folder<'_, F>, end: &Option<End>
     );
 }
 
-/// Keeps the closed files as they are, until their lock is dropped. If another program has them, it
-/// tells that it waits, and waits.
-fn hold_closed<F: Locks + Eprint>(
-    rt: &F,
-    folder: &Folder<'_, F>,
-    lock: &F::File,
-) -> Result<(), DiskFault> {
-    if folder.may_hold_closed(lock)? {
-        return Ok(());
-    }
-    let (path, file) = (folder.path(), Place::CompactLock);
+/// Tells what it waits for.
+fn tell_wait<F: Locks + Eprint>(rt: &F, folder: &Folder<'_, F>, file: Place) {
+    let path = folder.path();
     tell_line(
         rt,
         format_args!(
-            "judyd: {path}/{file}: waits until another program that compacts or reads the journal ends"
+            "judyd: {path}/{file}: waits until another program that compacts or repairs the journal ends"
         ),
     );
-    folder.hold_closed(lock)
 }
 
-/// Makes the file of a segment, which takes the place of the current one, and raises the manifest to it.
+/// Keeps all files, until the lock is dropped. If another program removes files, it tells that it waits, and
+/// waits.
+fn hold_to_read<F: Locks + Eprint>(
+    rt: &F,
+    folder: &mut Folder<'_, F>,
+    lock: &F::File,
+) -> Result<(), DiskFault> {
+    if folder.may_read(lock)? {
+        return Ok(());
+    }
+    tell_wait(rt, folder, Place::ReadLock);
+    folder.wait_to_read(lock)
+}
+
+/// Takes the directory for a server, until what is returned is dropped. If another program has it in place of a
+/// server, it tells that it waits, and waits.
+fn take<F: Locks + Eprint>(rt: &F, folder: &mut Folder<'_, F>) -> Result<F::File, DiskFault> {
+    let start = folder.start_lock()?;
+    if !folder.may_start(&start)? {
+        tell_wait(rt, folder, Place::StartLock);
+        folder.wait_to_start(&start)?;
+    }
+    folder.take()
+}
+
+/// Makes the file of a segment, which takes the place of the current one, and raises the manifest to it. The
+/// zeros behind the end of the one before are cut off first, which leaves room for the manifest.
 fn begin_at<F: Locks>(
-    folder: &Folder<'_, F>,
+    folder: &mut Folder<'_, F>,
     segment: u64,
     current: &mut Option<Growing<F>>,
+    made: Option<Growing<F>>,
 ) -> Result<(), DiskFault> {
+    if let Some(before) = current {
+        before.close()?;
+    }
+    let begun = match made {
+        Some(made) => folder.begin_made(made, segment)?,
+        None => folder.begin(segment)?,
+    };
     // This closes the file before, and so leaves a descriptor for the manifest.
-    *current = Some(folder.begin(segment)?);
+    *current = Some(begun);
     folder.raise_manifest(Manifest {
         snapshot: 0,
         last: segment,
     })
 }
 
-impl<'a, F: Locks + Eprint + Clone + Drop> Directory<'a, F> {
+/// Fills a segment that was begun with zeros up to its size, as far as there is room.
+fn fill_begun<F: Locks>(current: &mut Option<Growing<F>>, limit: u64) {
+    if let Some(current) = current {
+        let _filled = fill(current, limit);
+    }
+}
+
+/// Fills a segment with zeros up to its size, as far as there is room, and secures it.
+fn fill_current<F: Locks>(current: &mut Option<Growing<F>>, limit: u64) -> Result<(), DiskFault> {
+    let Some(current) = current else {
+        return Ok(());
+    };
+    let _filled = fill(current, limit);
+    current.sync()
+}
+
+impl<'a, F: Locks + Clock + Eprint + Clone + Drop> Directory<'a, F> {
     /// No directory yet.
     pub fn new(rt: &'a F) -> Self {
         Directory {
@@ -126,8 +183,15 @@ impl<'a, F: Locks + Eprint + Clone + Drop> Directory<'a, F> {
             folder: None,
             lock: None,
             current: None,
+            ahead: Ahead::new(SEGMENT_LIMIT),
             spares: Spares::new(),
             counts: JournalCounts::new(0),
+            spent: None,
+            at_first: false,
+            is_plain: false,
+            began: Instant::now(rt).ok(),
+            failed: None,
+            looked: None,
             fault: None,
             is_new: false,
         }
@@ -138,23 +202,76 @@ impl<'a, F: Locks + Eprint + Clone + Drop> Directory<'a, F> {
         self.is_new = true;
     }
 
+    /// A segment is full with this many bytes. It is set before the directory is taken.
+    pub fn set_segment(&mut self, limit: u64) {
+        self.ahead = Ahead::new(limit);
+    }
+
+    /// Whether a segment with this many bytes is full.
+    pub fn is_full(&self, size: u64) -> bool {
+        self.ahead.is_full(size)
+    }
+
     /// Which files a directory has. Those that its manifest names are all there, or it is that of a new
     /// journal, if that is expected.
-    fn scan(&self, folder: &Folder<'_, F>) -> Result<Found, DiskFault> {
+    fn scan(&self, folder: &mut Folder<'_, F>) -> Result<Found, DiskFault> {
         if self.is_new {
             return folder.scan_new();
         }
         folder.scan()
     }
 
-    /// What was written to the journal since the start: zeros if there is none.
-    pub fn counts(&self) -> JournalCounts {
-        self.counts
-    }
-
     /// What the disk refused last, and why.
     pub fn take_fault(&mut self) -> Option<JournalFault> {
         self.fault.take()
+    }
+
+    /// Notes what a directory that was taken has, and makes its current file ready for a writer.
+    fn go_on(
+        &mut self,
+        alloc: Global,
+        folder: &mut Folder<'_, F>,
+        found: &Found,
+        resumed: &Resumed,
+        current: &mut Option<Growing<F>>,
+    ) -> Result<(), DiskFault> {
+        folder.raise_manifest(Manifest::of(found))?;
+        let counted = count_in(folder, alloc, found)?;
+        self.is_plain = !counted.noted && !resumed.begins && !resumed.is_bare;
+        if !self.is_plain {
+            fill_current(current, self.ahead.limit())?;
+        }
+        self.spares.take(folder);
+        self.spent = Some(counted.spent);
+        Ok(())
+    }
+
+    /// Gives the records of a directory that was taken to a player, makes the player ready, and then the
+    /// directory for a writer.
+    fn resume_in<P: Readies>(
+        &mut self,
+        alloc: Global,
+        folder: &mut Folder<'_, F>,
+        found: &Found,
+        player: &mut P,
+    ) -> Result<Resumed, JournalFault>
+        ensures { IfOk result (λ at. (kept : Kept) × (played : P)
+            × HasResumed P.plays kept player.old at played × P.readied played player.new) }
+    {
+        let end = recover(folder, alloc, found, player)?;
+        player.ready()?;
+        let kept = torn_len(folder, &end).map_err(|e| of_disk(e))?;
+        // What a server before has made ahead takes room that is needed now.
+        folder.remove_ahead(found.last.unwrap_or(0).saturating_add(1));
+        let (resumed, mut current) = match resume(folder, end) {
+            Ok(ready) => ready,
+            Err(fault) => return Err(of_disk(fault)),
+        };
+        tell_cut(self.rt, folder, &end, kept);
+        let went_on = self.go_on(alloc, folder, found, &resumed, &mut current);
+        went_on.map_err(|e| of_disk(e))?;
+        self.current = current;
+        Ok(resumed)
     }
 
     /// Takes the directory, gives its records to a player, makes the player ready, and then the
@@ -168,25 +285,14 @@ impl<'a, F: Locks + Eprint + Clone + Drop> Directory<'a, F> {
         ensures { IfOk result (λ at. (kept : Kept) × (played : P)
             × HasResumed P.plays kept player.old at played × P.readied played player.new) }
     {
-        let folder = folder_at(self.rt, alloc, path)?;
-        let closed = folder.closed_lock().map_err(|e| of_disk(e))?;
-        hold_closed(self.rt, &folder, &closed).map_err(|e| of_disk(e))?;
-        let lock = folder.take().map_err(|e| of_disk(e))?;
-        let found = self.scan(&folder).map_err(|e| of_disk(e))?;
-        let end = recover(&folder, alloc, &found, player)?;
-        player.ready()?;
-        let kept = torn_len(&folder, &end).map_err(|e| of_disk(e))?;
-        let (resumed, current) = match resume(&folder, end) {
-            Ok(ready) => ready,
-            Err(fault) => return Err(of_disk(fault)),
-        };
-        tell_cut(self.rt, &folder, &end, kept);
-        let raised = folder.raise_manifest(Manifest::of(&found));
-        raised.map_err(|e| of_disk(e))?;
-        self.spares.take(&folder);
+        let mut folder = folder_at(self.rt, alloc, path)?;
+        let reading = folder.read_lock().map_err(|e| of_disk(e))?;
+        hold_to_read(self.rt, &mut folder, &reading).map_err(|e| of_disk(e))?;
+        let lock = take(self.rt, &mut folder).map_err(|e| of_disk(e))?;
+        let found = self.scan(&mut folder).map_err(|e| of_disk(e))?;
+        let resumed = self.resume_in(alloc, &mut folder, &found, player)?;
         self.folder = Some(folder);
         self.lock = Some(lock);
-        self.current = current;
         self.counts = JournalCounts::new(resumed.segment);
         Ok(resumed)
     }
@@ -211,6 +317,22 @@ impl<'a, F: Locks + Eprint + Clone + Drop> Directory<'a, F> {
         }
     }
 
+    /// Gives the records of a directory to a player, and makes the player ready.
+    fn look_in<P: Readies>(
+        &self,
+        alloc: Global,
+        folder: &mut Folder<'_, F>,
+        player: &mut P,
+    ) -> Result<(), JournalFault>
+        ensures { OnOk result ((kept : Kept) × (played : P)
+            × HasPlayedJournal P.plays kept player.old played × P.readied played player.new) }
+    {
+        let found = self.scan(folder).map_err(|e| of_disk(e))?;
+        recover(folder, alloc, &found, player)?;
+        player.ready()?;
+        Ok(())
+    }
+
     /// Gives the records of a journal to a player, and makes the player ready. The journal is unchanged.
     fn try_look<P: Readies>(
         &self,
@@ -221,16 +343,13 @@ impl<'a, F: Locks + Eprint + Clone + Drop> Directory<'a, F> {
         ensures { OnOk result ((kept : Kept) × (played : P)
             × HasPlayedJournal P.plays kept player.old played × P.readied played player.new) }
     {
-        let folder = folder_at(self.rt, alloc, path)?;
-        let closed = folder.closed_lock_if_there();
-        if let Some(lock) = &closed {
+        let mut folder = folder_at(self.rt, alloc, path)?;
+        let reading = folder.read_lock_if_there();
+        if let Some(lock) = &reading {
             // Without the lock the files are read as they are.
-            let _held = hold_closed(self.rt, &folder, lock);
+            let _held = hold_to_read(self.rt, &mut folder, lock);
         }
-        let found = self.scan(&folder).map_err(|e| of_disk(e))?;
-        recover(&folder, alloc, &found, player)?;
-        player.ready()?;
-        Ok(())
+        self.look_in(alloc, &mut folder, player)
     }
 
     /// Gives the records of a journal to a player, and makes the player ready. The journal is
@@ -259,42 +378,63 @@ impl<'a, F: Locks + Eprint + Clone + Drop> Directory<'a, F> {
         }
     }
 
-    /// Makes the file of a segment. The spare descriptors are given up for it, and taken again once the
-    /// file before is closed.
+    /// Makes the file of a segment, or takes the one that was made ahead. The spare descriptors are given up
+    /// for it, and taken again once the file before is closed.
     pub fn begin(&mut self, segment: u64) -> bool {
-        let Some(folder) = &self.folder else {
+        let Some(folder) = &mut self.folder else {
             return false;
         };
+        // Without room for a whole file a small one is begun.
+        let _made = self.ahead.make(folder, &mut self.spares, segment, true);
         self.spares.give_up();
-        let begun = begin_at(folder, segment, &mut self.current);
+        let begun = begin_at(folder, segment, &mut self.current, self.ahead.take());
         if begun.is_ok() {
+            fill_begun(&mut self.current, self.ahead.limit());
             self.spares.take(folder);
             self.counts.begin(segment);
+            self.at_first = true;
+            self.is_plain = false;
         }
         self.did(begun)
     }
 
-    /// Appends bytes to the current file.
+    /// Appends bytes to the current file: its first line, or a commit.
     pub fn keep(&mut self, bytes: &[u8]) -> bool {
         let Some(current) = &mut self.current else {
             return false;
         };
         let done = current.append(bytes);
         self.counts.keep(bytes.len());
+        if !self.at_first
+            && let Some(spent) = &mut self.spent
+        {
+            // What there is no memory to count is not counted.
+            let _counted = spent.count(self.counts.segment(), bytes);
+        }
+        self.at_first = false;
         self.did(done)
     }
 
-    /// Secures the current file, if there is one. False if that fails.
+    /// Secures the current file, if there is one, and cuts off the zeros behind its end. The one that was
+    /// made ahead is removed. False if that fails.
     pub fn secure(&mut self) -> bool {
-        self.current.is_none() || self.sync()
+        let (Some(folder), Some(current)) = (&mut self.folder, &mut self.current) else {
+            return true;
+        };
+        self.ahead
+            .remove(folder, self.counts.segment().saturating_add(1));
+        let done = current.close();
+        self.counts.sync();
+        self.did(done)
     }
 
-    /// Secures the current file.
+    /// Secures the current file. Its commits since the start have notes.
     pub fn sync(&mut self) -> bool {
-        let Some(current) = &self.current else {
+        let Some(current) = &mut self.current else {
             return false;
         };
         let done = current.sync();
+        self.is_plain = false;
         self.counts.sync();
         self.did(done)
     }

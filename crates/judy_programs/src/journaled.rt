@@ -137,7 +137,7 @@ pub fn host_journaled<S: Opens + Shows + Replays + Drop, H: Journals>(
     directory: &str,
 ) -> Hosted
     requires files { MayAlwaysPull H.File.source pull_limit }
-    ensures { HostsJournaled (rules_of S.made S.seen S.noted S.status S.changed)
+    ensures { HostsJournaled (rules_of S.made S.seen S.noted S.status S.changed S.caps S.leavers)
         (replay_of S.lifted S.replayed S.limited)
         (H.may_have directory.now) (S.is_new secret.now) reserve result config.now socket.now
         (desks_at (option_map (λ s. s.now) status.entry) (option_map (λ s. s.now) control.entry)) limits (H.log system.old) (H.log system.new) }

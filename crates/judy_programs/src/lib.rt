@@ -2,9 +2,11 @@
 //! script, and `serve` serves many clients of a Unix socket at once.
 #![tactic(auto)]
 
+mod ahead;
 mod config;
 mod directory;
 mod hosts;
+mod journal_room;
 mod journaled;
 mod journals;
 mod limits;
@@ -13,6 +15,7 @@ mod opens;
 mod program;
 mod reading;
 mod socket;
+mod spending;
 mod statuses;
 mod system;
 mod table_end;

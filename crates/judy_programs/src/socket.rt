@@ -4,7 +4,7 @@ ghost use Rattle.judy_many.specs.Rules.{rules_of};
 ghost use Rattle.judy_many.specs.Nets.Step.{Controlled, Uncontrolled, Unwatched, Watched};
 ghost use Rattle.judy_stream.specs.Streams.{MayAlwaysPull};
 ghost use Rattle.judy_protocol.specs.Serving.{pull_limit};
-ghost use Rattle.judy_programs.specs.Hosting.{Begins, Checks, Hosts as IsHosted, Makes, Serves, Watches, desks_at};
+ghost use Rattle.judy_programs.specs.Hosting.{Begins, Checks, Hosts as IsHosted, Makes, Serves, Watches, desks_at, hosted_by};
 ghost use Rattle.judy_programs.specs.Opening.{HasOpened, IsShut, open_ends, open_faults};
 ghost use Rattle.judy_table.specs.declared.tenant.Tenant.{Tenant};
 
@@ -165,6 +165,19 @@ fn watch_on<H: Hosts>(system: &mut H, status: Option<&str>, control: Option<&str
     control_at(system, control)
 }
 
+/// How a server ended whose connections ended so.
+fn hosted_by(ending: Ending) -> Hosted
+    ensures { result ≡ hosted_by ending }
+{
+    match ending {
+        Ending::Done => Hosted::Done,
+        Ending::Memory => Hosted::Memory,
+        Ending::Stopped => Hosted::Stopped,
+        Ending::Journal => Hosted::Journal,
+        Ending::Socket => Hosted::Socket,
+    }
+}
+
 /// Makes a socket at the path `socket` and the sockets of the operator that are wanted, and serves the
 /// connections that come. The writer goes on with a journal, if there is one.
 pub fn serve_on<S: Shows, H: Hosts>(
@@ -177,7 +190,7 @@ pub fn serve_on<S: Shows, H: Hosts>(
     limits: Limits,
     writer: Option<Box<Writer>>,
 ) -> Hosted
-    ensures { Serves (rules_of S.made S.seen S.noted S.status S.changed) result socket.now
+    ensures { Serves (rules_of S.made S.seen S.noted S.status S.changed S.caps S.leavers) result socket.now
         (desks_at (option_map (λ s. s.now) status.entry) (option_map (λ s. s.now) control.entry)) limits (option_map (λ w. w.value) writer)
         (H.log system.old) (H.log system.new) service.old service.new }
 {
@@ -191,13 +204,8 @@ pub fn serve_on<S: Shows, H: Hosts>(
     if !watch_on(system, status, control) {
         return Hosted::Socket;
     }
-    match serve_many(alloc, system, service, limits, writer) {
-        Ending::Done => Hosted::Done,
-        Ending::Memory => Hosted::Memory,
-        Ending::Stopped => Hosted::Stopped,
-        Ending::Journal => Hosted::Journal,
-        Ending::Socket => Hosted::Socket,
-    }
+    let ending = serve_many(alloc, system, service, limits, writer);
+    hosted_by(ending)
 }
 
 /// Serves the tenants of the table in the file `config`. It makes a socket at the path `socket` and
@@ -220,7 +228,7 @@ pub fn host_on<S: Opens + Shows + Drop, H: Hosts>(
     limits: Limits,
 ) -> Hosted
     requires files { MayAlwaysPull H.File.source pull_limit }
-    ensures { IsHosted (rules_of S.made S.seen S.noted S.status S.changed) (S.is_new secret.now)
+    ensures { IsHosted (rules_of S.made S.seen S.noted S.status S.changed S.caps S.leavers) (S.is_new secret.now)
         reserve result config.now socket.now
         (desks_at (option_map (λ s. s.now) status.entry) (option_map (λ s. s.now) control.entry))
         limits (H.log system.old) (H.log system.new) }

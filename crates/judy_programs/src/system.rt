@@ -52,6 +52,31 @@ struct Made {
     control: Option<Mark>,
 }
 
+/// Removes the socket at a path, if one is given, that was made and is still there.
+fn remove_given<F: Files>(rt: &F, path: Option<&str>, mark: Option<Mark>) {
+    if let Some(path) = path {
+        remove_marked(rt, path, mark);
+    }
+}
+
+/// Reads the file of a table, which must be no pipe: to open one or to read from it may wait.
+fn read_regular<F: Files>(rt: &F, path: &str, text: &mut Vec<u8>) -> Result<(), Unread> {
+    let found = fs::metadata(rt, path).map_err(|_| Unread::File)?;
+    if !found.is_file() {
+        return Err(Unread::Irregular);
+    }
+    let file = fs::open(rt, path).map_err(|_| Unread::File)?;
+    let mut reads = Reads::new(file);
+    let mut bytes: ArrayVec<u8, FILE_LIMIT> = ArrayVec::new();
+    match read_file(&mut reads, &mut bytes) {
+        FileRead::Whole => text
+            .extend_from_slice(bytes.as_slice())
+            .map_err(|_| Unread::Memory),
+        FileRead::Long => Err(Unread::Long),
+        FileRead::Fault => Err(Unread::File),
+    }
+}
+
 /// The random bytes, the files and the Unix sockets of the system. Its log has what was asked of
 /// them, and what they gave and took, in order.
 #[derive(Drop)]
@@ -103,7 +128,9 @@ impl<'a, F: Locks + Net + Clock + Eprint + Clone + Drop> System<'a, F> {
     }
 
     /// Sets the line that is told on standard error once clients are waited for.
-    pub fn tell_at_start(&mut self, line: String) {
+    pub fn tell_at_start(&mut self, line: String)
+        ensures log { ⟦<System<'a, F> as Network>⟧.log self.new ≡ ⟦<System<'a, F> as Network>⟧.log self.old }
+    {
         self.start = Some(line);
     }
 
@@ -128,12 +155,8 @@ impl<'a, F: Locks + Net + Clock + Eprint + Clone + Drop> System<'a, F> {
     /// Removes the sockets at these paths, those that were made and are still there, and closes them.
     pub fn leave(&mut self, socket: &str, status: Option<&str>, control: Option<&str>) {
         remove_marked(self.rt, socket, self.made.socket);
-        if let Some(path) = status {
-            remove_marked(self.rt, path, self.made.status);
-        }
-        if let Some(path) = control {
-            remove_marked(self.rt, path, self.made.control);
-        }
+        remove_given(self.rt, status, self.made.status);
+        remove_given(self.rt, control, self.made.control);
         self.sockets = None;
     }
 
@@ -153,21 +176,7 @@ impl<'a, F: Locks + Net + Clock + Eprint + Clone + Drop> System<'a, F> {
         ensures log { self.new.notes ≡ self.old.notes }
     {
         let path = str::from_utf8(self.path.as_slice()).map_err(|_| Unread::File)?;
-        // To open a pipe or to read from it may wait.
-        let found = fs::metadata(self.rt, path).map_err(|_| Unread::File)?;
-        if !found.is_file() {
-            return Err(Unread::Irregular);
-        }
-        let file = fs::open(self.rt, path).map_err(|_| Unread::File)?;
-        let mut reads = Reads::new(file);
-        let mut bytes: ArrayVec<u8, FILE_LIMIT> = ArrayVec::new();
-        match read_file(&mut reads, &mut bytes) {
-            FileRead::Whole => text
-                .extend_from_slice(bytes.as_slice())
-                .map_err(|_| Unread::Memory),
-            FileRead::Long => Err(Unread::Long),
-            FileRead::Fault => Err(Unread::File),
-        }
+        read_regular(self.rt, path, text)
     }
 
     /// The line that asked to freeze or thaw a tenant, if the last question did; otherwise the file of the
@@ -181,6 +190,23 @@ impl<'a, F: Locks + Net + Clock + Eprint + Clone + Drop> System<'a, F> {
         match sockets.order() {
             Some(line) => text.extend_from_slice(line).map_err(|_| Unread::Memory),
             None => self.read_again(text),
+        }
+    }
+
+    /// Makes the socket of the clients. False if it cannot be made.
+    fn bind_at(&mut self, alloc: Global, path: &str) -> bool
+        ensures log { self.new.notes ≡ self.old.notes }
+    {
+        match Sockets::bind(self.rt, alloc, path) {
+            Ok(sockets) => {
+                self.sockets = Some(sockets);
+                self.made.socket = Mark::of(self.rt, path);
+                true
+            }
+            Err(e) => {
+                self.failed = Some(Failed::Socket(e));
+                false
+            }
         }
     }
 
@@ -233,8 +259,17 @@ impl<'a, F: Locks + Net + Clock + Eprint + Clone + Drop> System<'a, F> {
     }
 
     /// The journal is a new one: its directory must have no manifest yet, and gets one.
-    pub fn expect_new_journal(&mut self) {
+    pub fn expect_new_journal(&mut self)
+        ensures log { ⟦<System<'a, F> as Network>⟧.log self.new ≡ ⟦<System<'a, F> as Network>⟧.log self.old }
+    {
         self.directory.expect_new();
+    }
+
+    /// A segment of the journal is full with this many bytes. It is set before the journal is read.
+    pub fn set_segment(&mut self, limit: u64)
+        ensures log { ⟦<System<'a, F> as Network>⟧.log self.new ≡ ⟦<System<'a, F> as Network>⟧.log self.old }
+    {
+        self.directory.set_segment(limit);
     }
 
     /// Secures the journal, if there is one. False if that fails.
@@ -272,6 +307,7 @@ impl<'a, F: Locks + Net + Clock + Eprint + Clone + Drop> Network for System<'a, 
         if !self.started {
             self.tell_start();
         }
+        self.directory.prepare();
         let sleeps = time != Some(0);
         let Some(sockets) = &mut self.sockets else {
             self.notes.waited(None, sleeps, &[]);
@@ -316,6 +352,10 @@ impl<'a, F: Locks + Net + Clock + Eprint + Clone + Drop> Network for System<'a, 
         sockets.seconds()
     }
 
+    fn is_full(&self, size: u64) -> bool {
+        self.directory.is_full(size)
+    }
+
     fn ask(&mut self) -> Question {
         let question = match &mut self.sockets {
             Some(sockets) => sockets.ask(),
@@ -327,7 +367,8 @@ impl<'a, F: Locks + Net + Clock + Eprint + Clone + Drop> Network for System<'a, 
 
     fn report(&mut self, text: &[u8]) {
         if let Some(sockets) = &mut self.sockets {
-            sockets.report(text, self.directory.counts());
+            let tenants = self.directory.tenant_bytes();
+            sockets.report(text, self.directory.counts(), tenants.as_slice());
         }
         self.notes.reported(text);
     }
@@ -359,6 +400,12 @@ impl<'a, F: Locks + Net + Clock + Eprint + Clone + Drop> Network for System<'a, 
             sockets.warn(text);
         }
         self.notes.warned(text);
+    }
+
+    fn takes(&mut self, connection: &Connection, tenant: &[u8], limit: Option<u64>) -> bool {
+        let takes = self.directory.takes(tenant, limit);
+        self.notes.took(connection.id, takes, tenant, limit);
+        takes
     }
 
     fn begin(&mut self, segment: u64) -> bool {
@@ -415,19 +462,9 @@ impl<'a, F: Locks + Net + Clock + Eprint + Clone + Drop> Hosts for System<'a, F>
     }
 
     fn bind(&mut self, alloc: Global, path: &str) -> bool {
-        let bound = Sockets::bind(self.rt, alloc, path);
-        self.notes.bound(bound.is_ok(), path.as_bytes());
-        match bound {
-            Ok(sockets) => {
-                self.sockets = Some(sockets);
-                self.made.socket = Mark::of(self.rt, path);
-                true
-            }
-            Err(e) => {
-                self.failed = Some(Failed::Socket(e));
-                false
-            }
-        }
+        let made = self.bind_at(alloc, path);
+        self.notes.bound(made, path.as_bytes());
+        made
     }
 
     fn watch(&mut self, path: &str) -> bool {

@@ -23,6 +23,7 @@ mod turns;
 
 pub use connection::{End, PULL_LIMIT, READS_LIMIT, serve, serve_after, serve_up_to};
 pub use cutting::cut_line;
+pub use fields::next_field;
 pub use gathering::Batch;
 pub use held::Held;
 pub use judy_model::Line;

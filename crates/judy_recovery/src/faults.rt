@@ -9,7 +9,7 @@ use std::fmt;
 pub enum Reason {
     /// It is no record of a call that changes arrays.
     Record,
-    /// There is no tenant of its name.
+    /// The table lacks the tenant of its name, and too many others.
     Tenant,
     /// The quota of its tenant does not allow the call.
     Full,
@@ -50,8 +50,15 @@ pub enum JournalFault {
     },
     /// In the table this tenant has a lower quota than what it holds.
     Quota(Name),
+    /// The table lacks this tenant, which has entries.
+    Absent(Name),
     /// Out of memory for the table.
     Memory,
+}
+
+/// A tenant's name as text.
+fn name_of(tenant: &Name) -> &str {
+    str::from_utf8(tenant.as_bytes()).unwrap_or("a tenant")
 }
 
 /// What an operator reads of a flaw.
@@ -66,7 +73,7 @@ fn text_of(flaw: Flaw) -> &'static str {
         Flaw::Damage(Damage::Size) => "damaged: too long",
         Flaw::Version => "another version of the journal",
         Flaw::Unplayed(Reason::Record) => "no record of a change",
-        Flaw::Unplayed(Reason::Tenant) => "the table lacks the tenant of this record",
+        Flaw::Unplayed(Reason::Tenant) => "the table lacks the tenant of this record and 64 more",
         Flaw::Unplayed(Reason::Full) => "FULL: no quota is enough for this record",
         Flaw::Unplayed(Reason::Memory) => "MEMORY: out of memory for this record",
         Flaw::Unplayed(Reason::Tenants) => "more than 64 tenants",
@@ -85,8 +92,15 @@ impl fmt::Display for JournalFault {
                 write!(f, "/{place}: byte {byte}: {text}")
             }
             JournalFault::Quota(tenant) => {
-                let name = str::from_utf8(tenant.as_bytes()).unwrap_or("a tenant");
+                let name = name_of(tenant);
                 write!(f, ": the quota of {name} is less than what it holds")
+            }
+            JournalFault::Absent(tenant) => {
+                let name = name_of(tenant);
+                write!(
+                    f,
+                    ": the journal has entries of {name}, and the table has no such tenant",
+                )
             }
             JournalFault::Memory => write!(f, ": out of memory for the table"),
         }

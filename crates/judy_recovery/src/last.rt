@@ -7,6 +7,7 @@ ghost use Rattle.judy_recovery.specs.Played.{HasReadLast, ReadsNext};
 use crate::faults::Flaw;
 use crate::pieces::{Damaged, PIECE, Progress, Stop, read_piece};
 use crate::player::Player;
+use judy_disk::len_before_zeros;
 use judy_journal::{Damage, Notes, Recovery};
 use judy_stream::{Pull, Source};
 
@@ -19,21 +20,10 @@ pub struct Given {
     pub solid: u64,
 }
 
-/// How many bytes come up to the last one that is not zero.
-fn solid_len(bytes: &[u8]) -> usize {
-    for behind in 0..bytes.len() {
-        let len = bytes.len() - behind;
-        if bytes[len - 1] != 0 {
-            return len;
-        }
-    }
-    0
-}
-
 impl Given {
     /// Counts more bytes.
     fn count(&mut self, bytes: &[u8]) {
-        let solid = solid_len(bytes) as u64;
+        let solid = len_before_zeros(bytes) as u64;
         if solid > 0 {
             self.solid = self.all.saturating_add(solid);
         }

@@ -26,7 +26,7 @@ pub struct Resumed {
 /// is kept beside it. If not even its first line is whole, it has no byte afterwards, and a writer begins
 /// it anew. It is never removed: without it the segment after a snapshot could be missing.
 pub fn resume<F: Locks>(
-    folder: &Folder<'_, F>,
+    folder: &mut Folder<'_, F>,
     end: Option<End>,
 ) -> Result<(Resumed, Option<Growing<F>>), DiskFault>
     ensures { IfOk result (λ r. GoesOn end r.0) }

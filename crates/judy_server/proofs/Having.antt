@@ -8,7 +8,7 @@ use Rattle.judy_table.specs.declared.tenant.Tenant.{Tenant}
 use Rattle.std.proofs.lemmas.Slice.Eq.{bytes_eq-Decides}
 use Rattle.judy_table.specs.Seats.{has_name, name_at}
 use Rattle.judy_table.specs.Tenants.{is_vacant, place_of}
-use Rattle.judy_server.specs.Reloads.{has_all, is_kept}
+use Rattle.judy_server.specs.Reloads.{is_kept}
 
 -- a name has a place exactly if some row has it
 named-placed : (name : List ℕ) (ts : List Tenant) → is_some (place_of name ts) ≡ has_name name ts
@@ -80,21 +80,3 @@ kept_named table (r ∷ rows) zero name found v n f =
     ap (λ b. Some (b || has_name r.name table)) is
     ∙ ap Some (ap (λ x. has_name x table) named ∙ sym (named-placed name table) ∙ sym f)
 kept_named table (r ∷ rows) (suc t) name found v n f = kept_named table rows t name found v n f
-
--- the rows from a place on
-all-from : (table rows : List Tenant) (place : ℕ) (b : Bool) → slice_get (map (is_kept table) rows) place ≡ Some b
-    → has_all (drop place rows) table ≡ (b && has_all (drop (suc place) rows) table)
-all-from table [] place b e = cc
-all-from table (r ∷ rows) zero b e = let is : is_kept table r ≡ b = cc in ap (λ x. x && has_all rows table) is
-all-from table (r ∷ rows) (suc place) b e = all-from table rows place b e
-
--- one place more, which is kept
-pub all_on : (table rows : List Tenant) (place next : ℕ) (all : Bool) → next ≡ suc place → slice_get (map (is_kept table) rows) place ≡ Some true
-    → has_all (drop place rows) table ≡ all → has_all (drop next rows) table ≡ all
-all_on table rows place next all after is so =
-    subst (λ k. has_all (drop k rows) table ≡ all) (sym after) (sym (all-from table rows place true is) ∙ so)
-
--- a place that is not kept
-pub not_all : (table rows : List Tenant) (place : ℕ) (all : Bool) → slice_get (map (is_kept table) rows) place ≡ Some false
-    → has_all (drop place rows) table ≡ all → false ≡ all
-not_all table rows place all is so = sym (all-from table rows place false is) ∙ so

@@ -2,18 +2,14 @@
 use Rattle.std.proofs.Common.{◌≡◌, ◌<◌, ◌≤◌, ◌+◌, ℕ, zero, suc, Bool, true, false, not, cond, List, [], ◌∷◌, ◌++◌, length, take, drop, get_or}
 use Rattle.std.proofs.Common.{refl, sym, ◌∙◌, ap, subst, arith, append_assoc, append-nil, length-append, Option, Some, None, Result, Ok, Err}
 use Rattle.std.specs.Prelude.{option_map}
-use Rattle.judy_model.specs.Grammar.{is_name, is_space}
-use Rattle.judy_journal.specs.Replays.{Places, parts_of, told_in, change_of, event_at, event_for, event_told}
-use Rattle.judy_model.specs.declared.calls.Call.{Call}
-use Rattle.judy_model.specs.declared.quotas.Right.TheVariants.{Change}
+use Rattle.judy_model.specs.Grammar.{is_space}
+use Rattle.judy_journal.specs.Replays.{parts_of}
 use Rattle.judy_model.specs.Stream.{lines_of}
 use Rattle.judy_journal.specs.declared.replays.Unplayed.{Unplayed}
 use Rattle.judy_model.proofs.lemmas.LineLemmas.{IsOneLine, lines_of-bytes, lines_of-line}
-use Rattle.judy_tenants.specs.Held.{Held}
 use Rattle.judy_server.specs.declared.records.Halt.{Halt}
-use Rattle.judy_server.specs.declared.tally.Tally.{Tally}
 use Rattle.judy_server.specs.Replays.{Plays, AreReplayed, IsHalted}
-use Rattle.judy_server.specs.Tally.{Tallied, tallied}
+use Rattle.judy_server.specs.Tally.{Tallied}
 
 -- ---- the parts of a record
 
@@ -36,18 +32,6 @@ no_cut (b ∷ bytes) none =
     ap (λ t. cond {A = Option (List ℕ × List ℕ)} t (Some ([], bytes)) (option_map (λ p. (b ∷ p.0, p.1)) (parts_of bytes))) first
     ∙ ap (option_map (λ p. (b ∷ p.0, p.1))) (no_cut bytes (λ k lt. none (suc k) (omega arith)))
 
--- ---- what a record asks for
-
--- a name of a tenant, and a line that asks for a call that changes arrays
-pub asked : (places : Places) (bytes name line : List ℕ) (call : Call) (t : ℕ) → parts_of bytes ≡ Some (name, line) → is_name name ≡ true
-    → change_of line ≡ Some call → places name ≡ Some t
-    → event_told places bytes ≡ Ok (record { speaker = record { tenant = t; right = Change }; call = call })
-asked places bytes name line call t cut good asks found =
-    ap (λ o. event_for places (told_in o)) cut
-    ∙ ap (λ b. event_for places (cond b (option_map (λ c. record { name = name; call = c }) (change_of line)) None)) good
-    ∙ ap (λ o. event_for places (option_map (λ c. record { name = name; call = c }) o)) asks
-    ∙ ap (event_at call) found
-
 -- ---- records, one after another
 
 -- one more record was played
@@ -57,16 +41,16 @@ AreReplayed-push [] old mid new bytes same plays = (new, subst (λ (t : Tallied)
 AreReplayed-push (first ∷ done) old mid new bytes (next, was, rest) plays = (next, was, AreReplayed-push done next mid new bytes rest plays)
 
 -- the records before the rest of a text were played
-pub record HasPlayed (all rest : List ℕ) (played : ℕ) (old new : Held) : Type 0 where
+pub record HasPlayed (all rest : List ℕ) (played : ℕ) (old new : Tallied) : Type 0 where
   pub done : List (List ℕ)
   pub lines : lines_of all ≡ done ++ lines_of rest
   pub count : length done ≡ played
   pub fits : played + length rest ≤ length all
-  pub replayed : (tally : Tally) → AreReplayed (tallied old tally) done (tallied new tally)
+  pub replayed : AreReplayed old done new
 
 -- none yet
-pub played_none : (all : List ℕ) (held : Held) → HasPlayed all all 0 held held
-played_none all held = record { done = []; lines = refl; count = refl; fits = omega arith; replayed = λ tally. refl }
+pub played_none : (all : List ℕ) (old : Tallied) → HasPlayed all all 0 old old
+played_none all old = record { done = []; lines = refl; count = refl; fits = omega arith; replayed = refl }
 
 -- the lines of the rest, from its first
 lines_from : (all rest bytes after : List ℕ) (done : List (List ℕ)) → lines_of all ≡ done ++ lines_of rest → IsOneLine bytes
@@ -74,35 +58,34 @@ lines_from : (all rest bytes after : List ℕ) (done : List (List ℕ)) → line
 lines_from all rest bytes after done lines one is = lines ∙ ap (λ ls. done ++ ls) (ap lines_of is ∙ lines_of-line bytes after one)
 
 -- one more
-pub played_more : (all rest bytes after : List ℕ) (played : ℕ) (old mid new : Held) → HasPlayed all rest played old mid → IsOneLine bytes
-    → rest ≡ bytes ++ 10 ∷ after → ((tally : Tally) → Plays bytes (tallied mid tally) (Ok tt) (tallied new tally))
-    → HasPlayed all after (played + 1) old new
+pub played_more : (all rest bytes after : List ℕ) (played : ℕ) (old mid new : Tallied) → HasPlayed all rest played old mid → IsOneLine bytes
+    → rest ≡ bytes ++ 10 ∷ after → Plays bytes mid (Ok tt) new → HasPlayed all after (played + 1) old new
 played_more all rest bytes after played old mid new h one is plays = record {
   done = h.done ++ bytes ∷ [];
   lines = lines_from all rest bytes after h.done h.lines one is ∙ sym (append_assoc h.done (bytes ∷ []) (lines_of after));
   count = omega (arith, length-append h.done (bytes ∷ []), h.count);
   fits = omega (arith, h.fits, ap length is, length-append bytes (10 ∷ after));
-  replayed = λ tally. AreReplayed-push h.done (tallied old tally) (tallied mid tally) (tallied new tally) bytes (h.replayed tally) (plays tally);
+  replayed = AreReplayed-push h.done old mid new bytes h.replayed plays;
 }
 
 -- all of them
-pub played_all : (all rest : List ℕ) (played : ℕ) (old new : Held) → HasPlayed all rest played old new → IsOneLine rest
-    → (tally : Tally) → AreReplayed (tallied old tally) (lines_of all) (tallied new tally)
-played_all all rest played old new h one tally =
+pub played_all : (all rest : List ℕ) (played : ℕ) (old new : Tallied) → HasPlayed all rest played old new → IsOneLine rest
+    → AreReplayed old (lines_of all) new
+played_all all rest played old new h one =
     let same : h.done ≡ lines_of all = sym (h.lines ∙ ap (λ ls. h.done ++ ls) (lines_of-bytes rest one) ∙ append-nil h.done) in
-    subst (λ records. AreReplayed (tallied old tally) records (tallied new tally)) same (h.replayed tally)
+    subst (λ records. AreReplayed old records new) same h.replayed
 
 -- all before one that was not played
-pub played_until : (all rest bytes after : List ℕ) (played : ℕ) (why : Unplayed) (old mid new : Held) → HasPlayed all rest played old mid
-    → IsOneLine bytes → rest ≡ bytes ++ 10 ∷ after → ((tally : Tally) → Plays bytes (tallied mid tally) (Err why) (tallied new tally))
-    → (tally : Tally) → IsHalted (tallied old tally) (lines_of all) (record { played = played; why = why }) (tallied new tally)
-played_until all rest bytes after played why old mid new h one is plays tally = record {
+pub played_until : (all rest bytes after : List ℕ) (played : ℕ) (why : Unplayed) (old mid new : Tallied) → HasPlayed all rest played old mid
+    → IsOneLine bytes → rest ≡ bytes ++ 10 ∷ after → Plays bytes mid (Err why) new
+    → IsHalted old (lines_of all) (record { played = played; why = why }) new
+played_until all rest bytes after played why old mid new h one is plays = record {
   done = h.done;
   bytes = bytes;
   rest = lines_of after;
   parts = lines_from all rest bytes after h.done h.lines one is;
   count = h.count;
-  mid = tallied mid tally;
-  played = h.replayed tally;
-  halted = plays tally;
+  mid = mid;
+  played = h.replayed;
+  halted = plays;
 }

@@ -10,11 +10,11 @@ use Rattle.std.specs.Prelude.{is_some}
 use Rattle.judy_journal.specs.Acts.{DiskAct, File, Goes, IsWriting, Journal as Written, phase_with, standing}
 use Rattle.judy_journal.specs.Acts.DiskAct.{Began as FileBegan, Kept as FileKept, Synced as FileSynced}
 use Rattle.judy_journal.specs.Crashes.{JournalIsExact}
-use Rattle.judy_journal.specs.Journals.{Commit, sum_at}
-use Rattle.judy_journal.specs.Replays.{AreRecords, HaveAnswered, Places, RecordsTellAll, after_calls, calls_named, event_told}
+use Rattle.judy_journal.specs.Journals.{Commit, record_of, sum_at}
+use Rattle.judy_journal.specs.Leaving.{gone_request}
+use Rattle.judy_journal.specs.Replays.{RecordsTellAll}
 use Rattle.judy_journal.specs.Notes.{changes_in}
 use Rattle.judy_journal.specs.Writes.{Writing, all_records}
-use Rattle.judy_journal.proofs.lemmas.ReplayLemmas.{AreRecords-append, HaveAnswered-append}
 use Rattle.judy_model.specs.declared.replies.Reply.{Reply}
 use Rattle.judy_model.specs.declared.requests.Line.TheVariants as request
 use Rattle.judy_model.specs.Speakers.{Event, Speaker}
@@ -24,13 +24,13 @@ use Rattle.judy_model.specs.Tenant.{no_arrays}
 use Rattle.judy_protocol.specs.Plain.{counts}
 use Rattle.judy_many.specs.Books.{Journal, journal_of, opened}
 use Rattle.judy_many.specs.Crowds.{HasServedMany}
-use Rattle.judy_many.specs.Journaling.{AnswersAreKept, AreKept, IsJournaled, StoriesAreWritten, disk_act, disk_acts, journal_after, journal_since, writer_at}
+use Rattle.judy_many.specs.Journaling.{AnswersAreKept, AreKept, IsJournaled, IsOnDisk, RepliesAreKept, StoriesAreWritten, disk_act, disk_acts, journal_after, journal_since, writer_at}
 use Rattle.judy_many.specs.Nets.{Act, Acts}
-use Rattle.judy_many.specs.Nets.Act.{Wrote}
+use Rattle.judy_many.specs.Nets.Act.{Replied, Wrote}
 use Rattle.judy_many.specs.Records.{IsRecord, IsRecorded}
-use Rattle.judy_many.specs.Sessions.{AreTurns, IsTurn, Turn, records_in}
+use Rattle.judy_many.specs.Sessions.{AreTurns, IsTurn, Turn, calls_if, records_in}
 use Rattle.judy_many.specs.Statuses.{Lasts}
-use Rattle.judy_many.specs.Stories.{Moment, Story, acts_by, acts_in, turns_by, turns_in}
+use Rattle.judy_many.specs.Stories.{Moment, Story, acts_by, acts_in, recorded_by, recorded_in, turns_by, turns_in}
 use Rattle.judy_many.specs.Stories.Moment.{Changed, Did, Ran}
 use Rattle.judy_many.specs.declared.network.Sync.{Sync}
 use Rattle.judy_many.specs.declared.network.Sync.TheVariants as sync
@@ -42,13 +42,14 @@ use Rattle.judy_table.specs.Seats.{AreRows, name_at}
 use Rattle.judy_table.specs.Tenants.{place_of}
 use Rattle.judy_table.specs.declared.tenant.Tenant.{Tenant}
 use Rattle.judy_tenants.specs.Held.{IsSoundService, states_of}
-use Rattle.judy_server.specs.Crashes.{AreHalves, CrashesLoseNothing, HasCrashed, HasResumed, HaveSame, IsCutWithin, IsRestored, Stock, answered_in, records_with}
-use Rattle.judy_server.specs.Replays.{AreReplayed, places_in}
+use Rattle.judy_server.specs.Crashes.{AreHalves, CrashesLoseNothing, HasCrashed, HasResumed, IsCutWithin, IsRestored, Stock, records_with}
+use Rattle.judy_server.specs.Named.{HaveSame}
 use Rattle.judy_server.specs.Rules.{server_rules}
 use Rattle.judy_server.specs.Tally.{Tallied}
-use Rattle.judy_server.proofs.lemmas.Begun.{begun-tells, begun-with}
-use Rattle.judy_server.proofs.lemmas.Crashes.{named-by-place}
-use Rattle.judy_server.proofs.lemmas.Recorded.{HasLasted, Leads, asks-there, lasting, leads-before, leads-itself, story-answered, story-recorded}
+use Rattle.judy_server.proofs.Changed.{story-named}
+use Rattle.judy_server.proofs.Naming.{after_steps, after_steps-append, steps-append, steps_named}
+use Rattle.judy_server.proofs.BegunNamed.{begun-named}
+use Rattle.judy_server.proofs.lemmas.Begun.{begun-table}
 
 -- ---- lists
 
@@ -109,7 +110,7 @@ lasts-split [] q before after h = (before, refl, h)
 lasts-split (Did a ∷ p) q before after h = lasts-split p q before after h
 lasts-split (Ran n turns ∷ p) q before after (now, run, rest) =
     let (mid, first, more) = lasts-split p q now after rest in (mid, (now, run, first), more)
-lasts-split (Changed text ∷ p) q before after (now, step, keeps, rest) =
+lasts-split (Changed text left ∷ p) q before after (now, step, keeps, rest) =
     let (mid, first, more) = lasts-split p q now after rest in (mid, (now, step, keeps, first), more)
 
 -- ---- what is found
@@ -119,8 +120,8 @@ lasts-split (Changed text ∷ p) q before after (now, step, keeps, rest) =
 record IsFoundAfter (s : Stock) (found : List Commit) (p q : Story) : Type 0 where
   extra : Commit
   lost : Commit
-  found_is : all_records found ≡ (all_records s.commits ++ records_in (turns_in p)) ++ extra
-  rest_is : extra ++ lost ≡ records_in (turns_in q)
+  found_is : all_records found ≡ (all_records s.commits ++ recorded_in p) ++ extra
+  rest_is : extra ++ lost ≡ recorded_in q
 
 -- where the writer begins
 begins : (s : Stock) (rule : Sync) (w : Writing) (service : Tallied) → HasResumed s w service
@@ -138,7 +139,7 @@ found-after : StoriesAreWritten → JournalIsExact → (s : Stock) (rule : Sync)
     → HasResumed s w service → (crash : HasCrashed s (journal_of rule true w) story restored) → IsJournaled (journal_of rule true w) story
     → (p q : Story) → story ≡ p ++ q → (kept : List Commit)
     → IsWriting (writer_at (journal_of rule true w) s.commits []) (disk_acts (acts_in p)) (writer_at (journal_since (journal_of rule true w) p) kept [])
-    → all_records kept ≡ all_records s.commits ++ records_in (turns_in p) → (journal_since (journal_of rule true w) p).records ≡ []
+    → all_records kept ≡ all_records s.commits ++ recorded_in p → (journal_since (journal_of rule true w) p).records ≡ []
     → IsFoundAfter s crash.found p q
 found-after written exact s rule w service story restored resumed crash journaled p q cut kept writing all none =
     let (kept', more', d) = written mid kept [] q q [] behind (λ e. refl) (sym (append-nil q)) in
@@ -161,7 +162,7 @@ found-after written exact s rule w service story restored resumed crash journale
       extra = all_records (grown ++ taken);
       lost = all_records lost ++ end;
       found_is = there ∙ ap (λ x. x ++ all_records (grown ++ taken)) all;
-      rest_is = append_cancel_left (all_records kept) (all_records (grown ++ taken) ++ (all_records lost ++ end)) (records_in (turns_in q))
+      rest_is = append_cancel_left (all_records kept) (all_records (grown ++ taken) ++ (all_records lost ++ end)) (recorded_in q)
           (sym (append_assoc (all_records kept) (all_records (grown ++ taken)) (all_records lost ++ end))
           ∙ ap (λ x. x ++ (all_records lost ++ end)) (sym there)
           ∙ sym (append_assoc (all_records crash.found) (all_records lost) end)
@@ -169,8 +170,8 @@ found-after written exact s rule w service story restored resumed crash journale
           (sym (all-append crash.found lost)
           ∙ ap all_records (ap (λ x. x ++ lost) is ∙ append_assoc kept' taken lost ∙ ap (λ x. kept' ++ x) joins))
           ∙ d.1
-          ∙ ap (λ x. (all_records (kept ++ []) ++ x) ++ records_in (turns_in q)) none
-          ∙ ap (λ x. x ++ records_in (turns_in q)) (append-nil (all_records (kept ++ [])) ∙ ap all_records (append-nil kept)));
+          ∙ ap (λ x. (all_records (kept ++ []) ++ x) ++ recorded_in q) none
+          ∙ ap (λ x. x ++ recorded_in q) (append-nil (all_records (kept ++ [])) ∙ ap all_records (append-nil kept)));
     }
   where
     j : Journal
@@ -189,40 +190,23 @@ found-after written exact s rule w service story restored resumed crash journale
 same-arrays : RecordsTellAll → (s : Stock) (w : Writing) (before : Tallied) → HasResumed s w before
     → (j : Journal) (story : Story) (restored : Tallied) → (crash : HasCrashed s j story restored)
     → (d : Story) (now : Tallied) → Lasts server_rules true before d now
-    → all_records crash.found ≡ all_records s.commits ++ records_in (turns_in d) → HaveSame now restored
-same-arrays all s w before resumed j story restored crash d now lasts is name t u here there =
-    let known = resumed.started.new.3 in
-    let fresh = crash.started.new.3 in
-    let first = resumed.started.first in
-    let start : List (List ℕ) = records_with s s.commits in
-    let begun = begun-with (places_in first) start before resumed.started (λ bytes event e. e) in
-    let rows = begun.rows in
-    let lasted = lasting d before now begun.sound rows lasts in
-    let leads : Leads now.held.tenants (places_in now) = leads-itself now.held.tenants lasted.rows.distinct in
-    let leads-first : Leads first.held.tenants (places_in now) =
-    subst (λ ts. Leads ts (places_in now)) begun.tenants
-    (leads-before before.held.tenants now.held.tenants (places_in now) lasted.names leads) in
-    let run = begun-with (places_in now) start before resumed.started (asks-there first.held.tenants (places_in now) leads-first) in
-    let calls =
-    HaveAnswered-append (states_of first.held) (states_of before.held) (states_of before.held) (states_of now.held) run.answered
-    (answered_in (turns_in d)) run.run (λ v. refl) (story-answered d before now begun.sound lasts) in
-    let records =
-    AreRecords-append (places_in now) run.answered (answered_in (turns_in d)) start (records_in (turns_in d)) run.are
-    (story-recorded (places_in now) d before now begun.sound rows lasts leads) in
-    begun-tells all (records_with s crash.found) restored crash.started u name there
-    ∙ ap (λ x. after_calls x (calls_named name (records_with s crash.found))) (fresh.states u ∙ sym (known.states t))
-    ∙ ap (λ rs. after_calls (states_of first.held t) (calls_named name rs))
-    (ap (λ x. s.snapshot ++ x) is ∙ sym (append_assoc s.snapshot (all_records s.commits) (records_in (turns_in d))))
-    ∙ sym
-    (all (states_of first.held) (states_of now.held) (run.answered ++ answered_in (turns_in d)) (places_in now)
-    (start ++ records_in (turns_in d)) calls records t name (named-by-place now.held.tenants t name here))
+    → all_records crash.found ≡ all_records s.commits ++ recorded_in d → HaveSame now restored
+same-arrays all s w before resumed j story restored crash d now lasts is name some =
+    let start : Commit = records_with s s.commits in
+    let begun = begun-table start before resumed.started in
+    begun-named (records_with s crash.found) restored crash.started all name
+    ∙ ap (λ rs. after_steps no_arrays (steps_named name rs)) (ap (λ x. s.snapshot ++ x) is ∙ sym (append_assoc s.snapshot (all_records s.commits) (recorded_in d)))
+    ∙ ap (after_steps no_arrays) (steps-append name start (recorded_in d))
+    ∙ after_steps-append no_arrays (steps_named name start) (steps_named name (recorded_in d))
+    ∙ ap (λ x. after_steps x (steps_named name (recorded_in d))) (sym (begun-named start before resumed.started all name))
+    ∙ sym (story-named all d before now begun.sound begun.rows lasts name some)
 
 -- ---- a story that is cut behind a record
 
 -- a line has at most one record
 is-short : (before : Tallied) (turn : Turn) (after : Tallied) → IsTurn server_rules before turn after
     → (turn.records ≡ []) ⊎ ((r : List ℕ) × (turn.records ≡ r ∷ []))
-is-short before turn after one = by turn.line turn.who turn.replies one.recorded
+is-short before turn after one = by-if turn.barred turn.line turn.who turn.replies one.recorded
   where
     Short : Type 0
     Short = (turn.records ≡ []) ⊎ ((r : List ℕ) × (turn.records ≡ r ∷ []))
@@ -246,10 +230,9 @@ is-short before turn after one = by turn.line turn.who turn.replies one.recorded
     by TooLong who replies is = inl is
     by Unclear who replies is = inl is
 
--- the first of these lines, if there is one, has a record
-abbrev Tight : List Turn → Type 0
-Tight [] = Unit {0}
-Tight (t ∷ turns) = t.records ≡ [] → ⊥
+    by-if : (barred : Bool) (line : Heard) (who : Option Speaker) (replies : List Reply) → IsRecorded names (calls_if barred line who) replies turn.records → Short
+    by-if true line who replies is = inl is
+    by-if false line who replies is = by line who replies is
 
 -- lines are cut before one that has a record
 record AreCut (before : Tallied) (turns : List Turn) (after : Tallied) (front : Commit) : Type 0 where
@@ -320,13 +303,29 @@ turns-cut (t ∷ turns) before after (mid, one, rest) more front back h =
     by again (inl none) = add [] front none refl (again front (sym (ap (λ x. (x ++ records_in turns) ++ more) none) ∙ h))
     by again (inr (r, is)) = record-cut again r is front refl (sym (ap (λ x. (x ++ records_in turns) ++ more) is) ∙ h)
 
--- a story is whole, or is cut before a line
+-- a story is cut before a moment that has a record
+record IsCutBefore (done rest story : Story) : Type 0 where
+  next : Moment
+  later : Story
+  rest_is : rest ≡ next ∷ later
+  story_is : story ≡ done ++ next ∷ later
+  some : 0 < length (recorded_by next)
+
+-- a story is whole, or is cut before a moment or a line that has a record
 abbrev IsCutAt : Story → Story → Story → Type 0
-IsCutAt done rest story = ((rest ≡ []) × (done ≡ story)) ⊎ ((w : IsCutWithin done rest story) × (0 < length w.others))
+IsCutAt done rest story = ((rest ≡ []) × (done ≡ story))
+    ⊎ (IsCutBefore done rest story ⊎ ((w : IsCutWithin done rest story) × (0 < length (records_in w.others))))
 
 cut-after : (m : Moment) (done rest story : Story) → IsCutAt done rest story → IsCutAt (m ∷ done) rest (m ∷ story)
 cut-after m done rest story (inl (none, whole)) = inl (none, ap (λ s. m ∷ s) whole)
-cut-after m done rest story (inr (w, some)) = inr (
+cut-after m done rest story (inr (inl b)) = inr (inl (record {
+  next = b.next;
+  later = b.later;
+  rest_is = b.rest_is;
+  story_is = ap (λ s. m ∷ s) b.story_is;
+  some = b.some;
+}))
+cut-after m done rest story (inr (inr (w, some))) = inr (inr (
   record {
     earlier = m ∷ w.earlier;
     later = w.later;
@@ -338,13 +337,14 @@ cut-after m done rest story (inr (w, some)) = inr (
     story_is = ap (λ s. m ∷ s) w.story_is;
   },
   some,
-)
+))
 
 halves-cut : (done rest story : Story) → IsCutAt done rest story → AreHalves done rest story
 halves-cut done rest story (inl (none, whole)) = inl (ap (λ s. done ++ s) none ∙ append-nil done ∙ whole)
-halves-cut done rest story (inr (w, some)) = inr w
+halves-cut done rest story (inr (inl b)) = inl (ap (λ s. done ++ s) b.rest_is ∙ sym b.story_is)
+halves-cut done rest story (inr (inr (w, some))) = inr w
 
--- a story is cut where these records end, and before a line that has one
+-- a story is cut where these records end, and before a record
 record IsCut (before : Tallied) (story : Story) (after : Tallied) (front : Commit) : Type 0 where
   done : Story
   rest : Story
@@ -353,11 +353,25 @@ record IsCut (before : Tallied) (story : Story) (after : Tallied) (front : Commi
   later : Lasts server_rules true mid rest after
   cut : IsCutAt done rest story
   lines : turns_in done ++ turns_in rest ≡ turns_in story
-  records : records_in (turns_in done) ≡ front
-  tight : Tight (turns_in rest)
+  records : recorded_in done ≡ front
+
+-- a moment is done, and the rest is cut
+add-moment : (m : Moment) (before now : Tallied) (story : Story) (after : Tallied) (left front : Commit)
+    → ((done : Story) (mid : Tallied) → Lasts server_rules true now done mid → Lasts server_rules true before (m ∷ done) mid)
+    → front ≡ recorded_by m ++ left → IsCut now story after left → IsCut before (m ∷ story) after front
+add-moment m before now story after left front goes is c = record {
+  done = m ∷ c.done;
+  rest = c.rest;
+  mid = c.mid;
+  run = goes c.done c.mid c.run;
+  later = c.later;
+  cut = cut-after m c.done c.rest story c.cut;
+  lines = append_assoc (turns_by m) (turns_in c.done) (turns_in c.rest) ∙ ap (λ x. turns_by m ++ x) c.lines;
+  records = ap (λ x. recorded_by m ++ x) c.records ∙ sym is;
+}
 
 story-cut : (story : Story) (before after : Tallied) → Lasts server_rules true before story after → (front back : Commit)
-    → records_in (turns_in story) ≡ front ++ back → IsCut before story after front
+    → recorded_in story ≡ front ++ back → IsCut before story after front
 story-cut [] before after same front back h = record {
   done = [];
   rest = [];
@@ -367,60 +381,46 @@ story-cut [] before after same front back h = record {
   cut = inl (refl, refl);
   lines = refl;
   records = sym (front-none front back h);
-  tight = tt;
 }
 story-cut (Did a ∷ story) before after lasts front back h =
-    let c = story-cut story before after lasts front back h in
-    record {
-      done = Did a ∷ c.done;
-      rest = c.rest;
-      mid = c.mid;
-      run = c.run;
-      later = c.later;
-      cut = cut-after (Did a) c.done c.rest story c.cut;
-      lines = c.lines;
-      records = c.records;
-      tight = c.tight;
-    }
-story-cut (Changed text ∷ story) before after (now, step, keeps, rest) front back h =
-    let c = story-cut story now after rest front back h in
-    record {
-      done = Changed text ∷ c.done;
-      rest = c.rest;
-      mid = c.mid;
-      run = (now, step, keeps, c.run);
-      later = c.later;
-      cut = cut-after (Changed text) c.done c.rest story c.cut;
-      lines = c.lines;
-      records = c.records;
-      tight = c.tight;
-    }
+    add-moment (Did a) before before story after front front (λ done mid run. run) refl (story-cut story before after lasts front back h)
+story-cut (Changed text [] ∷ story) before after (now, step, keeps, rest) front back h =
+    add-moment (Changed text []) before now story after front front (λ done mid run. (now, step, keeps, run)) refl (story-cut story now after rest front back h)
+story-cut (Changed text (name ∷ left) ∷ story) before after (now, step, keeps, rest) [] back h = record {
+  done = [];
+  rest = Changed text (name ∷ left) ∷ story;
+  mid = before;
+  run = refl;
+  later = (now, step, keeps, rest);
+  cut = inr (inl (record {
+    next = Changed text (name ∷ left);
+    later = story;
+    rest_is = refl;
+    story_is = refl;
+    some = omega arith;
+  }));
+  lines = refl;
+  records = refl;
+}
+story-cut (Changed text (name ∷ left) ∷ story) before after (now, step, keeps, rest) (f ∷ front) back h =
+    let head : record_of name (gone_request left) ≡ f = cc in
+    let tail : recorded_in story ≡ front ++ back = cc in
+    add-moment (Changed text (name ∷ left)) before now story after front (f ∷ front) (λ done mid run. (now, step, keeps, run))
+    (ap (λ x. x ∷ front) (sym head)) (story-cut story now after rest front back tail)
 story-cut (Ran n turns ∷ story) before after (now, run, rest) front back h =
-    by (λ left e. story-cut story now after rest left back e)
-    (turns-cut turns before now run (records_in (turns_in story)) front back (sym (records_in-append turns (turns_in story)) ∙ h))
+    by (λ left e. story-cut story now after rest left back e) (turns-cut turns before now run (recorded_in story) front back h)
   where
-    by : ((left : Commit) → records_in (turns_in story) ≡ left ++ back → IsCut now story after left)
-        → AreAll turns (records_in (turns_in story)) front back ⊎ AreCut before turns now front → IsCut before (Ran n turns ∷ story) after front
+    by : ((left : Commit) → recorded_in story ≡ left ++ back → IsCut now story after left)
+        → AreAll turns (recorded_in story) front back ⊎ AreCut before turns now front → IsCut before (Ran n turns ∷ story) after front
     by again (inl a) =
-        let c = again a.left a.more_is in
-        record {
-          done = Ran n turns ∷ c.done;
-          rest = c.rest;
-          mid = c.mid;
-          run = (now, run, c.run);
-          later = c.later;
-          cut = cut-after (Ran n turns) c.done c.rest story c.cut;
-          lines = append_assoc turns (turns_in c.done) (turns_in c.rest) ∙ ap (λ x. turns ++ x) c.lines;
-          records = records_in-append turns (turns_in c.done) ∙ ap (λ x. records_in turns ++ x) c.records ∙ sym a.front_is;
-          tight = c.tight;
-        }
+        add-moment (Ran n turns) before now story after a.left front (λ done mid later. (now, run, later)) a.front_is (again a.left a.more_is)
     by again (inr c) = record {
       done = Ran n c.done ∷ [];
       rest = Ran n (c.next ∷ c.rest) ∷ story;
       mid = c.mid;
       run = (c.mid, c.run, refl);
       later = (now, c.later, rest);
-      cut = inr (
+      cut = inr (inr (
         record {
           earlier = [];
           later = story;
@@ -431,34 +431,17 @@ story-cut (Ran n turns ∷ story) before after (now, run, rest) front back h =
           rest_is = refl;
           story_is = ap (λ ts. Ran n ts ∷ story) (sym c.lines);
         },
-        omega arith,
-      );
+        filled c.next.records (records_in c.rest) c.tight,
+      ));
       lines = ap (λ x. x ++ ((c.next ∷ c.rest) ++ turns_in story)) (append-nil c.done)
           ∙ sym (append_assoc c.done (c.next ∷ c.rest) (turns_in story))
           ∙ ap (λ x. x ++ turns_in story) c.lines;
-      records = ap records_in (append-nil c.done) ∙ c.records;
-      tight = c.tight;
+      records = append-nil (records_in c.done) ∙ c.records;
     }
-
--- lines whose records are among those that were done are among the lines that were done
-lines-done : (a b done rest : List Turn) (extra : Commit) → a ++ b ≡ done ++ rest → records_in a ++ extra ≡ records_in done → Tight rest
-    → (more : List Turn) × (done ≡ a ++ more)
-lines-done [] b done rest extra e h tight = (done, refl)
-lines-done (t ∷ a) b [] [] extra e h tight = cc
-lines-done (t ∷ a) b [] (u ∷ rest) extra e h tight =
-    let same : t ≡ u = cc in
-    absurd
-    (tight (ap (λ (x : Turn). x.records) (sym same)
-    ∙ front-none t.records (records_in a ++ extra) (sym h ∙ append_assoc t.records (records_in a) extra)))
-lines-done (t ∷ a) b (u ∷ done) rest extra e h tight =
-    let same : t ≡ u = cc in
-    let tail : a ++ b ≡ done ++ rest = cc in
-    let (more, is) =
-    lines-done a b done rest extra tail
-    (append_cancel_left t.records (records_in a ++ extra) (records_in done)
-    (sym (append_assoc t.records (records_in a) extra) ∙ h ∙ ap (λ (x : Turn). x.records ++ records_in done) (sym same)))
-    tight in
-    (more, ap (λ x. x ∷ done) (sym same) ∙ ap (λ ts. t ∷ ts) is)
+      where
+        filled : (records more : Commit) → (records ≡ [] → ⊥) → 0 < length (records ++ more)
+        filled [] more some = absurd (some refl)
+        filled (r ∷ records) more some = omega arith
 
 -- a story begins with one of two that both begin another
 one-first : (p tail w rest : Story) (m : Moment) → p ++ tail ≡ w ++ m ∷ rest
@@ -475,11 +458,35 @@ one-first (x ∷ p) tail (y ∷ w) rest m e = by (one-first p tail w rest m cc)
     by (inl (more, is)) = inl (more, ap (λ v. y ∷ v) is ∙ ap (λ v. v ∷ (p ++ more)) (sym same))
     by (inr (more, is)) = inr (more, ap (λ v. x ∷ v) is ∙ ap (λ v. v ∷ (w ++ m ∷ more)) same)
 
--- a first part of a story whose lines were all done is all done
-moments-done : (p tail done rest story : Story) → story ≡ p ++ tail → IsCutAt done rest story → (some : List Turn) → turns_in done ≡ turns_in p ++ some
+-- how many records two stories have
+recorded-append : (a b : Story) → recorded_in (a ++ b) ≡ recorded_in a ++ recorded_in b
+recorded-append [] b = refl
+recorded-append (m ∷ a) b = ap (λ v. recorded_by m ++ v) (recorded-append a b) ∙ sym (append_assoc (recorded_by m) (recorded_in a) (recorded_in b))
+
+-- A front of a story whose records were all done is all done: behind a cut comes a record that was not.
+front-done : (p tail done rest story : Story) → story ≡ p ++ tail → IsCutAt done rest story → (extra : Commit) → recorded_in p ++ extra ≡ recorded_in done
     → (more : Story) × (done ≡ p ++ more)
-moments-done p tail done rest story e (inl (none, whole)) some lines = (tail, whole ∙ e)
-moments-done p tail done rest story e (inr (w, later)) some lines =
+front-done p tail done rest story e (inl (none, whole)) extra records = (tail, whole ∙ e)
+front-done p tail done rest story e (inr (inl b)) extra records = by (one-first p tail done b.later b.next (sym e ∙ b.story_is))
+  where
+    by : ((more : Story) × (done ≡ p ++ more)) ⊎ ((more : Story) × (p ≡ done ++ b.next ∷ more)) → (more : Story) × (done ≡ p ++ more)
+    by (inl there) = there
+    by (inr (more, is)) =
+        let all : recorded_in p ≡ recorded_in done ++ (recorded_by b.next ++ recorded_in more)
+        = ap recorded_in is ∙ recorded-append done (b.next ∷ more) in
+        let a = ap length all in
+        let c = ap length records in
+        let some = b.some in
+        absurd (omega (
+          arith,
+          a,
+          c,
+          some,
+          length-append (recorded_in p) extra,
+          length-append (recorded_in done) (recorded_by b.next ++ recorded_in more),
+          length-append (recorded_by b.next) (recorded_in more),
+        ))
+front-done p tail done rest story e (inr (inr (w, some))) extra records =
     by (one-first p tail w.earlier w.later (Ran w.number (w.first ++ w.others)) (sym e ∙ w.story_is))
   where
     by : ((more : Story) × (w.earlier ≡ p ++ more)) ⊎ ((more : Story) × (p ≡ w.earlier ++ Ran w.number (w.first ++ w.others) ∷ more))
@@ -488,37 +495,41 @@ moments-done p tail done rest story e (inr (w, later)) some lines =
         let last : Story = Ran w.number w.first ∷ [] in
         (more ++ last, w.done_is ∙ ap (λ x. x ++ last) is ∙ append_assoc p more last)
     by (inr (more, is)) =
-        let done_lines : turns_in done ≡ turns_in w.earlier ++ (w.first ++ []) = ap turns_in w.done_is ∙ turns-append w.earlier (Ran w.number w.first ∷ []) in
-        let part_lines : turns_in p ≡ turns_in w.earlier ++ ((w.first ++ w.others) ++ turns_in more) =
-        ap turns_in is ∙ turns-append w.earlier (Ran w.number (w.first ++ w.others) ∷ more) in
-        let a = ap length done_lines in
-        let b = ap length part_lines in
-        let c = ap length lines in
+        let all : recorded_in p ≡ recorded_in w.earlier ++ (records_in (w.first ++ w.others) ++ recorded_in more)
+        = ap recorded_in is ∙ recorded-append w.earlier (Ran w.number (w.first ++ w.others) ∷ more) in
+        let had : recorded_in done ≡ recorded_in w.earlier ++ (records_in w.first ++ [])
+        = ap recorded_in w.done_is ∙ recorded-append w.earlier (Ran w.number w.first ∷ []) in
+        let split = ap length (records_in-append w.first w.others) in
+        let a = ap length all in
+        let b = ap length had in
+        let c = ap length records in
         absurd (omega (
           arith,
-          later,
+          some,
           a,
           b,
           c,
-          length-append (turns_in w.earlier) (w.first ++ []),
-          length-append w.first [],
-          length-append (turns_in w.earlier) ((w.first ++ w.others) ++ turns_in more),
-          length-append (w.first ++ w.others) (turns_in more),
-          length-append w.first w.others,
-          length-append (turns_in p) some,
+          split,
+          length-append (recorded_in p) extra,
+          length-append (recorded_in w.earlier) (records_in (w.first ++ w.others) ++ recorded_in more),
+          length-append (records_in (w.first ++ w.others)) (recorded_in more),
+          length-append (records_in w.first) (records_in w.others),
+          length-append (recorded_in w.earlier) (records_in w.first ++ []),
+          length-append (records_in w.first) [],
         ))
 
 -- ---- the whole
 
-pub crash-restores : RecordsTellAll → JournalIsExact → StoriesAreWritten → AnswersAreKept → CrashesLoseNothing
-crash-restores all exact written answers s limits rule w how log log' before after restored h keeps story later cut resumed crash =
+pub crash-restores : RecordsTellAll → JournalIsExact → StoriesAreWritten → AnswersAreKept → RepliesAreKept → CrashesLoseNothing
+crash-restores all exact written answers replies s limits rule w how log log' before after restored h keeps story later cut resumed crash =
     let (now, first, more) = lasts-split story later before after lasts in
     let found =
     found-after written exact s rule w before story restored resumed crash journaled [] story refl s.commits refl
     (sym (append-nil (all_records s.commits))) resumed.none in
     let c = story-cut story before now first found.extra found.lost (sym found.rest_is) in
     let found_is : all_records crash.found ≡ all_records s.commits ++ found.extra =
-    found.found_is ∙ ap (λ x. x ++ found.extra) (append-nil (all_records s.commits)) in (
+    found.found_is ∙ ap (λ x. x ++ found.extra) (append-nil (all_records s.commits)) in
+    let there : all_records crash.found ≡ all_records s.commits ++ recorded_in c.done = found_is ∙ ap (λ x. all_records s.commits ++ x) (sym c.records) in (
       now,
       first,
       record {
@@ -529,33 +540,16 @@ crash-restores all exact written answers s limits rule w how log log' before aft
         lines = c.lines;
         run = c.run;
         later = c.later;
-        same = same-arrays all s w before resumed j story restored crash c.done c.mid c.run (found_is ∙ ap (λ x. all_records s.commits ++ x) (sym c.records));
+        same = same-arrays all s w before resumed j story restored crash c.done c.mid c.run there;
         answered = λ round p q n bytes e.
             let (kept, more, d, rec, clean) = answers j s.commits [] story p q n bytes journaled (λ e. refl) e in
-            let none : more ≡ [] = clean round in
-            let before_is : all_records kept ≡ all_records s.commits ++ records_in (turns_in p) =
-            sym (ap (λ x. all_records (kept ++ x)) none ∙ ap all_records (append-nil kept)) ∙ rec
-            ∙ ap (λ x. (all_records (s.commits ++ []) ++ x) ++ records_in (turns_in p)) resumed.none
-            ∙ ap (λ x. x ++ records_in (turns_in p)) (append-nil (all_records (s.commits ++ [])) ∙ ap all_records (append-nil s.commits)) in
-            let empty : (journal_since j p).records ≡ [] =
-            append_cancel_left (all_records (kept ++ more)) (journal_since j p).records []
-            (d.1 ∙ sym rec ∙ sym (append-nil (all_records (kept ++ more)))) in
-            let there =
-            found-after written exact s rule w before story restored resumed crash journaled p (Did (Wrote n bytes) ∷ q) e kept
-            (subst (λ x. IsWriting (writer_at j s.commits []) (disk_acts (acts_in p)) (writer_at (journal_since j p) kept x)) none d.0) before_is empty in
-            let (some, lines) =
-            lines-done (turns_in p) (turns_in q) (turns_in c.done) (turns_in c.rest) there.extra
-            (sym (turns-append p (Did (Wrote n bytes) ∷ q)) ∙ ap turns_in (sym e) ∙ sym c.lines)
-            (append_cancel_left (all_records s.commits) (records_in (turns_in p) ++ there.extra) (records_in (turns_in c.done))
-            (sym (append_assoc (all_records s.commits) (records_in (turns_in p)) there.extra) ∙ sym there.found_is ∙ found_is
-            ∙ ap (λ x. all_records s.commits ++ x) (sym c.records)))
-            c.tight in
-            moments-done p (Did (Wrote n bytes) ∷ q) c.done c.rest story e c.cut some lines;
+            kept-done p (Did (Wrote n bytes) ∷ q) e kept more d rec (clean round) c.done c.rest c.cut there;
+        replied = λ round p q text e.
+            let (kept, more, d, rec, clean) = replies j s.commits [] story p q text journaled (λ e. refl) e in
+            kept-done p (Did (Replied text) ∷ q) e kept more d rec (clean round) c.done c.rest c.cut there;
         whole = λ none.
             same-arrays all s w before resumed j story restored crash story now first
-            (found_is ∙ ap (λ x. all_records s.commits ++ x)
-            (sym (ap records_in (sym c.lines) ∙ records_in-append (turns_in c.done) (turns_in c.rest) ∙ ap (λ x. records_in (turns_in c.done) ++ x) none
-            ∙ append-nil (records_in (turns_in c.done)) ∙ c.records)));
+            (there ∙ ap (λ x. all_records s.commits ++ x) (all-there c.done c.rest (halves-cut c.done c.rest story c.cut) none));
       },
     )
   where
@@ -571,3 +565,39 @@ crash-restores all exact written answers s limits rule w how log log' before aft
     lasts =
         subst (λ x. Lasts server_rules true before x after) cut
         (subst (λ (o : Option Sync). Lasts server_rules (is_some o) before h.story after) keeps h.lasts)
+
+    -- what was kept and synced at a moment was done
+    kept-done : (p tail : Story) → story ≡ p ++ tail → (kept more : List Commit) → IsOnDisk j s.commits [] p kept more
+        → all_records (kept ++ more) ≡ (all_records (s.commits ++ []) ++ j.records) ++ recorded_in p → more ≡ []
+        → (done rest : Story) → IsCutAt done rest story → all_records crash.found ≡ all_records s.commits ++ recorded_in done
+        → (later : Story) × (done ≡ p ++ later)
+    kept-done p tail e kept more d rec none done rest at there =
+        let before_is : all_records kept ≡ all_records s.commits ++ recorded_in p =
+        sym (ap (λ x. all_records (kept ++ x)) none ∙ ap all_records (append-nil kept)) ∙ rec
+        ∙ ap (λ x. (all_records (s.commits ++ []) ++ x) ++ recorded_in p) resumed.none
+        ∙ ap (λ x. x ++ recorded_in p) (append-nil (all_records (s.commits ++ [])) ∙ ap all_records (append-nil s.commits)) in
+        let empty : (journal_since j p).records ≡ [] =
+        append_cancel_left (all_records (kept ++ more)) (journal_since j p).records []
+        (d.1 ∙ sym rec ∙ sym (append-nil (all_records (kept ++ more)))) in
+        let after =
+        found-after written exact s rule w before story restored resumed crash journaled p tail e kept
+        (subst (λ x. IsWriting (writer_at j s.commits []) (disk_acts (acts_in p)) (writer_at (journal_since j p) kept x)) none d.0) before_is empty in
+        front-done p tail done rest story e at after.extra
+        (append_cancel_left (all_records s.commits) (recorded_in p ++ after.extra) (recorded_in done)
+        (sym (append_assoc (all_records s.commits) (recorded_in p) after.extra) ∙ sym after.found_is ∙ there))
+
+    -- the records of both halves are those of the story
+    all-there : (done rest : Story) → AreHalves done rest story → recorded_in rest ≡ [] → recorded_in done ≡ recorded_in story
+    all-there done rest (inl whole) none =
+        sym (append-nil (recorded_in done)) ∙ ap (λ x. recorded_in done ++ x) (sym none) ∙ sym (recorded-append done rest) ∙ ap recorded_in whole
+    all-there done rest (inr w) none =
+        let last : recorded_in done ≡ recorded_in w.earlier ++ (records_in w.first ++ [])
+        = ap recorded_in w.done_is ∙ recorded-append w.earlier (Ran w.number w.first ∷ []) in
+        let rest_is : records_in w.others ++ recorded_in w.later ≡ [] = sym (ap recorded_in w.rest_is) ∙ none in
+        last
+        ∙ ap (λ x. recorded_in w.earlier ++ (records_in w.first ++ x)) (sym rest_is)
+        ∙ ap (λ x. recorded_in w.earlier ++ x)
+        (sym (append_assoc (records_in w.first) (records_in w.others) (recorded_in w.later))
+        ∙ ap (λ x. x ++ recorded_in w.later) (sym (records_in-append w.first w.others)))
+        ∙ sym (recorded-append w.earlier (Ran w.number (w.first ++ w.others) ∷ w.later))
+        ∙ sym (ap recorded_in w.story_is)

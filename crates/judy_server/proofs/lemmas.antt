@@ -11,6 +11,7 @@ pub mod Halves
 pub mod Keeping
 pub mod Orders
 pub mod Recorded
+pub mod Runs
 pub mod Space
 pub mod Starting
 pub mod Starts

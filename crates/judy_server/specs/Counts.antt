@@ -56,7 +56,7 @@ abbrev pub counted_over : (List Tenant → Turn → Bool) → (List Tenant → �
 counted_over test keep count rows [] = count
 counted_over test keep count rows (Did a ∷ story) = counted_over test keep count rows story
 counted_over test keep count rows (Ran n turns ∷ story) = counted_over test keep (risen count (count_by (test rows) turns)) rows story
-counted_over test keep count rows (Changed text ∷ story) = counted_over test keep (keep (rows_with rows text) count) (rows_with rows text) story
+counted_over test keep count rows (Changed text left ∷ story) = counted_over test keep (keep (rows_with rows text) count) (rows_with rows text) story
 
 -- no tenant has this place
 abbrev pub is_vacant_at : List Tenant → ℕ → Bool
@@ -86,7 +86,7 @@ unknown_over rows story = counted_over (λ rows. refuses rows None) (λ rows cou
 -- a log-in that succeeds counts for its tenant, and one that is refused for none.
 pub record AreCounted (tenants : List Tenant) (story : Story) (tally : Tally) : Type 0 where
   pub lines : (place : ℕ) → place < 49 → slice_index tally.lines place ≡ risen 0 (count_by (asks place) (turns_in story))
-  pub replies : (place : ℕ) → place < 9 → slice_index tally.replies place ≡ risen 0 (count_by (answers place) (turns_in story))
+  pub replies : (place : ℕ) → place < 10 → slice_index tally.replies place ≡ risen 0 (count_by (answers place) (turns_in story))
   pub logins : (place : ℕ) → place < 128 → slice_index tally.refused place ≡ refused_over place tenants story
   pub unknown : tally.unknown ≡ unknown_over tenants story
   pub spoken : (place : ℕ) → place < 128 → slice_index tally.spoken place ≡ spoken_over place tenants story

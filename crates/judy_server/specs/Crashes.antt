@@ -6,7 +6,6 @@
 --     HasBegunWith rs t     a new service played these records without its quotas; then its table was put in force
 --     HasResumed s w t      the service has played this journal, and the writer goes on with it
 --     HasCrashed s j story t   the crash came after this story; what it left was played on a new service
---     HaveSame a b          the tenants of one name have the same arrays in both services
 --     AreHalves d r story   a story is cut in two, between two moments or within the lines of one
 --     IsRestored ..         the arrays are those after the first half, which has all that was answered
 --     CrashesLoseNothing    so it is after a crash at any moment of any run
@@ -18,15 +17,14 @@ use Rattle.judy_journal.specs.Journals.{Commit, is_line, sum_at}
 use Rattle.judy_journal.specs.Writes.{Writing, all_records}
 use Rattle.judy_model.specs.declared.replies.Reply.{Reply}
 use Rattle.judy_model.specs.Speakers.{Event}
-use Rattle.judy_model.specs.Stream.{event_of}
 use Rattle.judy_many.specs.Books.{Journal, journal_of}
 use Rattle.judy_many.specs.Crowds.{HasServedMany}
 use Rattle.judy_many.specs.Journaling.{disk_acts, journal_since}
 use Rattle.judy_many.specs.Nets.{Acts}
-use Rattle.judy_many.specs.Nets.Act.{Wrote}
-use Rattle.judy_many.specs.Sessions.{Turn, records_in}
+use Rattle.judy_many.specs.Nets.Act.{Replied, Wrote}
+use Rattle.judy_many.specs.Sessions.{Turn, calls_of}
 use Rattle.judy_many.specs.Statuses.{Lasts}
-use Rattle.judy_many.specs.Stories.{Story, acts_in, turns_in}
+use Rattle.judy_many.specs.Stories.{Story, acts_in, recorded_in, turns_in}
 use Rattle.judy_many.specs.Stories.Moment.{Did, Ran}
 use Rattle.judy_many.specs.declared.network.Sync.{Sync}
 use Rattle.judy_many.specs.declared.network.Sync.TheVariants as sync
@@ -38,8 +36,7 @@ use Rattle.judy_programs.specs.Journaled.{HasServedOn}
 use Rattle.judy_programs.specs.declared.socket.Hosted.{Hosted}
 use Rattle.judy_recovery.specs.Whole.{Kept, segment_before}
 use Rattle.judy_table.specs.declared.tenant.Tenant.{Tenant}
-use Rattle.judy_table.specs.Tenants.{place_of}
-use Rattle.judy_tenants.specs.Held.{states_of}
+use Rattle.judy_server.specs.Named.{HaveSame}
 use Rattle.judy_server.specs.Limits.{IsLifted, IsLimited, server_replay}
 use Rattle.judy_server.specs.Replays.{AreReplayed}
 use Rattle.judy_server.specs.Rules.{server_rules}
@@ -49,7 +46,7 @@ use Rattle.judy_server.specs.Tally.{Tallied}
 -- the calls, each with its speaker and its reply
 abbrev pub answered_in : List Turn → List (Event × Reply)
 answered_in [] = []
-answered_in (t ∷ turns) = zip (event_of t.line t.who) t.replies ++ answered_in turns
+answered_in (t ∷ turns) = zip (calls_of t) t.replies ++ answered_in turns
 
 -- a service of some table, where no tenant has an entry
 abbrev pub IsNew : Tallied → Type 0
@@ -106,11 +103,6 @@ pub record HasCrashed (s : Stock) (j : Journal) (story : Story) (restored : Tall
 
 -- ---- what is restored
 
--- the tenants of one name have the same arrays in both services
-abbrev pub HaveSame : Tallied → Tallied → Type 0
-HaveSame a b = (name : List ℕ) (t u : ℕ) → place_of name a.held.tenants ≡ Some t → place_of name b.held.tenants ≡ Some u
-    → states_of b.held u ≡ states_of a.held t
-
 -- A story is cut within the lines of one connection that were run at one moment.
 pub record IsCutWithin (done rest story : Story) : Type 0 where
   pub earlier : Story
@@ -126,6 +118,10 @@ pub record IsCutWithin (done rest story : Story) : Type 0 where
 abbrev pub AreHalves : Story → Story → Story → Type 0
 AreHalves done rest story = (done ++ rest ≡ story) ⊎ IsCutWithin done rest story
 
+-- a story begins with all of another
+abbrev pub HasAllOf : Story → Story → Type 0
+HasAllOf done p = (more : Story) × (done ≡ p ++ more)
+
 -- The arrays are those of the service at one moment, after the first half of a story and before the other.
 pub record IsRestored (rule : Sync) (before : Tallied) (story : Story) (after restored : Tallied) : Type 0 where
   pub done : Story
@@ -138,10 +134,11 @@ pub record IsRestored (rule : Sync) (before : Tallied) (story : Story) (after re
   pub same : HaveSame mid restored
   -- where each round is synced, the first half has all that came before an answer of which a byte was written:
   -- all lines, and all tables that were put in force
-  pub answered : rule ≡ sync.Round → (p q : Story) (n : ℕ) (bytes : List ℕ) → story ≡ p ++ Did (Wrote n bytes) ∷ q
-      → (more : Story) × (done ≡ p ++ more)
+  pub answered : rule ≡ sync.Round → (p q : Story) (n : ℕ) (bytes : List ℕ) → story ≡ p ++ Did (Wrote n bytes) ∷ q → HasAllOf done p
+  -- so it has all that came before the operator was answered: the table that was put in force, and who left with it
+  pub replied : rule ≡ sync.Round → (p q : Story) (text : List ℕ) → story ≡ p ++ Did (Replied text) ∷ q → HasAllOf done p
   -- where no record is lost, they are the arrays at the end of the story
-  pub whole : records_in (turns_in rest) ≡ [] → HaveSame after restored
+  pub whole : recorded_in rest ≡ [] → HaveSame after restored
 
 -- A server has played its journal, and has served many clients. It crashes at any moment.
 abbrev pub CrashesLoseNothing : Type 0
@@ -151,11 +148,11 @@ CrashesLoseNothing = (s : Stock) (limits : Limits) (rule : Sync) (w : Writing) (
     → HasResumed s w before → HasCrashed s (journal_of rule true w) story restored
     → (now : Tallied) × Lasts server_rules true before story now × IsRestored rule before story now restored
 
--- A server that started with a journal has played it on a new service, and its writer goes on behind it. The
--- snapshot, the segment that it stands for and its checksum are those of the directory. The table of its file is in
--- force, with its quotas.
+-- A server that started with a journal has played it on the new service of its table, and its writer goes on behind
+-- it. The snapshot, the segment that it stands for and its checksum are those of the directory. The table of its file
+-- is in force, with its quotas.
 abbrev pub StartsGoOn : Type 1
 StartsGoOn = (has : Kept → Type 0) (secret : List ℕ) (reserve : Option ℕ) (how : Hosted) (config socket : List ℕ) (watch : Desks) (limits : Limits) (log log' : Log)
     → (h : HasServedOn server_rules server_replay has (IsNewService secret) reserve how config socket watch limits log log')
     → (s : Stock) × (s.snapshot ≡ all_records h.kept.unpacked) × (s.segment ≡ segment_before h.kept.snapshot) × (s.sum ≡ h.kept.sum)
-    × HasResumed s h.writer h.before × (h.before.held.tenants ≡ h.begun.opened.tenants)
+    × (resumed : HasResumed s h.writer h.before) × (resumed.started.first ≡ h.fresh) × (h.before.held.tenants ≡ h.begun.opened.tenants)

@@ -3,12 +3,15 @@ pub mod Crashes
 pub mod Jobs
 pub mod Limits
 pub mod Metrics
+pub mod Named
 pub mod Orders
 pub mod Present
 pub mod Reloads
 pub mod Replays
 pub mod Rules
+pub mod Runs
 pub mod Served
 pub mod Space
+pub mod Starts
 pub mod Status
 pub mod Tally

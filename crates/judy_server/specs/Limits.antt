@@ -2,7 +2,7 @@
 --     IsLifted old table new       the quotas of its table, this one, were taken away
 --     IsLimited old table new      this table was put in force
 --     server_replay                how records are played to a server
-use Rattle.std.specs.Prelude.{◌≡◌, List}
+use Rattle.std.specs.Prelude.{◌≡◌, List, []}
 use Rattle.judy_programs.specs.Journaled.{Replay, replay_of}
 use Rattle.judy_table.specs.declared.tenant.Tenant.{Tenant}
 use Rattle.judy_table.specs.Seats.{AreRows, seated}
@@ -18,9 +18,11 @@ pub record IsLifted (old : Tallied) (table : List Tenant) (new : Tallied) : Type
   pub now : new ≡ record old { held = lifted old.held }
   pub sound : IsSoundService new.held
 
--- This table was put in force, as a new table is while the service goes on. What was counted stays. The words that
--- were ever live at once are bounded by its quotas, or by those that were live while records were played.
+-- This table was put in force, as a new table is while the service goes on. It has each tenant of which there are
+-- records, unless the tenant left. What was counted stays. The words that were ever live at once are bounded by its
+-- quotas, or by those that were live while records were played.
 pub record IsLimited (old : Tallied) (table : List Tenant) (new : Tallied) : Type 0 where
+  pub nobody_absent : old.tally.absent ≡ []
   pub mid : Held
   pub tenants : mid.tenants ≡ seated old.held.tenants table
   pub changed : HasChanged old.held mid

@@ -6,19 +6,22 @@
 --     IsReload old text new          either of them, by the text
 --     rows_with rows text            the rows in force after the table or the order of this text
 --     rows_after rows texts          those after these texts, one after another
+--     StaysAt t rows texts           each of these tables has the tenant of this place, with the same quota
+--     HasRow t rows texts            each of them has the same row at this place
 --     has_all rows table             the table has the name of each tenant of these rows
---     TellsAll rows text all         whether the table of this text does
---     AllStay old new                each tenant keeps its arrays and its name
-use Rattle.std.specs.Prelude.{◌≡◌, ◌⊎◌, ◌||◌, ℕ, Bool, true, suc, List, [], ◌∷◌, Option, Some, None, Result, Ok, Err}
+--     leavers rows text              the names of the tenants that are gone once the table of this text is in force
+--     AreGathered left first request these leave, as far as they were gathered
+use Rattle.std.specs.Prelude.{◌≡◌, ◌⊎◌, ◌||◌, ℕ, Bool, true, not, suc, filter, map, slice_get, List, [], ◌∷◌, IsTrue, Option, Some, None, Result, Ok, Err}
 use Rattle.std.specs.List.{list_all}
 use Rattle.judy_table.specs.declared.fault.TableFault.{TableFault}
 use Rattle.judy_table.specs.declared.tenant.Tenant.{Tenant}
 use Rattle.judy_model.specs.Tenant.{no_arrays}
+use Rattle.judy_journal.specs.Leaving.{gone_request}
 use Rattle.judy_table.specs.Freezes.{has_tenant_of, with_freeze}
-use Rattle.judy_table.specs.Seats.{AreRows, has_name, name_at, seated}
+use Rattle.judy_table.specs.Seats.{AreRows, has_name, seated}
 use Rattle.judy_table.specs.Tenants.{is_vacant, read_table}
-use Rattle.judy_tenants.specs.Changes.{HasChanged}
-use Rattle.judy_tenants.specs.Held.{Held, IsSoundService, states_of}
+use Rattle.judy_tenants.specs.Changes.{HasChanged, stays_at}
+use Rattle.judy_tenants.specs.Held.{Held, IsSoundService, quotas_of, states_of}
 use Rattle.judy_server.specs.Orders.{Freeze, order_in}
 use Rattle.judy_server.specs.Tally.{Tallied, cleared}
 use Rattle.judy_server.specs.declared.tally.Tally.{Tally}
@@ -56,6 +59,20 @@ rows_with rows text = rows_for rows text (order_in text)
 abbrev pub rows_after : List Tenant → List (List ℕ) → List Tenant
 rows_after rows [] = rows
 rows_after rows (text ∷ texts) = rows_after (rows_with rows text) texts
+
+-- ---- a tenant that stays
+
+-- Each of these tables, one after another, has the tenant of this place, with the same quota. Its tokens
+-- may be others.
+abbrev pub StaysAt : ℕ → List Tenant → List (List ℕ) → Type 0
+StaysAt t rows [] = Unit {0}
+StaysAt t rows (text ∷ texts) =
+    IsTrue (stays_at rows (rows_with rows text) t) × (quotas_of (rows_with rows text) t ≡ quotas_of rows t) × StaysAt t (rows_with rows text) texts
+
+-- each of these tables has the same row at this place
+abbrev pub HasRow : ℕ → List Tenant → List (List ℕ) → Type 0
+HasRow t rows [] = Unit {0}
+HasRow t rows (text ∷ texts) = (slice_get (rows_with rows text) t ≡ slice_get rows t) × HasRow t (rows_with rows text) texts
 
 -- ---- changes
 
@@ -112,12 +129,25 @@ is_kept table row = is_vacant row || has_name row.name table
 abbrev pub has_all : List Tenant → List Tenant → Bool
 has_all rows table = list_all (is_kept table) rows
 
--- the text reads as a table, and this is whether the table has them all
-abbrev pub TellsAll : List Tenant → List ℕ → Bool → Type 0
-TellsAll rows text all = (table : List Tenant) × (read_table text ≡ Ok table) × (has_all rows table ≡ all)
+-- the names of the tenants of these rows that the table lacks
+abbrev pub lacking : List Tenant → List Tenant → List (List ℕ)
+lacking rows table = map (λ row. row.name) (filter (λ row. not (is_kept table row)) rows)
 
--- each tenant keeps its arrays, and a place that has a name keeps it
-abbrev pub AllStay : Tallied → Tallied → Type 0
-AllStay old new =
-    ((t : ℕ) → states_of new.held t ≡ states_of old.held t)
-    × ((t : ℕ) → (name_at old.held.tenants t ≡ []) ⊎ (name_at new.held.tenants t ≡ name_at old.held.tenants t))
+abbrev pub leavers_by : List Tenant → Result (List Tenant) TableFault → List (List ℕ)
+leavers_by rows (Ok table) = lacking rows table
+leavers_by rows (Err fault) = []
+
+abbrev pub leavers_for : List Tenant → List ℕ → Option Freeze → List (List ℕ)
+leavers_for rows text (Some order) = []
+leavers_for rows text None = leavers_by rows (read_table text)
+
+-- The names of the tenants that are gone once the table of this text is in force. None are for an order, and for a
+-- text that is no table.
+unfoldable pub leavers : List Tenant → List ℕ → List (List ℕ)
+leavers rows text = leavers_for rows text (order_in text)
+
+-- These leave, as far as they were gathered: nobody; or the first of them by its name, and all others in the request
+-- of their record.
+abbrev pub AreGathered : List (List ℕ) → Option (List ℕ) → List ℕ → Type 0
+AreGathered left None request = left ≡ []
+AreGathered left (Some first) request = (others : List (List ℕ)) × (left ≡ first ∷ others) × (request ≡ gone_request others)

@@ -7,13 +7,18 @@
 --     IsBoundedBy granted n held  the words live at once, and those taken from the machine, are bounded
 --                                 by what the quotas allow, or by those taken beforehand
 --     TellsFew tenants after ..   `WORDS n` was written, and n is few for what the tenants hold
-use Rattle.std.specs.Prelude.{◌≡◌, ◌≤◌, ◌*◌, ◌+◌, ℕ, List, [], ◌∷◌, max}
+--     IsMuch megabytes tenants    `--reserve` of so many megabytes is enough for the quotas of these tenants
+--     AreMuch megabytes rows ..   and for those of each table that is put in force later
+--     NoTurnForMemory turns       no call of these lines is refused for memory
+use Rattle.std.specs.Prelude.{◌≡◌, ◌<◌, ◌≤◌, ◌*◌, ◌+◌, ℕ, List, [], ◌∷◌, length, max, zip}
 use Rattle.std.specs.Io.KnownBytes.{Appends}
+use Rattle.judy_many.specs.Sessions.{Turn, calls_of}
 use Rattle.judy_model.specs.Service.{all_pieces}
 use Rattle.judy_protocol.specs.Serving.{MaybeBytes}
 use Rattle.judy_programs.specs.Program.{words_line}
 use Rattle.judy_table.specs.declared.tenant.Tenant.{Tenant}
-use Rattle.judy_tenants.specs.Held.{Held, IsSoundService, all_arrays, states_of, words_for}
+use Rattle.judy_tenants.specs.Held.{Held, IsSoundService, all_arrays, all_quotas, quotas_of, states_of, words_for}
+use Rattle.judy_tenants.specs.Runs.{NoneForMemory}
 use Rattle.judy_server.specs.Reloads.{rows_after, rows_with}
 
 -- The invariant of a service holds, the service has the tenants that it had, and nothing was taken
@@ -50,3 +55,19 @@ pub record TellsFew (tenants : ℕ) (after : Held) (between taken' : MaybeBytes)
   pub line : Appends between taken' (words_line n)
   pub most : n ≤ 16 * all_pieces tenants (states_of after)
   pub least : 4 * all_arrays tenants (states_of after) ≤ n
+
+-- ---- with enough memory beforehand
+
+-- so many megabytes are enough: one for 64 pieces of all quotas, and 190 more
+abbrev pub IsMuch : ℕ → List Tenant → Type 0
+IsMuch megabytes tenants = all_quotas (length tenants) (quotas_of tenants) + 12160 < 64 * megabytes
+
+-- so it is for each of the tables that are put in force later, one after another
+abbrev pub AreMuch : ℕ → List Tenant → List (List ℕ) → Type 0
+AreMuch megabytes rows [] = Unit {0}
+AreMuch megabytes rows (text ∷ texts) = IsMuch megabytes (rows_with rows text) × AreMuch megabytes (rows_with rows text) texts
+
+-- no call of any of these lines is refused for memory
+abbrev pub NoTurnForMemory : List Turn → Type 0
+NoTurnForMemory [] = Unit {0}
+NoTurnForMemory (t ∷ turns) = NoneForMemory (zip (calls_of t) t.replies) × NoTurnForMemory turns

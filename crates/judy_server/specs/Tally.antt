@@ -1,12 +1,17 @@
 -- What a service counts: lines by what they ask for, replies by their kind, and refused log-ins, lines and
--- `FULL` by tenant.
+-- `FULL` by tenant; and the names that records named and that the table lacks.
 --     call_names, call_place line      what a line can ask for, and the place of its name there
 --     reply_kinds, reply_place answer  the kinds of replies, and the place of an answer's kind there
 --     refused_name line answer         the name of a log-in, if the line is one that was refused
 --     no_counts                        nothing was counted yet
 --     counted tenants who line answer t   the counts after one more line; this tenant speaks after it
+--     is_among names name              whether this name is among these
+--     with_absent, without_absent      a name was noted as absent; names are noted no more
 --     Tallied                          a service with its counts
-use Rattle.std.specs.Prelude.{◌||◌, ℕ, Bool, List, [], ◌∷◌, Option, Some, None, codes, if◌then◌else◌, option_map, replicate, slice_index, slice_set, unwrap_or, ◌==◌}
+use Rattle.std.specs.Prelude.{◌||◌, ℕ, Bool, not, List, [], ◌∷◌, ◌++◌, filter, length, nat_lt, Option, Some, None, codes, if◌then◌else◌}
+use Rattle.std.specs.Prelude.{option_map, replicate, slice_index, slice_set, unwrap_or, ◌==◌}
+use Rattle.std.specs.List.{list_any}
+use Rattle.std.specs.Str.{bytes_eq}
 use Rattle.judy_arena.specs.Blocks.{count_up}
 use Rattle.judy_model.specs.Grammar.{at_command}
 use Rattle.judy_model.specs.Replies.{line}
@@ -28,6 +33,7 @@ use Rattle.judy_model.specs.declared.requests.Line.TheVariants as request
 use Rattle.judy_table.specs.declared.tenant.Tenant.{Tenant}
 use Rattle.judy_table.specs.Tenants.{place_of}
 use Rattle.judy_tenants.specs.Held.{Held}
+use Rattle.judy_server.specs.declared.absent.TheConstants.{ABSENT_LIMIT}
 use Rattle.judy_server.specs.declared.tally.Tally.{Tally}
 
 -- ---- what a line asks for
@@ -121,14 +127,14 @@ call_place TooLong = 48
 
 -- each refusal is a kind, and any other reply is `ok`
 unfoldable pub reply_kinds : List (List ℕ)
-reply_kinds = codes "ok" ∷ codes "full" ∷ codes "memory" ∷ codes "auth" ∷ codes "readonly" ∷ codes "syntax" ∷ codes "long" ∷ codes "clients" ∷ codes "frozen" ∷ []
+reply_kinds = codes "ok" ∷ codes "full" ∷ codes "memory" ∷ codes "auth" ∷ codes "readonly" ∷ codes "syntax" ∷ codes "long" ∷ codes "clients" ∷ codes "frozen" ∷ codes "journal" ∷ []
 
 -- the answers of the refusals, and the places of their kinds there
 abbrev pub refusal_places : List (List ℕ × ℕ)
 refusal_places =
     (line (codes "FULL"), 1) ∷ (line (codes "ERR MEMORY"), 2) ∷ (line (codes "ERR AUTH"), 3)
     ∷ (line (codes "ERR READONLY"), 4) ∷ (line (codes "ERR SYNTAX"), 5) ∷ (line (codes "ERR LONG"), 6) ∷ (line (codes "ERR CLIENTS"), 7)
-    ∷ (line (codes "ERR FROZEN"), 8) ∷ []
+    ∷ (line (codes "ERR FROZEN"), 8) ∷ (line (codes "ERR JOURNAL"), 9) ∷ []
 
 unfoldable pub reply_place : List ℕ → ℕ
 reply_place answer = unwrap_or (at_command answer refusal_places) 0
@@ -155,11 +161,12 @@ refused_name TooLong answer = None
 unfoldable pub no_counts : Tally
 no_counts = record {
   lines = replicate 49 0;
-  replies = replicate 9 0;
+  replies = replicate 10 0;
   refused = replicate 128 0;
   unknown = 0;
   spoken = replicate 128 0;
   full = replicate 128 0;
+  absent = [];
 }
 
 -- the counter at a place goes up, unless it is at its most
@@ -201,6 +208,32 @@ tenant_of who = option_map (λ speaker. speaker.tenant) who
 abbrev pub counted : List Tenant → Option Speaker → Heard → List ℕ → Tally → Tally
 counted tenants who line answer tally =
     refused_to tenants (refused_name line answer) (with_share (tenant_of who) answer (with_line line answer tally))
+
+-- ---- names that the table lacks
+
+-- whether this name is among these
+abbrev pub is_among : List (List ℕ) → List ℕ → Bool
+is_among names name = list_any (λ other. bytes_eq other name) names
+
+-- whether this name can be noted beside those that are absent so far: it is one of them, or they are fewer than 64
+abbrev pub can_note : List (List ℕ) → List ℕ → Bool
+can_note absent name = is_among absent name || nat_lt (length absent) ABSENT_LIMIT
+
+-- these names and this one, which stands there once
+abbrev pub with_name : List (List ℕ) → List ℕ → List (List ℕ)
+with_name absent name = if is_among absent name then absent else absent ++ name ∷ []
+
+-- these names but those that left
+abbrev pub without_names : List (List ℕ) → List (List ℕ) → List (List ℕ)
+without_names absent left = filter (λ name. not (is_among left name)) absent
+
+-- the name is noted as absent
+abbrev pub with_absent : List ℕ → Tally → Tally
+with_absent name tally = record tally { absent = with_name tally.absent name }
+
+-- these names are noted as absent no more
+abbrev pub without_absent : List (List ℕ) → Tally → Tally
+without_absent left tally = record tally { absent = without_names tally.absent left }
 
 -- ---- a service with its counts
 

@@ -131,7 +131,7 @@ pub fn call_name(place: usize) -> &'static str
 /// The kind of the replies at a place: each refusal is one, and any other reply is `ok`.
 #[tactic(auto, unfolding(crate::specs::Tally::reply_kinds))]
 pub fn reply_kind(place: usize) -> &'static str
-    requires { place < 9 }
+    requires { place < 10 }
     ensures { slice_get reply_kinds place ≡ Some result.now }
 {
     match place {
@@ -143,7 +143,8 @@ pub fn reply_kind(place: usize) -> &'static str
         5 => "syntax",
         6 => "long",
         7 => "clients",
-        _ => "frozen",
+        8 => "frozen",
+        _ => "journal",
     }
 }
 

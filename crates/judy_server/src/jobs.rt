@@ -105,7 +105,8 @@ fn host_by<K: Chosen, H: Journals>(
 ) -> Hosted
     requires files { MayAlwaysPull H.File.source pull_limit }
     ensures { HostsBy H.may_have (option_map (λ s. s.now) directory.entry) secret.now reserve result file.now
-        path.now (desks_at (option_map (λ s. s.now) watch.entry) (option_map (λ s. s.now) control.entry)) limits (H.log system.old) (H.log system.new) }
+        path.now (desks_at (option_map (λ s. s.now) watch.entry) (option_map (λ s. s.now) control.entry)) limits
+        (H.log system.old) (H.log system.new) }
 {
     match directory {
         Some(journal) => host_journaled::<Server<K>, H>(
@@ -155,6 +156,7 @@ fn do_job_with<K: Chosen, R: Source, W: Sink, H: Journals>(
             reserve,
             journal,
             sync,
+            segment: _,
             new_journal: _,
             check,
         } => {
@@ -183,6 +185,7 @@ fn do_job_with<K: Chosen, R: Source, W: Sink, H: Journals>(
             finish_hosted(hosted)
         }
         Job::Compact { .. } => unreachable!(),
+        Job::Repair { .. } => unreachable!(),
         Job::Journal { .. } => unreachable!(),
     }
 }

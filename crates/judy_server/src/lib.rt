@@ -2,9 +2,11 @@
 //! what a command line asks of it.
 #![tactic(auto)]
 
+mod absent;
 mod calls;
 mod jobs;
 mod laws;
+mod leavers;
 mod limits;
 mod metrics;
 mod orders;
@@ -16,6 +18,7 @@ mod status;
 mod tally;
 
 pub use jobs::do_job_on;
-pub use laws::crashes_lose_nothing;
+pub use laws::{crashes_lose_nothing, every_run_keeps_promises};
 pub use records::{Halt, replay, replay_all};
 pub use server::{Chosen, Server, run};
+pub use tally::Tally;

@@ -4,6 +4,7 @@ ghost use Rattle.judy_server.specs.Limits.{IsLifted, IsLimited};
 ghost use Rattle.judy_server.specs.Tally.{tallied};
 ghost use Rattle.judy_server.specs.declared.tally.Tally.{Tally as TallyLem};
 
+use crate::tally::Tally;
 use judy_model::Name;
 use judy_recovery::JournalFault;
 use judy_table::{Table, TenantId};
@@ -41,15 +42,19 @@ pub fn lift<H: KeyHash>(alloc: Global, service: &mut Service<H>) -> Option<Table
 
 /// Puts a table in force, and forgets what the quotas before it allowed.
 ///
-/// Err: out of memory, or a tenant holds more than its quota.
+/// Err: a record named a tenant that the table lacks; out of memory; or a tenant holds more than its quota.
 pub fn limit<H: KeyHash>(
     alloc: Global,
     service: &mut Service<H>,
+    tally: &Tally,
     table: Table,
 ) -> Result<(), JournalFault>
-    ensures { OnOk result ((tally : TallyLem)
-        → IsLimited (tallied service.old tally) table (tallied service.new tally)) }
+    ensures { OnOk result
+        (IsLimited (tallied service.old tally.now) table (tallied service.new tally.now)) }
 {
+    if let Some(name) = tally.absent.first() {
+        return Err(JournalFault::Absent(name));
+    }
     match service.change(alloc, table) {
         Ok(()) => {
             service.forget_grants();

@@ -1,14 +1,13 @@
 //! Another table is put in force, or an order is carried out, and what is told of it.
-ghost use Rattle.std.specs.Prelude.{◌≡◌, ◌⊎◌, ◌<◌, IfErr, IfOk, Err, MatchBool, Some, length, map, slice_get};
-ghost use Rattle.judy_table.specs.Tenants.{read_table};
-ghost use Rattle.judy_server.specs.Reloads.{IsReload, IsSeated, TellsAll, forgotten, has_all, is_kept, without_gone};
+ghost use Rattle.std.specs.Prelude.{◌≡◌, MatchBool};
+ghost use Rattle.judy_server.specs.Reloads.{IsReload, IsSeated, forgotten, without_gone};
 ghost use Rattle.judy_server.specs.Tally.{tallied};
 
 use crate::orders::{carry_out, read_order};
 use crate::tally::{Tally, clear_if};
 use itoa::Buffer;
 use judy_programs::fault_name;
-use judy_table::{Blame, Table, TableFault, TenantId};
+use judy_table::{Blame, Table, TableFault};
 use judy_tenants::{KeyHash, Service, Unchanged};
 use std::alloc::Global;
 
@@ -132,43 +131,5 @@ pub fn change<H: KeyHash>(
     match read_order(text) {
         Some(order) => carry_out(service, tally, &order, told),
         None => change_table(alloc, service, tally, text, told),
-    }
-}
-
-/// Whether no tenant has this place, or the table has its name.
-fn is_kept<H: KeyHash>(service: &Service<H>, table: &Table, tenant: TenantId) -> bool
-    requires { tenant < length service.now.tenants }
-    ensures { slice_get (map (is_kept table.now) service.now.tenants) tenant ≡ Some result }
-{
-    service.is_vacant(tenant) || table.find(service.name(tenant)).is_some()
-}
-
-/// Whether the table has the name of each tenant in force.
-fn has_all<H: KeyHash>(service: &Service<H>, table: &Table) -> bool
-    ensures { result ≡ has_all service.now.tenants table.now }
-{
-    for row in 0..service.tenants() {
-        if !is_kept(service, table, service.tenant(row)) {
-            return false;
-        }
-    }
-    true
-}
-
-/// Whether the table of a text has the name of each tenant in force.
-///
-/// Err: the text has a fault, or out of memory.
-pub fn keeps_all<H: KeyHash>(
-    alloc: Global,
-    service: &Service<H>,
-    text: &[u8],
-) -> Result<bool, TableFault>
-    ensures ok { IfOk result (TellsAll service.now.tenants text.now) }
-    ensures fault { IfErr result (λ f. (f ≡ TableFault.Memory)
-        ⊎ (read_table text.now ≡ Err f)) }
-{
-    match Table::parse(alloc, text) {
-        Ok(table) => Ok(has_all(service, &table)),
-        Err(fault) => Err(fault),
     }
 }

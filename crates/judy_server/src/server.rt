@@ -1,14 +1,14 @@
 //! The tenants of a table, as a connection and a program see them.
 ghost use Rattle.std.specs.Prelude.{◌≡◌, None, option_map, true};
 ghost use Rattle.std.proofs.Common.{ap, refl};
-ghost use Rattle.judy_table.specs.Seats.{goes_on};
+ghost use Rattle.judy_table.specs.Seats.{goes_on, journal_at};
 ghost use Rattle.judy_table.specs.Shown.{seen};
 ghost use Rattle.judy_protocol.specs.Sending.{MaySend};
 ghost use Rattle.judy_protocol.specs.Serving.{wire};
 ghost use Rattle.judy_protocol.specs.Talks.{as_heard};
 ghost use Rattle.judy_programs.specs.Program.{HasRun, IsSent, MayPullScript, is_refused};
 ghost use Rattle.judy_server.specs.Limits.{IsLifted, IsLimited};
-ghost use Rattle.judy_server.specs.Reloads.{AllStay, IsReload};
+ghost use Rattle.judy_server.specs.Reloads.{IsReload, leavers};
 ghost use Rattle.judy_server.specs.Served.{IsServedStep, IsNewService, IsNoted, seen_of, held_words};
 ghost use Rattle.judy_model.specs.Stream.{lines_of};
 ghost use Rattle.judy_programs.specs.Tables.{MayPullTable};
@@ -16,22 +16,22 @@ ghost use Rattle.judy_server.specs.Replays.{AreReplayed, AreReplayed-append, Pla
 ghost use Rattle.judy_server.specs.Status.{status_of};
 ghost use Rattle.judy_server.specs.Tally.{Tallied};
 
+use crate::leavers::find_leavers;
 use crate::limits::{lift, limit};
-use crate::orders::read_order;
 use crate::present::tenant_of;
 use crate::records::{Halt, replay, replay_all};
-use crate::reload::{change, keeps_all};
+use crate::reload::change;
 use crate::status::add_status;
 use crate::tally::{Tally, refused_name};
 use arrayvec::ArrayVec;
 use judy_journal::Unplayed;
 use judy_many::Shows;
-use judy_model::{Call, KEY_LIMIT, Reply};
+use judy_model::{Call, KEY_LIMIT, LINE_LIMIT, Name, Reply};
 use judy_programs::{Opens, Ran, Replays, Unopened, run_with};
 use judy_protocol::{Batch, Line, Refusal, Served};
 use judy_recovery::{Halt as Stopped, JournalFault, Reason};
 use judy_stream::{Sink, Source};
-use judy_table::{Speaker, Table, TableFault, TenantId};
+use judy_table::{Speaker, Table, TenantId};
 use judy_tenants::{KeyHash, Service, Sha256Hash};
 use std::alloc::{AllocError, Global};
 use std::marker::Model;
@@ -97,27 +97,6 @@ impl<H: Chosen> Model for Server<H> {
     ghost view = { λ s. tallied s.service s.tally };
 }
 
-impl<H: Chosen> Server<H> {
-    /// Whether the table of this text has each tenant that is in force, so that its arrays stay. True for
-    /// an order, and for a text with a fault, whose table is never put in force. False if there is no
-    /// memory to tell.
-    pub fn keeps_table(&self, alloc: Global, text: &[u8]) -> bool
-        ensures { result ≡ true → (after : Tallied) → IsReload self.now text.now after
-            → AllStay self.now after }
-    {
-        if read_order(text).is_some() {
-            return true;
-        }
-        self.service.is_at_all_times();
-        self.service.rows_are_sound();
-        match keeps_all(alloc, &self.service, text) {
-            Ok(all) => all,
-            Err(TableFault::Memory) => false,
-            Err(_) => true,
-        }
-    }
-}
-
 impl<H: Chosen> Served for Server<H> {
     type Speaker = Speaker;
 
@@ -156,6 +135,10 @@ impl<H: Chosen> Shows for Server<H> {
 
     ghost changed = { IsReload };
 
+    ghost caps = { λ t. journal_at t.held.tenants };
+
+    ghost leavers = { λ t. leavers t.held.tenants };
+
     ghost admits = { λ t speaker. goes_on t.held.tenants (seen speaker) speaker.digest };
 
     fn show(&self, speakers: &[Option<Speaker>], text: &mut Vec<u8>) -> Result<(), AllocError> {
@@ -192,8 +175,13 @@ impl<H: Chosen> Shows for Server<H> {
         self.tally.refused_requests()
     }
 
-    fn keeps(&self, alloc: Global, text: &[u8]) -> bool {
-        self.keeps_table(alloc, text)
+    fn find_leavers(
+        &self,
+        alloc: Global,
+        text: &[u8],
+        request: &mut ArrayVec<u8, LINE_LIMIT>,
+    ) -> Result<Option<Name>, AllocError> {
+        find_leavers(alloc, &self.service, text, request)
     }
 
     fn change(&mut self, alloc: Global, text: &[u8], told: &mut Vec<u8>) -> bool {
@@ -206,6 +194,10 @@ impl<H: Chosen> Shows for Server<H> {
 
     fn tenant(&self, speaker: Speaker) -> usize {
         speaker.tenant.place() as usize
+    }
+
+    fn journal_limit(&self, speaker: Speaker) -> Option<u64> {
+        self.service.journal_limit(speaker.tenant)
     }
 
     fn has(&self, name: &[u8]) -> bool {
@@ -252,8 +244,9 @@ impl<H: Chosen> Opens for Server<H> {
 }
 
 impl<H: Chosen> Server<H> {
-    /// Plays a record: makes its call for the tenant that it names. The call's key, and a key that it
-    /// finds, are put into `key` and `found`. Nothing is counted.
+    /// Plays a record: makes its call for the tenant that it names, or frees the arrays of the tenants that
+    /// left. A name that no tenant has is noted as absent. The call's key, and a key that it finds, are put
+    /// into `key` and `found`. Nothing is counted.
     ///
     /// Err: no array changed.
     pub fn replay(
@@ -265,7 +258,7 @@ impl<H: Chosen> Server<H> {
     ) -> Result<(), Unplayed>
         ensures { Plays bytes.now self.old result self.new }
     {
-        replay(alloc, &mut self.service, bytes, key, found)
+        replay(alloc, &mut self.service, &mut self.tally, bytes, key, found)
     }
 
     /// Plays the records of a text, each of which ends with an LF, one after another, up to the first
@@ -279,7 +272,7 @@ impl<H: Chosen> Server<H> {
     ) -> Result<(), Halt>
         ensures { PlaysAll (lines_of text.now) self.old result self.new }
     {
-        replay_all(alloc, &mut self.service, text, key, found)
+        replay_all(alloc, &mut self.service, &mut self.tally, text, key, found)
     }
 }
 
@@ -303,7 +296,7 @@ impl<H: Chosen> Replays for Server<H> {
     ghost limited = { IsLimited };
 
     fn limit(&mut self, alloc: Global, table: Table) -> Result<(), JournalFault> {
-        limit(alloc, &mut self.service, table)
+        limit(alloc, &mut self.service, &self.tally, table)
     }
 
     ghost replayed = { AreReplayed };
@@ -311,7 +304,14 @@ impl<H: Chosen> Replays for Server<H> {
     fn replay(&mut self, alloc: Global, records: &[u8]) -> Result<(), Stopped> {
         let mut key = [0u8; KEY_LIMIT];
         let mut found = ArrayVec::new();
-        match replay_all(alloc, &mut self.service, records, &mut key, &mut found) {
+        match replay_all(
+            alloc,
+            &mut self.service,
+            &mut self.tally,
+            records,
+            &mut key,
+            &mut found,
+        ) {
             Ok(()) => Ok(()),
             Err(Halt { played, why }) => Err(Stopped {
                 played,

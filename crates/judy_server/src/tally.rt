@@ -8,6 +8,7 @@ ghost use Rattle.judy_protocol.specs.Talks.{as_heard};
 ghost use Rattle.judy_server.specs.Tally.{bumped, call_place, cleared, no_counts, refused_at, refused_name, refuses_login, reply_place, with_line};
 ghost use Rattle.judy_server.specs.Tally.{with_share};
 
+use crate::absent::Absent;
 use crate::calls::place_of_call;
 use judy_protocol::{Line, Refusal};
 use judy_table::TenantId;
@@ -17,7 +18,7 @@ use judy_table::TenantId;
 pub const CALLS: usize = 49;
 
 /// How many kinds of replies there are.
-pub const KINDS: usize = 9;
+pub const KINDS: usize = 10;
 
 /// How many places for tenants there are.
 pub const PLACES: usize = 128;
@@ -37,6 +38,8 @@ pub struct Tally {
     pub spoken: [u64; PLACES],
     /// Those that were answered `FULL`, by the tenant's place.
     pub full: [u64; PLACES],
+    /// The names that records of a journal name and that the table lacks.
+    pub absent: Absent,
 }
 
 /// One more, unless the count is at its most.
@@ -135,6 +138,9 @@ fn reply_place(answer: &[u8]) -> usize
     if is_text(answer, b"ERR FROZEN\n") {
         return 8;
     }
+    if is_text(answer, b"ERR JOURNAL\n") {
+        return 9;
+    }
     0
 }
 
@@ -178,6 +184,7 @@ impl Tally {
             unknown: 0,
             spoken: [0; PLACES],
             full: [0; PLACES],
+            absent: Absent::new(),
         }
     }
 

@@ -41,6 +41,7 @@ alice : read_table (codes "[alice]\nsha256 = \"BA7816bf8f01cfea414140de5dae2223b
       ∷ 122 ∷ 156 ∷ 180 ∷ 16 ∷ 255 ∷ 97 ∷ 242 ∷ 0 ∷ 21 ∷ 173 ∷ [];
   others = record { look = None; former = None; former_look = None };
   quota = record { entries = 4; pieces = 504 };
+  journal = None;
   frozen = None;
 } ∷ [])
 unfolding toml_on_literals is_utf8 chars encode_utf8 decode_pairs
@@ -51,6 +52,26 @@ pieces_over : read_table
     ≡ Err fault.Pieces
 unfolding toml_on_literals is_utf8 chars encode_utf8 decode_pairs
 pieces_over = refl
+
+no_limit : read_table
+    (codes "[alice]\nsha256 = \"ba7816bf8f01cfea414140de5dae2223b00361a396177a9cb410ff61f20015ad\"\nquota = 4\npieces = -1\njournal = 0")
+    ≡ Err fault.Quota
+unfolding toml_on_literals is_utf8 chars encode_utf8 decode_pairs
+no_limit = refl
+
+a_limit : read_table
+    (codes "[alice]\nsha256 = \"BA7816bf8f01cfea414140de5dae2223b00361a396177a9cb410ff61f20015ad\"\nquota = 4\njournal = 65536")
+    ≡ Ok (record {
+      name = codes "alice";
+      digest = 186 ∷ 120 ∷ 22 ∷ 191 ∷ 143 ∷ 1 ∷ 207 ∷ 234 ∷ 65 ∷ 65 ∷ 64 ∷ 222 ∷ 93 ∷ 174 ∷ 34 ∷ 35 ∷ 176 ∷ 3 ∷ 97 ∷ 163 ∷ 150 ∷ 23
+          ∷ 122 ∷ 156 ∷ 180 ∷ 16 ∷ 255 ∷ 97 ∷ 242 ∷ 0 ∷ 21 ∷ 173 ∷ [];
+      others = record { look = None; former = None; former_look = None };
+      quota = record { entries = 4; pieces = 504 };
+      journal = Some 65536;
+      frozen = None;
+    } ∷ [])
+unfolding toml_on_literals is_utf8 chars encode_utf8 decode_pairs
+a_limit = refl
 
 text_pieces : read_table (codes "[alice]\nsha256 = \"ba78\"\nquota = 4\npieces = \"3\"") ≡ Err fault.Shape
 unfolding toml_on_literals is_utf8 chars encode_utf8 decode_pairs
@@ -84,6 +105,7 @@ old_digests : read_table
           ∷ 122 ∷ 156 ∷ 180 ∷ 16 ∷ 255 ∷ 97 ∷ 242 ∷ 0 ∷ 21 ∷ 173 ∷ [];
       others = record { look = None; former = Some (replicate 32 0); former_look = Some (replicate 32 1) };
       quota = record { entries = 0; pieces = 0 };
+      journal = None;
       frozen = None;
     } ∷ [])
 unfolding toml_on_literals is_utf8 chars encode_utf8 decode_pairs

@@ -23,7 +23,7 @@ use Rattle.std.specs.Cmp.Lexicographic.{slice_cmp}
 use Rattle.hex.specs.Hex.{decode_sized}
 use Rattle.hex.specs.declared.FromHexError.{FromHexError}
 use Rattle.judy_model.specs.Grammar.{is_name}
-use Rattle.judy_table.specs.Tenants.{with_pieces, with_entries, with_others, with_digest, pieces_for, others_of, up_to, HasRisingNames, IsLimited, AreLimited}
+use Rattle.judy_table.specs.Tenants.{with_pieces, with_entries, with_others, with_digest, journal_for, pieces_for, others_of, up_to, HasRisingNames, IsLimited, AreLimited}
 use Rattle.std.specs.Str.{is_utf8, IsUtf8, bytes_eq}
 use Rattle.std.proofs.Common.{◌||◌, not, Bool, is_eq, ne_eqb}
 use Rattle.std.proofs.lemmas.Bool.{and_parts, and_from, or_from, or_right, not_from_false, false_from_ne_true, false≢true, both_ways}
@@ -92,21 +92,22 @@ abbrev pub names_in : Members → List (List ℕ)
 names_in no_members = []
 names_in (member k d ms) = k ∷ names_in ms
 
-name-with_pieces : (name digest : List ℕ) (others : Others) (entries : ℕ) (pieces : Option ℕ) (t : Tenant) → with_pieces
-    name digest others entries pieces ≡ Ok t → t.name ≡ name
-name-with_pieces name digest others entries (Some pieces) t e =
-    let p : record { name = name; digest = digest; others = others; quota = record { entries = entries; pieces = pieces }; frozen = None } ≡ t = cc in
+name-with_pieces : (name digest : List ℕ) (others : Others) (entries : ℕ) (journal pieces : Option ℕ) (t : Tenant) → with_pieces
+    name digest others entries journal pieces ≡ Ok t → t.name ≡ name
+name-with_pieces name digest others entries journal (Some pieces) t e =
+    let p : record { name = name; digest = digest; others = others; quota = record { entries = entries; pieces = pieces }; journal = journal; frozen = None } ≡ t = cc in
     ap (λ (u : Tenant). u.name) (sym p)
-name-with_pieces name digest others entries None t e = cc
+name-with_pieces name digest others entries journal None t e = cc
 
-name-with_entries : (name digest : List ℕ) (others : Others) (entries : Option ℕ) (pieces : Option ℤ) (t : Tenant)
-    → with_entries name digest others entries pieces ≡ Ok t → t.name ≡ name
-name-with_entries name digest others (Some entries) pieces t e = name-with_pieces name digest others entries (pieces_for entries pieces) t e
-name-with_entries name digest others None pieces t e = cc
+name-with_entries : (name digest : List ℕ) (others : Others) (entries : Option ℕ) (journal : Option (Option ℕ)) (pieces : Option ℤ) (t : Tenant)
+    → with_entries name digest others entries journal pieces ≡ Ok t → t.name ≡ name
+name-with_entries name digest others (Some entries) (Some journal) pieces t e = name-with_pieces name digest others entries journal (pieces_for entries pieces) t e
+name-with_entries name digest others (Some entries) None pieces t e = cc
+name-with_entries name digest others None journal pieces t e = cc
 
 name-with_others : (name digest : List ℕ) (r : Result Others FromHexError) (w : Written) (t : Tenant) → with_others name
     digest r w ≡ Ok t → t.name ≡ name
-name-with_others name digest (Ok others) w t e = name-with_entries name digest others (up_to 16777216 w.entries) w.pieces t e
+name-with_others name digest (Ok others) w t e = name-with_entries name digest others (up_to 16777216 w.entries) (journal_for w.journal) w.pieces t e
 name-with_others name digest (Err f) w t e = cc
 
 name-with_digest : (name : List ℕ) (r : Result (List ℕ) FromHexError) (w : Written) (t : Tenant) → with_digest name r w ≡ Ok t → t.name ≡ name
@@ -167,22 +168,23 @@ limited-pieces_for : (entries : ℕ) (written : Option ℤ) (n : ℕ) → entrie
 limited-pieces_for entries None n h e = let p : 126 * entries ≡ n = cc in omega (arith, h, p)
 limited-pieces_for entries (Some z) n h e = limited-up_to 2113929216 z n e
 
-limited-with_pieces : (name digest : List ℕ) (others : Others) (entries : ℕ) (pieces : Option ℕ) (t : Tenant) → entries ≤ 16777216
-    → ((n : ℕ) → pieces ≡ Some n → n ≤ 2113929216) → with_pieces name digest others entries pieces ≡ Ok t → IsLimited t
-limited-with_pieces name digest others entries (Some pieces) t h g e =
-    let p : record { name = name; digest = digest; others = others; quota = record { entries = entries; pieces = pieces }; frozen = None } ≡ t = cc in
+limited-with_pieces : (name digest : List ℕ) (others : Others) (entries : ℕ) (journal pieces : Option ℕ) (t : Tenant) → entries ≤ 16777216
+    → ((n : ℕ) → pieces ≡ Some n → n ≤ 2113929216) → with_pieces name digest others entries journal pieces ≡ Ok t → IsLimited t
+limited-with_pieces name digest others entries journal (Some pieces) t h g e =
+    let p : record { name = name; digest = digest; others = others; quota = record { entries = entries; pieces = pieces }; journal = journal; frozen = None } ≡ t = cc in
     subst IsLimited p (record { entries = h; pieces = g pieces refl })
-limited-with_pieces name digest others entries None t h g e = cc
+limited-with_pieces name digest others entries journal None t h g e = cc
 
-limited-with_entries : (name digest : List ℕ) (others : Others) (entries : Option ℕ) (pieces : Option ℤ) (t : Tenant)
-    → ((n : ℕ) → entries ≡ Some n → n ≤ 16777216) → with_entries name digest others entries pieces ≡ Ok t → IsLimited t
-limited-with_entries name digest others (Some entries) pieces t h e =
-    limited-with_pieces name digest others entries (pieces_for entries pieces) t (h entries refl) (λ n. limited-pieces_for entries pieces n (h entries refl)) e
-limited-with_entries name digest others None pieces t h e = cc
+limited-with_entries : (name digest : List ℕ) (others : Others) (entries : Option ℕ) (journal : Option (Option ℕ)) (pieces : Option ℤ) (t : Tenant)
+    → ((n : ℕ) → entries ≡ Some n → n ≤ 16777216) → with_entries name digest others entries journal pieces ≡ Ok t → IsLimited t
+limited-with_entries name digest others (Some entries) (Some journal) pieces t h e =
+    limited-with_pieces name digest others entries journal (pieces_for entries pieces) t (h entries refl) (λ n. limited-pieces_for entries pieces n (h entries refl)) e
+limited-with_entries name digest others (Some entries) None pieces t h e = cc
+limited-with_entries name digest others None journal pieces t h e = cc
 
 limited-with_others : (name digest : List ℕ) (r : Result Others FromHexError) (w : Written) (t : Tenant) → with_others name
     digest r w ≡ Ok t → IsLimited t
-limited-with_others name digest (Ok others) w t e = limited-with_entries name digest others (up_to 16777216 w.entries) w.pieces t (limited-up_to 16777216 w.entries) e
+limited-with_others name digest (Ok others) w t e = limited-with_entries name digest others (up_to 16777216 w.entries) (journal_for w.journal) w.pieces t (limited-up_to 16777216 w.entries) e
 limited-with_others name digest (Err f) w t e = cc
 
 limited-with_digest : (name : List ℕ) (r : Result (List ℕ) FromHexError) (w : Written) (t : Tenant) → with_digest name r w ≡ Ok t → IsLimited t

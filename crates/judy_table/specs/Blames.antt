@@ -4,10 +4,11 @@
 --     IsBlamed    a tenant of the text has this name and this fault, which is of what is told
 --     StandsIn    a word stands in this line of the text
 --     IsLineOf    the text has a line of this number
-use Rattle.std.specs.Prelude.{◌≡◌, ◌⊎◌, ◌≤◌, ℕ, suc, length, ◌==◌, Bool, List, [], ◌∷◌, ◌++◌, Option, Some, None, Err, is_err, if◌then◌else◌, take}
+use Rattle.std.specs.Prelude.{◌≡◌, ◌⊎◌, ◌≤◌, ℕ, suc, length, ◌==◌, Bool, List, [], ◌∷◌, ◌++◌, Option, Some, None, Err, is_err, is_some, if◌then◌else◌, take}
 use Rattle.toml.specs.Data.{Data, Members, no_members, member}
+use Rattle.judy_model.specs.declared.quotas.TheConstants.{ENTRIES_LIMIT}
 use Rattle.judy_table.specs.Faults.{IsDocument}
-use Rattle.judy_table.specs.Tenants.{Written, optional_digest, tenant_if_written, written}
+use Rattle.judy_table.specs.Tenants.{Written, optional_digest, tenant_if_written, up_to, written}
 use Rattle.judy_table.specs.declared.blames.Cause.{Cause}
 use Rattle.judy_table.specs.declared.blames.Cause.TheVariants as cause
 use Rattle.judy_table.specs.declared.blames.Key.{Key}
@@ -36,7 +37,15 @@ first_wrong w =
     else if is_wrong w.others.former then key.Former
     else key.FormerLook
 
+-- the key of the quota or, if that is one, of the limit in a journal
+abbrev pub first_number : Written → Key
+first_number w = if is_some (up_to ENTRIES_LIMIT w.entries) then key.Journal else key.Quota
+
 -- the same by the values of a tenant, if there are any
+abbrev pub number_key : Option Written → Key
+number_key None = key.Quota
+number_key (Some w) = first_number w
+
 abbrev pub digest_key : Option Written → Key
 digest_key None = key.Digest
 digest_key (Some w) = first_wrong w
@@ -49,7 +58,7 @@ IsCauseOf fault.Shape w c = Unit {0}
 IsCauseOf fault.Count w c = Unit {0}
 IsCauseOf fault.Name w c = c ≡ cause.Name
 IsCauseOf fault.Digest w c = c ≡ cause.Wrong (digest_key w)
-IsCauseOf fault.Quota w c = c ≡ cause.Wrong key.Quota
+IsCauseOf fault.Quota w c = c ≡ cause.Wrong (number_key w)
 IsCauseOf fault.Pieces w c = c ≡ cause.Wrong key.Pieces
 
 -- a tenant of the text has this name and this fault, which is of what is told

@@ -29,6 +29,16 @@ abbrev pub IsTooMany : Option ℤ → Type 0
 IsTooMany None = ⊥
 IsTooMany (Some z) = IsOutside 2113929216 z
 
+-- the integer is below 1
+abbrev pub IsNone : ℤ → Type 0
+IsNone (pos n) = n < 1
+IsNone (negsuc n) = Unit {0}
+
+-- the limit of records in a journal is given, and is none
+abbrev pub IsNoLimit : Option ℤ → Type 0
+IsNoLimit None = ⊥
+IsNoLimit (Some z) = IsNone z
+
 -- the text is not 64 hexadecimal digits
 abbrev pub IsNoDigest : List ℕ → Type 0
 IsNoDigest text = (e : FromHexError) × (decode_sized text 32 ≡ Err e)
@@ -42,7 +52,8 @@ IsNoOther (Some text) = IsNoDigest text
 abbrev pub LacksDigest : Written → Type 0
 LacksDigest w = IsNoDigest w.digest ⊎ IsNoOther w.others.look ⊎ IsNoOther w.others.former ⊎ IsNoOther w.others.former_look
 
--- the first fault of a tenant, in the order of its name, its digests, its quota and its pieces
+-- the first fault of a tenant, in the order of its name, its digests, its quota, its limit in a journal and its
+-- pieces; the third and the fourth are one fault
 abbrev pub HasFault : TableFault → List ℕ → Written → Type 0
 HasFault fault.Memory name w = ⊥
 HasFault fault.Toml name w = ⊥
@@ -50,8 +61,9 @@ HasFault fault.Shape name w = ⊥
 HasFault fault.Count name w = ⊥
 HasFault fault.Name name w = is_name name ≡ false
 HasFault fault.Digest name w = (is_name name ≡ true) × LacksDigest w
-HasFault fault.Quota name w = (is_name name ≡ true) × (LacksDigest w → ⊥) × IsOutside 16777216 w.entries
-HasFault fault.Pieces name w = (is_name name ≡ true) × (LacksDigest w → ⊥) × (IsOutside 16777216 w.entries → ⊥) × IsTooMany w.pieces
+HasFault fault.Quota name w = (is_name name ≡ true) × (LacksDigest w → ⊥) × (IsOutside 16777216 w.entries ⊎ IsNoLimit w.journal)
+HasFault fault.Pieces name w =
+    (is_name name ≡ true) × (LacksDigest w → ⊥) × (IsOutside 16777216 w.entries → ⊥) × (IsNoLimit w.journal → ⊥) × IsTooMany w.pieces
 
 -- a value of the document does not have the shape of a tenant
 abbrev pub LacksShape : Members → Type 0

@@ -9,13 +9,14 @@
 --     row_after name rows ts   the row of a name after the table is read
 --     named ts             how many rows have a tenant
 --     name_at ts place     the name of the tenant at a place, or none
+--     journal_at ts place  the limit of the records of the tenant at a place, or none
 --     AreRows ts           what holds of the rows of every table
 --     IsFree row           a place has no row, or a vacant one
 --     right_in name token ts   the right of a log-in
 --     knows ts who         the speaker's place has a tenant with a token for the speaker's right
 --     goes_on ts who shown the token with this SHA-256, by which the speaker logged in, gives its right
 use Rattle.std.specs.Prelude.{◌≡◌, ℕ, ◌≤◌, ◌&&◌, ◌||◌, Bool, true, false, not, List, [], ◌∷◌, length, Option, Some, None, is_some}
-use Rattle.std.specs.Prelude.{if◌then◌else◌, filter, count_by, get_or, drop, map, slice_get, option_map, unwrap_or}
+use Rattle.std.specs.Prelude.{if◌then◌else◌, filter, count_by, get_or, drop, map, slice_get, option_and_then, option_map, unwrap_or}
 use Rattle.std.specs.List.{All, list_any}
 use Rattle.std.specs.Str.{bytes_eq}
 use Rattle.judy_model.specs.Grammar.{is_name}
@@ -75,6 +76,11 @@ named ts = count_by (λ t. not (is_vacant t)) ts
 -- the name of the tenant at a place; empty if no tenant has the place
 abbrev pub name_at : List Tenant → ℕ → List ℕ
 name_at ts place = unwrap_or (slice_get (map (λ (t : Tenant). t.name) ts) place) []
+
+-- after how many bytes of records since the last snapshot a journal takes no more of the tenant at a place, if it
+-- has such a limit
+abbrev pub journal_at : List Tenant → ℕ → Option ℕ
+journal_at ts place = option_and_then (λ (t : Tenant). t.journal) (slice_get ts place)
 
 -- the name of a tenant is one of the grammar: it is short, and has neither spaces nor line feeds
 abbrev pub IsSpelled : Tenant → Type 0

@@ -16,7 +16,7 @@ others_told o = record {
 
 -- the values for a tenant, by the bytes of their texts
 abbrev pub told_of : Written → Told
-told_of w = record { digest = w.digest.now; entries = w.entries; pieces = w.pieces; others = others_told w.others }
+told_of w = record { digest = w.digest.now; entries = w.entries; pieces = w.pieces; journal = w.journal; others = others_told w.others }
 
 -- the tenant of a connection and its right
 abbrev pub seen : Speaker → Spoken

@@ -36,11 +36,12 @@ pub record OtherTexts : Type 0 where
   pub former_look : Option (List ℕ)
 
 -- the values for a tenant: the text of its digest, its quota of entries, and, if given, its quota
--- of pieces and the texts of the digests of its other tokens
+-- of pieces, the limit of its records in a journal, and the texts of the digests of its other tokens
 pub record Written : Type 0 where
   pub digest : List ℕ
   pub entries : ℤ
   pub pieces : Option ℤ
+  pub journal : Option ℤ
   pub others : OtherTexts
 
 -- the value of an optional key; None if the key is present with another type
@@ -65,14 +66,15 @@ all_others (Some look) (Some former) None = None
 all_others (Some look) (Some former) (Some former_look) = Some (record { look = look; former = former; former_look = former_look })
 
 -- the values of a table with this many keys; None if it has other keys
-abbrev pub all_of : ℕ → Option (List ℕ) → Option ℤ → Option (Option ℤ) → Option OtherTexts → Option Written
-all_of keys None entries pieces others = None
-all_of keys (Some digest) None pieces others = None
-all_of keys (Some digest) (Some entries) None others = None
-all_of keys (Some digest) (Some entries) (Some pieces) None = None
-all_of keys (Some digest) (Some entries) (Some pieces) (Some others) =
-    if keys == 2 + one_if_some pieces + count_others others then
-    Some (record { digest = digest; entries = entries; pieces = pieces; others = others })
+abbrev pub all_of : ℕ → Option (List ℕ) → Option ℤ → Option (Option ℤ) → Option (Option ℤ) → Option OtherTexts → Option Written
+all_of keys None entries pieces journal others = None
+all_of keys (Some digest) None pieces journal others = None
+all_of keys (Some digest) (Some entries) None journal others = None
+all_of keys (Some digest) (Some entries) (Some pieces) None others = None
+all_of keys (Some digest) (Some entries) (Some pieces) (Some journal) None = None
+all_of keys (Some digest) (Some entries) (Some pieces) (Some journal) (Some others) =
+    if keys == 2 + one_if_some pieces + one_if_some journal + count_others others then
+    Some (record { digest = digest; entries = entries; pieces = pieces; journal = journal; others = others })
     else None
 
 -- the texts of the other digests in a tenant's table
@@ -81,12 +83,12 @@ others_in ms =
     all_others (optional as_str (get_member (codes "read_sha256") ms)) (optional as_str (get_member (codes "old_sha256") ms))
     (optional as_str (get_member (codes "old_read_sha256") ms))
 
--- a tenant's table has the keys `sha256`, a string, and `quota`, an integer. It may have `pieces`,
--- an integer, and `read_sha256`, `old_sha256` and `old_read_sha256`, strings. It has no other key.
+-- a tenant's table has the keys `sha256`, a string, and `quota`, an integer. It may have `pieces` and
+-- `journal`, integers, and `read_sha256`, `old_sha256` and `old_read_sha256`, strings. It has no other key.
 abbrev pub written_in : Members → Option Written
 written_in ms =
     all_of (size ms) (option_and_then as_str (get_member (codes "sha256") ms)) (option_and_then as_integer (get_member (codes "quota") ms))
-    (optional as_integer (get_member (codes "pieces") ms)) (others_in ms)
+    (optional as_integer (get_member (codes "pieces") ms)) (optional as_integer (get_member (codes "journal") ms)) (others_in ms)
 
 abbrev pub written : Data → Option Written
 written d = option_and_then written_in (as_table d)
@@ -107,14 +109,28 @@ abbrev pub pieces_for : ℕ → Option ℤ → Option ℕ
 pieces_for entries None = Some (126 * entries)
 pieces_for entries (Some written) = up_to PIECES_LIMIT written
 
-abbrev pub with_pieces : List ℕ → List ℕ → Others → ℕ → Option ℕ → Result Tenant TableFault
-with_pieces name digest others entries (Some pieces) =
-    Ok (record { name = name; digest = digest; others = others; quota = record { entries = entries; pieces = pieces }; frozen = None })
-with_pieces name digest others entries None = Err fault.Pieces
+-- a number from 1 on
+abbrev pub from_one : ℤ → Option ℕ
+from_one (pos n) = if nat_le 1 n then Some n else None
+from_one (negsuc n) = None
 
-abbrev pub with_entries : List ℕ → List ℕ → Others → Option ℕ → Option ℤ → Result Tenant TableFault
-with_entries name digest others (Some entries) pieces = with_pieces name digest others entries (pieces_for entries pieces)
-with_entries name digest others None pieces = Err fault.Quota
+-- the limit of a tenant's records in a journal, if one is given; None if what is given is no limit
+abbrev pub journal_for : Option ℤ → Option (Option ℕ)
+journal_for None = Some None
+journal_for (Some written) = option_map Some (from_one written)
+
+abbrev pub with_pieces : List ℕ → List ℕ → Others → ℕ → Option ℕ → Option ℕ → Result Tenant TableFault
+with_pieces name digest others entries journal (Some pieces) =
+    Ok (record { name = name; digest = digest; others = others; quota = record { entries = entries; pieces = pieces }; journal = journal; frozen = None })
+with_pieces name digest others entries journal None = Err fault.Pieces
+
+abbrev pub with_journal : List ℕ → List ℕ → Others → ℕ → Option (Option ℕ) → Option ℤ → Result Tenant TableFault
+with_journal name digest others entries (Some journal) pieces = with_pieces name digest others entries journal (pieces_for entries pieces)
+with_journal name digest others entries None pieces = Err fault.Quota
+
+abbrev pub with_entries : List ℕ → List ℕ → Others → Option ℕ → Option (Option ℕ) → Option ℤ → Result Tenant TableFault
+with_entries name digest others (Some entries) journal pieces = with_journal name digest others entries journal pieces
+with_entries name digest others None journal pieces = Err fault.Quota
 
 -- a digest that was read, if it was read
 abbrev pub digest_read : Result (List ℕ) FromHexError → Result (Option (List ℕ)) FromHexError
@@ -139,7 +155,7 @@ abbrev pub others_of : OtherTexts → Result Others FromHexError
 others_of o = all_read (optional_digest o.look) (optional_digest o.former) (optional_digest o.former_look)
 
 abbrev pub with_others : List ℕ → List ℕ → Result Others FromHexError → Written → Result Tenant TableFault
-with_others name digest (Ok others) w = with_entries name digest others (up_to ENTRIES_LIMIT w.entries) w.pieces
+with_others name digest (Ok others) w = with_entries name digest others (up_to ENTRIES_LIMIT w.entries) (journal_for w.journal) w.pieces
 with_others name digest (Err e) w = Err fault.Digest
 
 abbrev pub with_digest : List ℕ → Result (List ℕ) FromHexError → Written → Result Tenant TableFault
@@ -199,7 +215,7 @@ no_others = record { look = None; former = None; former_look = None }
 
 -- the row of a place without a tenant
 abbrev pub vacant : Tenant
-vacant = record { name = []; digest = replicate 32 0; others = no_others; quota = record { entries = 0; pieces = 0 }; frozen = None }
+vacant = record { name = []; digest = replicate 32 0; others = no_others; quota = record { entries = 0; pieces = 0 }; journal = None; frozen = None }
 
 -- whether a token with this SHA-256 is the tenant's, or its old one
 abbrev pub owns : List ℕ → Tenant → Bool

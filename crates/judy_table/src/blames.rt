@@ -2,7 +2,7 @@
 ghost use Rattle.std.specs.Prelude.{◌≡◌, Err, IfSome, IsTrue, None, option_map};
 ghost use Rattle.toml.specs.Errors.{IsWithin};
 ghost use Rattle.toml.specs.View.{table_view, view};
-ghost use Rattle.judy_table.specs.Blames.{IsBlamed, IsCauseOf, IsCulprit, IsLineOf, digest_key, first_wrong, is_wrong};
+ghost use Rattle.judy_table.specs.Blames.{IsBlamed, IsCauseOf, IsCulprit, IsLineOf, digest_key, first_number, first_wrong, is_wrong, number_key};
 ghost use Rattle.judy_table.specs.Faults.{IsDocument};
 ghost use Rattle.judy_table.specs.Shown.{told_of};
 ghost use Rattle.judy_table.specs.Tenants.{read_table, tenant_if_written, written};
@@ -10,7 +10,7 @@ ghost use Rattle.judy_table.specs.Tenants.{read_table, tenant_if_written, writte
 use crate::fault::TableFault;
 use crate::places::{line_of, line_with};
 use crate::table::Table;
-use crate::tenant::{Tenant, optional_digest};
+use crate::tenant::{Tenant, is_quota, optional_digest};
 use crate::written::{Written, read_written};
 use arrayvec::ArrayVec;
 use judy_model::{NAME_LIMIT, Name};
@@ -30,6 +30,8 @@ pub enum Key {
     Quota,
     /// `pieces`.
     Pieces,
+    /// `journal`.
+    Journal,
     /// `read_sha256`.
     Look,
     /// `old_sha256`.
@@ -39,10 +41,11 @@ pub enum Key {
 }
 
 /// The keys of a tenant, in the order in which they are looked at.
-const KEYS: [Key; 6] = [
+const KEYS: [Key; 7] = [
     Key::Digest,
     Key::Quota,
     Key::Pieces,
+    Key::Journal,
     Key::Look,
     Key::Former,
     Key::FormerLook,
@@ -89,6 +92,7 @@ impl Key {
             Key::Digest => "sha256",
             Key::Quota => "quota",
             Key::Pieces => "pieces",
+            Key::Journal => "journal",
             Key::Look => "read_sha256",
             Key::Former => "old_sha256",
             Key::FormerLook => "old_read_sha256",
@@ -103,7 +107,7 @@ impl Key {
     /// Whether the value has the type of the key.
     fn fits(self, value: &Value) -> bool {
         match self {
-            Key::Quota | Key::Pieces => value.as_integer().is_some(),
+            Key::Quota | Key::Pieces | Key::Journal => value.as_integer().is_some(),
             Key::Digest | Key::Look | Key::Former | Key::FormerLook => value.as_str().is_some(),
         }
     }
@@ -116,6 +120,7 @@ impl Key {
             }
             Key::Quota => "must be a whole number from 0 to 16777216",
             Key::Pieces => "must be a whole number from 0 to 2113929216",
+            Key::Journal => "must be a whole number from 1 to 9223372036854775807",
         }
     }
 }
@@ -208,7 +213,14 @@ fn shape_cause(value: &Value) -> Cause {
     if let Some(cause) = unknown_in(table) {
         return cause;
     }
-    for key in [Key::Digest, Key::Quota, Key::Pieces, Key::Look, Key::Former] {
+    for key in [
+        Key::Digest,
+        Key::Quota,
+        Key::Pieces,
+        Key::Journal,
+        Key::Look,
+        Key::Former,
+    ] {
         if let Some(cause) = wrong_at(table, key) {
             return cause;
         }
@@ -239,6 +251,26 @@ fn first_wrong(written: Written<'_>) -> Key
     Key::FormerLook
 }
 
+/// The key of the quota or, if that is one, of the limit in a journal.
+fn first_number(written: Written<'_>) -> Key
+    ensures { result ≡ first_number (told_of written.entry) }
+{
+    if is_quota(written.entries) {
+        return Key::Journal;
+    }
+    Key::Quota
+}
+
+/// Which of a tenant's numbers is none.
+fn number_key(value: &Value) -> Key
+    ensures { result ≡ number_key (written (view value.now)) }
+{
+    match read_written(value) {
+        Some(written) => first_number(written),
+        None => Key::Quota,
+    }
+}
+
 /// Which of a tenant's digests is none.
 fn digest_key(value: &Value) -> Key
     ensures { result ≡ digest_key (written (view value.now)) }
@@ -256,7 +288,7 @@ fn cause_of(fault: TableFault, value: &Value) -> Cause
     match fault {
         TableFault::Name => Cause::Name,
         TableFault::Digest => Cause::Wrong(digest_key(value)),
-        TableFault::Quota => Cause::Wrong(Key::Quota),
+        TableFault::Quota => Cause::Wrong(number_key(value)),
         TableFault::Pieces => Cause::Wrong(Key::Pieces),
         _ => shape_cause(value),
     }
@@ -379,7 +411,9 @@ impl fmt::Display for Cause {
                     write_name(f, name)?;
                     f.write_str(" ")?;
                 }
-                f.write_str("is unknown: the keys are sha256, quota, pieces, read_sha256, ")?;
+                f.write_str(
+                    "is unknown: the keys are sha256, quota, pieces, journal, read_sha256, ",
+                )?;
                 f.write_str("old_sha256 and old_read_sha256")
             }
             Cause::Inner(_) => f.write_str(

@@ -23,7 +23,7 @@ pub enum TableFault {
     /// A digest, as `sha256` or `old_sha256`, is not 64 hexadecimal digits.
     #[error("Digest")]
     Digest,
-    /// `quota` is not from 0 to 16,777,216.
+    /// `quota` is not from 0 to 16,777,216, or `journal` is not from 1 to 9,223,372,036,854,775,807.
     #[error("Quota")]
     Quota,
     /// `pieces` is not from 0 to 2,113,929,216.

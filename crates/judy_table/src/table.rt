@@ -3,7 +3,7 @@ ghost use Rattle.std.specs.Prelude.{◌≡◌, ◌⊎◌, ◌≤◌, ◌<◌, �
 ghost use Rattle.toml.specs.View.{table_view};
 ghost use Rattle.judy_table.specs.Tenants.{size, have_shape, tenants_in, read_table, read_tree, place_of, login_of, HasRisingNames, is_vacant};
 ghost use Rattle.judy_table.specs.Freezes.{has_tenant_of, with_freeze};
-ghost use Rattle.judy_table.specs.Seats.{seated, AreRows, knows, goes_on};
+ghost use Rattle.judy_table.specs.Seats.{seated, AreRows, journal_at, knows, goes_on};
 ghost use Rattle.judy_table.specs.Shown.{seen};
 ghost use Rattle.judy_table.specs.Unlimited.{unlimited};
 ghost use Rattle.sha2.specs.Sha256.{sha256};
@@ -196,6 +196,15 @@ impl Table {
     {
         self.tenants[tenant.place() as usize].quota
     }
+
+    /// After how many bytes of records since the last snapshot a journal takes no more of a tenant, if it has such
+    /// a limit. None for a place without a tenant.
+    pub fn journal_limit(&self, tenant: TenantId) -> Option<u64>
+        ensures { result ≡ journal_at self.now tenant }
+    {
+        self.tenants.get(tenant.place() as usize)?.journal
+    }
+
     /// Whether no tenant has this place.
     pub fn is_vacant(&self, tenant: TenantId) -> bool
         requires { tenant < length self.now }

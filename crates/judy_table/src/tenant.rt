@@ -1,8 +1,8 @@
 //! One tenant of the table, and its log-in.
-ghost use Rattle.std.specs.Prelude.{◌≡◌, ◌<◌, ◌≤◌, ◌^◌, option_map};
+ghost use Rattle.std.specs.Prelude.{◌≡◌, ◌<◌, ◌≤◌, ◌^◌, is_some, option_map};
 ghost use Rattle.std.specs.Str.{bytes_eq};
 ghost use Rattle.judy_table.specs.Shown.{others_told, told_of};
-ghost use Rattle.judy_table.specs.Tenants.{tenant_of, up_to, pieces_for, optional_digest, others_of};
+ghost use Rattle.judy_table.specs.Tenants.{tenant_of, up_to, pieces_for, journal_for, optional_digest, others_of};
 ghost use Rattle.judy_table.specs.Tenants.{right_of, owns, may_change, is_kept_out, may_look, is_digest, is_vacant, vacant, no_others};
 ghost use Rattle.judy_table.specs.Freezes.{digest_in, frozen_row, is_tenant_of};
 ghost use Rattle.judy_table.specs.Seats.{gives, keeping};
@@ -27,13 +27,17 @@ pub struct Others {
     pub former_look: Option<[u8; 32]>,
 }
 
-/// A tenant: its name, the SHA-256 of its token, those of its other tokens, and its quota.
+/// A tenant: its name, the SHA-256 of its token, those of its other tokens, its quota, and its limit in a
+/// journal.
 #[derive(Drop)]
 pub struct Tenant {
     pub name: Name,
     pub digest: [u8; 32],
     pub others: Others,
     pub quota: Quota,
+    /// After how many bytes of records since the last snapshot a journal takes no more of it, if it has such a
+    /// limit.
+    pub journal: Option<u64>,
     /// The SHA-256 of the only token that changes its arrays, while it is frozen. No text of a table
     /// has it.
     pub frozen: Option<[u8; 32]>,
@@ -91,6 +95,13 @@ fn up_to(most: u64, written: i64) -> Option<u64>
     }
 }
 
+/// Whether a number is a quota of entries.
+pub(crate) fn is_quota(written: i64) -> bool
+    ensures { result ≡ is_some (up_to ENTRIES_LIMIT written) }
+{
+    up_to(ENTRIES_LIMIT, written).is_some()
+}
+
 /// The quota of pieces of a tenant with this quota of entries.
 fn pieces_for(entries: u64, written: Option<i64>) -> Option<u64>
     requires { entries ≤ ENTRIES_LIMIT }
@@ -99,6 +110,21 @@ fn pieces_for(entries: u64, written: Option<i64>) -> Option<u64>
     match written {
         Some(written) => up_to(PIECES_LIMIT, written),
         None => Some(ENTRY_PIECES_LIMIT * entries),
+    }
+}
+
+/// The limit of a tenant's records in a journal, if one is given: a number from 1 on. None for another one.
+fn journal_for(written: Option<i64>) -> Option<Option<u64>>
+    ensures { result ≡ journal_for written }
+{
+    match written {
+        Some(written) => {
+            if written < 1 {
+                return None;
+            }
+            Some(Some(written as u64))
+        }
+        None => Some(None),
     }
 }
 
@@ -191,12 +217,14 @@ impl Tenant {
         hex::decode_to_slice(written.digest, &mut digest).map_err(|_| TableFault::Digest)?;
         let others = others_of(written.others).map_err(|_| TableFault::Digest)?;
         let entries = up_to(ENTRIES_LIMIT, written.entries).ok_or(TableFault::Quota)?;
+        let journal = journal_for(written.journal).ok_or(TableFault::Quota)?;
         let pieces = pieces_for(entries, written.pieces).ok_or(TableFault::Pieces)?;
         Ok(Tenant {
             name,
             digest,
             others,
             quota: Quota { entries, pieces },
+            journal,
             frozen: None,
         })
     }
@@ -213,6 +241,7 @@ impl Tenant {
                 entries: 0,
                 pieces: 0,
             },
+            journal: None,
             frozen: None,
         }
     }
@@ -233,6 +262,7 @@ impl Tenant {
             digest: self.digest,
             others: self.others,
             quota: self.quota,
+            journal: self.journal,
             frozen: self.frozen,
         }
     }

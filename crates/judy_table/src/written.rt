@@ -17,12 +17,13 @@ pub struct OtherTexts<'a> {
 }
 
 /// The values for a tenant: the text of its digest, its quota of entries, and, if given, its quota
-/// of pieces and the texts of the digests of its other tokens.
+/// of pieces, the limit of its records in a journal, and the texts of the digests of its other tokens.
 #[derive(Clone, Copy)]
 pub struct Written<'a> {
     pub digest: &'a str,
     pub entries: i64,
     pub pieces: Option<i64>,
+    pub journal: Option<i64>,
     pub others: OtherTexts<'a>,
 }
 
@@ -150,19 +151,21 @@ fn all_of<'a>(
     digest: Option<&'a str>,
     entries: Option<i64>,
     pieces: Option<Option<i64>>,
+    journal: Option<Option<i64>>,
     others: Option<OtherTexts<'a>>,
 ) -> Option<Written<'a>>
     ensures { option_map told_of result
-        ≡ all_of keys (option_map (λ s. s.now) digest.entry) entries pieces
+        ≡ all_of keys (option_map (λ s. s.now) digest.entry) entries pieces journal
         (option_map others_told others.entry) }
 {
-    match (digest, entries, pieces, others) {
-        (Some(digest), Some(entries), Some(pieces), Some(others)) => {
-            if keys == 2 + counted_number(pieces) + count_others(others) {
+    match (digest, entries, pieces, journal, others) {
+        (Some(digest), Some(entries), Some(pieces), Some(journal), Some(others)) => {
+            if keys == 2 + counted_number(pieces) + counted_number(journal) + count_others(others) {
                 Some(Written {
                     digest,
                     entries,
                     pieces,
+                    journal,
                     others,
                 })
             } else {
@@ -182,6 +185,7 @@ fn read_written_in(table: &toml::Table) -> Option<Written<'_>>
         string_at(table, "sha256"),
         integer_at(table, "quota"),
         optional_integer_at(table, "pieces"),
+        optional_integer_at(table, "journal"),
         others_in(table),
     )
 }

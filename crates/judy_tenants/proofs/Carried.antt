@@ -4,8 +4,9 @@
 --     reason-seen     the reason for a refusal, by the arrays
 --     put-stocked     the service is sound under the later rows
 --     put-changed     what contracts see of it
+--     free-seen       what they see of arrays that are freed while the rows stay
 use Rattle.std.proofs.Common.{◌≡◌, ◌≢◌, ◌⊎◌, ◌≤◌, ◌<◌, ◌+◌, ◌&&◌, ℕ, Bool, true, false, not, inl, inr, List, [], length, map, ap, sym, ◌∙◌, refl, subst, arith, nat_lt, max, Option}
-use Rattle.std.specs.Prelude.{MatchBool, IsTrue, IsFalse, option_map, unwrap_or}
+use Rattle.std.specs.Prelude.{MatchBool, IsTrue, IsFalse, get_or, option_map, unwrap_or}
 use Rattle.std.specs.FinMap.{get}
 use Rattle.std.proofs.Math.ListN.{set}
 use Rattle.std.proofs.lemmas.Bool.{ltb-true, ltb-false}
@@ -20,7 +21,7 @@ use Rattle.judy_tenants.specs.declared.changing.Unchanged.{Unchanged}
 use Rattle.judy_tenants.specs.declared.changing.Unchanged.TheVariants.{Memory, Quota}
 use Rattle.judy_tenants.specs.declared.stock.Stock.{Stock}
 use Rattle.judy_tenants.specs.Accounts.{IsOwned, entries_at, account_pieces}
-use Rattle.judy_tenants.specs.Changes.{has_tenant, stays_at, IsCarried, HasChanged, HasReasonIn, HasReason}
+use Rattle.judy_tenants.specs.Changes.{has_tenant, stays_at, IsCarried, HasChanged, HasFreed, HasReasonIn, HasReason}
 use Rattle.judy_tenants.specs.Frees.{AreFreed}
 use Rattle.judy_tenants.specs.Held.{states_of, quotas_of, words_for}
 use Rattle.judy_tenants.specs.States.{state_in, sizes_in, IsHeld}
@@ -174,3 +175,27 @@ module _ {H : List ℕ → ℕ} (rows later : List Tenant) (old mid : Stock) (s 
       room = ap (λ d. d.1.room) directory ∙ ap (λ f. f.room) freed.footing;
       granted = granted;
     }
+
+-- ---- arrays that are freed while the rows stay
+
+-- the service, as contracts see it
+pub free-seen : {H : List ℕ → ℕ} (rows : List Tenant) (old new : Stock) (gone : List Bool) → IsStocked H rows old → IsStocked H rows new
+    → AreFreed (λ t. IsFalse (get_or gone t false)) old new
+    → ((t : ℕ) → IsTrue (get_or gone t false) → state_in new.arena.blocks new.directory.0 t ≡ no_arrays)
+    → HasFreed gone (held_of rows old) (held_of rows new)
+free-seen rows old new gone s n freed none = record {
+  tenants = refl;
+  freed = λ t h. seen-state rows new n t ∙ none t h;
+  stays = λ t h. (
+    seen-state rows new n t ∙ freed.states t h ∙ sym (seen-state rows old s t),
+    seen-sizes rows new n t ∙ freed.sizes t h ∙ sym (seen-sizes rows old s t),
+  );
+  refusals = freed.refusals;
+  unplaced = freed.unplaced;
+  region = freed.region;
+  reserved = freed.reserved;
+  peak = freed.peak;
+  start = ap (λ f. f.start) freed.footing;
+  room = ap (λ f. f.room) freed.footing;
+  granted = freed.granted;
+}

@@ -106,7 +106,7 @@ few-quotas ts h t = by (nat_lt t (length ts)) refl
         )
 
     by : (b : _) → nat_lt t (length ts) ≡ b → ((quotas_of ts t).entries ≤ 16777216) × ((quotas_of ts t).pieces ≤ 2113929216)
-    by true e = there (record { name = []; digest = []; others = no_others; quota = no_quota; frozen = None }) (ltb-true t (length ts) e)
+    by true e = there (record { name = []; digest = []; others = no_others; quota = no_quota; journal = None; frozen = None }) (ltb-true t (length ts) e)
     by false e =
         let past = get_or_past (map (λ (r : Tenant). r.quota) ts) t no_quota (subst (λ n. n ≤ t) (sym (length-map ts (λ (r : Tenant). r.quota))) (ltb-false t (length ts) e)) in (
           subst (λ q. q.entries ≤ 16777216) (sym past) (omega arith),

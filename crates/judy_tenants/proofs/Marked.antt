@@ -1,19 +1,18 @@
 -- Freeing the arrays of the tenants that are marked.
---     marked-first, marked-more   the marks so far
 --     freed-place                 a place after the call that frees its array
 --     FreesNext                   what is known before an array is freed; below it, what holds then
 --                                 and afterwards
 --     frees-next                  what is known before the array of the next name is freed
 --     freed-more                  then no array of another tenant was freed
---     unmarked, all-gone          a marked tenant has no arrays once its names are forgotten
-use Rattle.std.proofs.Common.{◌≡◌, ◌≢◌, ◌⊎◌, ℕ, zero, suc, ◌+◌, ◌≤◌, ◌<◌, ◌&&◌, Bool, true, false, not, inl, inr, List, ◌∷◌, length}
-use Rattle.std.proofs.Common.{get_or, replicate, ap, sym, ◌∙◌, refl, subst, arith, nat_lt}
+--     unmarked                    a marked tenant has no arrays once its names are forgotten
+--     marked-known, stays-unmarked    what a mark says
+--     freed-beside                what was freed beside fewer tenants
+--     all-gone                    a tenant that does not stay has no arrays once those of marked ones were freed
+use Rattle.std.proofs.Common.{◌≡◌, ◌≢◌, ℕ, ◌+◌, ◌≤◌, ◌<◌, ◌&&◌, Bool, true, false, not, List, ◌∷◌, length}
+use Rattle.std.proofs.Common.{get_or, ap, sym, ◌∙◌, refl, subst, nat_lt}
 use Rattle.std.specs.Prelude.{unwrap_or}
 use Rattle.std.specs.FinMap.{get, remove, retain_keys}
-use Rattle.std.proofs.Math.ListN.{set}
 use Rattle.std.proofs.lemmas.Bool.{false≢true, ltb-true, ltb-false}
-use Rattle.std.proofs.lemmas.Bool.Decides.{eqb_tells}
-use Rattle.std.proofs.lemmas.List.{get_or-set_same, get_or-set_other}
 use Rattle.judy_arena.specs.Blocks.{Blocks, ArenaState}
 use Rattle.judy_arena.specs.Takes.{Takes}
 use Rattle.judy_model.specs.declared.calls.Call.{Call}
@@ -47,55 +46,6 @@ use Rattle.judy_tenants.proofs.CallsServed.{CanSettle}
 use Rattle.judy_tenants.proofs.Frees.{Frees, FreesAt, frees-at, kind-of-free, empties, takes-none, few-there, can-free, only-freed, freed-stocked, no-names}
 use Rattle.judy_tenants.proofs.Owners.{kind_at-owner_byte}
 use Rattle.judy_tenants.proofs.StateLaws.{only}
-
--- ---- the marks
-
-none-marked : (n t : ℕ) → get_or (replicate n false) t false ≡ false
-none-marked zero t = refl
-none-marked (suc n) zero = refl
-none-marked (suc n) (suc t) = none-marked n t
-
--- the test of a bound
-below : (i n : ℕ) → i < n → nat_lt i n ≡ true
-below i n h = by (nat_lt i n) refl
-  where
-    by : (b : Bool) → nat_lt i n ≡ b → nat_lt i n ≡ true
-    by true e = e
-    by false e = let past = ltb-false i n e in absurd (omega (arith, past, h))
-
-above : (i n : ℕ) → n ≤ i → nat_lt i n ≡ false
-above i n h = by (nat_lt i n) refl
-  where
-    by : (b : Bool) → nat_lt i n ≡ b → nat_lt i n ≡ false
-    by true e = let inside = ltb-true i n e in absurd (omega (arith, inside, h))
-    by false e = e
-
--- at first none is marked
-pub marked-first : (n : ℕ) (f : ℕ → Bool) (t : ℕ) → get_or (replicate n false) t false ≡ (nat_lt t 0 && f t)
-marked-first n f t = none-marked n t ∙ sym (ap (λ b. b && f t) (above t 0 (omega arith)))
-
--- a bound that grows by a number that is not tested
-grown : (t i : ℕ) → t ≢ i → nat_lt t i ≡ nat_lt t (i + 1)
-grown t i h = by (nat_lt t i) refl
-  where
-    by : (b : Bool) → nat_lt t i ≡ b → nat_lt t i ≡ nat_lt t (i + 1)
-    by true e = let inside = ltb-true t i e in e ∙ sym (below t (i + 1) (omega (arith, inside)))
-    by false e = let past = ltb-false t i e in e ∙ sym (above t (i + 1) (more past))
-      where
-        more : i ≤ t → i + 1 ≤ t
-        more k = omega (arith, k, h)
-
--- one more mark
-pub marked-more : (xs : List Bool) (i : ℕ) (f : ℕ → Bool) → i < length xs → ((t : ℕ) → get_or xs t false ≡ (nat_lt t i && f t))
-    → (t : ℕ) → get_or (set xs i (f i)) t false ≡ (nat_lt t (i + 1) && f t)
-marked-more xs i f inside done t = by (eqb_tells t i)
-  where
-    here : get_or (set xs i (f i)) i false ≡ (nat_lt i (i + 1) && f i)
-    here = get_or-set_same xs i (f i) false inside ∙ ap (λ b. b && f i) (sym (below i (i + 1) (omega arith)))
-
-    by : {A B : Type 0} → (A × (t ≡ i)) ⊎ (B × (t ≢ i)) → get_or (set xs i (f i)) t false ≡ (nat_lt t (i + 1) && f t)
-    by (inl h) = subst (λ u. get_or (set xs i (f i)) u false ≡ (nat_lt u (i + 1) && f u)) (sym h.1) here
-    by (inr h) = get_or-set_other xs i t (f i) false h.1 ∙ done t ∙ ap (λ b. b && f t) (grown t i h.1)
 
 -- ---- the call that frees an array
 
@@ -257,12 +207,40 @@ pub unmarked : (b : Blocks) (d : Places) (gone : List Bool) (t : ℕ) → get_or
 unmarked b d gone t marked = no-names b (retain_keys d (is_staying gone)) t (λ kind name.
     gone-none gone d (spot_of t kind name) (gone-of gone t kind name ∙ marked))
 
--- and neither has a place that the table does not have
-pub all-gone : {H : List ℕ → ℕ} {tenants : List Tenant} {b : Blocks} {accounts : List Account} (d : Places) (gone : List Bool) (stays : Bool) (t : ℕ)
-    → IsServer H b (retain_keys d (is_staying gone)) accounts tenants → get_or gone t false ≡ (nat_lt t (length tenants) && not stays) → stays ≡ false
-    → state_in b (retain_keys d (is_staying gone)) t ≡ no_arrays
-all-gone {H} {tenants} {b} d gone stays t s marked leaves = by (nat_lt t (length tenants)) refl
+-- a mark is that of a place of the table
+pub marked-known : (t n : ℕ) (mark stays : Bool) → mark ≡ (nat_lt t n && not stays) → mark ≡ true → t < n
+marked-known t n mark stays is marked = ltb-true t n (by (nat_lt t n) (sym is ∙ marked))
   where
-    by : (x : Bool) → nat_lt t (length tenants) ≡ x → state_in b (retain_keys d (is_staying gone)) t ≡ no_arrays
-    by true e = unmarked b d gone t (marked ∙ ap (λ x. x && not stays) e ∙ ap not leaves)
+    by : (x : Bool) → (x && not stays) ≡ true → x ≡ true
+    by true h = refl
+    by false h = h
+
+-- a tenant that stays has no mark
+pub stays-unmarked : (below mark stays : Bool) → mark ≡ (below && not stays) → stays ≡ true → mark ≡ false
+stays-unmarked true mark stays is h = is ∙ ap not h
+stays-unmarked false mark stays is h = is
+
+-- what was freed beside fewer tenants
+pub freed-beside : {stay spared : ℕ → Type 0} {old new : Stock} → ((t : ℕ) → stay t → spared t) → AreFreed spared old new → AreFreed stay old new
+freed-beside are freed = record {
+  states = λ t h. freed.states t (are t h);
+  sizes = λ t h. freed.sizes t (are t h);
+  refusals = freed.refusals;
+  region = freed.region;
+  reserved = freed.reserved;
+  peak = freed.peak;
+  footing = freed.footing;
+  unplaced = freed.unplaced;
+  granted = freed.granted;
+}
+
+-- one that does not stay has no arrays if those of marked tenants were freed
+pub all-gone : {H : List ℕ → ℕ} {tenants : List Tenant} (stock : Stock) (mark stays : Bool) (t : ℕ)
+    → IsStocked H tenants stock → mark ≡ (nat_lt t (length tenants) && not stays)
+    → (mark ≡ true → state_in stock.arena.blocks stock.directory.0 t ≡ no_arrays) → stays ≡ false
+    → state_in stock.arena.blocks stock.directory.0 t ≡ no_arrays
+all-gone {H} {tenants} stock mark stays t s is gone leaves = by (nat_lt t (length tenants)) refl
+  where
+    by : (x : Bool) → nat_lt t (length tenants) ≡ x → state_in stock.arena.blocks stock.directory.0 t ≡ no_arrays
+    by true e = gone (is ∙ ap (λ x. x && not stays) e ∙ ap not leaves)
     by false e = s.owned.outside t (ltb-false t (length tenants) e)

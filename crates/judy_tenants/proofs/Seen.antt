@@ -8,7 +8,7 @@ use Rattle.judy_arena.specs.Blocks.{total_words}
 use Rattle.judy_arena.specs.Totals.{TotalsOver}
 use Rattle.judy_model.specs.declared.replies.Reply.{Reply}
 use Rattle.judy_model.specs.Tenant.{no_arrays}
-use Rattle.judy_model.specs.Service.{Quotas, States, IsServed, all_pieces}
+use Rattle.judy_model.specs.Service.{Quotas, IsServed, all_pieces}
 use Rattle.judy_model.specs.Speakers.{Event}
 use Rattle.judy_table.specs.declared.tenant.Tenant.{Tenant}
 use Rattle.judy_tenants.specs.declared.stock.Stock.{Stock}

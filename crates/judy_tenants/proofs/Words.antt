@@ -1,29 +1,27 @@
 -- The words of all blocks are the words of all arrays of all tenants.
 --     words-sum    the words of all blocks, as the sum over the tenants
-use Rattle.std.proofs.Common.{◌≡◌, ◌≢◌, ℕ, zero, suc, ◌+◌, ◌≤◌, ◌<◌, Bool, true, false, cond, ◌==◌, List, [], ◌∷◌, ◌++◌, length}
-use Rattle.std.proofs.Common.{Option, Some, None, ap, sym, ◌∙◌, refl, subst, arith}
+use Rattle.std.proofs.Common.{◌≡◌, ◌≢◌, ℕ, zero, suc, ◌+◌, ◌≤◌, ◌<◌, Bool, true, false, cond, ◌==◌, List, [], ◌∷◌}
+use Rattle.std.proofs.Common.{Some, ap, sym, ◌∙◌, refl, subst, arith}
 use Rattle.std.proofs.lemmas.Bool.Decides.{nat_tests}
 use Rattle.std.proofs.lemmas.List.Sums.{sum_by-cons}
-use Rattle.std.specs.Prelude.{unwrap_or, option_map}
 use Rattle.std.specs.FinMap.{find, entries}
 use Rattle.judy_arena.specs.Blocks.{Blocks, total_words}
 use Rattle.judy_arena.specs.Totals.{words_over, TotalsOver}
 use Rattle.judy_arena.proofs.lemmas.BlockLaws.{itself, words_over-append}
 use Rattle.judy_model.specs.Contents.{Entries, string_order}
-use Rattle.judy_model.specs.Tenant.{Arrays, content_of}
-use Rattle.judy_model.specs.WellFormed.{has_entries}
+use Rattle.judy_model.specs.Tenant.{Arrays}
 use Rattle.judy_directory.specs.Places.{Stand, at}
 use Rattle.judy_directory.specs.Kinds.{owner_byte, spot_of}
 use Rattle.judy_directory.specs.declared.spot.ArrayKind.{ArrayKind}
 use Rattle.judy_directory.specs.declared.spot.ArrayKind.TheVariants.{One, Long, Str, Bytes}
 use Rattle.judy_directory.specs.Shelf.{Places, pick, picked}
-use Rattle.judy_kinds.specs.Kinds.{kind_of_key, IsPlaceOf, numbers_of_array, place_numbers}
-use Rattle.judy_kinds.specs.Laws.{IsSmall, PlacesAreSmall}
-use Rattle.judy_tenants.specs.Held.{Sizes, words_named, summed_words, tenant_words, all_words}
-use Rattle.judy_tenants.specs.States.{state_in, words_at, sized, sizes_by, sizes_in, IsHeld}
+use Rattle.judy_kinds.specs.Kinds.{IsPlaceOf, numbers_of_array, place_numbers}
+use Rattle.judy_kinds.specs.Laws.{IsSmall}
+use Rattle.judy_tenants.specs.Held.{Sizes, summed_words, tenant_words, all_words}
+use Rattle.judy_tenants.specs.States.{words_at, sized, sizes_by, sizes_in, IsHeld}
 use Rattle.judy_tenants.proofs.Owners.{kind_at-owner_byte, tenants_apart, kinds_apart}
 use Rattle.judy_tenants.specs.Growth.{KindLaws}
-use Rattle.judy_tenants.proofs.StateLaws.{KeyOf, content_at, arrays_at}
+use Rattle.judy_tenants.proofs.StateLaws.{content_at}
 use Rattle.judy_tenants.proofs.Numbers.{Placed, AreArrays, all_numbers, head_found, tail_found, tail, are_arrays, found_place, words-are}
 use Rattle.judy_tenants.specs.Accounts.{IsOwned}
 use Rattle.judy_tenants.proofs.Space.{Belongs, states_at, belongs}

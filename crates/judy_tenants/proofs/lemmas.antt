@@ -2,3 +2,4 @@
 pub mod Promises
 pub mod Enough
 pub mod Changed
+pub mod Marks

@@ -2,11 +2,12 @@
 --     has_tenant rows t            a tenant has this place
 --     stays_at rows later t        it has the place before and after, so it stays
 --     HasChanged old new           the later rows were put in force
+--     HasFreed gone old new        the arrays of the tenants at the marked places were freed
 --     IsCarried rows later ..      what the account of a place becomes
 --     HasReasonIn, HasReason       why the rows were not put in force, by the accounts and by the arrays
 --     lifted held                  each tenant has the greatest quota
 --     regranted held               what the quotas of earlier tables allowed counts no more
-use Rattle.std.specs.Prelude.{◌≡◌, ◌⊎◌, ◌<◌, ◌≤◌, ℕ, Bool, false, ◌&&◌, not, List, IsTrue, IsFalse, MatchBool, map, max, option_map, unwrap_or, slice_get}
+use Rattle.std.specs.Prelude.{◌≡◌, ◌⊎◌, ◌<◌, ◌≤◌, ℕ, Bool, false, ◌&&◌, not, List, IsTrue, IsFalse, MatchBool, get_or, map, max, option_map, unwrap_or, slice_get}
 use Rattle.judy_model.specs.Tenant.{no_arrays, used, pieces}
 use Rattle.judy_table.specs.declared.tenant.Tenant.{Tenant}
 use Rattle.judy_table.specs.Tenants.{is_vacant}
@@ -40,6 +41,21 @@ pub record HasChanged (old new : Held) : Type 0 where
   pub start : new.start ≡ old.start
   pub room : new.room ≡ old.room
   pub granted : new.granted ≡ max old.granted (words_for new.tenants)
+
+-- The arrays of the tenants at the marked places were freed. The rows stay, and so do all other arrays, what was
+-- counted, and the memory that was taken.
+pub record HasFreed (gone : List Bool) (old new : Held) : Type 0 where
+  pub tenants : new.tenants ≡ old.tenants
+  pub freed : (t : ℕ) → IsTrue (get_or gone t false) → states_of new t ≡ no_arrays
+  pub stays : (t : ℕ) → IsFalse (get_or gone t false) → (states_of new t ≡ states_of old t) × (sizes_of new t ≡ sizes_of old t)
+  pub refusals : new.refusals ≡ old.refusals
+  pub unplaced : new.unplaced ≡ old.unplaced
+  pub region : new.region ≡ old.region
+  pub reserved : new.reserved ≡ old.reserved
+  pub peak : new.peak ≡ old.peak
+  pub start : new.start ≡ old.start
+  pub room : new.room ≡ old.room
+  pub granted : new.granted ≡ old.granted
 
 -- What the account of a place becomes: a tenant that stays keeps its numbers, and every other place
 -- has none. They are within the quota of the later row.

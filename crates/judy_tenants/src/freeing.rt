@@ -130,6 +130,27 @@ fn marks(table: &Table, later: &Table) -> [bool; ROWS]
     gone
 }
 
+/// Frees all arrays of the tenants at the marked places.
+pub fn free_all<H: KeyHash>(alloc: Global, stock: &mut Stock, hash: H, table: &Table, gone: &[bool])
+    requires stocked { IsStocked H.hashed table.now stock.old }
+    requires known { (t : ℕ) → IsTrue (get_or gone.now t false) → t < length table.now }
+    ensures stocked { IsStocked H.hashed table.now stock.new }
+    ensures freed { AreFreed (λ t. IsFalse (get_or gone.now t false)) stock.old stock.new }
+    ensures gone { (t : ℕ) → IsTrue (get_or gone.now t false)
+        → state_in stock.new.arena.blocks stock.new.directory.0 t ≡ no_arrays }
+{
+    free_marked(
+        alloc,
+        &mut stock.arena,
+        &mut stock.accounts,
+        hash,
+        table,
+        &stock.directory,
+        gone,
+    );
+    stock.directory.forget_gone(gone);
+}
+
 /// Frees all arrays of the tenants that do not stay when later rows come in force.
 pub fn free_gone<H: KeyHash>(
     alloc: Global,
@@ -145,15 +166,5 @@ pub fn free_gone<H: KeyHash>(
         → state_in stock.new.arena.blocks stock.new.directory.0 t ≡ no_arrays }
 {
     let marked = marks(table, later);
-    let gone = marked.as_slice();
-    free_marked(
-        alloc,
-        &mut stock.arena,
-        &mut stock.accounts,
-        hash,
-        table,
-        &stock.directory,
-        gone,
-    );
-    stock.directory.forget_gone(gone);
+    free_all(alloc, stock, hash, table, marked.as_slice());
 }

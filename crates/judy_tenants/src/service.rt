@@ -1,5 +1,5 @@
 //! Many tenants, their arrays and their quotas.
-ghost use Rattle.std.specs.Prelude.{◌≡◌, ◌<◌, ◌≤◌, ℕ, IfErr, IfOk, IfSome, IsTrue, None, Some, true, nat_lt, length, map, slice_get, option_map, OnOk, OnErr, max, ◌+◌};
+ghost use Rattle.std.specs.Prelude.{◌≡◌, ◌<◌, ◌≤◌, ℕ, IfErr, IfOk, IfSome, IsTrue, None, Some, false, true, get_or, nat_lt, length, map, slice_get, option_map, OnOk, OnErr, max, ◌+◌};
 ghost use Rattle.judy_model.specs.Tenant.{used, pieces, no_arrays};
 ghost use Rattle.judy_model.specs.Service.{IsServed};
 ghost use Rattle.judy_model.specs.Solo.{is_memory};
@@ -7,14 +7,15 @@ ghost use Rattle.judy_directory.specs.Secrets.{start_of};
 ghost use Rattle.judy_kinds.specs.Calls.{has_string};
 ghost use Rattle.judy_table.specs.Shown.{seen};
 ghost use Rattle.judy_table.specs.Freezes.{has_tenant_of, with_freeze};
-ghost use Rattle.judy_table.specs.Seats.{AreRows, goes_on, knows, seated};
+ghost use Rattle.judy_table.specs.Seats.{AreRows, goes_on, journal_at, knows, seated};
 ghost use Rattle.judy_table.specs.Tenants.{is_vacant, login_of, place_of};
 ghost use Rattle.sha2.specs.Sha256.{sha256};
-ghost use Rattle.judy_tenants.specs.Changes.{HasChanged, HasReason, lifted, regranted};
+ghost use Rattle.judy_tenants.specs.Changes.{HasChanged, HasFreed, HasReason, lifted, regranted};
 ghost use Rattle.judy_tenants.specs.Held.{states_of, quotas_of, words_for, HasCause, HasNoReserve, HasServiceSpace, HasNames, IsReserved, IsSoundService, Keeps};
 
 use crate::accounts::{account_of, no_accounts};
 use crate::changing::{Unchanged, put_in_force};
+use crate::freeing::free_all;
 use crate::grants::words_for;
 use crate::laws;
 use crate::serving::serve;
@@ -165,6 +166,14 @@ impl<H: KeyHash> Service<H> {
         self.table.quota(tenant).entries
     }
 
+    /// After how many bytes of records since the last snapshot a journal takes no more of a tenant, if it has such
+    /// a limit. None for a place without a tenant.
+    pub fn journal_limit(&self, tenant: TenantId) -> Option<u64>
+        ensures { result ≡ journal_at self.now.tenants tenant }
+    {
+        self.table.journal_limit(tenant)
+    }
+
     /// A tenant's quota of pieces.
     pub fn most(&self, tenant: TenantId) -> u64
         requires { tenant < length self.now.tenants }
@@ -230,6 +239,16 @@ impl<H: KeyHash> Service<H> {
         }
         self.is_at_all_times();
         changed
+    }
+
+    /// Frees all arrays of the tenants at the marked places. Nothing else changes.
+    pub fn free(&mut self, alloc: Global, gone: &[bool])
+        requires known { (t : ℕ) → IsTrue (get_or gone.now t false) → t < length self.old.tenants }
+        ensures freed { HasFreed gone.now self.old self.new }
+        ensures sound { IsSoundService self.new }
+    {
+        free_all(alloc, &mut self.stock, self.hash, &self.table, gone);
+        self.is_at_all_times();
     }
 
     /// Freezes a tenant. From now on a token with this SHA-256 logs in as this tenant with the right to

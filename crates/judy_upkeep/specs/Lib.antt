@@ -1,1 +1,5 @@
+pub mod Changes
+pub mod Leaving
+pub mod Lines
+pub mod Repairing
 pub mod Replacing

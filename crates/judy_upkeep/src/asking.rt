@@ -1,36 +1,51 @@
-//! Asks a service of a made-up table for its entries.
-ghost use Rattle.std.specs.Option.{ForSome};
-ghost use Rattle.judy_protocol.specs.Services.{IsKnown};
+//! Asks a service of made-up tenants for its entries.
+ghost use Rattle.std.specs.Prelude.{◌≡◌, ◌≤◌, length, IfOk};
+ghost use Rattle.std.specs.List.{All};
+ghost use Rattle.judy_protocol.specs.Services.{IsAsked, IsKnown};
 
-use crate::names::TOKEN;
+use crate::kinds::Change;
 use arrayvec::ArrayVec;
-use judy_model::{KEY_LIMIT, NAME_LIMIT, Reply};
+use itoa::Buffer;
+use judy_model::{Call, KEY_LIMIT, Reply};
+use judy_programs::Opens;
 use judy_protocol::{Line, Served, read_line};
 use judy_recovery::Reason;
-use std::alloc::Global;
+use std::alloc::{AllocError, Global};
+
+/// The most tenants that a table may have.
+pub const TENANTS: usize = 64;
+
+/// The token of each tenant here. Nobody else is served.
+const TOKEN: &[u8; 1] = b"x";
+
+/// What each tenant's table has: the digest of the token, and the greatest quotas.
+const GREATEST: &str =
+    "\nsha256 = \"2d711642b726b04401627ca9fbac32f5c8530fb1903cc4db02258717921a4881\"\nquota = 16777216\npieces = 2113929216\n";
 
 /// What came of a call.
 #[derive(Clone, Copy, Debug, PartialEq, Eq)]
 pub enum Came {
     /// The entry has this value; 0 if it is one of a set.
     Value(u64),
+    /// This index was found, with this value; 0 if it is one of a set.
+    At(u64, u64),
+    /// A key was found, with this value. It is the one that was found last.
+    AtKey(u64),
+    /// So many entries.
+    Count(u64),
     /// There is no such entry.
     Nothing,
-    /// Another answer.
-    Other,
 }
 
-/// A service whose tenants all have the token `x`, and the tenant that spoke last. Its token is hashed
-/// once for all calls up to those of another tenant.
+/// A service of 64 made-up tenants, who have the token `x`, and who all have logged in.
 #[derive(Drop)]
 pub struct Asking<S: Served> {
     alloc: Global,
     service: S,
-    name: ArrayVec<u8, NAME_LIMIT>,
-    speaker: Option<S::Speaker>,
+    speakers: Vec<S::Speaker>,
     key: [u8; KEY_LIMIT],
     found: ArrayVec<u8, KEY_LIMIT>,
-    ghost known: { ForSome speaker (λ s. IsKnown (S.seen service).speakers (S.who s)) },
+    ghost known: { All (λ s. IsKnown (S.seen service).speakers (S.who s)) speakers.items },
 }
 
 /// What came of a call, by its reply.
@@ -40,54 +55,133 @@ fn came_of(reply: &Reply<'_>) -> Result<Came, Reason> {
         Reply::Int(false) => Ok(Came::Nothing),
         Reply::Value(value) => Ok(Came::Value(*value)),
         Reply::Null => Ok(Came::Nothing),
-        Reply::Index(_) => Ok(Came::Other),
-        Reply::Count(_) => Ok(Came::Other),
-        Reply::ValueAt(_, _) => Ok(Came::Other),
-        Reply::ValueKey(_, _) => Ok(Came::Other),
-        Reply::Used(_, _, _, _) => Ok(Came::Other),
+        Reply::Index(index) => Ok(Came::At(*index, 0)),
+        Reply::Count(count) => Ok(Came::Count(*count)),
+        Reply::ValueAt(value, index) => Ok(Came::At(*index, *value)),
+        Reply::ValueKey(value, _) => Ok(Came::AtKey(*value)),
+        Reply::Used(_, _, _, _) => Err(Reason::Record),
         Reply::Full => Err(Reason::Full),
         Reply::ReadOnly | Reply::Frozen => Err(Reason::Full),
         Reply::Memory => Err(Reason::Memory),
     }
 }
 
-impl<S: Served> Asking<S> {
-    /// Nobody has spoken.
-    pub fn new(alloc: Global, service: S) -> Self {
-        Asking {
+/// The name of the made-up tenant with this number.
+fn name_of(number: usize) -> ArrayVec<u8, 32> {
+    let mut name = ArrayVec::new();
+    let mut digits = Buffer::new();
+    let _fits = name.try_extend_from_slice(b"t");
+    let _fits = name.try_extend_from_slice(digits.format(number as u64).as_bytes());
+    name
+}
+
+/// Puts a tenant behind the others.
+fn put_tenant(text: &mut Vec<u8>, name: &[u8]) -> Result<(), AllocError> {
+    text.extend_from_slice(b"[\"")?;
+    text.extend_from_slice(name)?;
+    text.extend_from_slice(b"\"]")?;
+    text.extend_from_slice(GREATEST.as_bytes())?;
+    Ok(())
+}
+
+/// The text of a table with all made-up tenants.
+fn table(alloc: Global) -> Result<Vec<u8>, AllocError> {
+    let mut text = Vec::new(alloc);
+    for number in 0..TENANTS {
+        put_tenant(&mut text, name_of(number).as_slice())?;
+    }
+    Ok(text)
+}
+
+/// Logs one made-up tenant in.
+fn log_in<S: Served>(service: &S, number: usize) -> Result<S::Speaker, Reason>
+    ensures { IfOk result (λ s. IsKnown (S.seen service.now).speakers (S.who s)) }
+{
+    match service.login(name_of(number).as_slice(), TOKEN) {
+        Some(speaker) => Ok(speaker),
+        None => Err(Reason::Tenant),
+    }
+}
+
+/// Logs all made-up tenants in.
+fn log_in_all<S: Served>(alloc: Global, service: &S) -> Result<Vec<S::Speaker>, Reason>
+    ensures { IfOk result (λ v. All (λ s. IsKnown (S.seen service.now).speakers (S.who s)) v.items) }
+{
+    let mut speakers = Vec::new(alloc);
+    for number in 0..TENANTS {
+        let speaker = log_in(service, number)?;
+        if speakers.push(speaker).is_err() {
+            return Err(Reason::Memory);
+        }
+    }
+    Ok(speakers)
+}
+
+impl<S: Opens + Drop> Asking<S> {
+    /// A new service. Nobody has an entry.
+    pub fn open(alloc: Global, secret: &[u8]) -> Result<Asking<S>, Reason> {
+        let Ok(table) = table(alloc) else {
+            return Err(Reason::Memory);
+        };
+        let Ok(service) = S::open(alloc, secret, table.as_slice()) else {
+            return Err(Reason::Memory);
+        };
+        let speakers = log_in_all(alloc, &service)?;
+        Ok(Asking {
             alloc,
             service,
-            name: ArrayVec::new(),
-            speaker: None,
+            speakers,
             key: [0; KEY_LIMIT],
             found: ArrayVec::new(),
-        }
+        })
     }
 
-    /// The service.
-    pub fn service(&self) -> &S {
-        &self.service
+    /// The words of all blocks of all arrays.
+    pub fn live_words(&self) -> u64 {
+        self.service.live_words()
     }
+}
 
-    /// Makes a tenant the one that speaks.
-    pub fn speak_as(&mut self, tenant: &[u8]) {
-        if self.name.as_slice() == tenant && self.speaker.is_some() {
-            return;
-        }
-        self.speaker = self.service.login(tenant, TOKEN);
-        self.name.clear();
-        let _fits = self.name.try_extend_from_slice(tenant);
-    }
-
-    /// Makes the call that a line of the tenant that speaks asks for.
-    pub fn ask(&mut self, line: &[u8]) -> Result<Came, Reason> {
+impl<S: Served> Asking<S> {
+    /// Makes the call that a line of this tenant asks for.
+    pub fn ask(&mut self, tenant: usize, line: &[u8]) -> Result<Came, Reason> {
         let Ok(Line::Call(call)) = read_line(line, &mut self.key) else {
             return Err(Reason::Record);
         };
-        let speaker = self.speaker.ok_or(Reason::Tenant)?;
+        let Some(speaker) = self.speakers.get(tenant) else {
+            return Err(Reason::Tenant);
+        };
         let reply = self
             .service
-            .call(self.alloc, speaker, &call, &mut self.found);
+            .call(self.alloc, *speaker, &call, &mut self.found);
         came_of(&reply)
+    }
+
+    /// Makes the call that a line of this tenant asks for, which must be one that may change an array.
+    /// Returns what it may change.
+    pub fn change(&mut self, tenant: usize, line: &[u8]) -> Result<Change, Reason> {
+        let Ok(Line::Call(call)) = read_line(line, &mut self.key) else {
+            return Err(Reason::Record);
+        };
+        let Some(change) = Change::of(&call) else {
+            return Err(Reason::Record);
+        };
+        let Some(speaker) = self.speakers.get(tenant) else {
+            return Err(Reason::Tenant);
+        };
+        let reply = self
+            .service
+            .call(self.alloc, *speaker, &call, &mut self.found);
+        match came_of(&reply) {
+            Ok(_) => Ok(change),
+            Err(why) => Err(why),
+        }
+    }
+
+    /// The key that was found last.
+    pub fn key_found(&self) -> &[u8]
+        ensures { length result.now ≤ KEY_LIMIT }
+    {
+        self.found.as_slice()
     }
 }

@@ -14,9 +14,10 @@ fn of_disk(fault: DiskFault) -> JournalFault {
 /// No server may have the directory. After a fault it has no manifest.
 pub fn begin_journal<F: Locks + Clone + Drop>(
     alloc: Global,
-    folder: &Folder<'_, F>,
+    folder: &mut Folder<'_, F>,
 ) -> Result<(), JournalFault> {
     let _closed = folder.take_closed().map_err(|e| of_disk(e))?;
+    let _start = folder.take_start().map_err(|e| of_disk(e))?;
     let _lock = folder.take().map_err(|e| of_disk(e))?;
     let found = folder.scan_new().map_err(|e| of_disk(e))?;
     recover(folder, alloc, &found, &mut Nobody)?;
@@ -81,11 +82,11 @@ pub struct Examined {
 /// meanwhile: then what it writes may look torn.
 pub fn examine<F: Locks + Clone + Drop>(
     alloc: Global,
-    folder: &Folder<'_, F>,
+    folder: &mut Folder<'_, F>,
 ) -> Result<Examined, JournalFault> {
-    let closed = folder.closed_lock_if_there();
-    if let Some(lock) = &closed {
-        let _held = folder.hold_closed(lock);
+    let reading = folder.read_lock_if_there();
+    if let Some(lock) = &reading {
+        let _held = folder.wait_to_read(lock);
     }
     let found = folder.scan().map_err(|e| of_disk(e))?;
     let mut counting = Counting {

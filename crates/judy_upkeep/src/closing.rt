@@ -34,7 +34,7 @@ fn put_first<F: Files>(growing: &mut Growing<F>, text: &[u8]) -> Result<(), Disk
 /// Begins the segment after this one, with its first line, and raises the manifest to it. If the line
 /// cannot be written, there is no such segment, unless it was there before.
 fn begin_next<F: Locks>(
-    folder: &Folder<'_, F>,
+    folder: &mut Folder<'_, F>,
     writer: &mut Writer,
     is_there: bool,
 ) -> Result<(), DiskFault>
@@ -57,7 +57,7 @@ fn begin_next<F: Locks>(
 /// Begins the segment after the one where a writer would go on, unless that one has no commit.
 fn begin_after<F: Locks>(
     alloc: Global,
-    folder: &Folder<'_, F>,
+    folder: &mut Folder<'_, F>,
     at: Resumed,
 ) -> Result<(), Uncompacted> {
     if at.is_bare || at.segment >= LAST_SEGMENT {
@@ -75,7 +75,7 @@ fn begin_after<F: Locks>(
 /// last. No server may have the directory.
 pub fn close_last<F: Locks + Clone + Drop>(
     alloc: Global,
-    folder: &Folder<'_, F>,
+    folder: &mut Folder<'_, F>,
 ) -> Result<(), Uncompacted> {
     let found = folder.scan()?;
     let end = recover(folder, alloc, &found, &mut Nobody)?;

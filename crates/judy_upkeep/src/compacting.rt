@@ -1,15 +1,14 @@
 //! Makes one snapshot of the closed segments of a journal.
-use crate::asking::Asking;
 use crate::closing::close_last;
-use crate::names::Names;
 use crate::output::Output;
+use crate::playing::Playing;
 use crate::replacing::{Replacing, remove_left, replace};
-use crate::replaying::Replaying;
 use crate::rewriting::Rewriting;
+use crate::writing::Walk;
 use judy_disk::{DiskFault, Folder, Found, Locks, NewSnapshot, Place};
 use judy_journal::Writer;
-use judy_programs::{Opens, Replays};
-use judy_recovery::{End, JournalFault, recover_closed};
+use judy_programs::Opens;
+use judy_recovery::{End, JournalFault, Reason, recover_closed};
 use std::alloc::Global;
 use std::fs::Files;
 
@@ -47,25 +46,10 @@ impl From<DiskFault> for Uncompacted {
     }
 }
 
-/// A service with all entries that the closed segments make.
-fn replay_closed<S: Opens + Replays + Drop, F: Files>(
-    alloc: Global,
-    secret: &[u8],
-    folder: &Folder<'_, F>,
-    found: &Found,
-    names: &Names,
-) -> Result<S, Uncompacted> {
-    let table = names.table(alloc).map_err(|_| Uncompacted::Memory)?;
-    let service = S::open(alloc, secret, table.as_slice()).map_err(|_| Uncompacted::Memory)?;
-    let mut state = Replaying::new(alloc, service);
-    recover_closed(folder, alloc, found, &mut state)?;
-    Ok(state.into_service())
-}
-
 /// Begins a snapshot of the segments up to this end.
 fn begin<F: Locks>(
     alloc: Global,
-    folder: &Folder<'_, F>,
+    folder: &mut Folder<'_, F>,
     end: &End,
 ) -> Result<(Box<Writer>, NewSnapshot<F>), Uncompacted> {
     let Ok(mut writer) = Box::new(alloc, Writer::new(end.segment, &end.sum, 0)) else {
@@ -77,53 +61,137 @@ fn begin<F: Locks>(
     Ok((writer, file))
 }
 
-/// Writes all entries of a service to a new snapshot, which has no name yet.
-fn rewrite<S: Opens + Drop, F: Locks>(
+/// Why a snapshot is not written, by what was found at an entry.
+fn of_reason(why: Reason, fault: Option<DiskFault>) -> Uncompacted {
+    match (why, fault) {
+        (_, Some(fault)) => Uncompacted::Disk(fault),
+        (Reason::Memory, None) => Uncompacted::Memory,
+        (_, None) => Uncompacted::Left,
+    }
+}
+
+/// Writes the entries of maps from byte keys, which cannot be walked, to a snapshot: the records are read once
+/// more.
+fn rewrite_bytes<S: Opens + Drop, F: Files>(
     alloc: Global,
     folder: &Folder<'_, F>,
     found: &Found,
-    end: &End,
-    service: S,
-) -> Result<NewSnapshot<F>, Uncompacted> {
-    let (writer, file) = begin(alloc, folder, end)?;
-    let mut rewriting = Rewriting::new(Asking::new(alloc, service), Output::new(writer, file));
-    if let Err(fault) = recover_closed(folder, alloc, found, &mut rewriting) {
-        return Err(match rewriting.take_fault() {
+    playing: Playing<S>,
+    output: Output<F>,
+) -> Result<(Playing<S>, Output<F>), Uncompacted> {
+    let mut rewriting = Rewriting::new(playing, output);
+    match recover_closed(folder, alloc, found, &mut rewriting) {
+        Ok(_) => Ok(rewriting.into_parts()),
+        Err(fault) => Err(match rewriting.take_fault() {
             Some(fault) => Uncompacted::Disk(fault),
             None => Uncompacted::Journal(fault),
-        });
+        }),
     }
-    let (file, state) = match rewriting.finish() {
-        Ok(finished) => finished,
-        Err(Some(fault)) => return Err(Uncompacted::Disk(fault)),
-        Err(None) => return Err(Uncompacted::Left),
-    };
-    if state.service().live_words() > 0 {
-        return Err(Uncompacted::Left);
-    }
-    Ok(file)
 }
 
-/// Makes one snapshot of the snapshot before and of the closed segments, which this program has taken.
-fn compact_closed<S: Opens + Replays + Drop, F: Locks + Clone + Drop>(
+/// Writes all entries to a snapshot, and removes them. Afterwards no array has a word.
+fn write_entries<S: Opens + Drop, F: Files>(
+    alloc: Global,
+    folder: &Folder<'_, F>,
+    found: &Found,
+    playing: Playing<S>,
+    output: Output<F>,
+) -> Result<Output<F>, Uncompacted> {
+    let (mut playing, mut output) = (playing, output);
+    if let Err(why) = Walk::new().write_all(&mut playing, &mut output) {
+        return Err(of_reason(why, output.take_fault()));
+    }
+    if playing.entries.live_words() == 0 {
+        return Ok(output);
+    }
+    let (playing, output) = rewrite_bytes(alloc, folder, found, playing, output)?;
+    if playing.entries.live_words() > 0 {
+        return Err(Uncompacted::Left);
+    }
+    Ok(output)
+}
+
+/// Writes all entries that a journal has made to a new snapshot, which has no name yet.
+fn rewrite<S: Opens + Drop, F: Locks>(
+    alloc: Global,
+    folder: &mut Folder<'_, F>,
+    found: &Found,
+    end: &End,
+    playing: Playing<S>,
+) -> Result<NewSnapshot<F>, Uncompacted> {
+    let (writer, file) = begin(alloc, folder, end)?;
+    let output = Output::new(writer, file);
+    let mut output = write_entries(alloc, folder, found, playing, output)?;
+    match output.end() {
+        Ok(()) => Ok(output.into_file()),
+        Err(Some(fault)) => Err(Uncompacted::Disk(fault)),
+        Err(None) => Err(Uncompacted::Left),
+    }
+}
+
+/// Closes the last segment, if no server has the directory.
+fn close_if_free<F: Locks + Clone + Drop>(
+    alloc: Global,
+    folder: &mut Folder<'_, F>,
+) -> Result<(), Uncompacted> {
+    let _start = folder.take_start()?;
+    match folder.take_if_free()? {
+        Some(_lock) => close_last(alloc, folder),
+        None => Ok(()),
+    }
+}
+
+/// What a compaction has read, and the new snapshot that it has written, if one is due.
+#[derive(Drop)]
+struct Ready<F: Files> {
+    found: Found,
+    file: Option<NewSnapshot<F>>,
+    /// The snapshot with this number stands for all files up to it.
+    upto: u64,
+}
+
+/// Writes one snapshot of the snapshot before and of the closed segments, which this program has taken. It
+/// has no name yet.
+fn prepare<S: Opens + Drop, F: Locks + Clone + Drop>(
     alloc: Global,
     secret: &[u8],
-    folder: &Folder<'_, F>,
-) -> Result<Compacted, Uncompacted> {
-    if let Some(_lock) = folder.take_if_free()? {
-        close_last(alloc, folder)?;
-    }
+    folder: &mut Folder<'_, F>,
+) -> Result<Ready<F>, Uncompacted> {
+    close_if_free(alloc, folder)?;
     let found = folder.scan()?;
-    let mut names = Names::new(alloc);
-    let Some(end) = recover_closed(folder, alloc, &found, &mut names)? else {
-        let kept = found.snapshot.unwrap_or(0);
-        remove_left(&mut Replacing::new(folder, None), &found, kept)?;
-        return Ok(Compacted::Nothing);
+    let mut playing: Playing<S> = match Playing::open(alloc, secret) {
+        Ok(playing) => playing,
+        Err(why) => return Err(of_reason(why, None)),
     };
-    let service: S = replay_closed(alloc, secret, folder, &found, &names)?;
-    let file = rewrite(alloc, folder, &found, &end, service)?;
-    replace(&mut Replacing::new(folder, Some(file)), &found, end.segment)?;
-    Ok(Compacted::Snapshot(end.segment))
+    let Some(end) = recover_closed(folder, alloc, &found, &mut playing)? else {
+        let upto = found.snapshot.unwrap_or(0);
+        return Ok(Ready {
+            found,
+            file: None,
+            upto,
+        });
+    };
+    let file = rewrite(alloc, folder, &found, &end, playing)?;
+    Ok(Ready {
+        found,
+        file: Some(file),
+        upto: end.segment,
+    })
+}
+
+/// Puts a new snapshot, if there is one, in the place of the files that it stands for. Otherwise removes what a
+/// compaction before has left that did not come to its end.
+fn finish<F: Locks>(
+    replacing: &mut Replacing<'_, F>,
+    found: &Found,
+    upto: u64,
+) -> Result<Compacted, DiskFault> {
+    if !replacing.has_snapshot() {
+        remove_left(replacing, found, upto)?;
+        return Ok(Compacted::Nothing);
+    }
+    replace(replacing, found, upto)?;
+    Ok(Compacted::Snapshot(upto))
 }
 
 /// Makes one snapshot of the snapshot before and of the closed segments. In it each entry is written
@@ -132,15 +200,25 @@ fn compact_closed<S: Opens + Replays + Drop, F: Locks + Clone + Drop>(
 ///
 /// If the program ends at any moment, the directory has a journal of the same entries. If the snapshot
 /// cannot be written, what was written of it is removed, so that it takes no room.
-pub fn compact<S: Opens + Replays + Drop, F: Locks + Clone + Drop>(
+pub fn compact<S: Opens + Drop, F: Locks + Clone + Drop>(
     alloc: Global,
     secret: &[u8],
-    folder: &Folder<'_, F>,
+    folder: Folder<'_, F>,
 ) -> Result<Compacted, Uncompacted> {
+    let mut folder = folder;
     let _closed = folder.take_closed()?;
-    let compacted = compact_closed::<S, F>(alloc, secret, folder);
-    if compacted.is_err() {
-        let _removed = folder.remove(Place::NewSnapshot);
+    let ready = match prepare::<S, F>(alloc, secret, &mut folder) {
+        Ok(ready) => ready,
+        Err(why) => {
+            let _removed = folder.remove(Place::NewSnapshot);
+            return Err(why);
+        }
+    };
+    let Ready { found, file, upto } = ready;
+    let mut replacing = Replacing::new(folder, file);
+    let done = finish(&mut replacing, &found, upto);
+    if done.is_err() {
+        replacing.discard();
     }
-    compacted
+    Ok(done?)
 }

@@ -2,18 +2,25 @@
 //! are made smaller, begun and examined.
 #![tactic(auto)]
 
+mod arrays;
 mod asked;
 mod asking;
 mod beginning;
 mod closing;
 mod compacting;
-mod names;
+mod kinds;
+mod leaving;
+mod lines;
 mod output;
+mod playing;
 mod printing;
+mod repairing;
 mod replacing;
-mod replaying;
 mod rewriting;
+mod tenants;
+mod writing;
 
 pub use beginning::{Examined, begin_journal, examine};
 pub use compacting::{Compacted, Uncompacted, compact};
 pub use printing::{Unprinted, print};
+pub use repairing::{Part, Unrepaired, Wound, look_for_wound, repair};

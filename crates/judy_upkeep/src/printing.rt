@@ -1,4 +1,5 @@
 //! Prints the requests of a journal.
+use crate::leaving::{GONE, has_left, others_gone};
 use arrayvec::ArrayVec;
 use judy_disk::{Folder, Locks};
 use judy_journal::{COMMIT_LIMIT, read_record};
@@ -36,16 +37,26 @@ fn put_line(text: &mut ArrayVec<u8, COMMIT_LIMIT>, line: &[u8]) {
     let _fits = text.try_extend_from_slice(b"\n");
 }
 
+/// Puts the request of a record behind others, if it is one of this tenant.
+fn put_request(text: &mut ArrayVec<u8, COMMIT_LIMIT>, record: &[u8], tenant: &[u8]) {
+    let Some((name, request)) = read_record(record) else {
+        return;
+    };
+    if has_left(name, request, tenant) {
+        put_line(text, GONE);
+        return;
+    }
+    if name == tenant && others_gone(request).is_none() {
+        put_line(text, request);
+    }
+}
+
 /// The requests of one tenant.
 fn requests_of(records: &[u8], tenant: &[u8]) -> ArrayVec<u8, COMMIT_LIMIT> {
     let mut text = ArrayVec::new();
     let mut rest = records;
     while let Some((record, after)) = cut_line(rest) {
-        if let Some((name, request)) = read_record(record)
-            && name == tenant
-        {
-            put_line(&mut text, request);
-        }
+        put_request(&mut text, record, tenant);
         rest = after;
     }
     text
@@ -81,13 +92,13 @@ impl<'a, W: Write> Player for Printing<'a, W> {
 /// commit. With a tenant, only its requests, without its name.
 pub fn print<F: Locks + Clone + Drop, W: Write + Drop>(
     alloc: Global,
-    folder: &Folder<'_, F>,
+    folder: &mut Folder<'_, F>,
     output: W,
     tenant: Option<&[u8]>,
 ) -> Result<(), Unprinted> {
-    let closed = folder.closed_lock_if_there();
-    if let Some(lock) = &closed {
-        let _held = folder.hold_closed(lock);
+    let reading = folder.read_lock_if_there();
+    if let Some(lock) = &reading {
+        let _held = folder.wait_to_read(lock);
     }
     let found = folder
         .scan()

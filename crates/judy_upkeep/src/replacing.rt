@@ -31,26 +31,42 @@ pub trait Replaces {
         ensures { Logs (log self.old) (act_of (Remove place) result ∷ []) (log self.new) };
 }
 
-/// The directory of a journal, with a new snapshot if one was written. Nothing is known of what the
-/// system does.
+/// The directory of a journal, with a new snapshot if one was written. Before the first file is removed
+/// it waits until nobody reads. Nothing is known of what the system does.
 #[derive(Drop)]
-pub struct Replacing<'a, 'b, F: Locks> {
-    folder: &'a Folder<'b, F>,
+pub struct Replacing<'a, F: Locks> {
+    folder: Folder<'a, F>,
     file: Option<NewSnapshot<F>>,
+    /// The lock of readers, once a file is removed.
+    alone: Option<F::File>,
 }
 
-impl<'a, 'b, F: Locks> Replacing<'a, 'b, F> {
+impl<'a, F: Locks> Replacing<'a, F> {
     /// The directory with this snapshot.
-    pub fn new(folder: &'a Folder<'b, F>, file: Option<NewSnapshot<F>>) -> Self {
-        Replacing { folder, file }
+    pub fn new(folder: Folder<'a, F>, file: Option<NewSnapshot<F>>) -> Self {
+        Replacing {
+            folder,
+            file,
+            alone: None,
+        }
+    }
+
+    /// Whether there is a new snapshot.
+    pub fn has_snapshot(&self) -> bool {
+        self.file.is_some()
+    }
+
+    /// Removes the new snapshot, if it has no name yet.
+    pub fn discard(&mut self) {
+        let _removed = self.folder.remove(Place::NewSnapshot);
     }
 }
 
-impl<'a, 'b, F: Locks> Replaces for Replacing<'a, 'b, F> {
+impl<'a, F: Locks> Replaces for Replacing<'a, F> {
     ghost log = { λ _. None };
 
     fn secure(&mut self) -> Result<(), DiskFault> {
-        match &self.file {
+        match &mut self.file {
             Some(file) => file.secure(),
             None => Ok(()),
         }
@@ -72,6 +88,9 @@ impl<'a, 'b, F: Locks> Replaces for Replacing<'a, 'b, F> {
     }
 
     fn remove(&mut self, place: Place) -> Result<(), DiskFault> {
+        if self.alone.is_none() {
+            self.alone = Some(self.folder.take_from_readers()?);
+        }
         self.folder.remove(place)
     }
 }
@@ -87,6 +106,8 @@ fn is_stale(place: Place, upto: u64) -> bool
         Place::Folder => false,
         Place::Lock => false,
         Place::CompactLock => false,
+        Place::ReadLock => false,
+        Place::StartLock => false,
         Place::NewSegment(_) => false,
         Place::NewTorn(_) => false,
         Place::NewSnapshot => false,

@@ -1,29 +1,33 @@
-//! Writes each entry of a service once, in the order in which a journal made the entries.
+//! Writes the entries of maps from byte keys, which have no order, while the records are read once more.
+ghost use Rattle.std.specs.Prelude.{◌≤◌, length};
+
 use crate::asked::insertion_of;
-use crate::asking::{Asking, Came};
+use crate::asking::Came;
+use crate::kinds::Array;
+use crate::lines::{KEY_ROOM, Text, write_insertion, write_look};
 use crate::output::Output;
+use crate::playing::Playing;
 use arrayvec::ArrayVec;
-use judy_disk::{DiskFault, NewSnapshot};
+use judy_disk::DiskFault;
 use judy_journal::read_record;
-use judy_model::LINE_LIMIT;
 use judy_protocol::{Served, cut_line};
 use judy_recovery::{Halt, Player, Reason};
 use std::fs::Files;
 
-/// Writes the entries that the service has at the end of a journal, while its records are played once
-/// more. Each entry is written at the first record that asks for it, and removed.
+/// Writes the entries of maps from byte keys that there are at the end of a journal, while its records are read
+/// once more. Each entry is written at the first record that asks for it, and removed.
 #[derive(Drop)]
 pub struct Rewriting<S: Served, F: Files> {
-    state: Asking<S>,
+    playing: Playing<S>,
     output: Output<F>,
-    line: ArrayVec<u8, LINE_LIMIT>,
+    line: Text,
 }
 
 impl<S: Served + Drop, F: Files> Rewriting<S, F> {
-    /// A service with the state at the end of the journal, and a snapshot with its first line.
-    pub fn new(state: Asking<S>, output: Output<F>) -> Self {
+    /// What a journal has made, and a snapshot.
+    pub fn new(playing: Playing<S>, output: Output<F>) -> Self {
         Rewriting {
-            state,
+            playing,
             output,
             line: ArrayVec::new(),
         }
@@ -34,31 +38,44 @@ impl<S: Served + Drop, F: Files> Rewriting<S, F> {
         self.output.take_fault()
     }
 
-    /// Writes the entry that a record asks for, if it is there still, and removes it.
-    fn rewrite(&mut self, record: &[u8]) -> Result<(), Reason> {
-        let (tenant, request) = read_record(record).ok_or(Reason::Record)?;
-        let Some(insertion) = insertion_of(request) else {
-            return Ok(());
-        };
-        self.state.speak_as(tenant);
-        insertion.write_look(&mut self.line);
-        match self.state.ask(self.line.as_slice())? {
-            Came::Value(value) => {
-                insertion.write_insertion(value, &mut self.line);
-                self.output.add(tenant, self.line.as_slice())?;
-                insertion.write_removal(&mut self.line);
-                let _removed = self.state.ask(self.line.as_slice())?;
-                Ok(())
-            }
-            Came::Nothing => Ok(()),
-            Came::Other => Err(Reason::Record),
-        }
+    /// What is left of what the journal has made, and the snapshot.
+    pub fn into_parts(self) -> (Playing<S>, Output<F>) {
+        (self.playing, self.output)
     }
 
-    /// Ends the snapshot. Returns it and the service.
-    pub fn finish(mut self) -> Result<(NewSnapshot<F>, Asking<S>), Option<DiskFault>> {
-        self.output.end()?;
-        Ok((self.output.into_file(), self.state))
+    /// Writes an entry of a tenant with this value, and removes it.
+    fn write(
+        &mut self,
+        tenant: usize,
+        name: &[u8],
+        array: &Array,
+        key: &[u8],
+        value: u64,
+    ) -> Result<(), Reason>
+        requires { length key.now ≤ KEY_ROOM }
+    {
+        write_insertion(array, key, value, &mut self.line);
+        self.output.add(name, self.line.as_slice())?;
+        write_look(array, b"D", key, &mut self.line);
+        self.playing.entries.ask(tenant, self.line.as_slice())?;
+        Ok(())
+    }
+
+    /// Writes the entry that a record asks for, if it is there still, and removes it.
+    fn rewrite(&mut self, record: &[u8]) -> Result<(), Reason> {
+        let (name, request) = read_record(record).ok_or(Reason::Record)?;
+        let Some((array, key)) = insertion_of(request) else {
+            return Ok(());
+        };
+        let Some(tenant) = self.playing.tenants.find(name) else {
+            return Ok(());
+        };
+        write_look(&array, b"G", key, &mut self.line);
+        match self.playing.entries.ask(tenant, self.line.as_slice())? {
+            Came::Value(value) => self.write(tenant, name, &array, key, value),
+            Came::Nothing => Ok(()),
+            _ => Err(Reason::Record),
+        }
     }
 }
 

@@ -2,28 +2,28 @@
 //! socket.
 #![tactic(auto)]
 
-ghost use Rattle.std.specs.Prelude.{◌≡◌, ℕ, List, Option, option_map};
+ghost use Rattle.std.specs.Prelude.{◌≡◌, ℕ, List, Option, Ok, option_map};
 ghost use Rattle.judy_protocol.specs.Serving.{Wire};
 ghost use Rattle.judy_server.specs.Jobs.{Does, IsProgram};
-ghost use Rattle.judyd.specs.Obeying.{IsFinished, IsObeyed, IsUpkept, refusal_status};
+ghost use Rattle.judy_server.specs.Runs.{KeepsPromises};
+ghost use Rattle.judyd.specs.Obeying.{HasDoneAll, IsFinished, IsObeyed, IsSecured, IsUpkept, KeepsAll, refusal_status};
 
 mod built;
+mod keeping;
 mod reasons;
+mod repairing;
 mod standard;
 
 use built::BUILT;
 use judy_command::{Job, Refusal, Sync, VERSION, Word, parse_words};
-use judy_disk::{DiskFault, Folder};
 use judy_many::Network;
-use judy_programs::{
-    Failed, Hosted, Journals, System, Unserved, finish_hosted, read_secret, tell_line,
-};
-use judy_recovery::JournalFault;
-use judy_server::{Server, do_job_on};
+use judy_programs::{Failed, Hosted, Journals, System, Unserved, finish_hosted, tell_line};
+use judy_server::{do_job_on, every_run_keeps_promises};
 use judy_stream::{Reads, Writes};
 use judy_tenants::Sha256Hash;
-use judy_upkeep::{Examined, Uncompacted, Unprinted, begin_journal, compact, examine, print};
+use keeping::{compact_at, obey_journal, tell_fault};
 use reasons::{Kept, explain};
+use repairing::repair_at;
 use standard::fill_standard;
 use std::alloc::Global;
 use std::process::ExitCode;
@@ -57,7 +57,8 @@ fn read_words(rt: &HostRuntime) -> Result<Vec<String>, Refusal> {
 }
 
 /// Does what the command line asks for, and keeps the front of standard input. Returns the status of the
-/// program, and its line on standard error, if any.
+/// program, and its line on standard error, if any. A server keeps all promises to its tenants and connections,
+/// over the log of its own system.
 fn do_job<'a>(
     rt: &HostRuntime,
     job: &Job,
@@ -71,16 +72,16 @@ fn do_job<'a>(
         result.0 (option_map (λ s. s.now) result.1) from to
         (⟦<System<'a, HostRuntime> as Network>⟧.log system.old)
         (⟦<System<'a, HostRuntime> as Network>⟧.log system.new) }
+    ensures promises { (from : Wire) × (to : Wire)
+        × KeepsPromises (⟦<System<'a, HostRuntime> as Journals>⟧.may_have) job.now
+        result.0 (option_map (λ s. s.now) result.1) from to
+        (⟦<System<'a, HostRuntime> as Network>⟧.log system.old)
+        (⟦<System<'a, HostRuntime> as Network>⟧.log system.new) }
 {
+    every_run_keeps_promises::<System<'a, HostRuntime>>();
     let mut reader = Reads::new(Kept::new(rt.stdin(), kept));
     let mut writer = Writes::new(rt.stdout());
     do_job_on::<Sha256Hash, _, _, _>(rt.alloc(), job, &mut reader, &mut writer, system)
-}
-
-/// Prints that a journal cannot be read or written, and why. The fault tells what follows the
-/// directory's path.
-fn tell_fault(rt: &HostRuntime, directory: &str, fault: &JournalFault) {
-    let _ = eprintln!(rt; "judyd: {directory}{fault}");
 }
 
 /// Prints what the disk of the journal refused, if it refused something.
@@ -202,151 +203,6 @@ fn refuse(rt: &HostRuntime, refusal: &Refusal) -> u8
     }
 }
 
-/// The directory of a journal.
-fn folder_at<'a>(rt: &'a HostRuntime, path: &str) -> Option<Folder<'a, HostRuntime>> {
-    let path = String::from_str(rt.alloc(), path).ok()?;
-    Some(Folder::new(rt, rt.alloc(), path))
-}
-
-/// Prints that memory ran out. Returns the status of the program.
-fn refuse_memory(rt: &HostRuntime) -> u8
-    ensures { result ≡ 4 }
-{
-    let _ = eprintln!(rt; "judyd: memory");
-    4
-}
-
-/// Prints why a directory is not to be used.
-fn tell_disk(rt: &HostRuntime, path: &str, fault: &DiskFault) {
-    let _ = eprintln!(rt; "judyd: {path}{fault}");
-}
-
-/// Prints why a journal is not compacted. Returns the status of the program.
-fn tell_uncompacted(rt: &HostRuntime, path: &str, why: &Uncompacted) -> u8
-    ensures { IsUpkept result }
-{
-    match why {
-        Uncompacted::Journal(fault) => {
-            tell_fault(rt, path, fault);
-            3
-        }
-        Uncompacted::Disk(fault) => {
-            tell_disk(rt, path, fault);
-            3
-        }
-        Uncompacted::Memory => refuse_memory(rt),
-        Uncompacted::Left => {
-            let _ = eprintln!(rt; "judyd: {path}: entries are left that no record makes");
-            3
-        }
-    }
-}
-
-/// Makes the files of a journal smaller. Returns the status of the program.
-fn compact_at(rt: &HostRuntime, path: &str) -> u8
-    ensures { IsUpkept result }
-{
-    let Some(folder) = folder_at(rt, path) else {
-        return refuse_memory(rt);
-    };
-    let Some(secret) = read_secret(rt, "/dev/urandom") else {
-        let _ = eprintln!(rt; "judyd: random fault");
-        return 4;
-    };
-    match compact::<Server<Sha256Hash>, HostRuntime>(rt.alloc(), &secret, &folder) {
-        Ok(_) => 0,
-        Err(why) => tell_uncompacted(rt, path, &why),
-    }
-}
-
-/// Prints the requests of a journal. Returns the status of the program.
-fn print_at(rt: &HostRuntime, path: &str, tenant: &Option<Word>) -> u8
-    ensures { IsUpkept result }
-{
-    let Some(folder) = folder_at(rt, path) else {
-        return refuse_memory(rt);
-    };
-    let name = tenant.as_ref().map(|word| word.0.as_bytes());
-    match print(rt.alloc(), &folder, rt.stdout(), name) {
-        Ok(()) => 0,
-        Err(Unprinted::Write) => {
-            let _ = eprintln!(rt; "judyd: write fault");
-            4
-        }
-        Err(Unprinted::Journal(fault)) => {
-            tell_fault(rt, path, &fault);
-            3
-        }
-    }
-}
-
-/// Makes the manifest of a journal that has none. Returns the status of the program.
-fn begin_at(rt: &HostRuntime, path: &str) -> u8
-    ensures { IsUpkept result }
-{
-    let Some(folder) = folder_at(rt, path) else {
-        return refuse_memory(rt);
-    };
-    match begin_journal(rt.alloc(), &folder) {
-        Ok(()) => 0,
-        Err(fault) => {
-            tell_fault(rt, path, &fault);
-            3
-        }
-    }
-}
-
-/// Prints what a start would find, a line for each number. Returns the status of the program.
-fn print_examined(rt: &HostRuntime, examined: &Examined) -> u8
-    ensures { IsUpkept result }
-{
-    let (size, torn) = examined.end.map_or((0, 0), |end| (end.size, end.torn));
-    let printed = println!(rt;
-        "snapshot {}\nlast {}\ncommits {}\nrecords {}\nsize {size}\ntorn {torn}\nkept {}",
-        examined.found.snapshot.unwrap_or(0),
-        examined.found.last.unwrap_or(0),
-        examined.commits,
-        examined.records,
-        examined.kept
-    );
-    match printed {
-        Ok(()) => 0,
-        Err(_) => {
-            let _ = eprintln!(rt; "judyd: write fault");
-            4
-        }
-    }
-}
-
-/// Tells what a start would find. Returns the status of the program.
-fn examine_at(rt: &HostRuntime, path: &str) -> u8
-    ensures { IsUpkept result }
-{
-    let Some(folder) = folder_at(rt, path) else {
-        return refuse_memory(rt);
-    };
-    match examine(rt.alloc(), &folder) {
-        Ok(examined) => print_examined(rt, &examined),
-        Err(fault) => {
-            tell_fault(rt, path, &fault);
-            3
-        }
-    }
-}
-
-/// Prints, begins or examines a journal. Returns the status of the program.
-fn obey_journal(rt: &HostRuntime, path: &str, tenant: &Option<Word>, new: bool, check: bool) -> u8
-    ensures { IsUpkept result }
-{
-    if new {
-        return begin_at(rt, path);
-    }
-    if check {
-        return examine_at(rt, path);
-    }
-    print_at(rt, path, tenant)
-}
-
 /// What follows the line at the start: the journal, and what a crash may lose if it is not secured in
 /// each round. Without memory for it there is nothing.
 fn journal_text(rt: &HostRuntime, journal: &Option<Word>, sync: Sync) -> Option<String> {
@@ -367,7 +223,10 @@ fn journal_text(rt: &HostRuntime, journal: &Option<Word>, sync: Sync) -> Option<
 }
 
 /// Sets the line that is printed once clients are waited for. Without memory for it there is none.
-fn announce(rt: &HostRuntime, job: &Job, system: &mut System<'_, HostRuntime>) {
+fn announce<'a>(rt: &HostRuntime, job: &Job, system: &mut System<'a, HostRuntime>)
+    ensures log { ⟦<System<'a, HostRuntime> as Network>⟧.log system.new ≡
+        ⟦<System<'a, HostRuntime> as Network>⟧.log system.old }
+{
     let Job::Serve {
         config,
         socket,
@@ -392,13 +251,29 @@ fn announce(rt: &HostRuntime, job: &Job, system: &mut System<'_, HostRuntime>) {
 }
 
 /// Notes that the journal is a new one, if the command line says so.
-fn expect_new(job: &Job, system: &mut System<'_, HostRuntime>) {
+fn expect_new<'a>(job: &Job, system: &mut System<'a, HostRuntime>)
+    ensures log { ⟦<System<'a, HostRuntime> as Network>⟧.log system.new ≡
+        ⟦<System<'a, HostRuntime> as Network>⟧.log system.old }
+{
     if let Job::Serve {
         new_journal: true,
         ..
     } = job
     {
         system.expect_new_journal();
+    }
+}
+
+/// How many bytes a megabyte has.
+const MEGABYTE: u64 = 1_048_576;
+
+/// Sets the size of a segment of the journal, as the command line says.
+fn set_segment<'a>(job: &Job, system: &mut System<'a, HostRuntime>)
+    ensures log { ⟦<System<'a, HostRuntime> as Network>⟧.log system.new ≡
+        ⟦<System<'a, HostRuntime> as Network>⟧.log system.old }
+{
+    if let Job::Serve { segment, .. } = job {
+        system.set_segment((*segment as u64).saturating_mul(MEGABYTE));
     }
 }
 
@@ -429,7 +304,8 @@ fn secure(
     ended: (u8, Option<&'static str>),
 ) -> (u8, Option<&'static str>)
     requires { IsFinished job.now ended.0 (option_map (λ s. s.now) ended.1) }
-    ensures { IsFinished job.now result.0 (option_map (λ s. s.now) result.1) }
+    ensures finished { IsFinished job.now result.0 (option_map (λ s. s.now) result.1) }
+    ensures status { IsSecured ended.entry.0 result.0 }
 {
     let Job::Serve { .. } = job else {
         return ended;
@@ -441,13 +317,15 @@ fn secure(
 }
 
 /// Runs or serves, and prints how it ended. Returns the status of the program.
-fn obey_program(rt: &HostRuntime, job: &Job) -> u8
+fn obey_program<'a>(rt: &'a HostRuntime, job: &Job) -> u8
     requires { IsProgram job.now }
-    ensures { (text : Option (List ℕ)) × IsFinished job.now result text }
+    ensures finished { (text : Option (List ℕ)) × IsFinished job.now result text }
+    ensures promises { HasDoneAll (⟦<System<'a, HostRuntime> as Journals>⟧.may_have) job.now result }
 {
     let mut system = System::new(rt);
     announce(rt, job, &mut system);
     expect_new(job, &mut system);
+    set_segment(job, &mut system);
     let mut kept = Vec::new(rt.alloc());
     let ended = do_job(rt, job, &mut system, &mut kept);
     let (status, text) = secure(job, &mut system, ended);
@@ -466,11 +344,17 @@ fn obey_program(rt: &HostRuntime, job: &Job) -> u8
 }
 
 /// Does a job, and prints how it ended. Returns the status of the program.
-fn obey_job(rt: &HostRuntime, job: &Job) -> u8
-    ensures { (text : Option (List ℕ)) × IsFinished job.now result text }
+fn obey_job<'a>(rt: &'a HostRuntime, job: &Job) -> u8
+    ensures finished { (text : Option (List ℕ)) × IsFinished job.now result text }
+    ensures promises { KeepsAll (⟦<System<'a, HostRuntime> as Journals>⟧.may_have) (Ok job.now) result }
 {
     match job {
         Job::Compact { directory } => compact_at(rt, directory.0.as_str()),
+        Job::Repair {
+            directory,
+            sure,
+            drop_later,
+        } => repair_at(rt, directory.0.as_str(), *sure, *drop_later),
         Job::Journal {
             directory,
             tenant,
@@ -485,8 +369,9 @@ fn obey_job(rt: &HostRuntime, job: &Job) -> u8
 /// Does what the command line asks for, and prints how it ended. Returns the status of the program.
 ///
 /// If a line on standard error cannot be written, only the status reports it.
-fn obey(rt: &HostRuntime, asked: &Result<Job, Refusal>) -> u8
-    ensures { IsObeyed asked.now result }
+fn obey<'a>(rt: &'a HostRuntime, asked: &Result<Job, Refusal>) -> u8
+    ensures status { IsObeyed asked.now result }
+    ensures promises { KeepsAll (⟦<System<'a, HostRuntime> as Journals>⟧.may_have) asked.now result }
 {
     match asked {
         Ok(job) => obey_job(rt, job),

@@ -13,6 +13,9 @@ use crate::tenants::{PEERS_LIMIT, write_table};
 use judy_many::{Accept, Got, How, Network, Put, Question, Queue, Unread};
 use judy_model::Name;
 
+/// A segment of the journal is full with this number of bytes.
+pub const SEGMENT_LIMIT: u64 = 67_108_864;
+
 /// After this many waits the schedule has no end.
 const WAITS_LIMIT: u32 = 20_000;
 
@@ -41,8 +44,6 @@ pub struct Chances {
     pub stops: usize,
     /// How often a tenant is not in the table, of 16.
     pub absences: usize,
-    /// Whether there is a journal, so that no tenant may leave the table.
-    pub journal: bool,
     /// Which call for the journal fails.
     pub fails_at: usize,
 }
@@ -76,7 +77,7 @@ pub struct Machine {
     pub stopped: bool,
     /// Whether the journal failed.
     pub failed: bool,
-    /// Whether something was written after the journal failed.
+    /// Whether something was written, or the operator was answered, after the journal failed.
     pub bold: bool,
 }
 
@@ -302,9 +303,6 @@ impl Machine {
     /// A table was read in which these tenants are. If it is put in force, those who have logged in and
     /// are not in it are closed. The others find their tenant or not.
     fn put_in_force(&mut self, there: &[bool; PEERS_LIMIT]) {
-        if self.chances.journal && there.contains(&false) {
-            return;
-        }
         for (peer, is_there) in self.peers.iter_mut().zip(there) {
             if peer.place == Place::Closed {
                 continue;
@@ -375,6 +373,10 @@ impl Network for Machine {
         self.tell(queue);
         self.forget();
         Some(comes)
+    }
+
+    fn is_full(&self, size: u64) -> bool {
+        size >= SEGMENT_LIMIT
     }
 
     fn read(&mut self, connection: &mut Seat, buf: &mut [u8]) -> Got {
@@ -468,7 +470,13 @@ impl Network for Machine {
     }
 
     fn reply(&mut self, _text: &[u8]) {
+        self.bold = self.bold || self.failed;
         self.stir();
+    }
+
+    fn takes(&mut self, _connection: &Seat, _tenant: &[u8], _limit: Option<u64>) -> bool {
+        self.stir();
+        true
     }
 
     fn begin(&mut self, _segment: u64) -> bool {

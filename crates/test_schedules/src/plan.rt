@@ -142,7 +142,7 @@ pub fn draw_limits(draw: &mut Draw, peers: usize, crowd: bool) -> Limits {
 }
 
 /// What else happens. In a crowd the table is often read again, so that tenants go.
-pub fn draw_chances(draw: &mut Draw, journal: bool, crowd: bool) -> Chances {
+pub fn draw_chances(draw: &mut Draw, crowd: bool) -> Chances {
     let reloads = draw.one_of(&[0, 10, 100, 300]);
     let absences = draw.one_of(&[0, 1, 4]);
     let fails = draw.happens(1, 8);
@@ -155,7 +155,6 @@ pub fn draw_chances(draw: &mut Draw, journal: bool, crowd: bool) -> Chances {
         reloads: if crowd { 300 } else { reloads },
         stops: draw.one_of(&[0, 0, 0, 5]),
         absences: if crowd { 4 } else { absences },
-        journal,
         fails_at: if fails { draw.below(40) } else { usize::MAX },
     }
 }

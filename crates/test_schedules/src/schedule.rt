@@ -1,6 +1,6 @@
 //! One schedule: it is drawn, played by the real loop over the real service, and looked at.
 use crate::draw::Draw;
-use crate::machine::Machine;
+use crate::machine::{Machine, SEGMENT_LIMIT};
 use crate::peer::{Parting, Peer, Place, Wrong};
 use crate::plan::{draw_chances, draw_limits, draw_peers};
 use crate::tenants::{PEERS_LIMIT, write_table};
@@ -10,9 +10,6 @@ use judy_programs::Opens;
 use judy_server::Server;
 use judy_tenants::Sha256Hash;
 use std::alloc::{AllocError, Global};
-
-/// A segment of the journal is full with this number of bytes.
-const SEGMENT_LIMIT: usize = 67_108_864;
 
 /// A fault that a schedule found, with the number of the client.
 #[derive(Clone, Copy)]
@@ -130,7 +127,7 @@ fn draw_writer(
         return Ok(None);
     }
     let left = draw.one_of(&[100, 20_000, 1_000_000]);
-    let size = SEGMENT_LIMIT.saturating_sub(left) as u64;
+    let size = SEGMENT_LIMIT.saturating_sub(left as u64);
     Ok(Some(Box::new(alloc, Writer::new(1, &[b'0'; SUM_LEN], size))?))
 }
 
@@ -141,7 +138,7 @@ pub fn play(alloc: Global, seed: u64) -> Result<Option<Finding>, AllocError> {
     let crowd = draw.happens(1, 4);
     let limits = draw_limits(&mut draw, peers.len(), crowd);
     let writer = draw_writer(alloc, &mut draw, limits)?;
-    let chances = draw_chances(&mut draw, limits.journal.is_some(), crowd);
+    let chances = draw_chances(&mut draw, crowd);
     let mut table = Vec::new(alloc);
     write_table(&mut table, &[true; PEERS_LIMIT])?;
     let Ok(mut service) = Server::<Sha256Hash>::open(alloc, b"secret", table.as_slice()) else {

@@ -4,3 +4,4 @@ mod commits;
 mod directories;
 mod faults;
 mod notes;
+mod rooms;

@@ -1,5 +1,6 @@
 //! Many connections in memory, whose turns come in a scripted order.
 
+mod barred;
 mod clocks;
 mod faults;
 mod journals;

@@ -2,7 +2,8 @@
 --     CallsBy t n story    the calls of this tenant are those of the lines of this connection
 --     hosted-bytes         equal bytes read, quotas, arrays and refusals give equal bytes written,
 --                          whatever the other connections of the two servers do, as long as the tables
---                          stay and no log-in is refused since its tenant has enough connections
+--                          stay, no log-in is refused since its tenant has enough connections, and no line
+--                          since the journal does not take its record
 --     hosted-bytes-by-logins   the same for lines whose log-ins are by the same names and tokens, and
 --                          for tenants that each new table keeps
 use Rattle.std.proofs.Common.{◌≡◌, ◌∙◌, ℕ, true, List, [], ◌∷◌, ◌++◌, map, length, Option, None, ap, ap₂, subst, sym, refl, arith}
@@ -13,7 +14,7 @@ use Rattle.judy_journal.specs.Writes.{Writing}
 use Rattle.judy_many.specs.Crowds.{HasServedMany}
 use Rattle.judy_many.specs.Lives.{IsWhole, end_well, read_in, wrote_in}
 use Rattle.judy_many.specs.Rules.{Rules}
-use Rattle.judy_many.specs.Sessions.{AreLetIn, Speaks, Turn, UseLogin, events_in, lines_in, replies_in}
+use Rattle.judy_many.specs.Sessions.{AreLetIn, Speaks, Turn, UseLogin, calls_if, calls_of, events_in, lines_in, replies_in}
 use Rattle.judy_many.specs.Statuses.{Keeps}
 use Rattle.judy_many.specs.Stories.{Story, acts_in, changes_in, turns_in, own as moments_of}
 use Rattle.judy_many.specs.declared.serve.Ending.{Ending}
@@ -45,18 +46,18 @@ CallsBy t n story = exchanges t (turns_in story) ≡ exchanges_of (turns_in (mom
 calls-are : (login : Login) (who : Option Speaker) (turns : List Turn) (last : Option Speaker) → UseLogin login turns → Speaks who turns last
     → events_in turns ≡ events_from login who (lines_in turns)
 calls-are login who [] last used s = refl
-calls-are login who (t ∷ turns) last (let_in, by, used) (same, count, more) =
+calls-are login who (t ∷ turns) last (let_in, taken, by, used) (same, count, more) =
     let after : t.after ≡ speaker_after login who t.line = by ∙ ap (λ w. speaker_after login w t.line) same in
-    ap₂ (λ a b. a ++ b) (ap (event_of t.line) same)
+    ap₂ (λ a b. a ++ b) (ap (λ b. calls_if b t.line t.who) taken ∙ ap (event_of t.line) same)
     (calls-are login (speaker_after login who t.line) turns last used (subst (λ w. Speaks w turns last) after more))
 
 replies-count : (who : Option Speaker) (turns : List Turn) (last : Option Speaker) → Speaks who turns last
     → length (replies_in turns) ≡ length (events_in turns)
 replies-count who [] last s = refl
 replies-count who (t ∷ turns) last (same, count, more) =
-    let here : length t.replies ≡ length (event_of t.line t.who) = count in
+    let here : length t.replies ≡ length (calls_of t) = count in
     let others = replies-count t.after turns last more in
-    omega (arith, here, others, length-append t.replies (replies_in turns), length-append (event_of t.line t.who) (events_in turns))
+    omega (arith, here, others, length-append t.replies (replies_in turns), length-append (calls_of t) (events_in turns))
 
 attempts-are : (es : List Event) (rs : List Reply) → length rs ≡ length es → attempts_of (exchanged es rs) ≡ map attempt_of es
 attempts-are [] [] h = refl
@@ -112,8 +113,9 @@ hosted-bytes-by-logins rules rules' limits limits' writer writer' how how' log l
     ∙ sym (whole_is login (acts_in mine) (turns_in mine) used w)
 
 -- So it is if the two services begin with equal names and tokens, and their tables stay: calls and counts
--- change none. No log-in on the two connections was refused since its tenant has enough connections; without
--- `--tenant-clients` none is (judy_many's `let_in`).
+-- change none. On the two connections no log-in was refused since its tenant has enough connections, and no line
+-- since the journal does not take its record; without `--tenant-clients` and without a journal none is (judy_many's
+-- `let_in`).
 pub hosted-bytes : {S T : Type 0} (rules : Rules S) (rules' : Rules T)
     → KeepsApart rules → IsUnseen rules → KeepsApart rules' → IsUnseen rules'
     → (limits limits' : Limits) (writer writer' : Option Writing) (how how' : Ending) (log last log' last' : Log) (before after : S) (before' after' : T)

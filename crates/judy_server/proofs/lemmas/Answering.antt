@@ -6,8 +6,7 @@ use Rattle.judy_journal.specs.Replays.{HaveAnswered}
 use Rattle.judy_journal.proofs.lemmas.ReplayLemmas.{HaveAnswered-append}
 use Rattle.judy_model.specs.declared.replies.Reply.{Reply}
 use Rattle.judy_model.specs.Speakers.{Event}
-use Rattle.judy_model.specs.Stream.{event_of}
-use Rattle.judy_many.specs.Sessions.{AreTurns, Turn}
+use Rattle.judy_many.specs.Sessions.{AreTurns, Turn, calls_of}
 use Rattle.judy_protocol.specs.Services.{AreMade}
 use Rattle.judy_tenants.specs.Held.{IsSoundService, quotas_of, states_of}
 use Rattle.judy_server.specs.Crashes.{answered_in}
@@ -41,8 +40,8 @@ pub turns-answered : (turns : List Turn) (before after : Tallied) → IsSoundSer
     → HaveAnswered (states_of before.held) (answered_in turns) (states_of after.held)
 turns-answered [] before after s same = λ t. ap (λ (x : Tallied). states_of x.held t) same
 turns-answered (turn ∷ turns) before after s (mid, one, rest) =
-    let (first, sound) = made-answered (zip (event_of turn.line turn.who) turn.replies) before one.mid s one.calls in
+    let (first, sound) = made-answered (zip (calls_of turn) turn.replies) before one.mid s one.calls in
     let held : mid.held ≡ one.mid.held = ap (λ (x : Tallied). x.held) one.noted in
     let more = turns-answered turns mid after (subst IsSoundService (sym held) sound) rest in
     HaveAnswered-append (states_of before.held) (states_of one.mid.held) (states_of mid.held) (states_of after.held)
-    (zip (event_of turn.line turn.who) turn.replies) (answered_in turns) first (λ t. ap (λ h. states_of h t) held) more
+    (zip (calls_of turn) turn.replies) (answered_in turns) first (λ t. ap (λ h. states_of h t) held) more

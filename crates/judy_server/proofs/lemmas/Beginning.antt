@@ -12,9 +12,8 @@ use Rattle.judy_programs.specs.Journaled.{HasMade, HasServedOn, writer_there}
 use Rattle.judy_programs.specs.declared.socket.Hosted.{Hosted}
 use Rattle.judy_recovery.specs.Whole.{IsStart, Kept, segment_before}
 use Rattle.judy_server.specs.Crashes.{HasBegunWith, HasResumed, IsNew, StartsGoOn, Stock}
-use Rattle.judy_server.specs.Replays.{places_in}
 use Rattle.judy_server.specs.Rules.{server_rules}
-use Rattle.judy_server.proofs.lemmas.Begun.{begun-with}
+use Rattle.judy_server.proofs.lemmas.Begun.{begun-table}
 
 -- the checksum after commits and more
 sum-append : (sum : List ℕ) (a b : List Commit) → sum_at sum (a ++ b) ≡ sum_at (sum_at sum a) b
@@ -96,12 +95,12 @@ start-goes-on has secret reserve how config socket watch limits log log' h = by 
 
     in-force : h.before.held.tenants ≡ h.begun.opened.tenants
     in-force =
-        (begun-with (places_in h.fresh) (all_records h.kept.unpacked ++ all_records commits) h.before started (λ bytes event e. e)).tenants
+        (begun-table (all_records h.kept.unpacked ++ all_records commits) h.before started).tenants
         ∙ h.begun.opened.fresh.tenants
 
     Goal : Type 0
-    Goal = (s : Stock) × (s.snapshot ≡ all_records h.kept.unpacked) × (s.segment ≡ segment) × (s.sum ≡ sum) × HasResumed s h.writer h.before
-        × (h.before.held.tenants ≡ h.begun.opened.tenants)
+    Goal = (s : Stock) × (s.snapshot ≡ all_records h.kept.unpacked) × (s.segment ≡ segment) × (s.sum ≡ sum) × (resumed : HasResumed s h.writer h.before)
+        × (resumed.started.first ≡ h.fresh) × (h.before.held.tenants ≡ h.begun.opened.tenants)
 
     there : h.writer ≡ writer_there h.at → (files ≡ [] → ⊥) → Goal
     there is some = (
@@ -118,6 +117,7 @@ start-goes-on has secret reserve how config socket watch limits log log' h = by 
         none = ap (λ (x : Writing). x.records) is;
         started = started;
       },
+      refl,
       in-force,
     )
 
@@ -137,6 +137,7 @@ start-goes-on has secret reserve how config socket watch limits log log' h = by 
             none = ap (λ (x : Writing). x.records) is;
             started = started;
           },
+          refl,
           in-force,
         )
 

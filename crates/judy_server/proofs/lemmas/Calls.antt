@@ -8,11 +8,10 @@
 --                      counted at its moment
 use Rattle.std.specs.Prelude.{None, ◌≡◌, ◌⊎◌, ℕ, Bool, true, false, List, [], ◌∷◌, ◌++◌, Ok, MatchBool, zip}
 use Rattle.std.proofs.Common.{◌∙◌, ap, refl, subst, sym}
-use Rattle.judy_many.specs.Sessions.{AreTurns, Turn}
+use Rattle.judy_many.specs.Sessions.{AreTurns, Turn, calls_of}
 use Rattle.judy_model.specs.declared.replies.Reply.{Reply}
 use Rattle.judy_model.specs.Solo.{is_memory}
 use Rattle.judy_model.specs.Speakers.{Event}
-use Rattle.judy_model.specs.Stream.{event_of}
 use Rattle.judy_model.specs.Tenant.{no_arrays}
 use Rattle.judy_protocol.specs.Services.{AreMade}
 use Rattle.judy_protocol.specs.Serving.{MaybeBytes}
@@ -54,7 +53,7 @@ table-stays old event reply new h = h.keeps.tenants
 -- `done` and before the lines `rest`, was refused for memory: there is a moment before it and one
 -- after it, and between them it has a cause, which is counted.
 pub moments-caused : (done : List Turn) (t : Turn) (rest : List Turn) (before after : Tallied) (event : Event) (reply : Reply)
-    → zip (event_of t.line t.who) t.replies ≡ (event, reply) ∷ [] → is_memory reply ≡ true → AreTurns server_rules before (done ++ t ∷ rest) after
+    → zip (calls_of t) t.replies ≡ (event, reply) ∷ [] → is_memory reply ≡ true → AreTurns server_rules before (done ++ t ∷ rest) after
     → (old new : Tallied) × AreTurns server_rules before done old × (IsShortService old.held new.held ⊎ IsUnplaced event old.held new.held) × AreTurns server_rules new rest after
 moments-caused [] t rest before after event reply call memory (mid, one, run) =
     let (new, step, same) = subst (λ ps. AreMade IsServedStep before ps one.mid) call one.calls in

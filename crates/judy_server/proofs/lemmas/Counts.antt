@@ -30,10 +30,11 @@ use Rattle.judy_server.specs.Present.{speaks_for}
 use Rattle.judy_server.specs.Reloads.{IsReload, forgotten, rows_with}
 use Rattle.judy_server.specs.Rules.{server_rules}
 use Rattle.judy_server.specs.Served.{IsServedStep}
+use Rattle.judy_server.specs.Starts.{HasServedAny}
 use Rattle.judy_server.specs.Tally.{Tallied, bumped, call_place, counted, no_counts, refused_at, refused_name, refused_to, reply_place, tenant_of, with_line, with_share}
 use Rattle.judy_server.specs.declared.tally.Tally.{Tally}
 use Rattle.judy_server.proofs.lemmas.Space.{rows-of}
-use Rattle.judy_server.proofs.lemmas.Starting.{HasServedAny, started-keeps}
+use Rattle.judy_server.proofs.lemmas.Starting.{started-keeps}
 
 -- ---- one counter of a list
 
@@ -301,9 +302,9 @@ none-yet : ((place : ℕ) → slice_index no_counts.lines place ≡ 0) × ((plac
     × ((place : ℕ) → slice_index no_counts.refused place ≡ 0) × (no_counts.unknown ≡ 0)
     × ((place : ℕ) → slice_index no_counts.spoken place ≡ 0) × ((place : ℕ) → slice_index no_counts.full place ≡ 0)
 unfolding no_counts
-none-yet = (zeros 49, zeros 9, zeros 128, refl, zeros 128, zeros 128)
+none-yet = (zeros 49, zeros 10, zeros 128, refl, zeros 128, zeros 128)
 
-counters : (length no_counts.lines ≡ 49) × (length no_counts.replies ≡ 9) × (length no_counts.refused ≡ 128)
+counters : (length no_counts.lines ≡ 49) × (length no_counts.replies ≡ 10) × (length no_counts.refused ≡ 128)
     × (length no_counts.spoken ≡ 128) × (length no_counts.full ≡ 128)
 unfolding no_counts
 counters = (refl, refl, refl, refl, refl)
@@ -380,11 +381,11 @@ module _ (count : Tally → ℕ) (fits : Tally → Type 0) (test : List Tenant �
       story-counted (past ++ Ran n turns ∷ []) mid story after fit.0 low rest
       ∙ ap (λ c. counted_over test keep c mid.held.tenants story) now
       ∙ ap (λ rows. counted_over test keep (risen (count before.tally) (count_by (test before.held.tenants) turns)) rows story) fit.1
-  story-counted past before (Changed text ∷ story) after f small (mid, step, rest) =
+  story-counted past before (Changed text left ∷ story) after f small (mid, step, rest) =
       let rows = rows-of before text mid step in
       let (now, fit, most) = keeps before text mid step f in
       let low : count mid.tally ≤ 2 ^ 64 - 1 = subst (λ c. c ≤ 2 ^ 64 - 1) (sym now) (most mid.held.tenants (count before.tally) small) in
-      story-counted (past ++ Changed text ∷ []) mid story after fit low rest
+      story-counted (past ++ Changed text left ∷ []) mid story after fit low rest
       ∙ ap (λ c. counted_over test keep c mid.held.tenants story) now
       ∙ ap (λ ts. counted_over test keep (keep ts (count before.tally)) ts story) rows
 
@@ -400,7 +401,7 @@ plain-counted test count rows (Ran n turns ∷ story) small =
     plain-counted test (risen count (count_by test turns)) rows story (omega arith)
     ∙ risen-twice count (count_by test turns) (count_by test (turns_in story))
     ∙ ap (risen count) (sym (sum_by-append (λ x. cond (test x) 1 0) turns (turns_in story)))
-plain-counted test count rows (Changed text ∷ story) small = plain-counted test count (rows_with rows text) story small
+plain-counted test count rows (Changed text left ∷ story) small = plain-counted test count (rows_with rows text) story small
 
 lines-keep : (place : ℕ) → Keeps (λ tally. slice_index tally.lines place) (λ tally. place < length tally.lines) (λ rows n. n)
 lines-keep place old text new r fits =
@@ -453,7 +454,7 @@ pub counted-from-start : (secret config socket : List ℕ) (watch : Desks) (rese
 counted-from-start secret config socket watch reserve limits how log log' h =
     let new = h.begun.opened.fresh in let story = h.hosted.story in let rows = h.before.held.tenants in
     let began = started-keeps secret reserve h.begun.opened.tenants h.fresh h.before new h.started in
-    let counts : h.before.tally ≡ no_counts = began.kept.counts ∙ new.counts in
+    let counts : h.before.tally ≡ no_counts = began.counts ∙ new.counts in
     let tenants : rows ≡ h.begun.opened.tenants = began.tenants ∙ new.tenants in
     let none : (count : Tally → ℕ) → count no_counts ≡ 0 → count h.before.tally ≡ 0 = λ count e. ap count counts ∙ e in
     let low : (n : ℕ) → n ≡ 0 → n ≤ 2 ^ 64 - 1 = λ n e. omega (arith, e) in record {

@@ -18,7 +18,7 @@ use Rattle.judy_table.specs.declared.tenant.Tenant.{Tenant}
 use Rattle.judy_tenants.specs.Changes.{HasChanged, has_tenant, stays_at}
 use Rattle.judy_tenants.specs.Held.{Held, IsSoundService, quotas_of, sizes_of, states_of}
 use Rattle.judy_server.specs.Orders.{Freeze, order_in}
-use Rattle.judy_server.specs.Reloads.{AllStay, IsMeant, IsOrdered, IsReload, KeepsRest}
+use Rattle.judy_server.specs.Reloads.{IsMeant, IsOrdered, IsReload, KeepsRest}
 use Rattle.judy_server.specs.Tally.{Tallied}
 use Rattle.judy_server.proofs.lemmas.Keeping.{none-within, quota-of, tenant-of, vacant-row}
 use Rattle.judy_server.proofs.lemmas.Orders.{rows-are}
@@ -89,19 +89,6 @@ ordered-reload old text order new is h = record {
   sound = h.sound;
   tally = h.tally;
 }
-
-pub order-stays : (old : Tallied) (text : List ℕ) (order : Freeze) (new : Tallied) → order_in text ≡ Some order → IsReload old text new → AllStay old new
-order-stays old text order new is h =
-    let only = subst (λ o. KeepsRest o old.held new.held) is h.only in
-    let rows = h.tenants ∙ rows-are old.held.tenants text (Some order) is in (
-      λ t. ap (λ (x : Held). states_of x t) only,
-      λ t. inr (ap (λ (ts : List Tenant). name_at ts t) rows ∙ freeze-names order.name order.frozen old.held.tenants t),
-    )
-
-pub stays-if : {A : Type 0} (f : A → Freeze) (old : Tallied) (text : List ℕ) (found : Option A) → option_map f found ≡ order_in text → is_some found ≡ true
-    → (new : Tallied) → IsReload old text new → AllStay old new
-stays-if f old text (Some order) reads there new h = order-stays old text (f order) new (sym reads) h
-stays-if f old text None reads there new h = cc
 
 pub no-order : {A : Type 0} (f : A → Freeze) (text : List ℕ) (found : Option A) → option_map f found ≡ order_in text → is_some found ≡ false → order_in text ≡ None
 no-order f text (Some order) reads none = cc

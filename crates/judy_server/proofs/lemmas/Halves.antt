@@ -20,7 +20,7 @@ changes-append : (a b : Story) → changes_in (a ++ b) ≡ changes_in a ++ chang
 changes-append [] b = refl
 changes-append (Did act ∷ a) b = changes-append a b
 changes-append (Ran n turns ∷ a) b = changes-append a b
-changes-append (Changed text ∷ a) b = ap (λ v. text ∷ v) (changes-append a b)
+changes-append (Changed text left ∷ a) b = ap (λ v. text ∷ v) (changes-append a b)
 
 -- what lines do not add to is that of both halves
 module _ {A : Type 0} (of : Story → List A) (none : of [] ≡ []) (joins : (a b : Story) → of (a ++ b) ≡ of a ++ of b)

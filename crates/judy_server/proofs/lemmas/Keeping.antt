@@ -1,7 +1,5 @@
 -- A table that has all tenants in force.
 --     place-stays  a place keeps its arrays and its name when a table that has all tenants is put in force
---     keeps-all    each tenant keeps its arrays and its name when it is put in force
---     keeps-if     so they do where a look at its text said so
 --     name-of      the name of a place, by its row; quota-of, tenant-of, so are its quota and whether it has a tenant
 use Rattle.std.proofs.Common.{◌≡◌, ◌∙◌, ◌⊎◌, inl, inr, ◌||◌, ℕ, zero, suc, Bool, true, false, not, List, [], ◌∷◌}
 use Rattle.std.proofs.Common.{length, Option, Some, None, Result, Ok, Err, ap, arith, refl, subst, sym}
@@ -26,7 +24,7 @@ use Rattle.judy_tenants.specs.Changes.{HasChanged, has_tenant}
 use Rattle.judy_tenants.specs.Held.{Held, IsSoundService, no_quota, quotas_of, states_of}
 use Rattle.judy_tenants.proofs.lemmas.Changed.{new-has-none, stays-named}
 use Rattle.judy_server.specs.Orders.{order_in}
-use Rattle.judy_server.specs.Reloads.{AllStay, IsReload, TellsAll, has_all, is_kept}
+use Rattle.judy_server.specs.Reloads.{has_all, is_kept}
 use Rattle.judy_server.specs.Tally.{Tallied}
 use Rattle.judy_server.proofs.lemmas.Orders.{reload-seated}
 
@@ -119,24 +117,3 @@ module _ (table : List Tenant) (old new : Held) (sound : IsSoundService old) (ro
     inl (name-of old.tenants t None here),
   )
   place-stays t (Some r) here = row-stays t r here (is_vacant r) refl
-
--- a text is read as one table
-one-table : (r : Result (List Tenant) TableFault) (a b : List Tenant) → r ≡ Ok a → r ≡ Ok b → a ≡ b
-one-table r a b i j = cc
-
--- each tenant keeps its arrays and its name when a table that has them all is put in force
-pub keeps-all : (old : Tallied) (text : List ℕ) (new : Tallied) → IsSoundService old.held → AreRows old.held.tenants → order_in text ≡ None → IsReload old text new
-    → (table : List Tenant) → read_table text ≡ Ok table → has_all old.held.tenants table ≡ true → AllStay old new
-keeps-all old text new sound rows is h table reads all =
-    let (read, reads', tenants) = reload-seated old text new is h in
-    let named = subst (λ ts. has_all old.held.tenants ts ≡ true) (one-table (read_table text) table read reads reads') all in
-    let each : (t : ℕ) → KeepsPlace old.held new.held t
-    = λ t. place-stays read old.held new.held sound rows tenants h.held named t (slice_get old.held.tenants t) refl in
-    ((λ t. (each t).0), (λ t. (each t).1))
-
--- so they do where the look at the text said so
-pub keeps-if : (old : Tallied) (text : List ℕ) → IsSoundService old.held → AreRows old.held.tenants → order_in text ≡ None → (told : Result Bool TableFault)
-    → IfOk told (TellsAll old.held.tenants text) → result_unwrap_or told false ≡ true → (new : Tallied) → IsReload old text new → AllStay old new
-keeps-if old text sound rows is (Ok true) (table, reads, all) e new h = keeps-all old text new sound rows is h table reads all
-keeps-if old text sound rows is (Ok false) ok e new h = cc
-keeps-if old text sound rows is (Err f) ok e new h = cc

@@ -37,7 +37,7 @@ use Rattle.judy_model.specs.Unchanged.{leaves}
 use Rattle.judy_protocol.specs.Plain.{counts, is_refused, says_unchanged}
 use Rattle.judy_protocol.specs.Services.{HasLoggedIn}
 use Rattle.judy_many.specs.Records.{IsRecord, IsRecorded}
-use Rattle.judy_many.specs.Sessions.{AreTurns, IsTurn, Turn, records_in}
+use Rattle.judy_many.specs.Sessions.{AreTurns, IsTurn, Turn, calls_if, calls_of, records_in}
 use Rattle.judy_many.specs.Statuses.{Lasts}
 use Rattle.judy_many.specs.Stories.{Story, turns_in}
 use Rattle.judy_many.specs.Stories.Moment.{Changed, Did, Ran}
@@ -176,8 +176,8 @@ call-recorded places name event reply records good found false is none = inr (is
 
 -- the records of a line are those of its call
 line-recorded : (places : Places) (before : Tallied) (turn : Turn) (after : Tallied) → AreRows before.held.tenants → Leads before.held.tenants places
-    → IsTurn server_rules before turn after → AreRecords places (zip (event_of turn.line turn.who) turn.replies) turn.records
-line-recorded places before turn after rows leads one = by turn.line turn.who turn.replies one.known one.recorded
+    → IsTurn server_rules before turn after → AreRecords places (zip (calls_of turn) turn.replies) turn.records
+line-recorded places before turn after rows leads one = by-if turn.barred turn.line turn.who turn.replies one.known one.recorded
   where
     by : (line : Heard) (who : Option Speaker) (replies : List Reply) → HasLoggedIn (knows before.held.tenants) who
         → IsRecorded (name_at before.held.tenants) (event_of line who) replies turn.records
@@ -195,107 +195,18 @@ line-recorded places before turn after rows leads one = by turn.line turn.who tu
     by TooLong who replies knows-it is = is
     by Unclear who replies knows-it is = is
 
+    -- one that is refused for the journal makes no call
+    by-if : (barred : Bool) (line : Heard) (who : Option Speaker) (replies : List Reply) → HasLoggedIn (knows before.held.tenants) who
+        → IsRecorded (name_at before.held.tenants) (calls_if barred line who) replies turn.records
+        → AreRecords places (zip (calls_if barred line who) replies) turn.records
+    by-if true line who replies knows-it is = is
+    by-if false line who replies knows-it is = by line who replies knows-it is
+
 pub turns-recorded : (places : Places) (turns : List Turn) (before after : Tallied) → AreRows before.held.tenants → Leads before.held.tenants places
     → AreTurns server_rules before turns after → AreRecords places (answered_in turns) (records_in turns)
 turns-recorded places [] before after rows leads run = refl
 turns-recorded places (turn ∷ turns) before after rows leads (mid, one, rest) =
     let same : before.held.tenants ≡ mid.held.tenants = sym (rows-stay (turn ∷ []) before mid (mid, one, refl)) in
-    AreRecords-append places (zip (event_of turn.line turn.who) turn.replies) (answered_in turns) turn.records (records_in turns)
+    AreRecords-append places (zip (calls_of turn) turn.replies) (answered_in turns) turn.records (records_in turns)
     (line-recorded places before turn mid rows leads one)
     (turns-recorded places turns mid after (subst AreRows same rows) (subst (λ ts. Leads ts places) same leads) rest)
-
--- ---- stories
-
--- a place that has a name keeps it
-abbrev pub KeepsNames : List Tenant → List Tenant → Type 0
-KeepsNames rows later = (t : ℕ) → (name_at rows t ≡ []) ⊎ (name_at later t ≡ name_at rows t)
-
-names-then : (a b c : List Tenant) → KeepsNames a b → KeepsNames b c → KeepsNames a c
-names-then a b c first more t = by (first t) (more t)
-  where
-    by : (name_at a t ≡ []) ⊎ (name_at b t ≡ name_at a t) → (name_at b t ≡ []) ⊎ (name_at c t ≡ name_at b t)
-        → (name_at a t ≡ []) ⊎ (name_at c t ≡ name_at a t)
-    by (inl none) _ = inl none
-    by (inr same) (inl none) = inl (sym same ∙ none)
-    by (inr same) (inr again) = inr (again ∙ same)
-
--- the names lead to their places wherever they do later
-pub leads-before : (rows later : List Tenant) (places : Places) → KeepsNames rows later → Leads later places → Leads rows places
-leads-before rows later places keeps leads t some = by (keeps t)
-  where
-    by : (name_at rows t ≡ []) ⊎ (name_at later t ≡ name_at rows t) → places (name_at rows t) ≡ Some t
-    by (inl none) = absurd (some none)
-    by (inr same) = ap places (sym same) ∙ leads t (λ none. some (sym same ∙ none))
-
--- a table that is the same has the same names
-same-names : (rows later : List Tenant) → later ≡ rows → KeepsNames rows later
-same-names rows later same t = inr (ap (λ ts. name_at ts t) same)
-
--- what a story whose tables keep all tenants leaves as it was
-pub record HasLasted (before after : Tallied) : Type 0 where
-  pub sound : IsSoundService after.held
-  pub rows : AreRows after.held.tenants
-  pub names : KeepsNames before.held.tenants after.held.tenants
-
-pub lasting : (story : Story) (before after : Tallied) → IsSoundService before.held → AreRows before.held.tenants
-    → Lasts server_rules true before story after → HasLasted before after
-lasting [] before after sound rows same = record {
-  sound = subst (λ (x : Tallied). IsSoundService x.held) (sym same) sound;
-  rows = subst (λ (x : Tallied). AreRows x.held.tenants) (sym same) rows;
-  names = same-names before.held.tenants after.held.tenants (ap (λ (x : Tallied). x.held.tenants) same);
-}
-lasting (Did a ∷ story) before after sound rows h = lasting story before after sound rows h
-lasting (Ran n turns ∷ story) before after sound rows (mid, run, rest) =
-    let same : mid.held.tenants ≡ before.held.tenants = rows-stay turns before mid run in
-    let more = lasting story mid after (sound-turns turns before mid sound run).sound (subst AreRows (sym same) rows) rest in
-    record {
-      sound = more.sound;
-      rows = more.rows;
-      names = names-then before.held.tenants mid.held.tenants after.held.tenants (same-names before.held.tenants mid.held.tenants same) more.names;
-    }
-lasting (Changed text ∷ story) before after sound rows (mid, step, keeps, rest) =
-    let more = lasting story mid after step.sound step.rows rest in
-    record {
-      sound = more.sound;
-      rows = more.rows;
-      names = names-then before.held.tenants mid.held.tenants after.held.tenants (keeps refl).names more.names;
-    }
-
--- the calls of lines, and then of more lines
-answered-append : (turns more : List Turn) → answered_in (turns ++ more) ≡ answered_in turns ++ answered_in more
-answered-append [] more = refl
-answered-append (t ∷ turns) more =
-    ap (λ ps. zip (event_of t.line t.who) t.replies ++ ps) (answered-append turns more)
-    ∙ sym (append_assoc (zip (event_of t.line t.who) t.replies) (answered_in turns) (answered_in more))
-
--- the records of its lines are those of their calls, by any names that lead to the places at its end
-pub story-recorded : (places : Places) (story : Story) (before after : Tallied) → IsSoundService before.held → AreRows before.held.tenants
-    → Lasts server_rules true before story after → Leads after.held.tenants places → AreRecords places (answered_in (turns_in story)) (records_in (turns_in story))
-story-recorded places [] before after sound rows h leads = refl
-story-recorded places (Did a ∷ story) before after sound rows h leads = story-recorded places story before after sound rows h leads
-story-recorded places (Ran n turns ∷ story) before after sound rows (mid, run, rest) leads =
-    let whole = lasting (Ran n turns ∷ story) before after sound rows (mid, run, rest) in
-    let there : Leads before.held.tenants places = leads-before before.held.tenants after.held.tenants places whole.names leads in
-    let same : mid.held.tenants ≡ before.held.tenants = rows-stay turns before mid run in
-    let more =
-    story-recorded places story mid after (sound-turns turns before mid sound run).sound (subst AreRows (sym same) rows) rest leads in
-    subst (λ ps. AreRecords places ps (records_in (turns ++ turns_in story))) (sym (answered-append turns (turns_in story)))
-    (subst (λ rs. AreRecords places (answered_in turns ++ answered_in (turns_in story)) rs) (sym (records_in-append turns (turns_in story)))
-    (AreRecords-append places (answered_in turns) (answered_in (turns_in story)) (records_in turns) (records_in (turns_in story))
-    (turns-recorded places turns before mid rows there run) more))
-story-recorded places (Changed text ∷ story) before after sound rows (mid, step, keeps, rest) leads =
-    story-recorded places story mid after step.sound step.rows rest leads
-
--- its calls are a run
-pub story-answered : (story : Story) (before after : Tallied) → IsSoundService before.held → Lasts server_rules true before story after
-    → HaveAnswered (states_of before.held) (answered_in (turns_in story)) (states_of after.held)
-story-answered [] before after sound same = λ t. ap (λ (x : Tallied). states_of x.held t) same
-story-answered (Did a ∷ story) before after sound h = story-answered story before after sound h
-story-answered (Ran n turns ∷ story) before after sound (mid, run, rest) =
-    let more = story-answered story mid after (sound-turns turns before mid sound run).sound rest in
-    subst (λ ps. HaveAnswered (states_of before.held) ps (states_of after.held)) (sym (answered-append turns (turns_in story)))
-    (HaveAnswered-append (states_of before.held) (states_of mid.held) (states_of mid.held) (states_of after.held) (answered_in turns)
-    (answered_in (turns_in story)) (turns-answered turns before mid sound run) (λ t. refl) more)
-story-answered (Changed text ∷ story) before after sound (mid, step, keeps, rest) =
-    HaveAnswered-append (states_of before.held) (states_of before.held) (states_of mid.held) (states_of after.held) [] (answered_in (turns_in story))
-    (λ t. refl) (keeps refl).states (story-answered story mid after step.sound rest)

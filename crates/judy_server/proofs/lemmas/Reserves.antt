@@ -4,7 +4,7 @@
 --     turns-served      nor is any line of any connection
 --     story-served      nor after new tables, if the megabytes are enough for each of them
 --     never-memory      so it is for a server that began with so many megabytes
-use Rattle.std.specs.Prelude.{◌≡◌, ◌+◌, ◌-◌, ◌*◌, ◌^◌, ◌<◌, ◌≤◌, ℕ, List, [], ◌∷◌, ◌++◌, Option, Some, length, max, zip}
+use Rattle.std.specs.Prelude.{◌≡◌, ◌-◌, ◌*◌, ◌^◌, ◌<◌, ◌≤◌, ℕ, List, [], ◌∷◌, ◌++◌, Some, length}
 use Rattle.std.proofs.Common.{◌∙◌, ap, arith, inl, inr, sym, subst}
 use Rattle.judy_many.specs.Sessions.{AreTurns, Turn}
 use Rattle.judy_many.specs.Statuses.{Passes}
@@ -14,29 +14,21 @@ use Rattle.judy_many.specs.declared.serve.Ending.{Ending}
 use Rattle.judy_many.specs.declared.serve.Limits.{Limits}
 use Rattle.judy_model.specs.declared.replies.Reply.{Reply}
 use Rattle.judy_model.specs.Speakers.{Event}
-use Rattle.judy_model.specs.Stream.{event_of}
 use Rattle.judy_protocol.specs.Services.{AreMade}
 use Rattle.judy_programs.specs.Asking.{Log}
 use Rattle.judy_programs.specs.Hosting.{Desks}
 use Rattle.judy_table.specs.declared.tenant.Tenant.{Tenant}
-use Rattle.judy_tenants.specs.Held.{Held, IsCallOf, IsSoundService, all_quotas, quotas_of, words_for}
+use Rattle.judy_tenants.specs.Held.{Held, IsCallOf, IsSoundService, all_quotas, quotas_of}
 use Rattle.judy_tenants.specs.Runs.{AreCallsOf, NoneForMemory}
 use Rattle.judy_tenants.proofs.lemmas.Enough.{HasEnough, HasRoom, enough-for-call, room-for-run}
 use Rattle.judy_server.specs.Reloads.{IsReload, rows_with}
 use Rattle.judy_server.specs.Rules.{server_rules}
 use Rattle.judy_server.specs.Served.{IsServedStep, IsNewService}
+use Rattle.judy_server.specs.Space.{AreMuch, IsMuch, NoTurnForMemory}
+use Rattle.judy_server.specs.Starts.{HasServedAny, HasStarted, IsPlayedWithin}
 use Rattle.judy_server.specs.Tally.{Tallied}
 use Rattle.judy_server.proofs.lemmas.Space.{rows-of, rows-stay}
-use Rattle.judy_server.proofs.lemmas.Starting.{HasServedAny, HasStarted, started-grants, started-keeps}
-
--- so many megabytes are enough: one for 64 pieces of all quotas, and 190 more
-abbrev pub IsMuch : ℕ → List Tenant → Type 0
-IsMuch megabytes tenants = all_quotas (length tenants) (quotas_of tenants) + 12160 < 64 * megabytes
-
--- so it is for each of the tables that are put in force later, one after another
-abbrev pub AreMuch : ℕ → List Tenant → List (List ℕ) → Type 0
-AreMuch megabytes rows [] = Unit {0}
-AreMuch megabytes rows (text ∷ texts) = IsMuch megabytes (rows_with rows text) × AreMuch megabytes (rows_with rows text) texts
+use Rattle.judy_server.proofs.lemmas.Starting.{started-grants, started-keeps}
 
 pub reserved-enough : (secret : List ℕ) (megabytes : ℕ) (tenants : List Tenant) (t : Tallied) → IsNewService secret (Some megabytes) tenants t
     → IsMuch megabytes tenants → HasEnough t.held × HasRoom t.held
@@ -90,11 +82,6 @@ pub made-served : (megabytes : ℕ) (before : Tallied) (ps : List (Event × Repl
 made-served megabytes before ps after a run =
     room-for-run before.held ps after.held a.sound (has-enough megabytes before.held a) (has-room megabytes before.held a) a.low (calls-of before ps after run)
 
--- no call of any of these lines is refused for memory
-abbrev pub NoTurnForMemory : List Turn → Type 0
-NoTurnForMemory [] = Unit {0}
-NoTurnForMemory (t ∷ turns) = NoneForMemory (zip (event_of t.line t.who) t.replies) × NoTurnForMemory turns
-
 then-none : (ts us : List Turn) → NoTurnForMemory ts → NoTurnForMemory us → NoTurnForMemory (ts ++ us)
 then-none [] us h k = k
 then-none (t ∷ ts) us h k = (h.0, then-none ts us h.1 k)
@@ -133,17 +120,11 @@ story-served megabytes past before (Ran n turns ∷ story) after a much (mid, fi
     then-none turns (turns_in story) here.0
     (story-served megabytes (past ++ Ran n turns ∷ []) mid story after here.1
     (subst (λ rows. AreMuch megabytes rows (changes_in story)) (sym (rows-stay turns before mid first)) much) rest)
-story-served megabytes past before (Changed text ∷ story) after a much (mid, step, rest) =
-    story-served megabytes (past ++ Changed text ∷ []) mid story after (change-ample megabytes before text mid a step much.0)
+story-served megabytes past before (Changed text left ∷ story) after a much (mid, step, rest) =
+    story-served megabytes (past ++ Changed text left ∷ []) mid story after (change-ample megabytes before text mid a step much.0)
     (subst (λ rows. AreMuch megabytes rows (changes_in story)) (sym (rows-of before text mid step)) much.1) rest
 
--- of each 128 words that were taken fewer than one was live at once while a journal was played; without a journal
--- none was played
-abbrev pub IsPlayedWithin : {fresh service : Tallied} → ℕ → HasStarted fresh service → Type 0
-IsPlayedWithin {fresh} {service} megabytes (inl same) = Unit {0}
-IsPlayedWithin {fresh} {service} megabytes (inr played) = service.held.peak < 1024 * megabytes
-
--- so the quotas allow few words
+-- with so few words that were live while a journal was played the quotas allow few words
 started-few : (secret : List ℕ) (megabytes : ℕ) (table : List Tenant) (fresh service : Tallied) → IsNewService secret (Some megabytes) table fresh
     → (start : HasStarted fresh service) → IsPlayedWithin megabytes start → IsMuch megabytes service.held.tenants
     → 128 * service.held.granted < 131072 * megabytes

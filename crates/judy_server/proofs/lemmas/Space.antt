@@ -39,8 +39,9 @@ use Rattle.judy_server.specs.Reloads.{IsReload, rows_after, rows_with}
 use Rattle.judy_server.specs.Rules.{server_rules}
 use Rattle.judy_server.specs.Served.{IsServedStep, IsNewService, seen_of, held_words}
 use Rattle.judy_server.specs.Space.{IsSoundAfter, IsSoundOf, IsBoundedBy, TellsFew, granted_after}
+use Rattle.judy_server.specs.Starts.{HasServedAny, granted_first}
 use Rattle.judy_server.specs.Tally.{Tallied}
-use Rattle.judy_server.proofs.lemmas.Starting.{HasServedAny, granted_first, started-grants, started-keeps}
+use Rattle.judy_server.proofs.lemmas.Starting.{started-grants, started-keeps}
 
 -- a service is that which it was
 same-sound : (before after : Tallied) → IsSoundService before.held → after ≡ before → IsSoundOf before.held after.held
@@ -168,10 +169,10 @@ sound-story past (Ran n turns ∷ p) q before after s (now, first, rest) =
     let lines = sound-turns turns before now s first in
     let (mid, did, sound, left) = sound-story (past ++ Ran n turns ∷ []) p q now after lines.sound rest in
     (mid, (now, first, did), after-lines (changes_in p) before.held now.held mid.held lines sound, onward past (Ran n turns) p q mid after left)
-sound-story past (Changed text ∷ p) q before after s (now, step, rest) =
+sound-story past (Changed text gone ∷ p) q before after s (now, step, rest) =
     let one = sound-change before text now step in
-    let (mid, did, sound, left) = sound-story (past ++ Changed text ∷ []) p q now after one.sound rest in
-    (mid, (now, step, did), after-change text (changes_in p) before.held now.held mid.held one sound, onward past (Changed text) p q mid after left)
+    let (mid, did, sound, left) = sound-story (past ++ Changed text gone ∷ []) p q now after one.sound rest in
+    (mid, (now, step, did), after-change text (changes_in p) before.held now.held mid.held one sound, onward past (Changed text gone) p q mid after left)
 
 -- at each moment of a server's story its service is sound, and has the tenants of the tables so far, with a journal or
 -- without one

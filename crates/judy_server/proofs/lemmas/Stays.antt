@@ -1,6 +1,5 @@
 -- A tenant that stays, with its quota, over all tables that are put in force.
---     StaysAt t rows texts    each of these tables has the tenant of this place, with the same quota
---     row-stays               so it is if each of them has the same row
+--     row-stays               a tenant whose row each new table has stays (`StaysAt`)
 --     keeps-tenant            each new table keeps its arrays
 --     tenant-alone            over all lines of a server its replies are those that it would get alone
 use Rattle.std.proofs.Common.{◌≡◌, ◌∙◌, ℕ, zero, suc, Bool, true, false, List, [], ◌∷◌, ◌++◌, Option, ap, not, refl, subst, sym}
@@ -18,24 +17,12 @@ use Rattle.judy_table.specs.Tenants.{is_vacant}
 use Rattle.judy_table.specs.declared.tenant.Tenant.{Tenant}
 use Rattle.judy_tenants.specs.Changes.{has_tenant, stays_at}
 use Rattle.judy_tenants.specs.Held.{no_quota, quotas_of}
-use Rattle.judy_server.specs.Reloads.{rows_with}
+use Rattle.judy_server.specs.Reloads.{HasRow, StaysAt, rows_with}
 use Rattle.judy_server.specs.Rules.{server_rules}
 use Rattle.judy_server.specs.Served.{seen_of}
+use Rattle.judy_server.specs.Starts.{HasServedAny}
 use Rattle.judy_server.specs.Tally.{Tallied}
 use Rattle.judy_server.proofs.lemmas.Space.{rows-of, rows-stay}
-use Rattle.judy_server.proofs.lemmas.Starting.{HasServedAny}
-
--- Each of these tables, one after another, has the tenant of this place, with the same quota. Its tokens
--- may be others.
-abbrev pub StaysAt : ℕ → List Tenant → List (List ℕ) → Type 0
-StaysAt t rows [] = Unit {0}
-StaysAt t rows (text ∷ texts) =
-    IsTrue (stays_at rows (rows_with rows text) t) × (quotas_of (rows_with rows text) t ≡ quotas_of rows t) × StaysAt t (rows_with rows text) texts
-
--- each of these tables has the same row at this place
-abbrev pub HasRow : ℕ → List Tenant → List (List ℕ) → Type 0
-HasRow t rows [] = Unit {0}
-HasRow t rows (text ∷ texts) = (slice_get (rows_with rows text) t ≡ slice_get rows t) × HasRow t (rows_with rows text) texts
 
 -- whether a tenant has a place, and its quota, are told by its row
 tenant-is : (rows later : List Tenant) (t : ℕ) → slice_get later t ≡ slice_get rows t → has_tenant later t ≡ has_tenant rows t
@@ -68,11 +55,11 @@ keeps-tenant t past before [] after h stays = tt
 keeps-tenant t past before (Did a ∷ story) after h stays = keeps-tenant t (past ++ Did a ∷ []) before story after h.1 stays
 keeps-tenant t past before (Ran n turns ∷ story) after (mid, first, rest) stays =
     keeps-tenant t (past ++ Ran n turns ∷ []) mid story after rest (subst (λ rows. StaysAt t rows (changes_in story)) (sym (rows-stay turns before mid first)) stays)
-keeps-tenant t past before (Changed text ∷ story) after (mid, step, rest) (both, quota, stays) =
+keeps-tenant t past before (Changed text left ∷ story) after (mid, step, rest) (both, quota, stays) =
     let rows = rows-of before text mid step in (
       ap (λ ts. quotas_of ts t) rows ∙ quota,
       (step.held.stays t (subst (λ ts. IsTrue (stays_at before.held.tenants ts t)) (sym rows) both)).0,
-      keeps-tenant t (past ++ Changed text ∷ []) mid story after rest (subst (λ ts. StaysAt t ts (changes_in story)) (sym rows) stays),
+      keeps-tenant t (past ++ Changed text left ∷ []) mid story after rest (subst (λ ts. StaysAt t ts (changes_in story)) (sym rows) stays),
     )
 
 -- over all lines of a server, with a journal or without one, whatever tables were put in force between them, its replies are those that

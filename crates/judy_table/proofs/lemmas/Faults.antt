@@ -2,7 +2,7 @@
 --     first-faults    it is the first in the order of docs/FORMATS.md
 use Rattle.std.proofs.Common.{◌≡◌, ◌⊎◌, inl, inr, ℕ, ℤ, pos, negsuc, ◌<◌, ◌≤◌, ◌&&◌, Bool, true, false, List, Option, Some, None, is_some, Ok, Err}
 use Rattle.std.proofs.Common.{ap, sym, ◌∙◌, refl, subst, nat_le, if◌then◌else◌, arith}
-use Rattle.std.specs.Prelude.{Result}
+use Rattle.std.specs.Prelude.{Result, option_map}
 use Rattle.std.proofs.lemmas.Bool.{leb-true, leb-false, and_parts}
 use Rattle.std.specs.Str.{is_utf8}
 use Rattle.toml.specs.Data.{Members, no_members, member}
@@ -14,9 +14,9 @@ use Rattle.judy_table.specs.declared.fault.TableFault.{TableFault}
 use Rattle.judy_table.specs.declared.fault.TableFault.TheVariants as fault
 use Rattle.judy_table.specs.declared.tenant.Others.{Others}
 use Rattle.judy_table.specs.declared.tenant.Tenant.{Tenant}
-use Rattle.judy_table.specs.Tenants.{size, Written, written, have_shape, up_to, pieces_for, with_pieces, with_entries, digest_read, optional_digest, all_read}
+use Rattle.judy_table.specs.Tenants.{size, Written, written, have_shape, up_to, journal_for, pieces_for, with_pieces, with_journal, with_entries, digest_read, optional_digest, all_read}
 use Rattle.judy_table.specs.Tenants.{others_of, with_others, with_digest, tenant_of, tenant_if_written, and_more, tenants_in, read_document}
-use Rattle.judy_table.specs.Faults.{IsOutside, IsTooMany, IsNoDigest, IsNoOther, LacksDigest, HasFault, LacksShape, FaultsIn}
+use Rattle.judy_table.specs.Faults.{IsOutside, IsTooMany, IsNoLimit, IsNoDigest, IsNoOther, LacksDigest, HasFault, LacksShape, FaultsIn}
 use Rattle.judy_table.specs.Faults.{IsFaultOfTenant, IsFaultOf, TellsFirstFaults}
 use Rattle.judy_table.proofs.lemmas.Meaning.{AreOthers, others-are, tenant-is}
 
@@ -41,6 +41,24 @@ inside most (negsuc m) n = λ e h. cc
 too-many : (n : ℕ) (o : Option ℤ) → pieces_for n o ≡ None → IsTooMany o
 too-many n None e = cc
 too-many n (Some z) e = outside 2113929216 z e
+
+no-limit : (o : Option ℤ) → journal_for o ≡ None → IsNoLimit o
+no-limit None e = cc
+no-limit (Some (pos m)) e = by (nat_le 1 m) refl e
+  where
+    by : (b : Bool) → nat_le 1 m ≡ b → option_map Some (if b then Some m else None) ≡ None → m < 1
+    by true t e = cc
+    by false t e = leb-false 1 m t
+no-limit (Some (negsuc m)) e = tt
+
+a-limit : (o : Option ℤ) (j : Option ℕ) → journal_for o ≡ Some j → IsNoLimit o → ⊥
+a-limit None j e h = h
+a-limit (Some (pos m)) j e h = by (nat_le 1 m) refl e
+  where
+    by : (b : Bool) → nat_le 1 m ≡ b → option_map Some (if b then Some m else None) ≡ Some j → ⊥
+    by true t e = let some : 1 ≤ m = leb-true 1 m t in omega (arith, some, h)
+    by false t e = cc
+a-limit (Some (negsuc m)) j e h = cc
 
 not-both : (text digest : List ℕ) (x : FromHexError) → decode_sized text 32 ≡ Ok digest → decode_sized text 32 ≡ Err x → ⊥
 not-both text digest x i j = cc
@@ -74,15 +92,20 @@ module _ (name : List ℕ) (w : Written) (f : TableFault) where
   told : (g : TableFault) → g ≡ f → HasFault g name w → HasFault f name w
   told g same h = subst (λ x. HasFault x name w) same h
 
-  by_pieces : (digest : List ℕ) (others : Others) (n : ℕ) (o : Option ℕ) → is_name name ≡ true → (LacksDigest w → ⊥)
-      → (IsOutside 16777216 w.entries → ⊥) → pieces_for n w.pieces ≡ o → with_pieces name digest others n o ≡ Err f → HasFault f name w
-  by_pieces digest others n (Some p) a b c i e = cc
-  by_pieces digest others n None a b c i e = let same : fault.Pieces ≡ f = cc in told fault.Pieces same (a, b, c, too-many n w.pieces i)
+  by_pieces : (digest : List ℕ) (others : Others) (n : ℕ) (j o : Option ℕ) → is_name name ≡ true → (LacksDigest w → ⊥)
+      → (IsOutside 16777216 w.entries → ⊥) → (IsNoLimit w.journal → ⊥) → pieces_for n w.pieces ≡ o → with_pieces name digest others n j o ≡ Err f → HasFault f name w
+  by_pieces digest others n j (Some p) a b c d i e = cc
+  by_pieces digest others n j None a b c d i e = let same : fault.Pieces ≡ f = cc in told fault.Pieces same (a, b, c, d, too-many n w.pieces i)
+
+  by_journal : (digest : List ℕ) (others : Others) (n : ℕ) (o : Option (Option ℕ)) → is_name name ≡ true → (LacksDigest w → ⊥)
+      → (IsOutside 16777216 w.entries → ⊥) → journal_for w.journal ≡ o → with_journal name digest others n o w.pieces ≡ Err f → HasFault f name w
+  by_journal digest others n (Some j) a b c i e = by_pieces digest others n j (pieces_for n w.pieces) a b c (a-limit w.journal j i) refl e
+  by_journal digest others n None a b c i e = let same : fault.Quota ≡ f = cc in told fault.Quota same (a, b, inr (no-limit w.journal i))
 
   by_entries : (digest : List ℕ) (others : Others) (o : Option ℕ) → is_name name ≡ true → (LacksDigest w → ⊥)
-      → up_to 16777216 w.entries ≡ o → with_entries name digest others o w.pieces ≡ Err f → HasFault f name w
-  by_entries digest others (Some n) a b i e = by_pieces digest others n (pieces_for n w.pieces) a b (inside 16777216 w.entries n i) refl e
-  by_entries digest others None a b i e = let same : fault.Quota ≡ f = cc in told fault.Quota same (a, b, outside 16777216 w.entries i)
+      → up_to 16777216 w.entries ≡ o → with_entries name digest others o (journal_for w.journal) w.pieces ≡ Err f → HasFault f name w
+  by_entries digest others (Some n) a b i e = by_journal digest others n (journal_for w.journal) a b (inside 16777216 w.entries n i) refl e
+  by_entries digest others None a b i e = let same : fault.Quota ≡ f = cc in told fault.Quota same (a, b, inl (outside 16777216 w.entries i))
 
   by_others : (digest : List ℕ) (r : Result Others FromHexError) → is_name name ≡ true → (IsNoDigest w.digest → ⊥)
       → others_of w.others ≡ r → with_others name digest r w ≡ Err f → HasFault f name w

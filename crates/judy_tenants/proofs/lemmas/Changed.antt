@@ -7,7 +7,7 @@
 --     new-has-none       a place that had no tenant has no arrays
 --     vacant-has-none    a place that has no tenant has no arrays
 --     granted-rises      what the quotas allow never falls
-use Rattle.std.proofs.Common.{◌≡◌, ◌⊎◌, inl, inr, ℕ, ◌≤◌, ◌==◌, ◌&&◌, ◌||◌, Bool, true, false, not, List, [], ◌∷◌, length, Option, Some, None, ap, ◌∙◌, refl, arith, cond}
+use Rattle.std.proofs.Common.{◌≡◌, ◌⊎◌, inl, inr, ℕ, ◌≤◌, ◌==◌, ◌&&◌, Bool, true, false, not, List, length, Option, Some, None, ap, ◌∙◌, refl, arith}
 use Rattle.std.specs.Prelude.{option_map, unwrap_or}
 use Rattle.std.specs.List.{slice_get}
 use Rattle.std.proofs.lemmas.Option.{slice_get-map}
@@ -15,7 +15,7 @@ use Rattle.judy_model.specs.Tenant.{no_arrays}
 use Rattle.judy_table.specs.declared.tenant.Tenant.{Tenant}
 use Rattle.sha2.specs.Sha256.{sha256}
 use Rattle.judy_table.specs.Tenants.{is_vacant, vacant, right_of}
-use Rattle.judy_table.specs.Seats.{has_name, row_of, keeping, seat_of, row_after, seated, right_in}
+use Rattle.judy_table.specs.Seats.{has_name, row_of, seat_of, row_after, seated, right_in}
 use Rattle.judy_table.proofs.lemmas.Seats.{right-after, same-right, seat-name, stays-at, left-vacant}
 use Rattle.judy_tenants.specs.Held.{Held, states_of, sizes_of, words_for}
 use Rattle.judy_tenants.specs.Changes.{has_tenant, stays_at, HasChanged}

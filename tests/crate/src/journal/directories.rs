@@ -12,6 +12,8 @@ fn names_are_read(rt: HostRuntime) -> Result<(), Fail> {
         ("000000000007.snapshot", Named::Snapshot(7)),
         ("lock", Named::Passed),
         ("compact.lock", Named::Passed),
+        ("read.lock", Named::Passed),
+        ("start.lock", Named::Passed),
         ("snapshot.new", Named::Passed),
         ("manifest", Named::Passed),
         ("manifest.new", Named::Passed),
@@ -56,6 +58,8 @@ fn names_are_written_as_they_are_read(rt: HostRuntime) -> Result<(), Fail> {
         (Place::ManifestLock, "manifest.lock"),
         (Place::Lock, "lock"),
         (Place::CompactLock, "compact.lock"),
+        (Place::ReadLock, "read.lock"),
+        (Place::StartLock, "start.lock"),
     ];
     for row in rows.iter() {
         let place = row.0;

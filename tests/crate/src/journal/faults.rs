@@ -17,7 +17,7 @@ fn faults_tell_file_and_byte(rt: HostRuntime) -> Result<(), Fail> {
     same(
         &rt,
         text.as_str(),
-        "judyd: DIR/000000000002.journal: byte 4711: the table lacks the tenant of this record",
+        "judyd: DIR/000000000002.journal: byte 4711: the table lacks the tenant of this record and 64 more",
     );
     let fault = JournalFault::File {
         place: Place::Snapshot(12),
@@ -36,6 +36,13 @@ fn faults_tell_file_and_byte(rt: HostRuntime) -> Result<(), Fail> {
         &rt,
         text.as_str(),
         "judyd: DIR: the quota of alice is less than what it holds",
+    );
+    let fault = JournalFault::Absent(Name::of(b"alice"));
+    let text = format!(in rt.alloc(); "judyd: DIR{fault}")?;
+    same(
+        &rt,
+        text.as_str(),
+        "judyd: DIR: the journal has entries of alice, and the table has no such tenant",
     );
     Ok(())
 }

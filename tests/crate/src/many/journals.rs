@@ -1,12 +1,10 @@
 //! The journal: what is kept and synced, and when, before answers are written.
+use crate::many::stage::SEGMENT_LIMIT;
 use crate::many::theatre::{Part, giving, limits, play, play_with, stage};
 use judy_many::{Ending, Limits, Sync};
 use judy_protocol::cut_line;
 use std::alloc::Global;
 use std::test::Fail;
-
-// A segment with this many bytes is full.
-const SEGMENT_LIMIT: u64 = 67_108_864;
 
 // As many connections, two slots at least, and a journal that is synced by this rule.
 fn journaled(clients: u32, rule: Sync) -> Limits {
@@ -67,7 +65,7 @@ fn two_clients_share_a_sync(rt: HostRuntime) -> Result<(), Fail> {
     let mut stage = stage(alloc, &parts)?;
     let ending = play_with(alloc, &mut stage, journaled(2, Sync::Round), 0)?;
     assert_eq!(rt; ending, Ending::Done);
-    assert_eq!(rt; stage.asked(), b".a0a1r0r1ksw0c0Qw1c1Q".as_slice());
+    assert_eq!(rt; stage.asked(), b".a0a1r0r1w0w1.y0y1ksw0c0Qw1c1Q".as_slice());
     let text = stage.journal.as_slice();
     assert!(rt; has_records(text, &[b"alice J1S a 1", b"bob JLI b 7 8"]));
     assert_eq!(rt; count(text, b"# 3 "), 1);
@@ -98,7 +96,7 @@ fn only_changes_are_recorded(rt: HostRuntime) -> Result<(), Fail> {
     Ok(())
 }
 
-// A round in which nothing changed asks nothing of the journal, nor does a server without one.
+// A round in which nothing changed writes nothing to the journal. A server without one asks nothing of it.
 #[test]
 fn no_change_costs_nothing(rt: HostRuntime) -> Result<(), Fail> {
     let alloc = rt.alloc();
@@ -106,7 +104,7 @@ fn no_change_costs_nothing(rt: HostRuntime) -> Result<(), Fail> {
     let mut looking = stage(alloc, &parts)?;
     let ending = play_with(alloc, &mut looking, journaled(1, Sync::Round), 0)?;
     assert_eq!(rt; ending, Ending::Done);
-    assert_eq!(rt; looking.asked(), b".a0r0w0c0Q".as_slice());
+    assert_eq!(rt; looking.asked(), b".a0r0w0.y0w0c0Q".as_slice());
     let parts = [giving(b"AUTH alice abc\nJ1S a 1\nQUIT\n")];
     let mut without = stage(alloc, &parts)?;
     let ending = play(alloc, &mut without, limits(2, 1))?;
@@ -115,7 +113,7 @@ fn no_change_costs_nothing(rt: HostRuntime) -> Result<(), Fail> {
     Ok(())
 }
 
-// If bytes cannot be kept, or the sync fails, no answer goes out, and the server ends.
+// If bytes cannot be kept, or the sync fails, no answer to a line after the log-in goes out, and the server ends.
 #[test]
 fn a_journal_that_fails_ends_the_server(rt: HostRuntime) -> Result<(), Fail> {
     let alloc = rt.alloc();
@@ -126,13 +124,13 @@ fn a_journal_that_fails_ends_the_server(rt: HostRuntime) -> Result<(), Fail> {
         let ending = play_with(alloc, &mut stage, journaled(1, Sync::Round), 0)?;
         assert_eq!(rt; ending, Ending::Journal);
         let asked = if place == 0 {
-            b".a0r0z".as_slice()
+            b".a0r0w0.y0z".as_slice()
         } else {
-            b".a0r0kz"
+            b".a0r0w0.y0kz"
         };
         assert_eq!(rt; stage.asked(), asked);
         assert_eq!(rt; stage.scripts.len(), 1);
-        assert_eq!(rt; stage.scripts[0].page.bytes(), b"".as_slice());
+        assert_eq!(rt; stage.scripts[0].page.bytes(), b"OK\n".as_slice());
     }
     Ok(())
 }
@@ -149,7 +147,7 @@ fn a_full_segment_is_followed_by_the_next(rt: HostRuntime) -> Result<(), Fail> {
     let mut stage = stage(alloc, &parts)?;
     let ending = play_with(alloc, &mut stage, journaled(1, Sync::Never), SEGMENT_LIMIT)?;
     assert_eq!(rt; ending, Ending::Done);
-    assert_eq!(rt; stage.asked(), b".a0r0ksbksw0|r0kw0c0Q".as_slice());
+    assert_eq!(rt; stage.asked(), b".a0r0w0.y0ksbksw0.r0y0kw0c0Q".as_slice());
     assert_eq!(rt; count(stage.journal.as_slice(), b"judyd journal 1 2 "), 1);
     for place in 0..5usize {
         let mut failing = crate::many::theatre::stage(alloc, &parts)?;
@@ -162,29 +160,29 @@ fn a_full_segment_is_followed_by_the_next(rt: HostRuntime) -> Result<(), Fail> {
         )?;
         assert_eq!(rt; ending, Ending::Journal);
         assert_eq!(rt; failing.scripts.len(), 1);
-        assert_eq!(rt; failing.scripts[0].page.bytes(), b"".as_slice());
+        assert_eq!(rt; failing.scripts[0].page.bytes(), b"OK\n".as_slice());
     }
     Ok(())
 }
 
-// The lines of a client that come in two reads.
-const TWO_READS: [u8; 44] = *b"AUTH alice abc\nJ1S a 1\nJ1U a 1\nJ1S a 2\nQUIT\n";
+// The lines of a client that come in three reads, the log-in in the first.
+const THREE_READS: [u8; 44] = *b"AUTH alice abc\nJ1S a 1\nJ1U a 1\nJ1S a 2\nQUIT\n";
 
 // By seconds the journal is synced once this number of them has passed.
 #[test]
 fn syncs_by_seconds(rt: HostRuntime) -> Result<(), Fail> {
     let alloc = rt.alloc();
-    let lines = TWO_READS;
+    let lines = THREE_READS;
     let times = [Some(3), Some(8), Some(9), Some(13)];
     let parts = [Part {
-        step: 23,
+        step: 15,
         ..giving(&lines)
     }];
     let mut timed = stage(alloc, &parts)?;
     timed.times = &times;
     let ending = play_with(alloc, &mut timed, journaled(1, Sync::Seconds(5)), 0)?;
     assert_eq!(rt; ending, Ending::Done);
-    assert_eq!(rt; timed.asked(), b".a0r0kw0:r0ksw0c0Q".as_slice());
+    assert_eq!(rt; timed.asked(), b".a0r0w0|r0y0kw0:r0y0ksw0c0Q".as_slice());
     Ok(())
 }
 
@@ -192,15 +190,15 @@ fn syncs_by_seconds(rt: HostRuntime) -> Result<(), Fail> {
 #[test]
 fn never_syncs(rt: HostRuntime) -> Result<(), Fail> {
     let alloc = rt.alloc();
-    let lines = TWO_READS;
+    let lines = THREE_READS;
     let parts = [Part {
-        step: 23,
+        step: 15,
         ..giving(&lines)
     }];
     let mut never = stage(alloc, &parts)?;
     let ending = play_with(alloc, &mut never, journaled(1, Sync::Never), 0)?;
     assert_eq!(rt; ending, Ending::Done);
-    assert_eq!(rt; never.asked(), b".a0r0kw0|r0kw0c0Q".as_slice());
+    assert_eq!(rt; never.asked(), b".a0r0w0|r0y0kw0|r0y0kw0c0Q".as_slice());
     Ok(())
 }
 
@@ -229,7 +227,7 @@ fn records_beyond_one_commit(rt: HostRuntime) -> Result<(), Fail> {
     assert_eq!(rt; ending, Ending::Done);
     assert_eq!(rt;
         stage.asked(),
-        b".a0a1a2a3a4r0r1r2r3kr4ksw0c0Qw1c1Qw2c2Qw3w4c4Q.ksw3c3Q".as_slice()
+        b".a0a1a2a3a4r0r1r2r3r4w0w1w2w3w4.y0y1y2y3ky4ksw0c0Qw1c1Qw2c2Qw3w4c4Q.y3ksw3c3Q".as_slice()
     );
     let text = stage.journal.as_slice();
     let records = count(text, b"bob J1S a 1").saturating_add(count(text, b"bob J1U a 1"));

@@ -1,6 +1,7 @@
 //! A table that is read again.
-use crate::many::theatre::{giving, limits, play, stage};
-use judy_many::{Ending, Limits, Question};
+use crate::many::theatre::{TABLE, giving, limits, play, play_with, stage};
+use judy_many::{Ending, Limits, Question, Sync};
+use judy_protocol::cut_line;
 use std::test::Fail;
 
 // bob alone, with the token `hello`.
@@ -36,6 +37,82 @@ fn a_tenant_that_is_gone_is_closed(rt: HostRuntime) -> Result<(), Fail> {
         stage.warned.as_slice(),
         b"table read again: 1 tenant\n".as_slice()
     );
+    Ok(())
+}
+
+// The same with a journal that is synced each round.
+fn journaled() -> Limits {
+    Limits {
+        journal: Some(Sync::Round),
+        ..watched()
+    }
+}
+
+// Whether the text begins with this line.
+fn begins_with(text: &[u8], line: &[u8]) -> bool {
+    match cut_line(text) {
+        Some((first, _rest)) => first == line,
+        None => false,
+    }
+}
+
+// With a journal the tenant that is gone has a record, which is kept and synced before the answer.
+#[test]
+fn a_tenant_that_is_gone_has_a_record(rt: HostRuntime) -> Result<(), Fail> {
+    let alloc = rt.alloc();
+    let parts = [giving(b"AUTH alice abc\n")];
+    let questions = [Question::Reload];
+    let tables = [BOB];
+    let mut stage = stage(alloc, &parts)?;
+    stage.questions = &questions;
+    stage.tables = &tables;
+    let ending = play_with(alloc, &mut stage, journaled(), 0)?;
+    assert_eq!(rt; ending, Ending::Done);
+    assert_eq!(rt; stage.asked(), b".a0r0w0^tc0Gks-".as_slice());
+    assert_eq!(rt; stage.reported.as_slice(), b"OK\n".as_slice());
+    assert!(rt; begins_with(stage.journal.as_slice(), b"alice GONE"));
+    Ok(())
+}
+
+// If its record is not kept, or not synced, nothing is answered, and the server ends.
+#[test]
+fn a_record_that_is_not_kept_is_not_answered(rt: HostRuntime) -> Result<(), Fail> {
+    let alloc = rt.alloc();
+    let parts = [giving(b"AUTH alice abc\n")];
+    let questions = [Question::Reload];
+    let tables = [BOB];
+    for (fails_at, asked) in [
+        (0, b".a0r0w0^tc0Gz".as_slice()),
+        (1, b".a0r0w0^tc0Gkz".as_slice()),
+    ] {
+        let mut stage = stage(alloc, &parts)?;
+        stage.questions = &questions;
+        stage.tables = &tables;
+        stage.fails_at = fails_at;
+        let ending = play_with(alloc, &mut stage, journaled(), 0)?;
+        assert_eq!(rt; ending, Ending::Journal);
+        assert_eq!(rt; stage.asked(), asked);
+        assert_eq!(rt; stage.reported.as_slice(), b"".as_slice());
+        assert_eq!(rt; stage.warned.as_slice(), b"".as_slice());
+    }
+    Ok(())
+}
+
+// A table that has all tenants has no record.
+#[test]
+fn a_table_with_all_tenants_has_no_record(rt: HostRuntime) -> Result<(), Fail> {
+    let alloc = rt.alloc();
+    let parts = [giving(b"AUTH alice abc\n")];
+    let questions = [Question::Reload];
+    let tables = [TABLE];
+    let mut stage = stage(alloc, &parts)?;
+    stage.questions = &questions;
+    stage.tables = &tables;
+    let ending = play_with(alloc, &mut stage, journaled(), 0)?;
+    assert_eq!(rt; ending, Ending::Done);
+    assert_eq!(rt; stage.asked().starts_with(b".a0r0w0^t-"), true);
+    assert_eq!(rt; stage.reported.as_slice(), b"OK\n".as_slice());
+    assert_eq!(rt; stage.journal.as_slice(), b"".as_slice());
     Ok(())
 }
 

@@ -17,6 +17,9 @@ pub const REPORTED_LIMIT: usize = 16384;
 /// After this many waits the system fails, so that each test ends.
 const WAITS_LIMIT: usize = 20_000;
 
+// A segment with this many bytes is full.
+pub const SEGMENT_LIMIT: u64 = 67_108_864;
+
 /// A connection that comes: what it gives and takes.
 #[derive(Drop)]
 pub struct Script<'a> {
@@ -58,7 +61,8 @@ pub struct Seat {
 /// `r` read, `w` written, `c` closed, and why (`Q` quit, `E` end, `F` fault, `I` idle, `O` too long,
 /// `M` memory, `G` gone, `K` kicked). `?` is a question for the status, `!` one that the server ends, `^`
 /// one that the table is read again, `*` one that the connections of a tenant are closed, `t` a read of the table, `=` a report, and `-` a reply. Of the journal, `b`
-/// is a file that was made, `k` bytes that were kept, `s` a sync, and `z` one of these that failed.
+/// is a file that was made, `k` bytes that were kept, `s` a sync, and `z` one of these that failed; `y`, with the
+/// number of the connection, says that it takes the records of a tenant, and `n` that it does not.
 #[derive(Drop)]
 pub struct Stage<'a> {
     /// The connections.
@@ -83,6 +87,10 @@ pub struct Stage<'a> {
     pub journal: ArrayVec<u8, ASKED_LIMIT>,
     /// Which of the calls for the journal fails. None fails if it is past the last one.
     pub fails_at: usize,
+    /// The tenant whose records the journal does not take. Empty: it takes all.
+    pub full: &'a [u8],
+    /// How often it does not take them; after that it does.
+    pub refusals: usize,
     journaled: usize,
     asked: ArrayVec<u8, ASKED_LIMIT>,
     waits: usize,
@@ -108,6 +116,8 @@ impl<'a> Stage<'a> {
             warned: ArrayVec::new(),
             journal: ArrayVec::new(),
             fails_at: usize::MAX,
+            full: &[],
+            refusals: usize::MAX,
             journaled: 0,
             asked: ArrayVec::new(),
             waits: 0,
@@ -280,6 +290,10 @@ impl<'a> Network for Stage<'a> {
         self.times[n]
     }
 
+    fn is_full(&self, size: u64) -> bool {
+        size >= SEGMENT_LIMIT
+    }
+
     fn ask(&mut self) -> Question {
         let n = self.questioned;
         if n >= self.questions.len() {
@@ -330,6 +344,15 @@ impl<'a> Network for Stage<'a> {
     fn reply(&mut self, text: &[u8]) {
         self.note(b'-');
         let _fits = self.reported.try_extend_from_slice(text);
+    }
+
+    fn takes(&mut self, connection: &Seat, tenant: &[u8], _limit: Option<u64>) -> bool {
+        let refused = tenant == self.full && self.refusals > 0;
+        if refused {
+            self.refusals -= 1;
+        }
+        self.note_of(if refused { b'n' } else { b'y' }, connection.at);
+        !refused
     }
 
     fn begin(&mut self, _segment: u64) -> bool {

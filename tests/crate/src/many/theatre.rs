@@ -9,7 +9,7 @@ use judy_tenants::Sha256Hash;
 use std::alloc::Global;
 use std::test::Fail;
 
-const TABLE: &[u8] = b"[alice]
+pub const TABLE: &[u8] = b"[alice]
 sha256 = \"ba7816bf8f01cfea414140de5dae2223b00361a396177a9cb410ff61f20015ad\"
 read_sha256 = \"3c01eba119e00d79c82b6f65d70bc5f1044d568618bf41377e6d1432023fc2b8\"
 quota = 2

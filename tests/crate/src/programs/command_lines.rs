@@ -59,16 +59,17 @@ fn limits_text(
     format!(in alloc; "{connections} {login} {idle} {turn} {reserve}")
 }
 
-// The journal of a server, when it is secured and whether it is new, as a text.
+// The journal of a server, when it is secured, the size of a segment and whether it is new, as a text.
 fn journal_text(
     alloc: Global,
     journal: Option<Word>,
     sync: Sync,
+    segment: u32,
     new: bool,
 ) -> Result<String, AllocError> {
     let new = if new { " new" } else { "" };
     match journal {
-        Some(journal) => format!(in alloc; " {} {sync:?}{new}", journal.0),
+        Some(journal) => format!(in alloc; " {} {sync:?} {segment}{new}", journal.0),
         None => Ok(String::new(alloc)),
     }
 }
@@ -91,19 +92,29 @@ fn job_text(alloc: Global, job: Job) -> Result<String, AllocError> {
             reserve,
             journal,
             sync,
+            segment,
             new_journal,
             check,
         } => {
             let sockets = sockets_text(alloc, socket, status, control)?;
             let clients = clients_text(alloc, clients, tenant_clients)?;
             let limits = limits_text(alloc, connections, login, idle, turn, reserve)?;
-            let journal = journal_text(alloc, journal, sync, new_journal)?;
+            let journal = journal_text(alloc, journal, sync, segment, new_journal)?;
             format!(in alloc;
                 "serve {} {sockets} {clients} {limits} {check}{journal}",
                 config.0
             )
         }
         Job::Compact { directory } => format!(in alloc; "compact {}", directory.0),
+        Job::Repair {
+            directory,
+            sure,
+            drop_later,
+        } => {
+            let sure = if sure { " sure" } else { "" };
+            let later = if drop_later { " later" } else { "" };
+            format!(in alloc; "repair {}{sure}{later}", directory.0)
+        }
         Job::Journal {
             directory,
             tenant,
@@ -251,13 +262,22 @@ fn limits_of_serve(rt: HostRuntime) -> Result<(), Fail> {
 }
 
 const WORDS_OF_A_JOURNAL: &str =
-    "serve --config c --socket s --journal d -> serve c s 64 4294967295 10 0 0 0 false d Round
-serve --config c --socket s --journal=d --sync round --check -> serve c s 64 4294967295 10 0 0 0 true d Round
-serve --sync never --config c --socket s --journal d -> serve c s 64 4294967295 10 0 0 0 false d Never
-serve --config c --socket s --journal d --sync 1 -> serve c s 64 4294967295 10 0 0 0 false d Seconds(1)
-serve --config c --socket s --journal d --sync 4294967295 -> serve c s 64 4294967295 10 0 0 0 false d Seconds(4294967295)
-serve --config c --socket s --journal d --new-journal -> serve c s 64 4294967295 10 0 0 0 false d Round new
-serve --new-journal --config c --socket s --sync 2 --journal d --check -> serve c s 64 4294967295 10 0 0 0 true d Seconds(2) new
+    "serve --config c --socket s --journal d -> serve c s 64 4294967295 10 0 0 0 false d Round 64
+serve --config c --socket s --journal=d --sync round --check -> serve c s 64 4294967295 10 0 0 0 true d Round 64
+serve --sync never --config c --socket s --journal d -> serve c s 64 4294967295 10 0 0 0 false d Never 64
+serve --config c --socket s --journal d --sync 1 -> serve c s 64 4294967295 10 0 0 0 false d Seconds(1) 64
+serve --config c --socket s --journal d --sync 4294967295 -> serve c s 64 4294967295 10 0 0 0 false d Seconds(4294967295) 64
+serve --config c --socket s --journal d --new-journal -> serve c s 64 4294967295 10 0 0 0 false d Round 64 new
+serve --new-journal --config c --socket s --sync 2 --journal d --check -> serve c s 64 4294967295 10 0 0 0 true d Seconds(2) 64 new
+serve --config c --socket s --journal d --segment 1 -> serve c s 64 4294967295 10 0 0 0 false d Round 1
+serve --segment=1024 --config c --socket s --sync 2 --journal d -> serve c s 64 4294967295 10 0 0 0 false d Seconds(2) 1024
+serve --config c --socket s --journal d --segment 0 -> usage
+serve --config c --socket s --journal d --segment 1025 -> usage
+serve --config c --socket s --journal d --segment -1 -> usage
+serve --config c --socket s --journal d --segment 64M -> usage
+serve --config c --socket s --journal d --segment -> usage
+serve --config c --socket s --journal d --segment 1 --segment 1 -> usage
+serve --config c --socket s --segment 1 -> usage
 serve --config c --socket s --new-journal -> usage
 serve --config c --socket s --new-journal --sync round -> usage
 serve --config c --socket s --journal d --new-journal=true -> usage
@@ -274,6 +294,14 @@ compact -> usage
 compact d e -> usage
 compact --help -> help
 compact d --tenant a -> usage
+repair d -> repair d
+repair d --yes -> repair d sure
+repair --drop-later d -> repair d later
+repair d --drop-later --yes -> repair d sure later
+repair -> usage
+repair d e -> usage
+repair --help -> help
+repair d --sync 1 -> usage
 journal d -> journal d
 journal d --tenant a -> journal d a
 journal --tenant=a d -> journal d a

@@ -112,6 +112,10 @@ impl<'a> Network for Play<'a> {
         Some(0)
     }
 
+    fn is_full(&self, _size: u64) -> bool {
+        false
+    }
+
     fn ask(&mut self) -> Question {
         if self.counts.accepted < self.tapes.len() || self.counts.closed < self.counts.accepted {
             return Question::Nothing;
@@ -132,6 +136,10 @@ impl<'a> Network for Play<'a> {
     }
 
     fn reply(&mut self, _text: &[u8]) {}
+
+    fn takes(&mut self, _connection: &Call, _tenant: &[u8], _limit: Option<u64>) -> bool {
+        true
+    }
 
     fn begin(&mut self, _segment: u64) -> bool {
         false

@@ -1,4 +1,5 @@
-//! Records that are played again: each reason why one is not played, and a run of random lines.
+//! Records that are played again: each reason why one is not played, tenants that left, names that the table
+//! lacks, and a run of random lines.
 
 use crate::checks::{holds_at, same, same_at};
 use arrayvec::ArrayVec;
@@ -6,7 +7,7 @@ use judy_journal::Unplayed;
 use judy_model::{KEY_LIMIT, Reply};
 use judy_programs::{Opens, Replays};
 use judy_protocol::{Line, read_line, write_reply};
-use judy_server::{Halt, Server, replay, replay_all};
+use judy_server::{Halt, Server, Tally, replay, replay_all};
 use judy_tenants::{Right, Service, Sha256Hash, Speaker, Table, Unchanged, is_callable};
 use std::alloc::Global;
 use std::process::Abort;
@@ -82,11 +83,15 @@ static LOOKS: [&str; 11] = [
 ];
 
 /// Records that are not played by a service of `LATER` where abe has all that it may have, and why.
-static REFUSED: [(&str, Unplayed); 15] = [
+static REFUSED: [(&str, Unplayed); 19] = [
     ("abe J1S a 5", Unplayed::Full),
     ("abe JLI l 1 1", Unplayed::Full),
-    ("eve J1S a 5", Unplayed::Tenant),
-    ("ab J1S a 5", Unplayed::Tenant),
+    ("GONE", Unplayed::Record),
+    (" GONE", Unplayed::Record),
+    ("abe gone", Unplayed::Record),
+    ("a*e GONE", Unplayed::Record),
+    ("abe GONE bob c*d", Unplayed::Record),
+    ("abe GONEbob", Unplayed::Record),
     ("", Unplayed::Record),
     (" J1S a 5", Unplayed::Record),
     ("abe", Unplayed::Record),
@@ -123,18 +128,43 @@ fn open(alloc: Global, table: &str) -> Result<Service<Sha256Hash>, Fail> {
     Ok(Service::new(alloc, table, b"secret", Sha256Hash)?)
 }
 
-/// Plays one record.
-fn play(alloc: Global, service: &mut Service<Sha256Hash>, record: &str) -> Result<(), Unplayed> {
+/// Plays one record. Names that the table lacks are noted in the tally.
+fn play_noting(
+    alloc: Global,
+    service: &mut Service<Sha256Hash>,
+    tally: &mut Tally,
+    record: &str,
+) -> Result<(), Unplayed> {
     let mut key = [0u8; KEY_LIMIT];
     let mut found = ArrayVec::new();
-    replay(alloc, service, record.as_bytes(), &mut key, &mut found)
+    replay(
+        alloc,
+        service,
+        tally,
+        record.as_bytes(),
+        &mut key,
+        &mut found,
+    )
+}
+
+/// Plays one record.
+fn play(alloc: Global, service: &mut Service<Sha256Hash>, record: &str) -> Result<(), Unplayed> {
+    play_noting(alloc, service, &mut Tally::new(), record)
 }
 
 /// Plays the records of a text.
 fn play_all(alloc: Global, service: &mut Service<Sha256Hash>, text: &str) -> Result<(), Halt> {
     let mut key = [0u8; KEY_LIMIT];
     let mut found = ArrayVec::new();
-    replay_all(alloc, service, text.as_bytes(), &mut key, &mut found)
+    let mut tally = Tally::new();
+    replay_all(
+        alloc,
+        service,
+        &mut tally,
+        text.as_bytes(),
+        &mut key,
+        &mut found,
+    )
 }
 
 /// Writes the reply to the call of a line that a tenant asks for. Returns whether the call is recorded: it is
@@ -246,8 +276,25 @@ fn record(
     Ok(kept)
 }
 
-/// A run of random lines of three tenants is recorded, and its records are played on another service,
-/// where the tenants have other places and other quotas.
+/// Lets a random tenant leave, with its record. A tenant of its name comes at once.
+fn leave(
+    alloc: Global,
+    service: &mut Service<Sha256Hash>,
+    dice: &mut Dice,
+    records: &mut String,
+) -> Result<(), Fail> {
+    let place = dice.roll(3) as usize;
+    let name = TENANTS[place];
+    let mut marks = [false; 3];
+    marks[place] = true;
+    service.free(alloc, marks.as_slice());
+    let record = format!(in alloc; "{name} GONE\n")?;
+    records.push_str(record.as_str())?;
+    Ok(())
+}
+
+/// A run of random lines of three tenants, some of whom leave, is recorded, and its records are played on
+/// another service, where the tenants have other places and other quotas.
 #[test]
 fn random_lines(rt: HostRuntime) -> Result<(), Fail> {
     let alloc = rt.alloc();
@@ -255,7 +302,10 @@ fn random_lines(rt: HostRuntime) -> Result<(), Fail> {
     let mut records = String::new(alloc);
     let mut dice = Dice { seed: 5 };
     let mut kept: u64 = 0;
-    for _ in 0..300 {
+    for line in 0..300u64 {
+        if line % 70 == 69 {
+            leave(alloc, &mut service, &mut dice, &mut records)?;
+        }
         if record(alloc, &mut service, &mut dice, &mut records)? {
             kept = kept.saturating_add(1);
         }
@@ -373,13 +423,123 @@ fn a_start_names_the_tenant(rt: HostRuntime) -> Result<(), Fail> {
     Ok(())
 }
 
+/// What a server tells that begins with records of tenants that its table lacks.
+static STARTS: [(&str, &str); 8] = [
+    ("abe J1S a 1\n", "well"),
+    (
+        "eve J1S a 1\n",
+        "DIR: the journal has entries of eve, and the table has no such tenant",
+    ),
+    ("eve J1S a 1\neve GONE\n", "well"),
+    ("eve GONE\n", "well"),
+    ("eve J1S a 1\nabe GONE bob eve\n", "well"),
+    (
+        "eve J1S a 1\neve GONE\neve J1S a 2\n",
+        "DIR: the journal has entries of eve, and the table has no such tenant",
+    ),
+    (
+        "fay J1S a 1\neve J1S a 1\nfay J1U a 1\n",
+        "DIR: the journal has entries of fay, and the table has no such tenant",
+    ),
+    (
+        "fay J1S a 1\neve J1S a 1\nbob GONE fay\n",
+        "DIR: the journal has entries of eve, and the table has no such tenant",
+    ),
+];
+
+/// A server begins only if its table has each tenant that has records and did not leave.
+#[test]
+fn a_start_names_who_is_absent(rt: HostRuntime) -> Result<(), Fail> {
+    let alloc = rt.alloc();
+    for (records, told) in &STARTS {
+        same_at(&rt, begin(alloc, records)?.as_str(), *told, records);
+    }
+    Ok(())
+}
+
+/// Records of names that the table lacks are passed over, for 64 names at once. One that left makes room.
+#[test]
+fn names_that_are_absent(rt: HostRuntime) -> Result<(), Fail> {
+    let alloc = rt.alloc();
+    let mut service = open(alloc, LATER)?;
+    let mut tally = Tally::new();
+    for round in 0..2u64 {
+        for number in 0..64u64 {
+            let record = format!(in alloc; "n{number} J1S a {round}")?;
+            let played = play_noting(alloc, &mut service, &mut tally, record.as_str());
+            same_at(&rt, played, Ok(()), record.as_str());
+        }
+    }
+    for (record, played) in &[
+        ("one J1S a 1", Err(Unplayed::Tenant)),
+        ("abe J1S a 1", Ok(())),
+        ("two GONE", Ok(())),
+        ("one J1S a 1", Err(Unplayed::Tenant)),
+        ("n63 J1S a 1", Ok(())),
+        ("bob GONE n5 n17", Ok(())),
+        ("one J1S a 1", Ok(())),
+        ("n5 J1S a 1", Ok(())),
+        ("n17 J1S a 1", Err(Unplayed::Tenant)),
+    ] {
+        let now = play_noting(alloc, &mut service, &mut tally, record);
+        same_at(&rt, now, *played, record);
+    }
+    let mut text = ArrayVec::new();
+    ask(alloc, &mut service, "abe", "USED", &mut text)?;
+    same(&rt, text.as_slice(), b"Q 1 5 1 630\n".as_slice());
+    Ok(())
+}
+
+/// Who left has no arrays, and a tenant of its name begins anew. The others keep theirs.
+#[test]
+fn tenants_that_left(rt: HostRuntime) -> Result<(), Fail> {
+    let alloc = rt.alloc();
+    let mut service = open(alloc, LATER)?;
+    let text = "abe J1S a 1
+ann J1S a 1
+bob J1S a 1
+bob JSLI s x6162 7
+cid J1S a 1
+bob GONE eve abe
+bob J1S a 2
+";
+    same(&rt, play_all(alloc, &mut service, text), Ok(()));
+    for (name, held) in &[
+        ("abe", "Q 0 5 0 630\n"),
+        ("ann", "Q 1 13 1 1638\n"),
+        ("bea", "Q 0 5 0 630\n"),
+        ("bob", "Q 1 900 1 113400\n"),
+        ("cid", "Q 1 900 1 113400\n"),
+    ] {
+        let mut answer = ArrayVec::new();
+        ask(alloc, &mut service, name, "USED", &mut answer)?;
+        same_at(&rt, answer.as_slice(), held.as_bytes(), name);
+    }
+    for (line, wanted) in &[
+        ("J1T a 1", "0\n"),
+        ("J1T a 2", "1\n"),
+        ("JSLG s x6162", "NULL\n"),
+    ] {
+        let mut answer = ArrayVec::new();
+        ask(alloc, &mut service, "bob", line, &mut answer)?;
+        same_at(&rt, answer.as_slice(), wanted.as_bytes(), line);
+    }
+    same(
+        &rt,
+        play_all(alloc, &mut service, "ann GONE bob cid\n"),
+        Ok(()),
+    );
+    same(&rt, service.live_words(), 0);
+    Ok(())
+}
+
 /// The first record of a text that is not played, after how many that are.
 #[test]
 fn halts(rt: HostRuntime) -> Result<(), Fail> {
     let alloc = rt.alloc();
     let mut service = open(alloc, LATER)?;
-    let text = "bob J1S a 1\nbob J1S a 2\neve J1S a 3\nbob J1S a 4\n";
-    let why = Unplayed::Tenant;
+    let text = "bob J1S a 1\nbob J1S a 2\neve J1T a 3\nbob J1S a 4\n";
+    let why = Unplayed::Record;
     same(
         &rt,
         play_all(alloc, &mut service, text),

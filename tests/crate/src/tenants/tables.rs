@@ -591,3 +591,42 @@ fn faults_have_names(rt: HostRuntime) -> Result<(), Fail> {
     }
     Ok(())
 }
+
+static JOURNALS: [Row; 6] = [
+    ("[alice]\nsha256 = D\nquota = 4\njournal = 1", Ok(1)),
+    (
+        "[alice]\nsha256 = D\nquota = 4\njournal = 9223372036854775807",
+        Ok(1),
+    ),
+    (
+        "[alice]\nsha256 = D\nquota = 4\njournal = 0",
+        Err(TableFault::Quota),
+    ),
+    (
+        "[alice]\nsha256 = D\nquota = 4\npieces = -1\njournal = -1",
+        Err(TableFault::Quota),
+    ),
+    (
+        "[alice]\nsha256 = D\nquota = 4\njournal = '1'",
+        Err(TableFault::Shape),
+    ),
+    (
+        "[alice]\nsha256 = D\nquota = 4\njournal = 1.5",
+        Err(TableFault::Shape),
+    ),
+];
+
+// The limit of a tenant's records in a journal is that of its row, and there is none without one.
+#[test]
+fn limits_in_a_journal(rt: HostRuntime) -> Result<(), Fail> {
+    compare(&rt, rt.alloc(), &JOURNALS)?;
+    let text = spelled(
+        "[alice]\nsha256 = D\nquota = 4\njournal = 65536\n[bob]\nsha256 = D\nquota = 4\n",
+    )?;
+    let table = parse(rt.alloc(), text.as_bytes())?;
+    for (name, want) in [(b"alice".as_slice(), Some(65536)), (b"bob", None)] {
+        let limit = table.find(name).and_then(|it| table.journal_limit(it));
+        same_at(&rt, limit, want, name);
+    }
+    Ok(())
+}

@@ -50,7 +50,7 @@ loop-try-preserved g c = record {
       let (mid, last, seated) = accepted _ _ c.args.limits first start past now c.loop-try.clients.queue c.wake.new.queue _ _ c.loop-try.clients.slots.items c.loop-try.clients.accepted c.in-Some.at
       _ _ c.accept_at-arrival.result c.accept_at-arrival.new.slot c.wake.ensures.stay c.wake.ensures.wakes (omega (arith, c.in-Some.ensures.slots)) c.in-Some.ensures.free (omega arith)
       c.has_come-came.ensures c.one_if.ensures c.accept_at-arrival.ensures.arrives (c.loop-try.invariant.crowd first now start past h) in
-      idle (λ b. view_of g.S.Served.who g.N.Network.number b.value) (rules_of g.S.Served.made g.S.Served.seen g.S.Shows.noted g.S.Shows.status g.S.Shows.changed) c.args.limits
+      idle (λ b. view_of g.S.Served.who g.N.Network.number b.value) (rules_of g.S.Served.made g.S.Served.seen g.S.Shows.noted g.S.Shows.status g.S.Shows.changed g.S.Shows.caps g.S.Shows.leavers) c.args.limits
       first start Reads (nobody c.wake.new.queue) past _ _ _ _ now
       (subst (λ r. DidLog mid (lost_at r) (g.N.Network.log c.accept_at-arrival.new.network)) c.in-Came.is last) seated;
   known = λ speakers k. known-change _ speakers _ _ c.index_mut.result.now _ (omega (arith, c.in-Some.ensures.slots)) c.index_mut.ensures.value

@@ -39,10 +39,10 @@ loop-at-preserved g c =
     record {
       slots = ap vec_len c.note_closed.ensures.slots ∙ c.loop-at.invariant.slots;
       crowd = λ limits first now start past e h.
-          shown (λ b. view_of g.S.Served.who g.N.Network.number b.value) (rules_of g.S.Served.made g.S.Served.seen g.S.Shows.noted g.S.Shows.status g.S.Shows.changed) limits first start Sweeps (nobody c.note_closed.new.self.queue) past _ _ _ _ _ now (ap (λ s. s.items) c.note_closed.ensures.slots) c.note_closed.ensures.count
-          (crowd_closed (λ b. view_of g.S.Served.who g.N.Network.number b.value) (rules_of g.S.Served.made g.S.Served.seen g.S.Shows.noted g.S.Shows.status g.S.Shows.changed) limits first start c.loop-at.clients.queue c.note_closed.new.self.queue past _ _ c.loop-at.clients.slots.items c.loop-at.clients.accepted now c.loop-at.at
+          shown (λ b. view_of g.S.Served.who g.N.Network.number b.value) (rules_of g.S.Served.made g.S.Served.seen g.S.Shows.noted g.S.Shows.status g.S.Shows.changed g.S.Shows.caps g.S.Shows.leavers) limits first start Sweeps (nobody c.note_closed.new.self.queue) past _ _ _ _ _ now (ap (λ s. s.items) c.note_closed.ensures.slots) c.note_closed.ensures.count
+          (crowd_closed (λ b. view_of g.S.Served.who g.N.Network.number b.value) (rules_of g.S.Served.made g.S.Served.seen g.S.Shows.noted g.S.Shows.status g.S.Shows.changed g.S.Shows.caps g.S.Shows.leavers) limits first start c.loop-at.clients.queue c.note_closed.new.self.queue past _ _ c.loop-at.clients.slots.items c.loop-at.clients.accepted now c.loop-at.at
           c.index_mut.result.now c.close_at-closed.new.slot more c.close_at-closed.result (c.loop-at.invariant.crowd limits first now start past e h)
-          (inl (ap gones_in acts ∙ kick_stays (speaks_as (g.S.Served.seen c.args.service.now).names c.args.name.now) (option_map (λ b. view_of g.S.Served.who g.N.Network.number b.value) c.index_mut.result.now))) (omega arith) c.index_mut.ensures.value log
+          (inl (tt, ap gones_in acts ∙ kick_stays (speaks_as (g.S.Served.seen c.args.service.now).names c.args.name.now) (option_map (λ b. view_of g.S.Served.who g.N.Network.number b.value) c.index_mut.result.now))) (omega arith) c.index_mut.ensures.value log
           none (did limits e) whole c.note_closed.ensures.others c.note_closed.ensures.same);
       changed = rw add-one (
           ap (λ s. map (option_map (λ b. view_of g.S.Served.who g.N.Network.number b.value)) s.items) c.note_closed.ensures.slots

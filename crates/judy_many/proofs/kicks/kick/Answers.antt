@@ -14,10 +14,10 @@ use Rattle.judy_many.proofs.Living.{then_log}
 use Rattle.judy_many.proofs.kicks.kick.Goals as goal
 
 pub returns-clause-crowd : goal.returns-clause-crowd
-returns-clause-crowd g c = λ limits first now start past e asked h.
-    has_answered (λ b. view_of g.S.Served.who g.N.Network.number b.value) (rules_of g.S.Served.made g.S.Served.seen g.S.Shows.noted g.S.Shows.status g.S.Shows.changed) limits first start Sweeps (nobody c.close_all-count.new.clients.queue) (at_stage Stage.Chosen past) _ _ _ _ now _ e tt c.reply.ensures
+returns-clause-crowd g c = λ limits first now start past e asked settled h.
+    has_answered (λ b. view_of g.S.Served.who g.N.Network.number b.value) (rules_of g.S.Served.made g.S.Served.seen g.S.Shows.noted g.S.Shows.status g.S.Shows.changed g.S.Shows.caps g.S.Shows.leavers) limits first start Sweeps (nobody c.close_all-count.new.clients.queue) (at_stage Stage.Chosen past) _ _ _ _ now _ e tt settled c.reply.ensures
     (c.close_all-count.ensures.crowd limits first now start (at_stage Stage.Chosen past) e
-    (has_named (λ b. view_of g.S.Served.who g.N.Network.number b.value) (rules_of g.S.Served.made g.S.Served.seen g.S.Shows.noted g.S.Shows.status g.S.Shows.changed) limits first start Sweeps (nobody c.args.clients.now.queue) past _ _ _ _ now _ e asked c.named-name.ensures h))
+    (has_named (λ b. view_of g.S.Served.who g.N.Network.number b.value) (rules_of g.S.Served.made g.S.Served.seen g.S.Shows.noted g.S.Shows.status g.S.Shows.changed g.S.Shows.caps g.S.Shows.leavers) limits first start Sweeps (nobody c.args.clients.now.queue) past _ _ _ _ now _ e asked c.named-name.ensures h))
 
 pub returns-clause-kicked : goal.returns-clause-kicked
 returns-clause-kicked g c = record {

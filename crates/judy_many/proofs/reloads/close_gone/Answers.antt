@@ -32,10 +32,10 @@ loop-at-preserved g c =
       slots = ap vec_len c.note_closed.ensures.slots ∙ c.loop-at.invariant.slots;
       crowd = λ limits first start past e asked h.
           let crowded = c.loop-at.invariant.crowd limits first start past e asked h in
-          shown (λ b. view_of g.S.Served.who g.N.Network.number b.value) (rules_of g.S.Served.made g.S.Served.seen g.S.Shows.noted g.S.Shows.status g.S.Shows.changed) limits first start Sweeps (nobody c.note_closed.new.self.queue) past _ _ _ _ _ now (ap (λ s. s.items) c.note_closed.ensures.slots) c.note_closed.ensures.count
-          (crowd_closed (λ b. view_of g.S.Served.who g.N.Network.number b.value) (rules_of g.S.Served.made g.S.Served.seen g.S.Shows.noted g.S.Shows.status g.S.Shows.changed) limits first start c.loop-at.clients.queue c.note_closed.new.self.queue past _ _ c.loop-at.clients.slots.items c.loop-at.clients.accepted now c.loop-at.at
+          shown (λ b. view_of g.S.Served.who g.N.Network.number b.value) (rules_of g.S.Served.made g.S.Served.seen g.S.Shows.noted g.S.Shows.status g.S.Shows.changed g.S.Shows.caps g.S.Shows.leavers) limits first start Sweeps (nobody c.note_closed.new.self.queue) past _ _ _ _ _ now (ap (λ s. s.items) c.note_closed.ensures.slots) c.note_closed.ensures.count
+          (crowd_closed (λ b. view_of g.S.Served.who g.N.Network.number b.value) (rules_of g.S.Served.made g.S.Served.seen g.S.Shows.noted g.S.Shows.status g.S.Shows.changed g.S.Shows.caps g.S.Shows.leavers) limits first start c.loop-at.clients.queue c.note_closed.new.self.queue past _ _ c.loop-at.clients.slots.items c.loop-at.clients.accepted now c.loop-at.at
           c.index_mut.result.now c.close_at-closed.new.slot more c.close_at-closed.result crowded
-          (gone_calm (λ b. view_of g.S.Served.who g.N.Network.number b.value) (rules_of g.S.Served.made g.S.Served.seen g.S.Shows.noted g.S.Shows.status g.S.Shows.changed) limits first start Sweeps (nobody c.loop-at.clients.queue) past _ c.loop-at.clients.slots.items c.loop-at.clients.accepted now crowded c.loop-at.at c.index_mut.result.now more asked (omega arith) c.index_mut.ensures.value gone)
+          (gone_calm (λ b. view_of g.S.Served.who g.N.Network.number b.value) (rules_of g.S.Served.made g.S.Served.seen g.S.Shows.noted g.S.Shows.status g.S.Shows.changed g.S.Shows.caps g.S.Shows.leavers) limits first start Sweeps (nobody c.loop-at.clients.queue) past _ c.loop-at.clients.slots.items c.loop-at.clients.accepted now crowded c.loop-at.at c.index_mut.result.now more tt asked (omega arith) c.index_mut.ensures.value gone)
           (omega arith) c.index_mut.ensures.value log
           none (did limits e) whole c.note_closed.ensures.others c.note_closed.ensures.same);
       gone = (before ++ acts_in more, then_log _ _ _ before (acts_in more) logged log, gone_then before (acts_in more) are acts);

@@ -1,19 +1,24 @@
-use Rattle.std.proofs.Common.{◌≡◌, [], ◌∷◌, ◌++◌, ◌∙◌, append-nil, ap, refl, subst, sym}
+use Rattle.std.proofs.Common.{◌≡◌, [], ◌∷◌, ◌++◌, ◌∙◌, None, false, append-nil, ap, refl, subst, sym}
 use Rattle.judy_many.specs.Fates.{Leaves, Stays}
 use Rattle.judy_many.specs.Lives.{view_of}
 use Rattle.judy_many.specs.Nets.{DidLog}
 use Rattle.judy_many.specs.Nets.Act.{Closed}
+use Rattle.std.specs.Prelude.{is_some, option_map}
+use Rattle.judy_many.specs.Barred.{SpeaksIn}
 use Rattle.judy_many.specs.Books.{noted_by}
 use Rattle.judy_many.specs.Others.{AreLimited}
-use Rattle.judy_many.specs.Present.{speakers_at}
+use Rattle.judy_many.specs.Present.{speaker_since, speakers_at}
 use Rattle.judy_many.specs.Sessions.{AreTurns, records_in}
-use Rattle.judy_many.specs.Stories.{IsPiece, acts_in}
+use Rattle.judy_many.specs.Stories.{IsPiece, acts_in, own, turns_in}
 use Rattle.judy_many.specs.Stories.Phase.{Reads}
 use Rattle.judy_many.specs.Stories.Moment.{Did}
 use Rattle.judy_many.proofs.OneSlot.{did_left, did_none, did_stay}
 use Rattle.judy_many.specs.Watches.{Listens}
 use Rattle.judy_many.proofs.Looking.{listens_left, listens_none, listens_stay}
+use Rattle.judy_many.proofs.Inquiring.{IsInquired-append}
 use Rattle.judy_many.proofs.Living.{no_log, then_log}
+use Rattle.judy_many.proofs.Passing.{Passes-append, ungone}
+use Rattle.judy_many.proofs.Questioning.{stays_how}
 use Rattle.judy_many.proofs.Recording.{noted_none}
 use Rattle.judy_many.proofs.Singles.{AreSingle-append}
 use Rattle.judy_many.proofs.Telling.{acts_in-append, turns_in-append}
@@ -29,12 +34,14 @@ returns-in_default-clause-did g c = (
   noted_none c.args.keeper.now,
   tt,
   (λ e. tt),
+  (λ past. tt),
+  (λ past h. refl),
   listens_none (λ b. view_of g.S.Served.who g.N.Network.number b.value) c.args.slot.now _ [] (sym c.take.ensures.value ∙ c.in_default.is),
 )
 
 pub returns-in-Some-listen-clause-did : goal.returns-in-Some-listen-clause-did
 returns-in-Some-listen-clause-did g c =
-    let (more, log, piece, run, ends, noted, limited, single, looks) = c.in-Some-listen.ensures.goes in
+    let (more, log, piece, run, ends, noted, limited, single, inquired, passes, looks) = c.in-Some-listen.ensures.goes in
     let n = g.N.Network.number c.in-Some.client.value.connection in
     let first = ap (λ x. g.N.Network.number x.connection) c.deref_mut.ensures.value in
     let back = ap (λ x. g.N.Network.number x.connection) c.deref_mut-in-Some-listen.ensures.value ∙ c.in-Some-listen.ensures.same ∙ first in
@@ -42,7 +49,7 @@ returns-in-Some-listen-clause-did g c =
       more ++ Did (Closed n c.in-Some-listen.how) ∷ [],
       subst (λ a. DidLog (g.N.Network.log c.args.network.now) a (g.N.Network.log c.close.new.self)) (sym (acts_in-append more (Did (Closed n c.in-Some-listen.how) ∷ [])))
           (then_log _ _ _ (acts_in more) _ log last),
-      subst (λ t. AreTurns (rules_of g.S.Served.made g.S.Served.seen g.S.Shows.noted g.S.Shows.status g.S.Shows.changed) c.args.service.now t c.listen.new.service)
+      subst (λ t. AreTurns (rules_of g.S.Served.made g.S.Served.seen g.S.Shows.noted g.S.Shows.status g.S.Shows.changed g.S.Shows.caps g.S.Shows.leavers) c.args.service.now t c.listen.new.service)
           (sym (turns_in-append more (Did (Closed n c.in-Some-listen.how) ∷ []) ∙ append-nil _)) run,
       λ limits. did_left (λ b. view_of g.S.Served.who g.N.Network.number b.value) limits Reads c.in-Some-listen.how c.args.slot.now c.take.new.self c.in-Some.client more
           c.in-Some.ensures.value c.take.ensures.after (subst (λ n. IsPiece n Reads more) first piece) (ends.0 limits)
@@ -51,12 +58,18 @@ returns-in-Some-listen-clause-did g c =
       subst (λ t. c.listen.new.keeper ≡ noted_by (records_in t) c.args.keeper.now) (sym (turns_in-append more (Did (Closed n c.in-Some-listen.how) ∷ []) ∙ append-nil _)) noted,
       subst (AreLimited c.args.limits.tenant_clients (speakers_at (λ b. view_of g.S.Served.who g.N.Network.number b.value) c.args.others.now)) (sym (turns_in-append more (Did (Closed n c.in-Some-listen.how) ∷ []) ∙ append-nil _)) limited,
       λ e. AreSingle-append more (Did (Closed n c.in-Some-listen.how) ∷ []) (single e) tt,
+      (λ past. IsInquired-append (is_some c.args.limits.journal) past more (Did (Closed n c.in-Some-listen.how) ∷ []) (inquired past) tt),
+      (λ past h.
+          Passes-append (rules_of g.S.Served.made g.S.Served.seen g.S.Shows.noted g.S.Shows.status g.S.Shows.changed g.S.Shows.caps g.S.Shows.leavers) past c.args.service.now c.listen.new.service c.listen.new.service more (Did (Closed n c.in-Some-listen.how) ∷ [])
+          (passes past (subst (λ x. speaker_since None (turns_in (own (g.N.Network.number x.connection) past)) ≡ option_map g.S.Served.who x.session.speaker) (sym c.deref_mut.ensures.value)
+          (subst (λ o. SpeaksIn past (option_map (λ b. view_of g.S.Served.who g.N.Network.number b.value) o)) (sym c.in-Some.ensures.value) h)))
+          (ungone c.in-Some-listen.how (past ++ more) n (stays_how c.args.limits c.in-Some-listen.how (ends.0 (record c.args.limits { status = false }))), refl)),
       listens_left (λ b. view_of g.S.Served.who g.N.Network.number b.value) c.args.slot.now c.take.new.self c.in-Some.client _ c.in-Some.ensures.value c.take.ensures.after,
     )
 
 pub returns-clause-did : goal.returns-clause-did
 returns-clause-did g c =
-    let (more, log, piece, run, stays, noted, limited, single, looks) = c.in_default-listen.ensures.goes in
+    let (more, log, piece, run, stays, noted, limited, single, inquired, passes, looks) = c.in_default-listen.ensures.goes in
     let first = ap (λ x. g.N.Network.number x.connection) c.deref_mut.ensures.value in (
       more,
       log,
@@ -68,6 +81,9 @@ returns-clause-did g c =
       noted,
       limited,
       single,
+      inquired,
+      (λ past h. passes past (subst (λ x. speaker_since None (turns_in (own (g.N.Network.number x.connection) past)) ≡ option_map g.S.Served.who x.session.speaker) (sym c.deref_mut.ensures.value)
+          (subst (λ o. SpeaksIn past (option_map (λ b. view_of g.S.Served.who g.N.Network.number b.value) o)) (sym c.in-Some.ensures.value) h))),
       listens_stay (λ b. view_of g.S.Served.who g.N.Network.number b.value) c.args.slot.now c.in-Some.client (view_of g.S.Served.who g.N.Network.number c.listen.new.client) more c.in-Some.ensures.value
           (subst (λ x. Listens (view_of g.S.Served.who g.N.Network.number x) (view_of g.S.Served.who g.N.Network.number c.listen.new.client) more) c.deref_mut.ensures.value looks),
     )

@@ -14,7 +14,7 @@ use Rattle.judy_many.proofs.rounds.tell_to.Goals as goal
 
 pub returns-then-at-len-clause-crowd : goal.returns-then-at-len-clause-crowd
 returns-then-at-len-clause-crowd g c = λ limits first now start past h.
-    passes (λ b. view_of g.S.Served.who g.N.Network.number b.value) (rules_of g.S.Served.made g.S.Served.seen g.S.Shows.noted g.S.Shows.status g.S.Shows.changed) limits first start Writes c.args.clients.now.queue c.settle.new.self c.args.place c.slot_at-at.result past _ _ _ now c.settle.ensures.order c.settle.ensures.others c.slot_at-at.ensures.slot (omega arith) h
+    passes (λ b. view_of g.S.Served.who g.N.Network.number b.value) (rules_of g.S.Served.made g.S.Served.seen g.S.Shows.noted g.S.Shows.status g.S.Shows.changed g.S.Shows.caps g.S.Shows.leavers) limits first start Writes c.args.clients.now.queue c.settle.new.self c.args.place c.slot_at-at.result past _ _ _ now c.settle.ensures.order c.settle.ensures.others c.slot_at-at.ensures.slot (omega arith) h
 
 pub returns-clause-crowd : goal.returns-clause-crowd
 returns-clause-crowd g c = λ limits first now start past h.
@@ -22,11 +22,11 @@ returns-clause-crowd g c = λ limits first now start past h.
     let q = c.args.clients.now.queue in
     let q' = c.settle-2.new.self in
     let at = c.slot_at-at.result in
-    crowd_still (λ b. view_of g.S.Served.who g.N.Network.number b.value) (rules_of g.S.Served.made g.S.Served.seen g.S.Shows.noted g.S.Shows.status g.S.Shows.changed) limits first start Writes (those_before q c.args.place) (those_before q' (c.args.place + 1)) past _ _ c.args.clients.now.slots.items c.args.clients.now.accepted
+    crowd_still (λ b. view_of g.S.Served.who g.N.Network.number b.value) (rules_of g.S.Served.made g.S.Served.seen g.S.Shows.noted g.S.Shows.status g.S.Shows.changed g.S.Shows.caps g.S.Shows.leavers) limits first start Writes (those_before q c.args.place) (those_before q' (c.args.place + 1)) past _ _ c.args.clients.now.slots.items c.args.clients.now.accepted
     now at c.index_mut.result.now c.tell_at-left.new.slot more
     (λ j k. before_later q.order q'.order c.args.place j c.settle-2.ensures.order k) (λ k. before_not q.order c.args.place c.requires.apart c.requires.within (subst (IsBefore q.order c.args.place) c.slot_at-at.ensures.slot k))
     (subst (λ l. IsBefore l (c.args.place + 1) at) (sym c.settle-2.ensures.order) (before_this q.order c.args.place _ c.slot_at-at.ensures.slot))
-    h (inl (slot_stays limits Writes _ _ more did)) (omega arith) c.index_mut.ensures.value log none (did limits)
+    h (inl (tt, slot_stays limits Writes _ _ more did)) (omega arith) c.index_mut.ensures.value log none (did limits)
     (λ j apart v s k. alert_beside Writes q q' (IsBefore q.order c.args.place) (IsBefore q'.order (c.args.place + 1)) j v s
     (λ e. ap is_awake (c.settle-2.ensures.others j apart) ∙ e) (λ e. c.settle-2.ensures.stands j ∙ e)
     (before_later q.order q'.order c.args.place j c.settle-2.ensures.order) (λ k. before_only q.order c.args.place j at apart c.slot_at-at.ensures.slot (subst (λ l. IsBefore l (c.args.place + 1) j) c.settle-2.ensures.order k)) k)

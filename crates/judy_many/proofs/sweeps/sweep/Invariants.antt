@@ -13,8 +13,8 @@ use Rattle.judy_many.proofs.sweeps.sweep.Given as goal
 abbrev pub invariant-loop-at : goal.invariant-loop-at
 invariant-loop-at g l = record {
   slots : vec_len l.clients.slots ≡ vec_len l.initial.clients.slots;
-  crowd : (first now : g.row.S.Denot) (start : Acts) (past : Past) → Crowd (λ b. view_of g.S.Served.who g.N.Network.number b.value) (rules_of g.S.Served.made g.S.Served.seen g.S.Shows.noted g.S.Shows.status g.S.Shows.changed) l.fn.limits first start Sweeps (nobody l.fn.clients.queue) past (g.N.Network.log l.fn.network) l.fn.clients.slots.items l.fn.clients.accepted now
-      → Crowd (λ b. view_of g.S.Served.who g.N.Network.number b.value) (rules_of g.S.Served.made g.S.Served.seen g.S.Shows.noted g.S.Shows.status g.S.Shows.changed) l.fn.limits first start Sweeps (nobody l.clients.queue) past (g.N.Network.log l.network) l.clients.slots.items l.clients.accepted now;
+  crowd : (first now : g.row.S.Denot) (start : Acts) (past : Past) → Crowd (λ b. view_of g.S.Served.who g.N.Network.number b.value) (rules_of g.S.Served.made g.S.Served.seen g.S.Shows.noted g.S.Shows.status g.S.Shows.changed g.S.Shows.caps g.S.Shows.leavers) l.fn.limits first start Sweeps (nobody l.fn.clients.queue) past (g.N.Network.log l.fn.network) l.fn.clients.slots.items l.fn.clients.accepted now
+      → Crowd (λ b. view_of g.S.Served.who g.N.Network.number b.value) (rules_of g.S.Served.made g.S.Served.seen g.S.Shows.noted g.S.Shows.status g.S.Shows.changed g.S.Shows.caps g.S.Shows.leavers) l.fn.limits first start Sweeps (nobody l.clients.queue) past (g.N.Network.log l.network) l.clients.slots.items l.clients.accepted now;
   known : (speakers : Speaker → Bool) → AreKnown (λ b. option_map g.S.Served.who b.value.session.speaker) speakers l.fn.clients.slots.items
       → AreKnown (λ b. option_map g.S.Served.who b.value.session.speaker) speakers l.clients.slots.items;
 }

@@ -2,7 +2,7 @@ use Rattle.std.proofs.Common.{◌≡◌, ℕ, List, [], ◌∷◌, true, false, 
 use Rattle.std.proofs.lemmas.Bool.Decides.{nat_tests}
 use Rattle.std.specs.Prelude.{◌==◌, ◌≢◌}
 use Rattle.judy_many.specs.Rules.{rules_of}
-use Rattle.judy_programs.proofs.Begins.{none_yet, serving}
+use Rattle.judy_programs.proofs.Begins.{none_yet, serves, serving}
 use Rattle.judy_programs.proofs.socket.serve_on.Goals as goal
 
 is_some : (xs : List ℕ) → (length xs == 0) ≡ false → xs ≢ []
@@ -13,25 +13,11 @@ is_none : (xs : List ℕ) → (length xs == 0) ≡ true → xs ≡ []
 is_none [] e = refl
 is_none (x ∷ xs) e = let none : length (x ∷ xs) ≡ 0 = grind (arith, nat_tests) in absurd (omega (arith, none))
 
-pub returns-in-Socket : goal.returns-in-Socket
-returns-in-Socket g c = inr (serving (rules_of g.S.Served.made g.S.Served.seen g.S.Shows.noted g.S.Shows.status g.S.Shows.changed) c.args.socket.now _ _ _ _ _ _ _ _ _ _
-    (is_some c.args.socket.now (sym c.is_empty.ensures ∙ c.if-is_empty.false)) c.if-not-bind.ensures (rw c.if-not-watch_on.false at c.watch_on.ensures) c.in-Socket.ensures)
-
-pub returns-in-Done : goal.returns-in-Done
-returns-in-Done g c = serving (rules_of g.S.Served.made g.S.Served.seen g.S.Shows.noted g.S.Shows.status g.S.Shows.changed) c.args.socket.now _ _ _ _ _ _ _ _ _ _
-    (is_some c.args.socket.now (sym c.is_empty.ensures ∙ c.if-is_empty.false)) c.if-not-bind.ensures (rw c.if-not-watch_on.false at c.watch_on.ensures) c.in-Done.ensures
-
-pub returns-in-Stopped : goal.returns-in-Stopped
-returns-in-Stopped g c = serving (rules_of g.S.Served.made g.S.Served.seen g.S.Shows.noted g.S.Shows.status g.S.Shows.changed) c.args.socket.now _ _ _ _ _ _ _ _ _ _
-    (is_some c.args.socket.now (sym c.is_empty.ensures ∙ c.if-is_empty.false)) c.if-not-bind.ensures (rw c.if-not-watch_on.false at c.watch_on.ensures) c.in-Stopped.ensures
-
-pub returns-in-Memory : goal.returns-in-Memory
-returns-in-Memory g c = serving (rules_of g.S.Served.made g.S.Served.seen g.S.Shows.noted g.S.Shows.status g.S.Shows.changed) c.args.socket.now _ _ _ _ _ _ _ _ _ _
-    (is_some c.args.socket.now (sym c.is_empty.ensures ∙ c.if-is_empty.false)) c.if-not-bind.ensures (rw c.if-not-watch_on.false at c.watch_on.ensures) c.in-Memory.ensures
-
-pub returns-in-Journal : goal.returns-in-Journal
-returns-in-Journal g c = serving (rules_of g.S.Served.made g.S.Served.seen g.S.Shows.noted g.S.Shows.status g.S.Shows.changed) c.args.socket.now _ _ _ _ _ _ _ _ _ _
-    (is_some c.args.socket.now (sym c.is_empty.ensures ∙ c.if-is_empty.false)) c.if-not-bind.ensures (rw c.if-not-watch_on.false at c.watch_on.ensures) c.in-Journal.ensures
+pub returns : goal.returns
+returns g c =
+    let rules = rules_of g.S.Served.made g.S.Served.seen g.S.Shows.noted g.S.Shows.status g.S.Shows.changed g.S.Shows.caps g.S.Shows.leavers in
+    rw c.hosted_by.ensures (serves rules c.args.socket.now _ _ _ c.serve_many-ending.result _ _ _ _ (serving rules c.args.socket.now _ _ _ _ _ _ _ _ _ _
+    (is_some c.args.socket.now (sym c.is_empty.ensures ∙ c.if-is_empty.false)) c.if-not-bind.ensures (rw c.if-not-watch_on.false at c.watch_on.ensures) c.serve_many-ending.ensures))
 
 pub returns-then-not-watch_on : goal.returns-then-not-watch_on
 returns-then-not-watch_on g c = inl (inr (inr (g.H.Network.log c.bind.new.self, is_some c.args.socket.now (sym c.is_empty.ensures ∙ c.if-is_empty.false), c.if-not-bind.ensures, c.if-not-watch_on.ensures)))

@@ -1,14 +1,16 @@
-use Rattle.std.proofs.Common.{rules, ◌≡◌, List, Ok, Result, sym, subst}
-use Rattle.judy_model.specs.Speakers.{Event}
-use Rattle.judy_journal.specs.declared.replays.Unplayed.{Unplayed}
-use Rattle.judy_server.specs.Replays.{PlaysAs, places_in}
+use Rattle.std.proofs.Common.{Option, None, sym, subst}
+use Rattle.judy_journal.specs.Leaving.{gone_in}
+use Rattle.judy_journal.specs.Replays.{Told}
+use Rattle.judy_server.specs.Replays.{PlaysAs}
 use Rattle.judy_server.specs.Tally.{tallied}
-use Rattle.judy_server.proofs.Replaying.{asked}
 use Rattle.judy_server.proofs.records.replay.Goals as goal
 
-pub returns : goal.returns
-returns g c = λ tally.
-    let asks = asked (places_in (tallied c.args.service.now tally)) c.args.bytes.now c.in-Some.name.now c.in-Some.line.now c.in-Some-change_of.call
-    c.in-Some-find.tenant c.in-Some.ensures (sym c.if-not-name_ok.ensures) (sym c.in-Some-change_of.ensures.change) (sym c.in-Some-find.ensures) in
-    subst (λ (r : Result Event Unplayed). PlaysAs r (tallied c.args.service.now tally) c.outcome.result (tallied c.call.new.self tally)) (sym asks)
-    (record { reply = c.call.result; made = search rules; result_is = c.outcome.ensures })
+pub returns-in-Some : goal.returns-in-Some
+returns-in-Some g c =
+    subst (λ (o : Option Told). PlaysAs o (gone_in c.args.bytes.now) (tallied c.args.service.now c.args.tally.now) c.play_change.result
+    (tallied c.play_change.new.service c.play_change.new.tally)) (sym c.in-Some.ensures.told) c.play_change.ensures
+
+pub returns-in-None : goal.returns-in-None
+returns-in-None g c =
+    subst (λ (o : Option Told). PlaysAs o (gone_in c.args.bytes.now) (tallied c.args.service.now c.args.tally.now) c.play_leaving.result
+    (tallied c.play_leaving.new.service c.play_leaving.new.tally)) (sym c.in-None.ensures.told) c.play_leaving.ensures

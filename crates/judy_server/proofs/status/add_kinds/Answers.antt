@@ -12,7 +12,7 @@ loop-place-preserved c = record {
       c.in_ok-add_if.ensures c.loop-place.invariant.text;
 }
 
-count : length reply_kinds ≡ 9
+count : length reply_kinds ≡ 10
 unfolding reply_kinds
 count = refl
 

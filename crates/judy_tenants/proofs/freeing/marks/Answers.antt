@@ -1,6 +1,6 @@
 use Rattle.std.proofs.Common.{◌<◌, false, not, get_or, slice_set, length-set, ap, sym, ◌∙◌, refl, subst, arith}
 use Rattle.judy_tenants.specs.Changes.{stays_at}
-use Rattle.judy_tenants.proofs.Marked.{marked-first, marked-more}
+use Rattle.judy_tenants.proofs.lemmas.Marks.{marked-first, marked-more}
 use Rattle.judy_tenants.proofs.freeing.marks.Goals as goal
 
 pub loop-place-init : goal.loop-place-init

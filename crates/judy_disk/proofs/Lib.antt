@@ -1,0 +1,4 @@
+mod Texts
+mod NameLaws
+mod Runs
+mod Sums

@@ -1,0 +1,152 @@
+//! Writes the entries of arrays that are walked in order to a snapshot.
+ghost use Rattle.std.specs.Prelude.{◌≤◌, length};
+
+use crate::asking::Came;
+use crate::kinds::{Array, Kind};
+use crate::lines::{KeyText, Text, least_key, write_index, write_insertion, write_key, write_look};
+use crate::output::Output;
+use crate::playing::Playing;
+use arrayvec::ArrayVec;
+use judy_model::Name;
+use judy_protocol::Served;
+use judy_recovery::Reason;
+use std::fs::Files;
+
+/// A walk over the entries of the arrays of one tenant after another.
+#[derive(Drop)]
+pub struct Walk {
+    key: KeyText,
+    line: Text,
+}
+
+impl Walk {
+    /// No entry yet.
+    pub fn new() -> Walk {
+        Walk {
+            key: ArrayVec::new(),
+            line: ArrayVec::new(),
+        }
+    }
+
+    /// Looks for the next entry by a call with these letters, from this walk's key on. Returns its value, and then the walk has
+    /// its key. None if there is none.
+    fn step<S: Served>(
+        &mut self,
+        playing: &mut Playing<S>,
+        tenant: usize,
+        array: &Array,
+        does: &[u8],
+    ) -> Result<Option<u64>, Reason>
+        requires { length does.now ≤ 2 }
+    {
+        write_look(array, does, self.key.as_slice(), &mut self.line);
+        match playing.entries.ask(tenant, self.line.as_slice())? {
+            Came::At(index, value) => {
+                write_index(index, &mut self.key);
+                Ok(Some(value))
+            }
+            Came::AtKey(value) => {
+                write_key(playing.entries.key_found(), &mut self.key);
+                Ok(Some(value))
+            }
+            Came::Nothing => Ok(None),
+            Came::Value(_) | Came::Count(_) => Err(Reason::Record),
+        }
+    }
+
+    /// The first entry of an array.
+    fn first<S: Served>(
+        &mut self,
+        playing: &mut Playing<S>,
+        tenant: usize,
+        array: &Array,
+    ) -> Result<Option<u64>, Reason> {
+        self.key.clear();
+        let _fits = self.key.try_extend_from_slice(least_key(array.kind));
+        self.step(playing, tenant, array, b"F")
+    }
+
+    /// Writes the entry with this walk's key, and looks for the next one.
+    fn write_one<S: Served, F: Files>(
+        &mut self,
+        playing: &mut Playing<S>,
+        output: &mut Output<F>,
+        tenant: usize,
+        name: &Name,
+        array: &Array,
+        value: u64,
+    ) -> Result<Option<u64>, Reason> {
+        write_insertion(array, self.key.as_slice(), value, &mut self.line);
+        output.add(name.as_bytes(), self.line.as_slice())?;
+        self.step(playing, tenant, array, b"N")
+    }
+
+    /// Writes all entries of an array. Returns how many.
+    fn write_entries<S: Served, F: Files>(
+        &mut self,
+        playing: &mut Playing<S>,
+        output: &mut Output<F>,
+        tenant: usize,
+        name: &Name,
+        array: &Array,
+    ) -> Result<u64, Reason> {
+        let mut found = self.first(playing, tenant, array)?;
+        for count in 0..u64::MAX {
+            let Some(value) = found else {
+                return Ok(count);
+            };
+            found = self.write_one(playing, output, tenant, name, array, value)?;
+        }
+        Err(Reason::Record)
+    }
+
+    /// Writes all entries of an array, and removes them. There were exactly those that were written.
+    fn write_array<S: Served, F: Files>(
+        &mut self,
+        playing: &mut Playing<S>,
+        output: &mut Output<F>,
+        tenant: usize,
+        name: &Name,
+        array: &Array,
+    ) -> Result<(), Reason> {
+        if array.kind == Kind::Bytes {
+            return Ok(());
+        }
+        let written = self.write_entries(playing, output, tenant, name, array)?;
+        if playing.free(tenant, array)? != written {
+            return Err(Reason::Record);
+        }
+        Ok(())
+    }
+
+    /// Writes all entries of a tenant but those of its maps from byte keys, and removes them.
+    fn write_tenant<S: Served, F: Files>(
+        &mut self,
+        playing: &mut Playing<S>,
+        output: &mut Output<F>,
+        tenant: usize,
+        name: &Name,
+    ) -> Result<(), Reason> {
+        for _ in 0..u64::MAX {
+            let Some(array) = playing.arrays.take(tenant)? else {
+                return Ok(());
+            };
+            self.write_array(playing, output, tenant, name, &array)?;
+        }
+        Err(Reason::Record)
+    }
+
+    /// Writes all entries of all tenants but those of maps from byte keys, which cannot be walked, and removes them.
+    pub fn write_all<S: Served, F: Files>(
+        &mut self,
+        playing: &mut Playing<S>,
+        output: &mut Output<F>,
+    ) -> Result<(), Reason> {
+        for tenant in 0..playing.tenants.count() {
+            if let Some(name) = playing.tenants.name(tenant) {
+                self.write_tenant(playing, output, tenant, &name)?;
+            }
+        }
+        Ok(())
+    }
+}
