@@ -207,7 +207,7 @@ impl Keeper {
         matches!(self.rule, Sync::Seconds(_)) && !self.clean
     }
 
-    /// Adds a record to those that are to be kept.
+    /// Adds a record to those that the journal must keep.
     pub fn note(&mut self, tenant: &[u8], request: &[u8])
         requires short { IsShortRecord tenant.now request.now }
         requires room { IsTrue (has_room_for self.old) }

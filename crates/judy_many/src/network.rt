@@ -172,7 +172,7 @@ pub trait Network {
     fn warn(&mut self, text: &[u8])
         ensures { DidLog (log self.old) (Warned text.now ∷ []) (log self.new) };
 
-    /// Reads what is to be put in force into an empty text: the file of the table, or the line that asked
+    /// Reads what will be put in force into an empty text: the file of the table, or the line that asked
     /// to freeze or thaw a tenant.
     fn table(&mut self, text: &mut Vec<u8>) -> Result<(), Unread>
         ensures { DidLog (log self.old) (table_acts result text.new.items) (log self.new) };

@@ -97,7 +97,7 @@ fn append(answers: &mut ArrayVec<u8, ANSWERS_LIMIT>, text: &[u8])
     let _fits = answers.try_extend_from_slice(text);
 }
 
-/// Adds the record of a line that was run to those that are to be kept, if it may have changed arrays. The
+/// Adds the record of a line that was run to those that the journal must keep, if it may have changed arrays. The
 /// record has the line in its short spelling, which is put into `short`.
 fn note_line<S: Shows>(
     keeper: &mut Keeper,

@@ -66,7 +66,7 @@ impl<F: Locks> Ahead<F> {
         room.is_enough(self.limit, self.is_made())
     }
 
-    /// Whether a piece of it is to be made, beside the current segment.
+    /// Whether the next piece of it is due, beside the current segment.
     pub fn is_due(&self, room: Room) -> bool {
         room.is_half(self.limit) && !self.is_made()
     }

@@ -33,9 +33,9 @@ fn tell_no_room<F: Locks + Eprint>(rt: &F, folder: &Folder<'_, F>, fault: &DiskF
 }
 
 impl<'a, F: Locks + Clock + Eprint + Clone + Drop> Directory<'a, F> {
-    /// Whether the journal takes the records of a turn of this tenant, which may have so many bytes of records
-    /// since the last snapshot. It does not if they have as many, or if there is no room for them. What is
-    /// missing is tried again, at most once a second.
+    /// Whether the journal takes the records of a turn of this tenant. It does not if the tenant's records since
+    /// the last snapshot have `limit` bytes or more, or if there is no room for another turn. What is missing is
+    /// tried again, at most once a second.
     pub fn takes(&mut self, tenant: &[u8], limit: Option<u64>) -> bool {
         self.may_spend(tenant, limit) && self.has_room()
     }
@@ -119,7 +119,7 @@ impl<'a, F: Locks + Clock + Eprint + Clone + Drop> Directory<'a, F> {
         }
     }
 
-    /// Whether a piece of the next segment is to be made.
+    /// Whether the next piece of the next segment is due.
     fn is_due(&self) -> bool {
         match &self.current {
             Some(current) => self.ahead.is_due(current.room()),

@@ -42,7 +42,8 @@ fn add_row<H: KeyHash>(
     request: &mut ArrayVec<u8, LINE_LIMIT>,
 ) -> bool
     requires { row < length service.now.tenants }
-    ensures { result ≡ true → AreGathered (lacking (take row service.now.tenants) table.now) first.old request.old.items
+    ensures { result ≡ true
+        → AreGathered (lacking (take row service.now.tenants) table.now) first.old request.old.items
         → AreGathered (lacking (take (row + 1) service.now.tenants) table.now) first.new request.new.items }
 {
     let tenant = service.tenant(row);

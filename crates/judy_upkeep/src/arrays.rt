@@ -51,7 +51,7 @@ fn slot_of(tenant: usize, array: &Array) -> usize {
     (sum.wrapping_mul(67).wrapping_add(tenant as u64) % SLOTS as u64) as usize
 }
 
-/// So many empty places.
+/// `SLOTS` empty places.
 fn empty_slots(alloc: Global) -> Result<Vec<Option<Noted>>, Reason> {
     let mut slots = Vec::new(alloc);
     for _ in 0..SLOTS {
@@ -142,7 +142,7 @@ impl<S: Served> Arrays<S> {
         self.looks == 0
     }
 
-    /// So many arrays are noted. It is not time again before there were twice as many looks.
+    /// Notes how many arrays are noted. It is not time again before there were twice as many looks.
     pub fn set_due(&mut self, noted: u64) {
         self.looks = u64::max(LOOKS, noted.saturating_mul(2));
     }

@@ -31,7 +31,7 @@ pub enum Came {
     At(u64, u64),
     /// A key was found, with this value. It is the one that was found last.
     AtKey(u64),
-    /// So many entries.
+    /// This number of entries.
     Count(u64),
     /// There is no such entry.
     Nothing,
