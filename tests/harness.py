@@ -128,7 +128,8 @@ class Server:
         desks = [after for word, after in zip(words, words[1:]) if word in ("--status", "--control")]
         while not all(is_listening(path) for path in (self.path, *desks)):
             if self.process.poll() is not None:
-                sys.exit("judyd serve ended with status %d" % self.process.returncode)
+                said = self.process.stderr.read() if self.heard else b""
+                sys.exit("judyd serve ended with status %d: %r" % (self.process.returncode, said))
             if time.monotonic() > until:
                 sys.exit("judyd serve does not listen")
             time.sleep(0.01)

@@ -178,13 +178,13 @@ def write(folder, segments, first=1, checksum=ZEROS):
     return checksum
 
 
-def nearly_full(folder, tenant=b"alice"):
-    """Writes a segment that a few lines fill: the same commit of a tenant again and again. Returns how many bytes
-    it has, and the checksum after it."""
+def nearly_full(folder, tenant=b"alice", limit=SEGMENT):
+    """Writes a segment of nearly so many bytes, so that a few lines fill it: the same commit of a tenant again and
+    again. Returns how many bytes it has, and the checksum after it."""
     text, checksum = b"".join(b"%s %s %d\n" % (tenant, LONG, n) for n in range(8)), ZEROS
     parts, own = [b"judyd journal 1 1 %s\n" % checksum.encode()], int(sum_of("", text), 16)
     factor = pow(FACTOR, len(text), 2**64)
-    for _ in range((SEGMENT - 100) // len(text + mark(8, checksum))):
+    for _ in range((limit - 100) // len(text + mark(8, checksum))):
         before = int(sum_of(checksum, b""), 16)
         checksum = "%016x" % ((before * factor + own) % 2**64)
         parts += [text, mark(8, checksum)]
