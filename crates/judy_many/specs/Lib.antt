@@ -5,6 +5,7 @@ pub mod Came
 pub mod Changes
 pub mod Comes
 pub mod Crowds
+pub mod Deciding
 pub mod Endings
 pub mod Fates
 pub mod Intakes

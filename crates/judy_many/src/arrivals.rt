@@ -3,6 +3,7 @@ ghost use Rattle.std.specs.Prelude.{◌≡◌, ◌<◌, ◌++◌, ℕ, true, Non
 ghost use Rattle.judy_model.specs.Speakers.{Speaker};
 ghost use Rattle.judy_many.specs.Came.{has_come};
 ghost use Rattle.judy_many.specs.Crowds.{Crowd, Past};
+ghost use Rattle.judy_many.specs.Deciding.{listening_after as listening_after_lem};
 ghost use Rattle.judy_many.specs.Endings.{lost_at, lost_unless};
 ghost use Rattle.judy_many.specs.Queues.{StayAwake, awake_in};
 ghost use Rattle.judy_many.specs.Slots.{AreKnown, IsKnownSlot};
@@ -57,7 +58,9 @@ fn one_if(so: bool) -> u64
 }
 
 /// Whether connections are accepted after this.
-fn listening_after(arrival: Arrival, now: u64) -> Listening {
+fn listening_after(arrival: Arrival, now: u64) -> Listening
+    ensures { result ≡ listening_after_lem arrival now }
+{
     match arrival {
         Arrival::Came => Listening::Ready,
         Arrival::Nothing => Listening::Quiet,

@@ -4,6 +4,7 @@ ghost use Rattle.judy_protocol.specs.Services.{HasLoggedIn};
 ghost use Rattle.judy_many.specs.Barred.{AreBarred, AreFree, Inquires, IsInquired};
 ghost use Rattle.judy_many.specs.Books.{has_room, noted_by};
 ghost use Rattle.judy_many.specs.Fates.{FateGoes, HeardGoes};
+ghost use Rattle.judy_many.specs.Deciding.{moved};
 ghost use Rattle.judy_many.specs.Lives.{IsLive, view_of};
 ghost use Rattle.judy_many.specs.Nets.{Act, DidLog};
 ghost use Rattle.judy_many.specs.Others.{AreLimited};
@@ -220,7 +221,9 @@ fn has_failed(sent: Sent) -> bool
 }
 
 /// When a client last took a byte or sent one.
-fn later(sent: Sent, since: u64, now: u64) -> u64 {
+fn later(sent: Sent, since: u64, now: u64) -> u64
+    ensures { result ≡ moved sent since now }
+{
     match sent {
         Sent::Some => now,
         Sent::Nothing => since,

@@ -1,6 +1,7 @@
 //! The clients in their slots.
 ghost use Rattle.std.specs.Prelude.{◌≡◌, ◌≢◌, ◌<◌, ◌≤◌, ℕ, true, false, None, IfOk, IfSome, length, slice_index_or, vec_len};
 ghost use Rattle.judy_many.specs.Crowds.{AreFree};
+ghost use Rattle.judy_many.specs.Deciding.{freed, is_paused as is_paused_lem, may_accept as may_accept_lem, woken};
 ghost use Rattle.judy_many.specs.Queues.{awake_in};
 
 use crate::client::Client;
@@ -26,7 +27,9 @@ pub enum Listening {
 
 impl Listening {
     /// After a wait, which says whether a connection can be accepted.
-    pub fn after_wait(self, comes: bool) -> Listening {
+    pub fn after_wait(self, comes: bool) -> Listening
+        ensures { result ≡ woken comes self }
+    {
         if comes && self == Listening::Quiet {
             return Listening::Ready;
         }
@@ -35,7 +38,9 @@ impl Listening {
 
     /// After a connection was closed, if one was. A slot is free then, and what the connection held may
     /// be what an accept lacked.
-    pub fn after_close(self, closed: bool) -> Listening {
+    pub fn after_close(self, closed: bool) -> Listening
+        ensures { result ≡ freed closed self }
+    {
         if closed && self != Listening::Quiet {
             return Listening::Ready;
         }
@@ -43,7 +48,9 @@ impl Listening {
     }
 
     /// Whether an accept failed.
-    pub fn is_paused(self) -> bool {
+    pub fn is_paused(self) -> bool
+        ensures { result ≡ is_paused_lem self }
+    {
         match self {
             Listening::Paused(_) => true,
             Listening::Quiet => false,
@@ -53,7 +60,9 @@ impl Listening {
     }
 
     /// Whether to accept now: a second after one that failed.
-    pub fn may_accept(self, now: Option<u64>) -> bool {
+    pub fn may_accept(self, now: Option<u64>) -> bool
+        ensures { result ≡ may_accept_lem self now }
+    {
         match self {
             Listening::Quiet => false,
             Listening::Ready => true,

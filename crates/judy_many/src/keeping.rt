@@ -3,6 +3,7 @@ ghost use Rattle.std.specs.Prelude.{◌≡◌, ◌<◌, [], ◌∷◌, Bool, IsT
 ghost use Rattle.judy_journal.specs.Journals.{record_of};
 ghost use Rattle.judy_journal.specs.Writes.{IsShortRecord, begun, secured};
 ghost use Rattle.judy_journal.specs.declared.format.TheConstants.{LAST_SEGMENT};
+ghost use Rattle.judy_many.specs.Deciding.{is_owed as is_owed_lem, is_timed as is_timed_lem, syncs_now as syncs_now_lem};
 ghost use Rattle.judy_many.specs.Books.{has_room as has_room_for, journal_of, noted_by, opened};
 ghost use Rattle.judy_many.specs.Journaling.{AreSettled, AreWritten, HasWritten, IsSecured};
 ghost use Rattle.judy_many.specs.Nets.{DidLog, keep_acts};
@@ -98,24 +99,50 @@ fn keep_commit<N: Network>(network: &mut N, writer: &mut Writer, clean: &mut boo
     next_if_full(network, writer, clean)
 }
 
-/// Whether what was kept has to be synced now. If so, it notes the second. If the clock fails, it has
-/// to.
-fn is_due<N: Network>(network: &mut N, rule: Sync, since: &mut u64) -> bool
-    ensures log { DidLog (N.log network.old) [] (N.log network.new) }
-    ensures round { rule ≡ Sync.Round → result ≡ true }
+/// Whether the journal is synced every few seconds.
+fn is_timed(rule: Sync) -> bool
+    ensures { result ≡ is_timed_lem rule }
+{
+    match rule {
+        Sync::Round => false,
+        Sync::Never => false,
+        Sync::Seconds(_) => true,
+    }
+}
+
+/// Whether what was kept has to be synced at this second. If the clock fails, it has to.
+fn syncs_now(rule: Sync, since: u64, now: Option<u64>) -> bool
+    ensures { result ≡ syncs_now_lem rule since now }
 {
     match rule {
         Sync::Round => true,
         Sync::Never => false,
-        Sync::Seconds(limit) => {
-            let now = network.seconds();
-            if !is_past(Some(limit), *since, now) {
-                return false;
-            }
-            *since = now.unwrap_or(0);
-            true
-        }
+        Sync::Seconds(limit) => is_past(Some(limit), since, now),
     }
+}
+
+/// The second, where the rule asks for it. None if the clock fails.
+fn second_for<N: Network>(network: &mut N, rule: Sync) -> Option<u64>
+    ensures { DidLog (N.log network.old) [] (N.log network.new) }
+{
+    match rule {
+        Sync::Round => None,
+        Sync::Never => None,
+        Sync::Seconds(_) => network.seconds(),
+    }
+}
+
+/// Whether what was kept has to be synced now. If so, it notes the second.
+fn is_due<N: Network>(network: &mut N, rule: Sync, since: &mut u64) -> bool
+    ensures log { DidLog (N.log network.old) [] (N.log network.new) }
+    ensures round { rule ≡ Sync.Round → result ≡ true }
+{
+    let now = second_for(network, rule);
+    let due = syncs_now(rule, *since, now);
+    if due {
+        *since = now.unwrap_or(0);
+    }
+    due
 }
 
 /// Syncs what was kept, if it has to be synced now. False if the journal fails.
@@ -203,8 +230,10 @@ impl Keeper {
     }
 
     /// Whether something that was kept still has to be synced.
-    pub fn is_owed(&self) -> bool {
-        matches!(self.rule, Sync::Seconds(_)) && !self.clean
+    pub fn is_owed(&self) -> bool
+        ensures { result ≡ is_owed_lem self.now }
+    {
+        self.writer.is_some() && is_timed(self.rule) && !self.clean
     }
 
     /// Adds a record to those that the journal must keep.

@@ -2,6 +2,7 @@
 ghost use Rattle.std.specs.Prelude.{◌≡◌, ℕ, List, Bool, [], false, true, Option, option_map};
 ghost use Rattle.judy_many.specs.Books.{Journal};
 ghost use Rattle.judy_many.specs.Crowds.{Crowd, HasFailed, HasServedMany, past_of};
+ghost use Rattle.judy_many.specs.Deciding.{asks_for_time as asks_for_time_lem, wait_of};
 ghost use Rattle.judy_many.specs.Endings.{waited_if};
 ghost use Rattle.judy_many.specs.Journaling.{AreSettled};
 ghost use Rattle.judy_many.specs.Lives.{view_of};
@@ -71,7 +72,9 @@ pub enum Ending {
 }
 
 /// Whether the time is asked for.
-fn asks_for_time<S: Served, N: Network>(clients: &Clients<S, N>, limits: Limits) -> bool {
+fn asks_for_time<S: Served, N: Network>(clients: &Clients<S, N>, limits: Limits) -> bool
+    ensures { result ≡ asks_for_time_lem limits clients.now.listening }
+{
     limits.login.is_some()
         || limits.idle.is_some()
         || limits.turn.is_some()
@@ -85,7 +88,8 @@ fn is_owed<S: Shows>(warnings: &Warnings, service: &S, keeper: &Keeper) -> bool 
 
 /// How many milliseconds the loop may wait for something to happen. None if it may wait forever.
 fn time_to_wait(busy: bool, asked: bool) -> Option<u32>
-    ensures { busy ≡ true → may_sleep result ≡ false }
+    ensures busy { busy ≡ true → may_sleep result ≡ false }
+    ensures time { result ≡ wait_of busy asked }
 {
     if busy {
         return Some(0);

@@ -2,6 +2,8 @@
 ghost use Rattle.std.specs.Prelude.{◌≡◌, ℕ, List, None, true, false, IfSome, option_map, [], ◌∷◌, Bool};
 ghost use Rattle.judy_model.specs.Speakers.{Speaker};
 ghost use Rattle.judy_many.specs.Crowds.{Crowd, Past};
+ghost use Rattle.judy_many.specs.Deciding.{over};
+ghost use Rattle.judy_many.specs.Times.{is_past as is_past_lem};
 ghost use Rattle.judy_many.specs.Slots.{AreKnown, IsKnownSlot};
 ghost use Rattle.judy_many.specs.Lives.{IsReason, SlotDid, is_orderly, view_of};
 ghost use Rattle.judy_many.specs.Nets.{Act, Acts, DidLog};
@@ -28,6 +30,7 @@ fn is_late<S: Served>(
     now: Option<u64>,
 ) -> bool
     ensures silent { result ≡ true → option_map S.who speaker ≡ None }
+    ensures time { option_map S.who speaker ≡ None → result ≡ is_past_lem limits.login came now }
     ensures allowed { result ≡ true → IsAllowed limits How.Login }
 {
     match speaker {
@@ -38,6 +41,7 @@ fn is_late<S: Served>(
 
 /// Whether the time of a client is over, and why.
 fn overdue(limits: Limits, since: u64, came: u64, now: Option<u64>) -> Option<How>
+    ensures time { result ≡ over limits since came now }
     ensures disorderly { IfSome result (λ how. is_orderly how ≡ false) }
     ensures reason { IfSome result (λ how. (acts : List Act) (turns : List Turn) → IsReason how acts turns) }
     ensures allowed { IfSome result (λ how. IsAllowed limits how) }

@@ -14,9 +14,9 @@ not_busy false sleeps h e = refl
 pub returns-in_default-clause-log : goal.returns-in_default-clause-log
 returns-in_default-clause-log g c =
     let (told, wakes, did) = woken None (may_sleep c.time_to_wait-time.result) c.wait.new.queue (g.N.Network.log c.args.network.now) (g.N.Network.log c.wait.new.self) c.in_default.ensures.log in
-    (may_sleep c.time_to_wait-time.result, told, λ sleeps. c.is_busy-busy.ensures (not_busy _ _ c.time_to_wait-time.ensures sleeps), wakes, did)
+    (may_sleep c.time_to_wait-time.result, told, λ sleeps. c.is_busy-busy.ensures (not_busy _ _ c.time_to_wait-time.ensures.busy sleeps), wakes, did)
 
 pub returns-clause-log : goal.returns-clause-log
 returns-clause-log g c =
     let (told, wakes, did) = woken (Some c.in-Some.comes) (may_sleep c.time_to_wait-time.result) c.wait.new.queue (g.N.Network.log c.args.network.now) (g.N.Network.log c.wait.new.self) c.in-Some.ensures.log in
-    (may_sleep c.time_to_wait-time.result, told, λ sleeps. c.is_busy-busy.ensures (not_busy _ _ c.time_to_wait-time.ensures sleeps), wakes, did)
+    (may_sleep c.time_to_wait-time.result, told, λ sleeps. c.is_busy-busy.ensures (not_busy _ _ c.time_to_wait-time.ensures.busy sleeps), wakes, did)
