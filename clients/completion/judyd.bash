@@ -6,7 +6,7 @@ _judyd_words() {
         '') echo "run serve compact repair journal help --help --version" ;;
         run) echo "--words --batch --help" ;;
         serve)
-            echo "--config --socket --status --control --clients --tenant-clients --connections --login --idle --turn" \
+            echo "--config --socket --status --control --clients --tenant-clients --share --connections --login --idle --turn" \
                 "--reserve --journal --sync --segment --new-journal --check --help"
             ;;
         journal) echo "--tenant --new --check --help" ;;
@@ -33,7 +33,7 @@ _judyd() {
             mapfile -t COMPREPLY < <(compgen -W "round never" -- "$current")
             return
             ;;
-        --clients | --tenant-clients | --connections | --login | --idle | --turn | --reserve | --segment | --tenant)
+        --clients | --tenant-clients | --share | --connections | --login | --idle | --turn | --reserve | --segment | --tenant)
             return
             ;;
     esac

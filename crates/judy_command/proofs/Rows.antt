@@ -98,6 +98,7 @@ served-in_range : (rows : List Row) → IsInRange (served rows)
 served-in_range rows = (
   count_given 1024 64 (omega arith, omega arith) (first_of (codes "clients") rows),
   counts_given most_clients (omega arith) (first_of (codes "tenant-clients") rows),
+  count_given most_clients 8 (omega arith, omega arith) (first_of (codes "share") rows),
   count_given most_count most_count (omega arith, omega arith) (first_of (codes "connections") rows),
   count_given most_count 10 (omega arith, omega arith) (first_of (codes "login") rows),
   counts_given most_count (omega arith) (first_of (codes "idle") rows),
@@ -182,24 +183,29 @@ unfolding clap_on_literals
 taken-serve = refl
 
 job-serve : job_of (subcommand_of judyd_app (codes "serve" ∷ codes "--config" ∷ codes "c" ∷ codes "--socket" ∷ codes "s" ∷ []))
-    ≡ Some (Serve (codes "c") (codes "s") None None 64 None 4294967295 10 None None None None Round 64 false false)
+    ≡ Some (Serve (codes "c") (codes "s") None None 64 None 8 4294967295 10 None None None None Round 64 false false)
 unfolding clap_on_literals
 job-serve = refl
 
 job-status : job_of (subcommand_of judyd_app (codes "serve" ∷ codes "--config" ∷ codes "c" ∷ codes "--socket" ∷ codes "s" ∷ codes "--status" ∷ codes "t" ∷ []))
-    ≡ Some (Serve (codes "c") (codes "s") (Some (codes "t")) None 64 None 4294967295 10 None None None None Round 64 false false)
+    ≡ Some (Serve (codes "c") (codes "s") (Some (codes "t")) None 64 None 8 4294967295 10 None None None None Round 64 false false)
 unfolding clap_on_literals
 job-status = refl
 
 job-reserve : job_of (subcommand_of judyd_app (codes "serve" ∷ codes "--config" ∷ codes "c" ∷ codes "--socket" ∷ codes "s" ∷ codes
-    "--reserve" ∷ codes "64" ∷ [])) ≡ Some (Serve (codes "c") (codes "s") None None 64 None 4294967295 10 None None (Some 64) None Round 64 false false)
+    "--reserve" ∷ codes "64" ∷ [])) ≡ Some (Serve (codes "c") (codes "s") None None 64 None 8 4294967295 10 None None (Some 64) None Round 64 false false)
 unfolding clap_on_literals
 job-reserve = refl
 
 job-tenant-clients : job_of (subcommand_of judyd_app (codes "serve" ∷ codes "--config" ∷ codes "c" ∷ codes "--socket" ∷ codes "s" ∷ codes
-    "--tenant-clients" ∷ codes "3" ∷ [])) ≡ Some (Serve (codes "c") (codes "s") None None 64 (Some 3) 4294967295 10 None None None None Round 64 false false)
+    "--tenant-clients" ∷ codes "3" ∷ [])) ≡ Some (Serve (codes "c") (codes "s") None None 64 (Some 3) 8 4294967295 10 None None None None Round 64 false false)
 unfolding clap_on_literals
 job-tenant-clients = refl
+
+job-share : job_of (subcommand_of judyd_app (codes "serve" ∷ codes "--config" ∷ codes "c" ∷ codes "--socket" ∷ codes "s" ∷ codes
+    "--share" ∷ codes "3" ∷ [])) ≡ Some (Serve (codes "c") (codes "s") None None 64 None 3 4294967295 10 None None None None Round 64 false false)
+unfolding clap_on_literals
+job-share = refl
 
 refused-more-than-all-clients : fault_of judyd_app (codes "serve" ∷ codes "--config" ∷ codes "c" ∷ codes "--socket" ∷ codes "s" ∷ codes
     "--tenant-clients" ∷ codes "1025" ∷ []) ≡ kind.ValueValidation ∷ []
@@ -225,7 +231,7 @@ abbrev serve-words : Text → Text → List Text
 serve-words dir when = codes "serve" ∷ codes "--config" ∷ codes "c" ∷ codes "--socket" ∷ codes "s" ∷ codes "--journal" ∷ dir ∷ codes "--sync" ∷ when ∷ []
 
 job-journal : job_of (subcommand_of judyd_app (serve-words (codes "d") (codes "5")))
-    ≡ Some (Serve (codes "c") (codes "s") None None 64 None 4294967295 10 None None None (Some (codes "d")) (Seconds 5) 64 false false)
+    ≡ Some (Serve (codes "c") (codes "s") None None 64 None 8 4294967295 10 None None None (Some (codes "d")) (Seconds 5) 64 false false)
 unfolding clap_on_literals
 job-journal = refl
 
@@ -240,7 +246,7 @@ refused-sync-alone = refl
 
 job-segment : job_of (subcommand_of judyd_app (codes "serve" ∷ codes "--config" ∷ codes "c" ∷ codes "--socket" ∷ codes "s" ∷ codes
     "--journal" ∷ codes "d" ∷ codes "--segment" ∷ codes "1" ∷ []))
-    ≡ Some (Serve (codes "c") (codes "s") None None 64 None 4294967295 10 None None None (Some (codes "d")) Round 1 false false)
+    ≡ Some (Serve (codes "c") (codes "s") None None 64 None 8 4294967295 10 None None None (Some (codes "d")) Round 1 false false)
 unfolding clap_on_literals
 job-segment = refl
 
@@ -277,7 +283,7 @@ job-new = refl
 
 job-new-journal : job_of (subcommand_of judyd_app (codes "serve" ∷ codes "--config" ∷ codes "c" ∷ codes "--socket" ∷ codes "s" ∷ codes
     "--new-journal" ∷ codes "--journal" ∷ codes "d" ∷ []))
-    ≡ Some (Serve (codes "c") (codes "s") None None 64 None 4294967295 10 None None None (Some (codes "d")) Round 64 true false)
+    ≡ Some (Serve (codes "c") (codes "s") None None 64 None 8 4294967295 10 None None None (Some (codes "d")) Round 64 true false)
 unfolding clap_on_literals
 job-new-journal = refl
 

@@ -56,6 +56,10 @@ clients_rule = record (limited_rule (codes "clients")) { defaults = codes "64" �
 abbrev pub tenant_clients_rule : Rule
 tenant_clients_rule = limited_rule (codes "tenant-clients")
 
+-- 8 unless it is given
+abbrev pub share_rule : Rule
+share_rule = record (limited_rule (codes "share")) { defaults = codes "8" ∷ [] }
+
 abbrev pub segment_rule : Rule
 segment_rule = limited_rule (codes "segment")
 
@@ -79,11 +83,11 @@ with_places a = with_rule (with_rule (with_rule (with_rule a (needed_rule (codes
 abbrev pub with_times : App → App
 with_times a = with_rule (with_rule (with_rule a login_rule) (number_rule (codes "idle"))) (number_rule (codes "turn"))
 
--- `[--clients N] [--tenant-clients N]`
+-- `[--clients N] [--tenant-clients N] [--share N]`
 abbrev pub with_clients : App → App
-with_clients a = with_rule (with_rule a clients_rule) tenant_clients_rule
+with_clients a = with_rule (with_rule (with_rule a clients_rule) tenant_clients_rule) share_rule
 
--- `[--clients N] [--tenant-clients N] [--connections N]`, and the limits of time
+-- `[--clients N] [--tenant-clients N] [--share N] [--connections N]`, and the limits of time
 abbrev pub with_limits : App → App
 with_limits a = with_times (with_rule (with_clients a) connections_rule)
 
@@ -92,7 +96,7 @@ abbrev pub with_journal : App → App
 with_journal a = with_rule (with_rule (with_rule (with_rule a (valued_rule (codes "journal"))) (valued_rule (codes "sync"))) segment_rule) (flag_rule (codes "new-journal"))
 
 -- `serve --config FILE --socket PATH [--status PATH] [--control PATH] [--clients N] [--tenant-clients N]
--- [--connections N] [--login SECONDS] [--idle SECONDS] [--turn SECONDS] [--reserve MB] [--journal DIR]
+-- [--share N] [--connections N] [--login SECONDS] [--idle SECONDS] [--turn SECONDS] [--reserve MB] [--journal DIR]
 -- [--sync WHEN] [--segment MB] [--new-journal] [--check]`
 abbrev pub serve_app : App
 serve_app = with_rule (with_journal (with_rule (with_limits (with_places (new_app (codes "serve")))) reserve_rule)) (flag_rule (codes "check"))
@@ -161,6 +165,7 @@ sync_given rows = option_map_or (λ t. unwrap_or (sync_in t) Round) (first_of (c
 abbrev pub served : List Row → Job
 served rows = Serve (unwrap_or (first_of (codes "config") rows) []) (unwrap_or (first_of (codes "socket") rows) []) (first_of (codes "status") rows) (first_of (codes "control") rows)
     (unwrap_or (number_given most_clients (codes "clients") rows) 64) (number_given most_clients (codes "tenant-clients") rows)
+    (unwrap_or (number_given most_clients (codes "share") rows) 8)
     (unwrap_or (number_given most_count (codes "connections") rows) most_count)
     (unwrap_or (number_given most_count (codes "login") rows) 10)
     (number_given most_count (codes "idle") rows) (number_given most_count (codes "turn") rows)
@@ -182,6 +187,7 @@ abbrev pub limits_in : List Row → Limits
 limits_in rows = record {
   clients = unwrap_or (number_given most_clients (codes "clients") rows) 64;
   tenant_clients = number_given most_clients (codes "tenant-clients") rows;
+  share = unwrap_or (number_given most_clients (codes "share") rows) 8;
   connections = unwrap_or (number_given most_count (codes "connections") rows) most_count;
   login = unwrap_or (number_given most_count (codes "login") rows) 10;
   idle = number_given most_count (codes "idle") rows;
@@ -245,7 +251,7 @@ words_fault words = or_else (fault_of judyd_app words) (option_fault_of (subcomm
 abbrev pub job_of : Option (Text × List Row) → Option Job
 job_of = option_map (λ p. job_at p.0 p.1)
 
--- clients, those of one tenant, and the megabytes of a segment are 1 to 1024, those of the arrays 1 to 131072,
+-- clients, those of one tenant, a share, and the megabytes of a segment are 1 to 1024, those of the arrays 1 to 131072,
 -- connections and seconds 1 to 4294967295
 abbrev pub IsCount : ℕ → ℕ → Type 0
 IsCount most n = (1 ≤ n) × (n ≤ most)
@@ -257,8 +263,8 @@ IsSync Never = Unit {0}
 
 abbrev pub IsInRange : Job → Type 0
 IsInRange (Run words batch) = Unit {0}
-IsInRange (Serve config socket status control clients tenant_clients connections login idle turn reserve journal sync segment new_journal check) =
-    IsCount most_clients clients × IfSome tenant_clients (IsCount most_clients) × IsCount most_count connections × IsCount most_count login
+IsInRange (Serve config socket status control clients tenant_clients share connections login idle turn reserve journal sync segment new_journal check) =
+    IsCount most_clients clients × IfSome tenant_clients (IsCount most_clients) × IsCount most_clients share × IsCount most_count connections × IsCount most_count login
     × IfSome idle (IsCount most_count) × IfSome turn (IsCount most_count)
     × IfSome reserve (IsCount most_megabytes) × IsSync sync × IsCount most_segment segment
 IsInRange (Compact directory) = Unit {0}

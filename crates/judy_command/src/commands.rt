@@ -4,7 +4,7 @@ ghost use Rattle.clap.specs.Words.{App, Rule, app_of, new_app, rule_of, with_rul
 ghost use Rattle.clap.specs.declared.builder.Command.TheViews.{out-Command as fields_of};
 ghost use Rattle.judy_command.specs.CommandLine.{bare_app, clients_rule, compact_app, connections_rule, flag_rule, repair_app};
 ghost use Rattle.judy_command.specs.CommandLine.{journal_app, judyd_app, limited_rule, login_rule, needed_rule, number_rule, placed_rule};
-ghost use Rattle.judy_command.specs.CommandLine.{reserve_rule, run_app, segment_rule, serve_app, tenant_clients_rule, valued_rule};
+ghost use Rattle.judy_command.specs.CommandLine.{reserve_rule, run_app, segment_rule, serve_app, share_rule, tenant_clients_rule, valued_rule};
 ghost use Rattle.judy_command.specs.CommandLine.{with_clients, with_journal, with_limits, with_places, with_times};
 
 use clap::{Arg, ArgAction, Command};
@@ -49,6 +49,9 @@ const CLIENTS_HELP: &str = "How many clients to serve at once, 1 to 1024; others
 
 const TENANT_CLIENTS_HELP: &str =
     "Refuse a log-in beyond N connections of one tenant, 1 to 1024, with ERR CLIENTS";
+
+const SHARE_HELP: &str =
+    "How many clients of one tenant are heard in a round, 1 to 1024; the others wait";
 
 const CONNECTIONS_HELP: &str = "How many connections to serve before it ends";
 
@@ -206,6 +209,14 @@ fn tenant_clients<'a>(alloc: Global) -> Arg<'a>
     limited(alloc, "tenant-clients", "N", TENANT_CLIENTS_HELP)
 }
 
+/// `--share N`; the default is 8.
+fn share<'a>(alloc: Global) -> Arg<'a>
+    ensures rule { rule_of result ≡ share_rule }
+    ensures local { result.global ≡ false }
+{
+    limited(alloc, "share", "N", SHARE_HELP).default_value("8")
+}
+
 /// `--segment MB`; 64 if it is not given.
 fn segment<'a>(alloc: Global) -> Arg<'a>
     ensures rule { rule_of result ≡ segment_rule }
@@ -325,7 +336,8 @@ fn with_clients<'a>(alloc: Global, command: Made<'a>) -> Made<'a>
     ensures local { IfOk result (λ c. (fields_of c).has_globals ≡ false) }
 {
     let command = with(command, clients(alloc));
-    with(command, tenant_clients(alloc))
+    let command = with(command, tenant_clients(alloc));
+    with(command, share(alloc))
 }
 
 /// A command with the options for the limits of connections.

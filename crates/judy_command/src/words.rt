@@ -61,6 +61,8 @@ pub enum Job {
         clients: u32,
         /// On how many connections one tenant may be logged in, if there is a limit: 1 to 1024.
         tenant_clients: Option<u32>,
+        /// How many clients of one tenant are heard in a round: 1 to 1024.
+        share: u32,
         /// How many connections to serve: 1 to 4294967295, and the last of these stands for no limit.
         connections: u32,
         /// How many seconds a connection may last on which nobody is logged in: 1 to 4294967295.
@@ -282,6 +284,7 @@ fn paths_in(alloc: Global, matches: &ArgMatches<'_>) -> Result<Paths, AllocError
 struct Limits {
     clients: u32,
     tenant_clients: Option<u32>,
+    share: u32,
     connections: u32,
     login: u32,
     idle: Option<u32>,
@@ -296,6 +299,7 @@ fn limits_in(matches: &ArgMatches<'_>) -> Limits
     Limits {
         clients: number_given(matches, "clients", MOST_CLIENTS).unwrap_or(64),
         tenant_clients: number_given(matches, "tenant-clients", MOST_CLIENTS),
+        share: number_given(matches, "share", MOST_CLIENTS).unwrap_or(8),
         connections: number_given(matches, "connections", u32::MAX).unwrap_or(u32::MAX),
         login: number_given(matches, "login", u32::MAX).unwrap_or(10),
         idle: number_given(matches, "idle", u32::MAX),
@@ -317,6 +321,7 @@ fn served(alloc: Global, matches: &ArgMatches<'_>) -> Result<Job, AllocError>
         control: paths.control,
         clients: limits.clients,
         tenant_clients: limits.tenant_clients,
+        share: limits.share,
         connections: limits.connections,
         login: limits.login,
         idle: limits.idle,

@@ -16,6 +16,7 @@ use Rattle.judy_many.specs.declared.serve.Limits.{Limits}
 use Rattle.judy_many.proofs.Journals.{keeps_quiet}
 use Rattle.judy_many.proofs.Living.{no_log}
 use Rattle.judy_many.proofs.Seats.{free_at, taken_none}
+use Rattle.judy_many.proofs.Sharing.{shares_none}
 use Rattle.judy_many.proofs.Telling.{ready_none}
 use Rattle.judy_many.proofs.Watching.{awake_none, each_none}
 
@@ -61,6 +62,7 @@ crowd_first line view rules limits first start began slots free sized small allo
       phases = tt;
       quiet = λ e. refl;
       fair = λ p q cut n share. unturned p q n share (sym cut);
+      shared = shares_none limits.share;
       unlost = refl;
       waited = refl;
       reads = tt;
@@ -68,7 +70,7 @@ crowd_first line view rules limits first start began slots free sized small allo
       allowed = allowed;
       settled = λ e. absurd (sweeps_not_writes e);
       awake = awake_none;
-      each = each_none;
+      each = each_none limits.share;
       limited = tt;
       inquired = tt;
       asked = tt;
@@ -83,10 +85,14 @@ crowd_first line view rules limits first start began slots free sized small allo
     ready = λ i b there. absurd (free_at slots i b free there);
     ends = λ n few. absurd (omega (arith, few));
     alert = λ i b there. absurd (free_at slots i b free there);
+    counted = λ e. absurd (sweeps_not_reads e);
   },
   refl,
 )
   where
+    sweeps_not_reads : Phase.Sweeps ≡ Phase.Reads → ⊥
+    sweeps_not_reads e = cc
+
     sweeps_not_writes : Phase.Sweeps ≡ Phase.Writes → ⊥
     sweeps_not_writes e = cc
 

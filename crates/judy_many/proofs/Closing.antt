@@ -12,7 +12,7 @@ use Rattle.judy_many.specs.Watches.{Queued, nobody, unqueued}
 use Rattle.judy_many.specs.Lives.{IsServed, View}
 use Rattle.judy_many.specs.Journaling.{AreKept, Carries, IsFailure, MayKeep}
 use Rattle.judy_many.specs.Nets.{Act, Acts, DidLog}
-use Rattle.judy_many.specs.Nets.Act.{Came, Refused, Read, Dry, Ended, Broke, Wrote, Failed, Closed, Waited, Lost, Asked, Questioned, Reported, Warned, Tabled, Untabled, Named, Replied, Began, Kept, Unkept, Synced, Unsynced, Took}
+use Rattle.judy_many.specs.Nets.Act.{Lost, Questioned, Unkept, Unsynced}
 use Rattle.judy_many.specs.Present.{speakers_at}
 use Rattle.judy_many.specs.Questions.{AreAsked, Stage, IsLastStage, stage_since}
 use Rattle.judy_many.specs.Rules.{Rules}
@@ -38,7 +38,7 @@ use Rattle.judy_many.proofs.Seats.{free_at, taken_most}
 use Rattle.judy_many.proofs.Turning.{still}
 use Rattle.judy_many.proofs.Watching.{no_looks}
 use Rattle.judy_many.proofs.Living.{no_log}
-use Rattle.judy_many.proofs.Crowding.{told_more}
+use Rattle.judy_many.proofs.Crowding.{shares_still, told_more}
 
 -- there is a journal only where there is a rule when it is synced
 pub opened_allowed : (limits : Limits) (writer : Option Writing) → MayKeep limits (opened limits.journal writer)
@@ -70,6 +70,7 @@ crowd_ends view rules apart unseen stays goes_on one equal steps first start mid
       order = λ p q cut n. (h.served n).order (own n p) (own n q) (sym (same n) ∙ ap (own n) cut ∙ own-append n p q);
       phases = told.phases;
       fair = told.fair;
+      shared = told.shared;
       awake = told.awake;
       each = told.each;
       limited = told.limited;
@@ -114,7 +115,7 @@ module _ {B S : Type 0} (view : B → View) (rules : Rules S) (apart : KeepsApar
       (omega (arith, came)) h.is_told.capped (omega (arith, came, closed))
       (let a = taken_most slots in let b = h.is_told.sized in omega (arith, a, b, came)) (omega arith) within
       (phases (writes_since false h.story)).0 (λ e. (phases (writes_since false h.story)).1 ∙ h.is_told.quiet e)
-      (still h.story more h.is_told.fair silent) (omega (arith, lose)) (stage_past phase (at_stage from (past_of waits (opened limits.journal writer) journal)) stage more wait (keeps_quiet journal more quiet) h.is_told.settled asked is) reads (no_looks h.story more wait)
+      (still h.story more h.is_told.fair silent) (shares_still view rules limits first start phase had (at_stage from (past_of waits (opened limits.journal writer) journal)) mid slots count now h more silent wait) (omega (arith, lose)) (stage_past phase (at_stage from (past_of waits (opened limits.journal writer) journal)) stage more wait (keeps_quiet journal more quiet) h.is_told.settled asked is) reads (no_looks limits.share h.story more wait)
       (limited_quiet limits.tenant_clients h.story more (foreign_quiet more none)) (inquired_quiet (is_some limits.journal) h.story more (foreign_quiet more none)) (λ e. quiet_single more (foreign_quiet more none))
 
   pub ends_here : (log : Acts) (phase : Phase) (had : Queued) (waits : ℕ) (journal : Option Journal) (slots : List (Option B)) (count : ℕ) (now : S) (how : Ending)

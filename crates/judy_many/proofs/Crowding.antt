@@ -20,11 +20,12 @@ use Rattle.judy_many.specs.Present.{speaker_since, speakers_at}
 use Rattle.judy_many.specs.Questions.{AreAsked, MayFail, MayReply, Stage, asks_kick, asks_reload, gones_in, read_stage, stage_since}
 use Rattle.judy_many.specs.Rules.{Rules}
 use Rattle.judy_many.specs.Sessions.{AreTurns, records_in}
+use Rattle.judy_many.specs.Shares.{AreCounted, count_in, group_in, group_of}
 use Rattle.judy_many.specs.Statuses.{HasAnswered, IsStatus, Lasts, Passes}
 use Rattle.judy_many.specs.Warnings.{HasWarned, warning_acts}
 use Rattle.judy_many.specs.Stories.{AreRead, AreSingle, AreWithin, Phase, InPhase, IsLate, IsOnce, IsPhased, IsWarning, Mine, Share, Story, acts_in, came_in, closed_in, most, own, times, told, turns_in, turns_since, writes_since}
 use Rattle.judy_many.specs.Stories.Moment.{Changed, Did}
-use Rattle.judy_many.specs.Watches.{Alert, IsAlert, IsClosedOr, IsOpen, Looks, Queued, is_seat, Rests, everybody, nobody, those_before, unqueued, upto_wait, watch}
+use Rattle.judy_many.specs.Watches.{Alert, Excused, IsAlert, IsClosedOr, IsOpen, Looks, Queued, is_seat, Rests, everybody, nobody, those_before, unqueued, watch}
 use Rattle.judy_many.specs.declared.serve.Limits.{Limits}
 use Rattle.judy_many.specs.declared.asking.Next.TheVariants as next
 use Rattle.judy_many.specs.declared.network.Question.TheVariants as question
@@ -43,6 +44,7 @@ use Rattle.judy_many.proofs.Questioning.{AreAsked-append, is_unasked, keeping_un
 use Rattle.judy_many.proofs.Journals.{Carries-append, keeps_allowed, keeps_change, keeps_quiet, keeps_reply, keeps_turn, settled_turn}
 use Rattle.judy_many.proofs.Recording.{noted_none}
 use Rattle.judy_many.proofs.Living.{cut_log, then_log}
+use Rattle.judy_many.proofs.Sharing.{AreFresh, Counts, Fills, SharesOn, counted_quiet, counts_none, fills_of, group_now, of_waited, shares-append, shares_quiet, shares_wait, turn_shared}
 use Rattle.judy_many.proofs.Watching.{alert_anew, alert_beside, alert_comes, alert_keep, alert_looks, alert_read, alert_swept, alert_told, alert_turned, alert_waits, awake-append, each-append, no_looks}
 use Rattle.judy_many.proofs.Telling.{AreWithin-append, IsPhased-append, acts_in-append, acts_in-told, came-append, closed-append, lives_served, split, writes_since-append}
 
@@ -59,10 +61,10 @@ module _ {B S : Type 0} (rules : Rules S) (limits : Limits) (first : S) (start :
       → AreWithin limits (acts_in more)
       → IsPhased (writes_since false story) more
       → (phase' ≡ Phase.Reads → writes_since (writes_since false story) more ≡ false)
-      → GoOn story more → lost' ≡ lost + lost_in (acts_in more) → Passed phase' past more past' → ((last : Option (List ℕ)) → AreRead limits last more) → Looks story more → IsLimited limits.tenant_clients story more → IsInquired (is_some limits.journal) story more
+      → GoOn story more → SharesOn limits.share story more → lost' ≡ lost + lost_in (acts_in more) → Passed phase' past more past' → ((last : Option (List ℕ)) → AreRead limits last more) → Looks limits.share story more → IsLimited limits.tenant_clients story more → IsInquired (is_some limits.journal) story more
       → (limits.clients ≡ 1 → AreSingle more)
       → IsTold rules limits first start phase' lost' past' log' slots' count' after (story ++ more)
-  told_more phase phase' lost lost' past past' log log' slots slots' count count' now after story more h k r l counts capped sums room sized within phases quiet turns lose passed reads looks limited inquired single = record {
+  told_more phase phase' lost lost' past past' log log' slots slots' count count' now after story more h k r l counts capped sums room sized within phases quiet turns shares lose passed reads looks limited inquired single = record {
     logged = subst (λ a. DidLog start a log') (sym (acts_in-append story more)) (then_log start log log' (acts_in story) (acts_in more) h.logged k);
     run = Passes-append rules [] first now after story more h.run r;
     lasts = Lasts-append rules (is_some limits.journal) first now after story more h.lasts l;
@@ -79,14 +81,15 @@ module _ {B S : Type 0} (rules : Rules S) (limits : Limits) (first : S) (start :
     phases = IsPhased-append false story more h.phases phases;
     quiet = λ e. writes_since-append false story more ∙ quiet e;
     fair = fair-append story more h.fair turns;
+    shared = shares-append limits.share story more h.shared shares;
     unlost = let e = lost-append story more in let f = h.unlost in omega (arith, e, f, lose);
     waited = let e = waits-append story more in let f = h.waited in let wait = passed.waited in omega (arith, e, f, wait);
     reads = AreRead-append limits None story more h.reads reads;
     keeps = subst (λ b. Carries b (story ++ more) past'.journal) (sym passed.began) (Carries-append past.began past.journal past'.journal story more h.keeps passed.keeps);
     allowed = keeps_allowed limits past.journal past'.journal more h.allowed passed.keeps;
     settled = passed.settled;
-    awake = awake-append story more h.awake looks;
-    each = each-append story more h.each looks;
+    awake = awake-append limits.share story more h.awake looks;
+    each = each-append limits.share story more h.each looks;
     limited = IsLimited-append limits.tenant_clients [] story more h.limited limited;
     inquired = IsInquired-append (is_some limits.journal) [] story more h.inquired inquired;
     asked = AreAsked-append Stage.Unasked story more h.asked (subst (λ s. AreAsked s more) (sym h.stage) passed.asked);
@@ -134,6 +137,9 @@ reads_most Share.Asking = omega arith
 reads_most Share.Running = omega arith
 reads_most Share.Writing = omega arith
 
+sweeps_not_reads : Phase.Sweeps ≡ Phase.Reads → ⊥
+sweeps_not_reads e = cc
+
 pub sweeps_not_writes : Phase.Sweeps ≡ Phase.Writes → ⊥
 sweeps_not_writes e = cc
 
@@ -147,6 +153,21 @@ module _ {B S : Type 0} (view : B → View) (rules : Rules S) (limits : Limits) 
 
   abbrev Told : Phase → Past → Acts → List (Option B) → ℕ → S → Story → Type 0
   Told phase past log slots count now story = IsTold rules limits first start phase 0 past log slots count now story
+
+  -- connections that did not come have no moments
+  fresh_of : (phase : Phase) (had : Queued) (past : Past) (log : Acts) (slots : List (Option B)) (count : ℕ) (now : S) (h : Now phase had past log slots count now) → AreFresh h.story
+  fresh_of phase had past log slots count now h n over = let e = h.is_told.total in h.fresh n (omega (arith, e, over))
+
+  -- what happened is no share of a turn
+  pub shares_still : (phase : Phase) (had : Queued) (past : Past) (log : Acts) (slots : List (Option B)) (count : ℕ) (now : S) (h : Now phase had past log slots count now) (more : Story) → ((share : Share) → times share more ≡ 0) → waits_in (acts_in more) ≡ 0
+      → SharesOn limits.share h.story more
+  shares_still phase had past log slots count now h more none quiet =
+      shares_quiet limits.share h.story more (fresh_of phase had past log slots count now h) h.is_told.shared (none Share.Reading) (none Share.Running) quiet
+
+  counted_still : (phase : Phase) (had : Queued) (past : Past) (log : Acts) (slots : List (Option B)) (count : ℕ) (now : S) (h : Now phase had past log slots count now) (more : Story) → ((share : Share) → times share more ≡ 0) → waits_in (acts_in more) ≡ 0
+      → phase ≡ Phase.Reads → AreCounted had.counts (h.story ++ more)
+  counted_still phase had past log slots count now h more none quiet e =
+      counted_quiet had.counts h.story more (fresh_of phase had past log slots count now h) (none Share.Reading) (none Share.Running) quiet (h.counted e)
 
   -- the slots that had no turn have had none after the moments of another connection
   open_other : (story more : Story) (n m : ℕ) (bound : Share → ℕ) → Mine n more → m ≢ n
@@ -171,8 +192,8 @@ module _ {B S : Type 0} (view : B → View) (rules : Rules S) (limits : Limits) 
         subst P (sym (own-append m h.story more ∙ ap (λ l. own m h.story ++ l) (own-other n m more mine d) ∙ append-nil (own m h.story))) p
 
     -- what is known of the client of another slot
-    alert' : (i j : ℕ) → ((j : ℕ) → j ≢ i → (v : View) (s : Story) → Alert phase had j v s → Alert phase had' j v s) → (c : B) → j ≢ i → (view c).number ≢ n → At slots j c → Alert phase had' j (view c) story'
-    alert' i j beside c d e there = beside j d (view c) story' (alert_keep phase had j (view c) h.story more (own-other n (view c).number more mine e) calm (h.alert j c there))
+    alert' : (i j : ℕ) → ((j : ℕ) → j ≢ i → (v : View) (s : Story) → Alert limits.share phase had j v s → Alert limits.share phase had' j v s) → (c : B) → j ≢ i → (view c).number ≢ n → At slots j c → Alert limits.share phase had' j (view c) story'
+    alert' i j beside c d e there = beside j d (view c) story' (alert_keep limits.share phase had j (view c) h.story more (own-other n (view c).number more mine e) calm (h.alert j c there))
 
     served' : IsServed (own n h.story ++ more) → (m : ℕ) → IsServed (own m story')
     served' k m = elim (eqb_tells m n) [
@@ -186,10 +207,10 @@ module _ {B S : Type 0} (view : B → View) (rules : Rules S) (limits : Limits) 
         at_other m d (λ s. s ≡ []) (h.fresh m (omega arith))
 
     -- the client of slot i is gone
-    pub gone : (i : ℕ) (b : B) → ((j : ℕ) → j ≢ i → (v : View) (s : Story) → Alert phase had j v s → Alert phase had' j v s) → At slots i b → (view b).number ≡ n → Told phase past' log' (slice_set slots i None) count after story'
+    pub gone : (i : ℕ) (b : B) → ((j : ℕ) → j ≢ i → (v : View) (s : Story) → Alert limits.share phase had j v s → Alert limits.share phase had' j v s) → At slots i b → (view b).number ≡ n → Told phase past' log' (slice_set slots i None) count after story'
         → closed_in (acts_in (own n h.story ++ more)) ≡ 1
-        → IsServed (own n h.story ++ more) → Now phase had' past' log' (slice_set slots i None) count after
-    gone i b beside at is told close s = record {
+        → IsServed (own n h.story ++ more) → (phase ≡ Phase.Reads → AreCounted had'.counts story') → Now phase had' past' log' (slice_set slots i None) count after
+    gone i b beside at is told close s counted = record {
       story = story';
       is_told = told;
       below = λ j c there. h.below j c (others j c there).1;
@@ -215,6 +236,7 @@ module _ {B S : Type 0} (view : B → View) (rules : Rules S) (limits : Limits) 
         ]
       ];
       alert = λ j c there. let p = others j c there in alert' i j beside c p.0 (λ e. p.0 (h.apart j i c b p.1 at (e ∙ sym is))) p.1;
+      counted = counted;
     }
       where
         nothing : (c : B) → None ≡ Some c → ⊥
@@ -229,13 +251,13 @@ module _ {B S : Type 0} (view : B → View) (rules : Rules S) (limits : Limits) 
         others j c there = elim (At-set slots i None j c there) [ inl p ↦ absurd (nothing c p.1) | inr p ↦ p ]
 
     -- a client of this number is in slot i, where there was none or the one of this number
-    pub seated : (i bound : ℕ) (s : B) → ((j : ℕ) → j ≢ i → (v : View) (s : Story) → Alert phase had j v s → Alert phase had' j v s) → Alert phase had' i (view s) story' → i < length slots → bound ≤ count + 1 → (bound ≡ count + 1 → n ≡ count)
+    pub seated : (i bound : ℕ) (s : B) → ((j : ℕ) → j ≢ i → (v : View) (s : Story) → Alert limits.share phase had j v s → Alert limits.share phase had' j v s) → Alert limits.share phase had' i (view s) story' → i < length slots → bound ≤ count + 1 → (bound ≡ count + 1 → n ≡ count)
         → ((m : ℕ) (q : IsThere view slots m) → m ≢ n → q.i ≢ i) → (view s).number ≡ n → count ≤ bound → n < bound
         → ((j : ℕ) (c : B) → j ≢ i → At slots j c → (view c).number ≢ n)
         → Told phase past' log' (slice_set slots i (Some s)) bound after story'
         → ((had'.had i → ⊥) → (share : Share) → turns_since n share 0 story' + most phase share ≤ 1)
-        → Lives (own n h.story ++ more) (view s) → Now phase had' past' log' (slice_set slots i (Some s)) bound after
-    seated i bound s beside alerted within highest last away is above under alone told free l = record {
+        → Lives (own n h.story ++ more) (view s) → (phase ≡ Phase.Reads → AreCounted had'.counts story') → Now phase had' past' log' (slice_set slots i (Some s)) bound after
+    seated i bound s beside alerted within highest last away is above under alone told free l counted = record {
       story = story';
       is_told = told;
       below = λ j c there. elim (At-set slots i (Some s) j c there) [
@@ -263,9 +285,10 @@ module _ {B S : Type 0} (view : B → View) (rules : Rules S) (limits : Limits) 
         ]
       ];
       alert = λ j c there. elim (At-set slots i (Some s) j c there) [
-        | inl p ↦ subst (λ k. Alert phase had' k (view c) story') (sym p.0) (subst (λ b. Alert phase had' i (view b) story') (same c p.1) alerted)
+        | inl p ↦ subst (λ k. Alert limits.share phase had' k (view c) story') (sym p.0) (subst (λ b. Alert limits.share phase had' i (view b) story') (same c p.1) alerted)
         | inr p ↦ alert' i j beside c p.0 (alone j c p.0 p.1) p.1
       ];
+      counted = counted;
     }
       where
         same : (c : B) → Some s ≡ Some c → s ≡ c
@@ -298,9 +321,9 @@ module _ {B S : Type 0} (view : B → View) (rules : Rules S) (limits : Limits) 
       → ((n : ℕ) → own n more ≡ []) → Told phase' past' log' slots' count after (h.story ++ more)
       → ((j : ℕ) (c : B) → At slots' j c → At slots j c) → ((j : ℕ) (c : B) → At slots j c → At slots' j c)
       → ((j : ℕ) (c : B) → At slots j c → (had'.had j → ⊥) → (share : Share) → turns_since (view c).number share 0 (h.story ++ more) + most phase' share ≤ 1)
-      → ((j : ℕ) (c : B) → At slots j c → Alert phase' had' j (view c) (h.story ++ more))
+      → ((j : ℕ) (c : B) → At slots j c → Alert limits.share phase' had' j (view c) (h.story ++ more)) → (phase' ≡ Phase.Reads → AreCounted had'.counts (h.story ++ more))
       → Now phase' had' past' log' slots' count after
-  foreign phase phase' had had' past past' log log' slots slots' count now after h more none told back forth free alerts = record {
+  foreign phase phase' had had' past past' log log' slots slots' count now after h more none told back forth free alerts counted = record {
     story = h.story ++ more;
     is_told = told;
     below = λ j c there. h.below j c (back j c there);
@@ -314,6 +337,7 @@ module _ {B S : Type 0} (view : B → View) (rules : Rules S) (limits : Limits) 
       | inr q ↦ inr (record { i = q.i; b = q.b; there = forth q.i q.b q.there; is = q.is })
     ];
     alert = λ j c there. alerts j c (back j c there);
+    counted = counted;
   }
     where
       same : (n : ℕ) → own n (h.story ++ more) ≡ own n h.story
@@ -341,9 +365,10 @@ module _ {B S : Type 0} (view : B → View) (rules : Rules S) (limits : Limits) 
       (told_more rules limits first start phase phase 0 0 past past' log log' slots slots count count now after h.story more h.is_told k (r h) l (omega (arith, came)) h.is_told.capped
       (omega (arith, came, closed)) (let a = taken_most slots in let b = h.is_told.sized in omega (arith, a, b, came)) (omega arith) a.within
       (a.phases (writes_since false h.story)).0 (λ e. (a.phases (writes_since false h.story)).1 ∙ h.is_told.quiet e)
-      (still h.story more h.is_told.fair a.silent) (omega (arith, lost)) passed a.reads (no_looks h.story more a.waited) (limited_quiet limits.tenant_clients h.story more (foreign_quiet more a.foreign)) (inquired_quiet (is_some limits.journal) h.story more (foreign_quiet more a.foreign)) (λ e. quiet_single more (foreign_quiet more a.foreign)))
+      (still h.story more h.is_told.fair a.silent) (shares_still phase had past log slots count now h more a.silent a.waited) (omega (arith, lost)) passed a.reads (no_looks limits.share h.story more a.waited) (limited_quiet limits.tenant_clients h.story more (foreign_quiet more a.foreign)) (inquired_quiet (is_some limits.journal) h.story more (foreign_quiet more a.foreign)) (λ e. quiet_single more (foreign_quiet more a.foreign)))
       (λ j c at. at) (λ j c at. at) (open_still phase had had past log slots count now h more (λ j k. k) a.silent)
-      (λ j c at. alert_keep phase had j (view c) h.story more (a.foreign (view c).number) a.waited (h.alert j c at))
+      (λ j c at. alert_keep limits.share phase had j (view c) h.story more (a.foreign (view c).number) a.waited (h.alert j c at))
+      (counted_still phase had past log slots count now h more a.silent a.waited)
 
   -- a question was asked or answered
   asks : (phase : Phase) (had : Queued) (past : Past) (stage : Stage) (log log' : Acts) (slots : List (Option B)) (count : ℕ) (now after : S) (more : Story) → IsAside limits more
@@ -370,10 +395,10 @@ module _ {B S : Type 0} (view : B → View) (rules : Rules S) (limits : Limits) 
 
   -- at a wait nothing is owed to an open connection, if it may sleep, and each had its turn
   looks_waits : (line : Line) (past : Past) (log : Acts) (slots : List (Option B)) (count : ℕ) (now : S) (sleeps : Bool) (slots_told : List ℕ)
-      → (sleeps ≡ true → (i : ℕ) → awake_in line i ≡ true → ⊥) → (h : Now Phase.Sweeps (nobody line) past log slots count now) → Looks h.story (Did (Waited sleeps slots_told) ∷ [])
+      → (sleeps ≡ true → (i : ℕ) → awake_in line i ≡ true → ⊥) → (h : Now Phase.Sweeps (nobody line) past log slots count now) → Looks limits.share h.story (Did (Waited sleeps slots_told) ∷ [])
   looks_waits line past log slots count now sleeps slots_told asleep h p q s t cut n i is_open =
-      subst (λ r. (s ≡ true → Rests n i (h.story ++ r)) × (((watch n i (h.story ++ r)).turned ≡ true) ⊎ Rests n i (upto_wait (h.story ++ r)))) (sym (at_front p cut))
-      (subst (λ r. (s ≡ true → Rests n i r) × (((watch n i r).turned ≡ true) ⊎ Rests n i (upto_wait r))) (sym (append-nil h.story))
+      subst (λ r. (s ≡ true → Rests n i (h.story ++ r)) × (((watch n i (h.story ++ r)).turned ≡ true) ⊎ Excused limits.share n i (h.story ++ r))) (sym (at_front p cut))
+      (subst (λ r. (s ≡ true → Rests n i r) × (((watch n i r).turned ≡ true) ⊎ Excused limits.share n i r)) (sym (append-nil h.story))
       (at_story (subst (λ r. IsOpen n i r) (append-nil h.story) (subst (λ r. IsOpen n i (h.story ++ r)) (at_front p cut) is_open))))
     where
       at_front : (p : Story) → Did (Waited sleeps slots_told) ∷ [] ≡ p ++ Did (Waited s t) ∷ q → p ≡ []
@@ -386,16 +411,16 @@ module _ {B S : Type 0} (view : B → View) (rules : Rules S) (limits : Limits) 
       alike (m ∷ []) e = cc
       alike (m ∷ x ∷ p) e = cc
 
-      of_slot : (k : ℕ) (b : B) → At slots k b → (view b).number ≡ n → IsOpen n i h.story → (s ≡ true → Rests n i h.story) × (((watch n i h.story).turned ≡ true) ⊎ Rests n i (upto_wait h.story))
+      of_slot : (k : ℕ) (b : B) → At slots k b → (view b).number ≡ n → IsOpen n i h.story → (s ≡ true → Rests n i h.story) × (((watch n i h.story).turned ≡ true) ⊎ Excused limits.share n i h.story)
       of_slot k b there is is_open =
           let alert = h.alert k b there in
           let here : i ≡ k = alert.seat i (subst (λ m. list_any (is_seat i) (acts_in (own m h.story)) ≡ true) (sym is) is_open.0) in
-          let found = alert_looks line line k (view b) h.story sleeps slots_told (λ e. asleep e k) (h.live k b there) alert in
-          subst (λ j. (s ≡ true → Rests n j h.story) × (((watch n j h.story).turned ≡ true) ⊎ Rests n j (upto_wait h.story))) (sym here)
-          (subst (λ m. (s ≡ true → Rests m k h.story) × (((watch m k h.story).turned ≡ true) ⊎ Rests m k (upto_wait h.story))) is
+          let found = alert_looks limits.share line line k (view b) h.story sleeps slots_told (λ e. asleep e k) (h.live k b there) alert in
+          subst (λ j. (s ≡ true → Rests n j h.story) × (((watch n j h.story).turned ≡ true) ⊎ Excused limits.share n j h.story)) (sym here)
+          (subst (λ m. (s ≡ true → Rests m k h.story) × (((watch m k h.story).turned ≡ true) ⊎ Excused limits.share m k h.story)) is
           (λ e. found.0 (sym (alike p cut) ∙ e), found.1))
 
-      at_story : IsOpen n i h.story → (s ≡ true → Rests n i h.story) × (((watch n i h.story).turned ≡ true) ⊎ Rests n i (upto_wait h.story))
+      at_story : IsOpen n i h.story → (s ≡ true → Rests n i h.story) × (((watch n i h.story).turned ≡ true) ⊎ Excused limits.share n i h.story)
       at_story is_open = elim (below_or n count) [
         | inl few ↦ elim (h.ends n few) [
           | inl closed ↦ absurd (omega (arith, closed, is_open.1))
@@ -413,14 +438,15 @@ module _ {B S : Type 0} (view : B → View) (rules : Rules S) (limits : Limits) 
       foreign Phase.Sweeps Phase.Reads (nobody line) (nobody line') past (later past) log log' slots slots count now now h last (λ n. refl)
       (told_more rules limits first start Phase.Sweeps Phase.Reads 0 0 past (later past) log log' slots slots count count now now h.story last h.is_told k (tt, refl) refl (omega arith) h.is_told.capped (omega arith)
       (let a = taken_most slots in let b = h.is_told.sized in omega (arith, a, b)) (omega arith) (tt, tt) (tt, tt) (λ e. refl)
-      (still h.story last h.is_told.fair (λ share. refl)) refl
+      (still h.story last h.is_told.fair (λ share. refl)) (shares_wait limits.share h.story sleeps slots_told h.is_told.shared) refl
       (record { waited = refl; began = refl; keeps = keeps_quiet past.journal last refl; settled = λ e. absurd (reads_not_writes e); asked = (unasked, tt); stage = refl }) (λ last. tt)
       (looks_waits line past log slots count now sleeps slots_told asleep h) tt tt (λ e. tt))
       (λ j c at. at) (λ j c at. at) (λ j c at not share.
       let e : turns_since (view c).number share 0 (h.story ++ last) ≡ 0 = since-append (view c).number share 0 h.story last in
       let f = reads_most share in
       omega (arith, e, f))
-      (λ j c at. alert_waits line line' j (view c) h.story sleeps slots_told stay wakes (h.live j c at) (h.alert j c at))
+      (λ j c at. alert_waits limits.share line line' j (view c) h.story sleeps slots_told stay wakes (h.live j c at) (h.alert j c at))
+      (λ e g. of_waited g h.story sleeps slots_told)
 
   -- a status was asked for, and told
   has_told : (phase : Phase) (had : Queued) (waits : ℕ) (began journal : Option Journal) (log log' : Acts) (slots : List (Option B)) (count : ℕ) (now : S) (text : List ℕ) → limits.status ≡ true
@@ -569,8 +595,8 @@ module _ {B S : Type 0} (view : B → View) (rules : Rules S) (limits : Limits) 
   next_phase : (phase phase' : Phase) (had had' : Queued) (past : Past) (log : Acts) (slots : List (Option B)) (count : ℕ) (now : S) (h : Now phase had past log slots count now)
       → (phase' ≡ Phase.Reads → writes_since false h.story ≡ false) → (phase' ≡ Phase.Writes → AreSettled past.journal)
       → ((j : ℕ) (c : B) → At slots j c → (had'.had j → ⊥) → (share : Share) → turns_since (view c).number share 0 h.story + most phase' share ≤ 1)
-      → ((j : ℕ) (c : B) → At slots j c → Alert phase' had' j (view c) h.story) → Now phase' had' past log slots count now
-  next_phase phase phase' had had' past log slots count now h quiet settled free alerts = record {
+      → ((j : ℕ) (c : B) → At slots j c → Alert limits.share phase' had' j (view c) h.story) → (phase' ≡ Phase.Reads → AreCounted had'.counts h.story) → Now phase' had' past log slots count now
+  next_phase phase phase' had had' past log slots count now h quiet settled free alerts counted = record {
     story = h.story;
     is_told = record {
       logged = h.is_told.logged;
@@ -586,6 +612,7 @@ module _ {B S : Type 0} (view : B → View) (rules : Rules S) (limits : Limits) 
       phases = h.is_told.phases;
       quiet = quiet;
       fair = h.is_told.fair;
+      shared = h.is_told.shared;
       unlost = h.is_told.unlost;
       waited = h.is_told.waited;
       reads = h.is_told.reads;
@@ -608,39 +635,41 @@ module _ {B S : Type 0} (view : B → View) (rules : Rules S) (limits : Limits) 
     ready = free;
     ends = h.ends;
     alert = alerts;
+    counted = counted;
   }
 
   pub widen : (phase : Phase) (had had' : Queued) (past : Past) (log : Acts) (slots : List (Option B)) (count : ℕ) (now : S) → ((j : ℕ) → had.had j → had'.had j)
-      → ((j : ℕ) (c : B) (s : Story) → At slots j c → Alert phase had j (view c) s → Alert phase had' j (view c) s)
+      → ((j : ℕ) (c : B) (s : Story) → At slots j c → Alert limits.share phase had j (view c) s → Alert limits.share phase had' j (view c) s)
+      → (phase ≡ Phase.Reads → (s : Story) → AreCounted had.counts s → AreCounted had'.counts s)
       → Now phase had past log slots count now → Now phase had' past log slots count now
-  widen phase had had' past log slots count now wider alerts h =
+  widen phase had had' past log slots count now wider alerts counted h =
       next_phase phase phase had had' past log slots count now h h.is_told.quiet h.is_told.settled (λ j c at not. h.ready j c at (λ k. not (wider j k)))
-      (λ j c at. alerts j c h.story at (h.alert j c at))
+      (λ j c at. alerts j c h.story at (h.alert j c at)) (λ e. counted e h.story (h.counted e))
 
   -- before the first turn of a phase
-  pub begins : (phase : Phase) (line : Line) (past : Past) (log : Acts) (slots : List (Option B)) (count : ℕ) (now : S) → Now phase (nobody line) past log slots count now → Now phase (those_before line 0) past log slots count now
-  begins phase line past log slots count now h =
-      widen phase (nobody line) (those_before line 0) past log slots count now (λ j k. absurd k)
-      (λ j c s at k. alert_beside phase line line (λ i. ⊥) (IsBefore line.order 0) j (view c) s (λ e. e) (λ e. e) (λ k. absurd k) (before_none line.order j) k) h
+  pub begins : (phase : Phase) (line : Line) (counts : List ℕ) → ((g : ℕ) → count_in counts g ≡ 0) → (past : Past) (log : Acts) (slots : List (Option B)) (count : ℕ) (now : S) → Now phase (nobody line) past log slots count now → Now phase (those_before line 0 counts) past log slots count now
+  begins phase line counts zeros past log slots count now h =
+      widen phase (nobody line) (those_before line 0 counts) past log slots count now (λ j k. absurd k)
+      (λ j c s at k. alert_beside limits.share phase line line (λ i. ⊥) (IsBefore line.order 0) j (view c) s (λ e. e) (λ e. e) (λ k. absurd k) (before_none line.order j) k) (λ e s k g. k g ∙ sym (zeros g)) h
 
   -- a place of the queue whose slot is none
-  pub passes : (phase : Phase) (line line' : Line) (place slot : ℕ) (past : Past) (log : Acts) (slots : List (Option B)) (count : ℕ) (now : S) → line'.order ≡ line.order
+  pub passes : (phase : Phase) (line line' : Line) (counts : List ℕ) (place slot : ℕ) (past : Past) (log : Acts) (slots : List (Option B)) (count : ℕ) (now : S) → line'.order ≡ line.order
       → ((i : ℕ) → i ≢ slot → mark_in line'.marks i ≡ mark_in line.marks i) → slot ≡ slot_in line.order place → length slots ≤ slot
-      → Now phase (those_before line place) past log slots count now → Now phase (those_before line' (place + 1)) past log slots count now
-  passes phase line line' place slot past log slots count now order marks is far h =
-      widen phase (those_before line place) (those_before line' (place + 1)) past log slots count now (λ j k. before_later line.order line'.order place j order k)
+      → Now phase (those_before line place counts) past log slots count now → Now phase (those_before line' (place + 1) counts) past log slots count now
+  passes phase line line' counts place slot past log slots count now order marks is far h =
+      widen phase (those_before line place counts) (those_before line' (place + 1) counts) past log slots count now (λ j k. before_later line.order line'.order place j order k)
       (λ j c s at k.
       let apart : j ≢ slot = λ e. let w = At-within slots j c at in absurd (omega (arith, e, w, far)) in
-      alert_beside phase line line' (IsBefore line.order place) (IsBefore line'.order (place + 1)) j (view c) s (λ e. ap is_awake (marks j apart) ∙ e) (λ e. ap stands (marks j apart) ∙ e)
-      (before_later line.order line'.order place j order) (λ k. before_only line.order place j slot apart is (subst (λ l. IsBefore l (place + 1) j) order k)) k) h
+      alert_beside limits.share phase line line' (IsBefore line.order place) (IsBefore line'.order (place + 1)) j (view c) s (λ e. ap is_awake (marks j apart) ∙ e) (λ e. ap stands (marks j apart) ∙ e)
+      (before_later line.order line'.order place j order) (λ k. before_only line.order place j slot apart is (subst (λ l. IsBefore l (place + 1) j) order k)) k) (λ e s k. k) h
 
   -- all slots of the queue had the first half of their turn
-  pub all_read : (line line' : Line) (place : ℕ) (past : Past) (log : Acts) (slots : List (Option B)) (count : ℕ) (now : S) → line' ≡ line → ((i : ℕ) → stands_in line i ≡ true → IsPlaced line i) → length line.order ≤ place
-      → Now Phase.Reads (those_before line place) past log slots count now → Now Phase.Reads (everybody line') past log slots count now
-  all_read line line' place past log slots count now same found all h =
+  pub all_read : (line line' : Line) (counts : List ℕ) (place : ℕ) (past : Past) (log : Acts) (slots : List (Option B)) (count : ℕ) (now : S) → line' ≡ line → ((i : ℕ) → stands_in line i ≡ true → IsPlaced line i) → length line.order ≤ place
+      → Now Phase.Reads (those_before line place counts) past log slots count now → Now Phase.Reads (everybody line') past log slots count now
+  all_read line line' counts place past log slots count now same found all h =
       subst (λ q. Now Phase.Reads (everybody q) past log slots count now) (sym same)
-      (widen Phase.Reads (those_before line place) (everybody line) past log slots count now (λ j k. tt)
-      (λ j c s at k. alert_read line (IsBefore line.order place) j (view c) s (λ e. let p = found j e in let few = p.1 in (p.0, omega (arith, few, all), p.2)) k) h)
+      (widen Phase.Reads (those_before line place counts) (everybody line) past log slots count now (λ j k. tt)
+      (λ j c s at k. alert_read limits.share line (IsBefore line.order place) j (view c) s (λ e. let p = found j e in let few = p.1 in (p.0, omega (arith, few, all), p.2)) k) (λ e s k. tt) h)
 
   -- these answers were those of writing the journal
   written_acts : (phase : Phase) → (phase ≡ Phase.Writes → ⊥) → (had : Queued) (waits : ℕ) (began : Option Journal) (stage : Stage) (i j : Journal) (log log' : Acts) (slots : List (Option B)) (count : ℕ) (now : S) (acts : List Act)
@@ -673,7 +702,7 @@ module _ {B S : Type 0} (view : B → View) (rules : Rules S) (limits : Limits) 
     mid = mid;
     last = last;
     may = may;
-    crowd = widen phase had unqueued (at_stage stage (past_of waits began (Some reached))) mid slots count now (λ j k. tt) (λ j c s at k. tt) (written_acts phase other had waits began stage i reached log mid slots count now acts k w h);
+    crowd = widen phase had unqueued (at_stage stage (past_of waits began (Some reached))) mid slots count now (λ j k. tt) (λ j c s at k. tt) (λ e s k. tt) (written_acts phase other had waits began stage i reached log mid slots count now acts k w h);
     some = refl;
     fails = fails;
     logged = logged;
@@ -684,7 +713,7 @@ module _ {B S : Type 0} (view : B → View) (rules : Rules S) (limits : Limits) 
       → Now Phase.Writes (nobody line) past log slots count now
   turned line past log slots count now settled h =
       next_phase Phase.Reads Phase.Writes (everybody line) (nobody line) past log slots count now h (λ e. absurd (other e)) (λ e. settled) (λ j c at not share. unwritten (view c).number share)
-      (λ j c at. alert_turned line j (view c) h.story (h.alert j c at))
+      (λ j c at. alert_turned limits.share line j (view c) h.story (h.alert j c at)) (λ e. absurd (other e))
     where
       other : Phase.Writes ≡ Phase.Reads → ⊥
       other e = cc
@@ -697,12 +726,12 @@ module _ {B S : Type 0} (view : B → View) (rules : Rules S) (limits : Limits) 
 
   -- the last phase of a round begins, or goes on
   pub swept : (phase : Phase) (had : Queued) (line : Line) (past : Past) (log : Acts) (slots : List (Option B)) (count : ℕ) (now : S)
-      → ((j : ℕ) (c : B) (s : Story) → At slots j c → Alert phase had j (view c) s → Alert Phase.Sweeps (nobody line) j (view c) s) → Now phase had past log slots count now
+      → ((j : ℕ) (c : B) (s : Story) → At slots j c → Alert limits.share phase had j (view c) s → Alert limits.share Phase.Sweeps (nobody line) j (view c) s) → Now phase had past log slots count now
       → Now Phase.Sweeps (nobody line) past log slots count now
   swept phase had line past log slots count now alerts h =
       next_phase phase Phase.Sweeps had (nobody line) past log slots count now h (λ e. absurd (other e)) (λ e. absurd (not_writes e))
       (λ j c at not share. let e = h.is_told.fair h.story [] (sym (append-nil h.story)) (view c).number share in omega (arith, e))
-      (λ j c at. alerts j c h.story at (h.alert j c at))
+      (λ j c at. alerts j c h.story at (h.alert j c at)) (λ e. absurd (other e))
     where
       not_writes : Phase.Sweeps ≡ Phase.Writes → ⊥
       not_writes e = cc
@@ -713,17 +742,17 @@ module _ {B S : Type 0} (view : B → View) (rules : Rules S) (limits : Limits) 
   -- all slots of the queue had the second half
   pub all_told : (first_line line : Line) (place : ℕ) (past : Past) (log : Acts) (slots : List (Option B)) (count : ℕ) (now : S) → line.order ≡ first_line.order → ((i : ℕ) → stands_in line i ≡ stands_in first_line i)
       → ((i : ℕ) → stands_in first_line i ≡ true → IsPlaced first_line i) → length first_line.order ≤ place
-      → Now Phase.Writes (those_before line place) past log slots count now → Now Phase.Sweeps (nobody line) past log slots count now
+      → Now Phase.Writes (those_before line place []) past log slots count now → Now Phase.Sweeps (nobody line) past log slots count now
   all_told first_line line place past log slots count now order stay found all h =
-      swept Phase.Writes (those_before line place) line past log slots count now
-      (λ j c s at k. alert_told line (IsBefore line.order place) (λ i. ⊥) j (view c) s
+      swept Phase.Writes (those_before line place []) line past log slots count now
+      (λ j c s at k. alert_told limits.share line (IsBefore line.order place) (λ i. ⊥) j (view c) s
       (λ e. let p = found j (sym (stay j) ∙ e) in let few = p.1 in (p.0, omega (arith, few, all), ap (λ l. slot_in l p.0) order ∙ p.2)) k) h
 
   -- the round is over
   pub round_ends : (line line' : Line) (past : Past) (log : Acts) (slots : List (Option B)) (count : ℕ) (now : S) → StayAwake line line' → Now Phase.Sweeps (nobody line) past log slots count now
       → Now Phase.Sweeps (nobody line') past log slots count now
   round_ends line line' past log slots count now stay h =
-      swept Phase.Sweeps (nobody line) line' past log slots count now (λ j c s at k. alert_swept line line' (λ j. ⊥) (λ j. ⊥) j (view c) s (stay j) k) h
+      swept Phase.Sweeps (nobody line) line' past log slots count now (λ j c s at k. alert_swept limits.share line line' (λ j. ⊥) (λ j. ⊥) j (view c) s (stay j) k) h
 
   -- What happened closes no connection whose speaker is gone; or only such a one, where that is told.
   abbrev IsCalm : Phase → Past → Story → S → Story → S → Type 0
@@ -771,11 +800,12 @@ module _ {B S : Type 0} (view : B → View) (rules : Rules S) (limits : Limits) 
       → (h : Now phase had past log slots count now) → IsCalm phase past h.story now more after → i < length slots → d ≡ slice_index_or slots i d → DidLog log (acts_in more) log' → AreTurns rules now (turns_in more) after
       → AreLimited limits.tenant_clients (speakers_at view (slice_set slots i None)) (turns_in more) → ((past : Story) → IsInquired (is_some limits.journal) past more) → (limits.clients ≡ 1 → AreSingle more)
       → SlotDid limits phase (option_map view d) (option_map view s') more
-      → ((j : ℕ) → j ≢ i → (v : View) (s : Story) → Alert phase had j v s → Alert phase had' j v s)
+      → ((j : ℕ) → j ≢ i → (v : View) (s : Story) → Alert limits.share phase had j v s → Alert limits.share phase had' j v s)
       → ((b c : B) (s : Story) → d ≡ Some b → s' ≡ Some c → (view c).number ≡ (view b).number → Mine (view b).number more → came_in (acts_in more) ≡ 0 → waits_in (acts_in more) ≡ 0
-      → Alert phase had i (view b) s → Alert phase had' i (view c) (s ++ more))
+      → (phase ≡ Phase.Reads → Fills limits.share had.counts (view b) s) → Alert limits.share phase had i (view b) s → Alert limits.share phase had' i (view c) (s ++ more))
+      → (phase ≡ Phase.Reads → Counts limits.share had.counts had'.counts (option_map view d) more)
       → Now phase had' (after_lines (records_in (turns_in more)) past) log' (slice_set slots i s') count after
-  crowd_turn phase had had' past log log' slots count now after i None None more wider new done h calm within is k r l asks single did beside turn =
+  crowd_turn phase had had' past log log' slots count now after i None None more wider new done h calm within is k r l asks single did beside turn counting =
       let same : after ≡ now = subst (λ m. AreTurns rules now (turns_in m) after) did.1 r in
       let quiet : DidLog log [] log' = subst (λ m. DidLog log (acts_in m) log') did.1 k in
       let free : (b : B) → At slots i b → ⊥ = λ b there. nobody_is b (At-some slots i None b is there) in
@@ -788,11 +818,12 @@ module _ {B S : Type 0} (view : B → View) (rules : Rules S) (limits : Limits) 
       (let a = count_is.0 in omega (arith, a))
       (let a = taken_most slots in let b = h.is_told.sized in omega (arith, a, b))
       (let a = long_set slots i None in omega (arith, a)) tt tt h.is_told.quiet
-      (still h.story [] h.is_told.fair (λ share. refl)) refl (stays_past phase past [] refl (keeps_quiet past.journal [] refl) h.is_told.settled (tt, refl)) (λ last. tt) (no_looks h.story [] refl) tt tt (λ e. tt))
+      (still h.story [] h.is_told.fair (λ share. refl)) (shares_still phase had past log slots count now h [] (λ share. refl) refl) refl (stays_past phase past [] refl (keeps_quiet past.journal [] refl) h.is_told.settled (tt, refl)) (λ last. tt) (no_looks limits.share h.story [] refl) tt tt (λ e. tt))
       (λ j c there. others j c (At-set slots i None j c there))
       (λ j c there. At-keep slots i None j c (λ e. free c (subst (λ j. At slots j c) e there)) there)
       (open_still phase had had' past log slots count now h [] wider (λ share. refl))
-      (λ j c there. beside j (λ e. free c (subst (λ j. At slots j c) e there)) (view c) (h.story ++ []) (alert_keep phase had j (view c) h.story [] refl refl (h.alert j c there))))))
+      (λ j c there. beside j (λ e. free c (subst (λ j. At slots j c) e there)) (view c) (h.story ++ []) (alert_keep limits.share phase had j (view c) h.story [] refl refl (h.alert j c there)))
+      (λ e. subst (λ k. AreCounted k (h.story ++ [])) (sym (counts_none limits.share had.counts had'.counts more (counting e))) (counted_still phase had past log slots count now h [] (λ share. refl) refl e)))))
     where
       nobody_is : (b : B) → None ≡ Some b → ⊥
       nobody_is b e = cc
@@ -800,11 +831,11 @@ module _ {B S : Type 0} (view : B → View) (rules : Rules S) (limits : Limits) 
       others : (j : ℕ) (c : B) → ((j ≡ i) × (None ≡ Some c)) ⊎ ((j ≢ i) × At slots j c) → At slots j c
       others j c (inl p) = absurd (nobody_is c p.1)
       others j c (inr p) = p.1
-  crowd_turn phase had had' past log log' slots count now after i None (Some b) more wider new done h calm within is k r l asks single did beside turn = absurd (none (view b) did.0)
+  crowd_turn phase had had' past log log' slots count now after i None (Some b) more wider new done h calm within is k r l asks single did beside turn counting = absurd (none (view b) did.0)
     where
       none : (v : View) → Some v ≡ None → ⊥
       none v e = cc
-  crowd_turn phase had had' past log log' slots count now after i (Some b) None more wider new done h calm within is k r l asks single (mine, came, closing, part, once, (close, goes)) beside turn =
+  crowd_turn phase had had' past log log' slots count now after i (Some b) None more wider new done h calm within is k r l asks single (mine, came, closing, part, once, (close, goes)) beside turn counting =
       let at = At-index slots i (Some b) b within is refl in
       let inquired = asks h.story in
       let limited = limited_turn view rules limits first start phase had past log slots count now h i b at limits.tenant_clients more mine came l in
@@ -816,6 +847,9 @@ module _ {B S : Type 0} (view : B → View) (rules : Rules S) (limits : Limits) 
       let plain = mine_plain n more mine in
       let lost = plain.1 in
       let waited = plain.0 in
+      let same_group : turns_since n Share.Running 0 h.story ≡ 0 → group_in n h.story ≡ group_of (view b).who = λ none. group_now n h.story none ∙ ap group_of (sym (speaks_since None (turns_in (own n h.story)) (view b).who (h.live i b at).live.speaks)) in
+      let shared = turn_shared limits.share n h.story more (fresh_of phase had past log slots count now h) h.is_told.shared (let a = h.below i b at in let c = h.is_told.total in omega (arith, a, c)) mine came waited
+      phase (view b) had.counts had'.counts once (h.ready i b at new) same_group h.counted counting in
       let later_past = after_lines (records_in (turns_in more)) past in
       let asked = calm_asks phase past h.story now after n more mine calm in
       let passed : Passed phase past more later_past
@@ -825,9 +859,9 @@ module _ {B S : Type 0} (view : B → View) (rules : Rules S) (limits : Limits) 
       (omega (arith, came)) h.is_told.capped (omega (arith, came, close, count_is))
       (let a = taken_most slots in let b = h.is_told.sized in omega (arith, a, b, came))
       (let a = long_set slots i None in omega (arith, a)) closing fits.0 fits.1
-      (takes_turn h.story more n (most phase) h.is_told.fair mine once (h.ready i b at new)) (omega (arith, lost)) passed (reads_plain limits more plain.3) (no_looks h.story more waited) limited inquired single)
-      (omega (arith, all, unclosed, close)) (goes (own n h.story) (h.live i b at))
-  crowd_turn phase had had' past log log' slots count now after i (Some b) (Some s) more wider new done h calm within is k r l asks single (mine, came, closing, part, once, (same, close, goes)) beside turn =
+      (takes_turn h.story more n (most phase) h.is_told.fair mine once (h.ready i b at new)) shared.0 (omega (arith, lost)) passed (reads_plain limits more plain.3) (no_looks limits.share h.story more waited) limited inquired single)
+      (omega (arith, all, unclosed, close)) (goes (own n h.story) (h.live i b at)) shared.1
+  crowd_turn phase had had' past log log' slots count now after i (Some b) (Some s) more wider new done h calm within is k r l asks single (mine, came, closing, part, once, (same, close, goes)) beside turn counting =
       let at = At-index slots i (Some b) b within is refl in
       let inquired = asks h.story in
       let limited = limited_turn view rules limits first start phase had past log slots count now h i b at limits.tenant_clients more mine came l in
@@ -837,11 +871,15 @@ module _ {B S : Type 0} (view : B → View) (rules : Rules S) (limits : Limits) 
       let plain = mine_plain n more mine in
       let lost = plain.1 in
       let waited = plain.0 in
+      let same_group : turns_since n Share.Running 0 h.story ≡ 0 → group_in n h.story ≡ group_of (view b).who = λ none. group_now n h.story none ∙ ap group_of (sym (speaks_since None (turns_in (own n h.story)) (view b).who (h.live i b at).live.speaks)) in
+      let shared = turn_shared limits.share n h.story more (fresh_of phase had past log slots count now h) h.is_told.shared (let a = h.below i b at in let c = h.is_told.total in omega (arith, a, c)) mine came waited
+      phase (view b) had.counts had'.counts once (h.ready i b at new) same_group h.counted counting in
       let later_past = after_lines (records_in (turns_in more)) past in
       let asked = calm_asks phase past h.story now after n more mine calm in
       let passed : Passed phase past more later_past
       = record { waited = omega (arith, waited); began = refl; keeps = keeps_turn phase n past.journal more mine once h.is_told.settled; settled = settled_turn phase past.journal more once h.is_told.settled; asked = asked.0; stage = sym asked.1 } in
-      seated phase had had' wider past later_past log log' slots count now after h n more mine waited i count s beside (turn b s h.story refl refl same mine came waited (h.alert i b at)) within (omega arith) (λ e. absurd (omega (arith, e)))
+      let unrun : phase ≡ Phase.Reads → turns_since n Share.Running 0 h.story ≡ 0 = λ e. (let k = subst (λ p. turns_since n Share.Running 0 h.story + most p Share.Running ≤ 1) e (h.ready i b at new Share.Running) in omega (arith, k)) in
+      seated phase had had' wider past later_past log log' slots count now after h n more mine waited i count s beside (turn b s h.story refl refl same mine came waited (λ e. fills_of limits.share had.counts (view b) h.story (h.counted e) (same_group (unrun e))) (h.alert i b at)) within (omega arith) (λ e. absurd (omega (arith, e)))
       (λ m q d e. d (sym q.is ∙ ap (λ c. (view c).number) (At-only slots i q.b b (subst (λ j. At slots j q.b) e q.there) at)))
       same (omega arith) (h.below i b at)
       (λ j c d there e. d (h.apart j i c b there at e))
@@ -849,23 +887,24 @@ module _ {B S : Type 0} (view : B → View) (rules : Rules S) (limits : Limits) 
       (omega (arith, came)) h.is_told.capped (omega (arith, came, close, count_is))
       (let a = taken_most slots in let b = h.is_told.sized in omega (arith, a, b, came))
       (let a = long_set slots i (Some s) in omega (arith, a)) closing fits.0 fits.1
-      (takes_turn h.story more n (most phase) h.is_told.fair mine once (h.ready i b at new)) (omega (arith, lost)) passed (reads_plain limits more plain.3) (no_looks h.story more waited) limited inquired single)
+      (takes_turn h.story more n (most phase) h.is_told.fair mine once (h.ready i b at new)) shared.0 (omega (arith, lost)) passed (reads_plain limits more plain.3) (no_looks limits.share h.story more waited) limited inquired single)
       (λ not. absurd (not done))
-      (goes (own n h.story) (h.live i b at))
+      (goes (own n h.story) (h.live i b at)) shared.1
 
   -- the same, where no line was run
   pub crowd_still : (phase : Phase) (had had' : Queued) (past : Past) (log log' : Acts) (slots : List (Option B)) (count : ℕ) (now : S) (i : ℕ) (d s' : Option B) (more : Story)
       → ((j : ℕ) → had.had j → had'.had j) → (had.had i → ⊥) → had'.had i
       → (h : Now phase had past log slots count now) → IsCalm phase past h.story now more now → i < length slots → d ≡ slice_index_or slots i d → DidLog log (acts_in more) log' → turns_in more ≡ []
       → SlotDid limits phase (option_map view d) (option_map view s') more
-      → ((j : ℕ) → j ≢ i → (v : View) (s : Story) → Alert phase had j v s → Alert phase had' j v s)
+      → ((j : ℕ) → j ≢ i → (v : View) (s : Story) → Alert limits.share phase had j v s → Alert limits.share phase had' j v s)
       → ((b c : B) (s : Story) → d ≡ Some b → s' ≡ Some c → (view c).number ≡ (view b).number → Mine (view b).number more → came_in (acts_in more) ≡ 0 → waits_in (acts_in more) ≡ 0
-      → Alert phase had i (view b) s → Alert phase had' i (view c) (s ++ more))
+      → Alert limits.share phase had i (view b) s → Alert limits.share phase had' i (view c) (s ++ more)) → (phase ≡ Phase.Reads → ⊥)
       → Now phase had' past log' (slice_set slots i s') count now
-  crowd_still phase had had' past log log' slots count now i d s' more wider new done h calm within is k none did beside turn =
+  crowd_still phase had had' past log log' slots count now i d s' more wider new done h calm within is k none did beside turn late =
       subst (λ p. Now phase had' p log' (slice_set slots i s') count now) (ap (λ t. after_lines (records_in t) past) none ∙ sym (ap (λ j. record past { journal = j }) (noted_none past.journal)))
       (crowd_turn phase had had' past log log' slots count now now i d s' more wider new done h calm within is k (subst (λ t. AreTurns rules now t now) (sym none) refl)
-      (subst (AreLimited limits.tenant_clients (speakers_at view (slice_set slots i None))) (sym none) tt) (λ past. inquired_quiet (is_some limits.journal) past more none) (λ e. quiet_single more none) did beside turn)
+      (subst (AreLimited limits.tenant_clients (speakers_at view (slice_set slots i None))) (sym none) tt) (λ past. inquired_quiet (is_some limits.journal) past more none) (λ e. quiet_single more none) did beside
+      (λ b c s e f same mine came quiet fills k. turn b c s e f same mine came quiet k) (λ e. absurd (late e)))
 
   -- a client was closed after the turns, or is as it was
   pub crowd_closed : (line line' : Line) (past : Past) (log log' : Acts) (slots : List (Option B)) (count : ℕ) (now : S) (i : ℕ) (d s' : Option B) (more : Story) (closed : Bool)
@@ -874,17 +913,17 @@ module _ {B S : Type 0} (view : B → View) (rules : Rules S) (limits : Limits) 
       → ((j : ℕ) → j ≢ i → awake_in line' j ≡ awake_in line j) → (closed ≡ false → line' ≡ line)
       → Now Phase.Sweeps (nobody line') past log' (slice_set slots i s') count now
   crowd_closed line line' past log log' slots count now i d s' more closed h calm within is k none did or_same others same =
-      swept Phase.Sweeps (record { line = Some line'; had = λ j. j ≡ i }) line' past log' (slice_set slots i s') count now
-      (λ j c s at k. alert_swept line' line' (λ j. j ≡ i) (λ j. ⊥) j (view c) s (λ e. e) k)
-      (crowd_still Phase.Sweeps (nobody line) (record { line = Some line'; had = λ j. j ≡ i }) past log log' slots count now i d s' more (λ j k. absurd k) (λ k. k) refl h calm within is k none did
-      (λ j apart v s k. alert_swept line line' (λ j. ⊥) (λ j. j ≡ i) j v s (λ e. others j apart ∙ e) k)
+      swept Phase.Sweeps (record { line = Some line'; had = λ j. j ≡ i; counts = None }) line' past log' (slice_set slots i s') count now
+      (λ j c s at k. alert_swept limits.share line' line' (λ j. j ≡ i) (λ j. ⊥) j (view c) s (λ e. e) k)
+      (crowd_still Phase.Sweeps (nobody line) (record { line = Some line'; had = λ j. j ≡ i; counts = None }) past log log' slots count now i d s' more (λ j k. absurd k) (λ k. k) refl h calm within is k none did
+      (λ j apart v s k. alert_swept limits.share line line' (λ j. ⊥) (λ j. j ≡ i) j v s (λ e. others j apart ∙ e) k)
       (λ b c s e f number mine came quiet k.
       let whole = closed_in_slot view closed d s' c more f or_same in
       let one : view c ≡ view b = some_same (sym (ap (option_map view) f) ∙ whole.1 ∙ ap (option_map view) e) in
-      subst (λ m. IsAlert Phase.Sweeps line' (λ j. j ≡ i) i (view c) (s ++ m)) (sym whole.2)
-      (subst (λ t. IsAlert Phase.Sweeps line' (λ j. j ≡ i) i (view c) t) (sym (append-nil s))
-      (subst (λ v. IsAlert Phase.Sweeps line' (λ j. j ≡ i) i v s) (sym one)
-      (alert_swept line line' (λ j. ⊥) (λ j. j ≡ i) i (view b) s (λ e. ap (λ q. awake_in q i) (same whole.0) ∙ e) k)))))
+      subst (λ m. IsAlert limits.share Phase.Sweeps line' (λ j. j ≡ i) i (view c) (s ++ m)) (sym whole.2)
+      (subst (λ t. IsAlert limits.share Phase.Sweeps line' (λ j. j ≡ i) i (view c) t) (sym (append-nil s))
+      (subst (λ v. IsAlert limits.share Phase.Sweeps line' (λ j. j ≡ i) i v s) (sym one)
+      (alert_swept limits.share line line' (λ j. ⊥) (λ j. j ≡ i) i (view b) s (λ e. ap (λ q. awake_in q i) (same whole.0) ∙ e) k)))) (λ e. absurd (sweeps_not_reads e)))
     where
       some_same : {v w : View} → Some v ≡ Some w → v ≡ w
       some_same e = cc
@@ -908,7 +947,7 @@ module _ {B S : Type 0} (view : B → View) (rules : Rules S) (limits : Limits) 
       (omega (arith, came_is)) capped (let e = count_is.0 in omega (arith, came_is, closed_is, sums, e))
       (let e = count_is.1 in omega (arith, came_is, one, e, sized))
       (let e = long_set slots i s in omega (arith, e)) (a.within limits) fits.0 fits.1
-      (still h.story more h.is_told.fair a.silent) (omega (arith, lost)) (stays_past Phase.Reads past more waited (a.unkept past.journal) (λ e. absurd (reads_not_writes e)) (a.unasked past.stage)) (reads_plain limits more a.unchanged) (no_looks h.story more waited) (limited_quiet limits.tenant_clients h.story more a.none) (inquired_quiet (is_some limits.journal) h.story more a.none) (λ e. quiet_single more a.none)
+      (still h.story more h.is_told.fair a.silent) (shares_still Phase.Reads (nobody line) past log slots count now h more a.silent waited) (omega (arith, lost)) (stays_past Phase.Reads past more waited (a.unkept past.journal) (λ e. absurd (reads_not_writes e)) (a.unasked past.stage)) (reads_plain limits more a.unchanged) (no_looks limits.share h.story more waited) (limited_quiet limits.tenant_clients h.story more a.none) (inquired_quiet (is_some limits.journal) h.story more a.none) (λ e. quiet_single more a.none)
 
   pub crowd_seat : (line line' : Line) (past : Past) (log log' : Acts) (slots : List (Option B)) (count : ℕ) (now : S) (i : ℕ) (came : Bool) (s : Option B) (more : Story)
       → StayAwake line line' → (came ≡ true → i < 1024 → awake_in line' i ≡ true)
@@ -917,7 +956,7 @@ module _ {B S : Type 0} (view : B → View) (rules : Rules S) (limits : Limits) 
       → Now Phase.Reads (nobody line') past log' (slice_set slots i s) (count + (if came then 1 else 0)) now
   crowd_seat line line' past log log' slots count now i true (Some s) more stay wakes within free below h k (arrival, is, came, new, mine, live) =
       let none = h.fresh count (omega arith) in
-      seated Phase.Reads (nobody line) (nobody line') (λ j k. k) past past log log' slots count now now h count more mine arrival.waited i (count + 1) s (λ j d v s k. alert_anew line line' j v s stay k) alerted within (omega arith) (λ e. refl)
+      seated Phase.Reads (nobody line) (nobody line') (λ j k. k) past past log log' slots count now now h count more mine arrival.waited i (count + 1) s (λ j d v s k. alert_anew limits.share line line' j v s stay k) alerted within (omega arith) (λ e. refl)
       (λ m q d e. free q.b (subst (λ j. At slots j q.b) e q.there)) is (omega arith) (omega arith)
       (λ j c d there e. let q = h.below j c there in absurd (omega (arith, e, q)))
       (arrives past log log' slots count now i (Some s) more 1 0 line h within free k arrival refl (omega arith) (omega (arith, below)))
@@ -928,13 +967,13 @@ module _ {B S : Type 0} (view : B → View) (rules : Rules S) (limits : Limits) 
       let q = arrival.silent share in
       let r = reads_most share in
       omega (arith, e, f, g, q, r))
-      (subst (λ t. Lives (t ++ more) (view s)) (sym none) (live))
+      (subst (λ t. Lives (t ++ more) (view s)) (sym none) (live)) (counted_still Phase.Reads (nobody line) past log slots count now h more arrival.silent arrival.waited)
     where
-      alerted : Alert Phase.Reads (nobody line') i (view s) (h.story ++ more)
+      alerted : Alert limits.share Phase.Reads (nobody line') i (view s) (h.story ++ more)
       alerted =
-          subst (λ m. Alert Phase.Reads (nobody line') i (view s) (h.story ++ m)) (sym came)
-          (subst (λ n. Alert Phase.Reads (nobody line') i (view s) (h.story ++ Did (Came n i) ∷ [])) is
-          (alert_comes line' i (view s) h.story (subst (λ n. own n h.story ≡ []) (sym is) (h.fresh count (omega arith)))
+          subst (λ m. Alert limits.share Phase.Reads (nobody line') i (view s) (h.story ++ m)) (sym came)
+          (subst (λ n. Alert limits.share Phase.Reads (nobody line') i (view s) (h.story ++ Did (Came n i) ∷ [])) is
+          (alert_comes limits.share line' i (view s) h.story (subst (λ n. own n h.story ≡ []) (sym is) (h.fresh count (omega arith)))
           (wakes refl (let small = h.is_told.small in omega (arith, within, small))) new))
   crowd_seat line line' past log log' slots count now i true None more stay wakes within free below h k (arrival, mine, done) = record {
     story = story' Phase.Reads (nobody line) (nobody line') (λ j k. k) past past log log' slots count now now h count more mine arrival.waited;
@@ -963,8 +1002,9 @@ module _ {B S : Type 0} (view : B → View) (rules : Rules S) (limits : Limits) 
     ];
     alert = λ j c there.
         let q = h.below j c (others j c there) in
-        alert' Phase.Reads (nobody line) (nobody line') (λ j k. k) past past log log' slots count now now h count more mine arrival.waited i j (λ j d v s k. alert_anew line line' j v s stay k) c
+        alert' Phase.Reads (nobody line) (nobody line') (λ j k. k) past past log log' slots count now now h count more mine arrival.waited i j (λ j d v s k. alert_anew limits.share line line' j v s stay k) c
         (λ e. free c (subst (λ j. At slots j c) e (others j c there))) (λ e. absurd (omega (arith, e, q))) (others j c there);
+    counted = counted_still Phase.Reads (nobody line) past log slots count now h more arrival.silent arrival.waited;
   }
     where
       told : Told Phase.Reads past log' (slice_set slots i None) (count + 1) now (story' Phase.Reads (nobody line) (nobody line') (λ j k. k) past past log log' slots count now now h count more mine arrival.waited)
@@ -993,7 +1033,8 @@ module _ {B S : Type 0} (view : B → View) (rules : Rules S) (limits : Limits) 
       (λ j c there. others j c (At-set slots i None j c there))
       (λ j c there. At-keep slots i None j c (λ e. free c (subst (λ j. At slots j c) e there)) there)
       (open_still Phase.Reads (nobody line) (nobody line') past log slots count now h more (λ j k. k) arrival.silent)
-      (λ j c there. alert_anew line line' j (view c) (h.story ++ more) stay (alert_keep Phase.Reads (nobody line) j (view c) h.story more (none (view c).number) arrival.waited (h.alert j c there))))
+      (λ j c there. alert_anew limits.share line line' j (view c) (h.story ++ more) stay (alert_keep limits.share Phase.Reads (nobody line) j (view c) h.story more (none (view c).number) arrival.waited (h.alert j c there)))
+      (counted_still Phase.Reads (nobody line) past log slots count now h more arrival.silent arrival.waited))
     where
       same : count ≡ count + 0
       same = omega arith

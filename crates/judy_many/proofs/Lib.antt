@@ -1,5 +1,6 @@
 mod Accepting
 mod Admitted
+mod Hearing
 mod Inquiring
 mod Beginning
 mod Beside
@@ -24,6 +25,8 @@ mod Queueing
 mod Seats
 pub mod Recording
 pub mod Seeing
+mod Sharing
+mod Sifting
 mod Singles
 pub mod Stepping
 mod Telling

@@ -1,5 +1,5 @@
 -- Whole lines among bytes, and what a turn does to what is known of a client.
-use Rattle.std.proofs.Common.{◌≡◌, ◌⊎◌, inl, inr, ◌<◌, ◌≤◌, ◌+◌, ℕ, Bool, true, false, ◌&&◌, List, [], ◌∷◌, ◌++◌, length, Option, None, Some, arith, sym, ◌∙◌, ap, subst, refl, append-nil}
+use Rattle.std.proofs.Common.{◌≡◌, ◌⊎◌, inl, inr, ◌<◌, ◌≤◌, ◌+◌, ℕ, Bool, true, false, ◌&&◌, List, [], ◌∷◌, ◌++◌, length, Option, None, Some, arith, sym, ◌∙◌, ap, subst, refl}
 use Rattle.std.proofs.lemmas.Bool.Decides.{eqb_tells}
 use Rattle.std.specs.List.{list_all}
 use Rattle.std.specs.Prelude.{◌==◌, IsTrue, not, option_map, if◌then◌else◌}
@@ -8,12 +8,12 @@ use Rattle.judy_many.specs.Lives.{View, wrote_in}
 use Rattle.judy_many.specs.Nets.{Act, Acts, DidLog, wait_acts}
 use Rattle.judy_many.specs.Queues.{AreAwake, Line}
 use Rattle.judy_many.specs.Woken.{HasWoken}
-use Rattle.judy_many.specs.Nets.Act.{Came, Read, Dry, Ended, Broke, Wrote, Failed}
+use Rattle.judy_many.specs.Nets.Act.{Read, Dry, Ended, Broke, Wrote, Failed}
 use Rattle.judy_many.specs.Sessions.{Turn}
-use Rattle.judy_many.specs.Stories.{AreReads, AreWrites, Story, belongs, told}
+use Rattle.judy_many.specs.Stories.{AreReads, AreWrites, Story, told}
 use Rattle.judy_many.specs.Stories.Moment.{Did, Ran}
 use Rattle.judy_many.specs.declared.queue.Left.{Left}
-use Rattle.judy_many.specs.Watches.{FateTells, HasHalf, HasLine, HearsAll, IsHeard, IsKept, IsStill, IsUnread, IsClosedOr, IsUnpended, LeftTells, Listens, Relays, SlotListens, SlotTells, TellsMore, Watch, fills, own_after, watch_after, watch_since}
+use Rattle.judy_many.specs.Watches.{HasHalf, HasLine, HearsAll, IsHeard, IsKept, IsStill, IsUnread, IsClosedOr, IsUnpended, LeftTells, Listens, Relays, Skips, SlotListens, SlotTells, TellsMore, Watch, own_after, watch_after, watch_since}
 use Rattle.judy_many.proofs.Owning.{same_eq}
 use Rattle.judy_many.proofs.Watching.{watch-append}
 
@@ -235,17 +235,17 @@ left_before acts pending pending' e some none = some (back (wrote_in acts) pendi
 -- ---- slots
 
 module _ {B : Type 0} (view : B → View) where
-  pub listens_none : (s : Option B) (t : Option View) (more : Story) → s ≡ None → SlotListens (option_map view s) t more
-  listens_none s t more e = subst (λ o. SlotListens (option_map view o) t more) (sym e) tt
+  pub listens_none : (share : ℕ) (counts : List ℕ) (s : Option B) (t : Option View) (more : Story) → s ≡ None → SlotListens share counts (option_map view s) t more
+  listens_none share counts s t more e = subst (λ o. SlotListens share counts (option_map view o) t more) (sym e) tt
 
-  pub listens_stay : (s : Option B) (b : B) (w : View) (more : Story) → Some b ≡ s → Listens (view b) w more → SlotListens (option_map view s) (Some w) more
-  listens_stay s b w more e h = subst (λ o. SlotListens (option_map view o) (Some w) more) e h
+  pub listens_stay : (share : ℕ) (counts : List ℕ) (s : Option B) (b : B) (w : View) (more : Story) → Some b ≡ s → Listens (view b) w more ⊎ Skips share counts (view b) w more → SlotListens share counts (option_map view s) (Some w) more
+  listens_stay share counts s b w more e h = subst (λ o. SlotListens share counts (option_map view o) (Some w) more) e h
 
-  pub listens_left : (s t : Option B) (b : B) (more : Story) → Some b ≡ s → t ≡ None → SlotListens (option_map view s) (option_map view t) more
-  listens_left s t b more e f = subst (λ o. SlotListens (option_map view o) (option_map view t) more) e (subst (λ o. SlotListens (Some (view b)) (option_map view o) more) (sym f) tt)
+  pub listens_left : (share : ℕ) (counts : List ℕ) (s t : Option B) (b : B) (more : Story) → Some b ≡ s → t ≡ None → SlotListens share counts (option_map view s) (option_map view t) more
+  listens_left share counts s t b more e f = subst (λ o. SlotListens share counts (option_map view o) (option_map view t) more) e (subst (λ o. SlotListens share counts (Some (view b)) (option_map view o) more) (sym f) tt)
 
-  pub listens_in : (s t : Option B) (b c : B) (more : Story) → s ≡ Some b → t ≡ Some c → SlotListens (option_map view s) (option_map view t) more → Listens (view b) (view c) more
-  listens_in s t b c more e f h = subst (λ o. SlotListens (Some (view b)) (option_map view o) more) f (subst (λ o. SlotListens (option_map view o) (option_map view t) more) e h)
+  pub listens_in : (share : ℕ) (counts : List ℕ) (s t : Option B) (b c : B) (more : Story) → s ≡ Some b → t ≡ Some c → SlotListens share counts (option_map view s) (option_map view t) more → Listens (view b) (view c) more ⊎ Skips share counts (view b) (view c) more
+  listens_in share counts s t b c more e f h = subst (λ o. SlotListens share counts (Some (view b)) (option_map view o) more) f (subst (λ o. SlotListens share counts (option_map view o) (option_map view t) more) e h)
 
   pub tells_none : (left : Left) (s : Option B) (t : Option View) (more : Story) → s ≡ None → SlotTells left (option_map view s) t more
   tells_none left s t more e = subst (λ o. SlotTells left (option_map view o) t more) (sym e) tt

@@ -1,27 +1,26 @@
 -- Who is owed a look, and who had a turn, as a story goes on.
-use Rattle.std.proofs.Common.{◌≡◌, ◌≢◌, ◌⊎◌, inl, inr, ◌+◌, ℕ, Bool, true, false, ◌||◌, List, [], ◌∷◌, ◌++◌, length, Option, None, Some, arith, sym, ◌∙◌, ap, subst, refl, append_assoc, append-nil}
+use Rattle.std.proofs.Common.{◌≡◌, ◌⊎◌, inl, inr, ℕ, Bool, true, false, ◌||◌, List, [], ◌∷◌, ◌++◌, length, Option, None, Some, arith, sym, ◌∙◌, ap, subst, refl, append-nil}
 use Rattle.std.specs.List.{list_any}
 use Rattle.std.specs.Prelude.{◌==◌, if◌then◌else◌}
 use Rattle.std.proofs.lemmas.Bool.Decides.{eqb_tells}
 use Rattle.std.proofs.lemmas.List.{length-append}
 use Rattle.std.proofs.lemmas.List.Folds.{list_any-append}
-use Rattle.judy_model.specs.Stream.{served, through_quit}
+use Rattle.judy_model.specs.Stream.{through_quit}
 use Rattle.judy_protocol.specs.Serving.{heard_in}
 use Rattle.judy_many.specs.declared.queue.Left.{Left}
 use Rattle.judy_many.specs.declared.queue.Left.TheVariants as left
 use Rattle.judy_many.specs.declared.queue.Mark.{Mark}
 use Rattle.judy_many.specs.declared.queue.Mark.TheVariants as mark
 use Rattle.judy_many.specs.Arrivals.{IsNew}
-use Rattle.judy_many.specs.Endings.{waits_in}
-use Rattle.judy_many.specs.Lives.{IsLive, Lives, View, read_in, wrote_in}
+use Rattle.judy_many.specs.Lives.{IsLive, Lives, View, wrote_in}
 use Rattle.judy_many.specs.Nets.{Act}
-use Rattle.judy_many.specs.Nets.Act.{Came, Read, Dry, Ended, Broke, Wrote, Failed, Closed, Waited}
-use Rattle.judy_many.specs.Queues.{AreAwake, IsBefore, Line, StayAwake, awake_in, is_among, is_awake, mark_in, stands, stands_in}
-use Rattle.judy_many.specs.Sessions.{lines_in, texts}
-use Rattle.judy_many.specs.Stories.{Mine, Moment, Phase, Story, acts_in, belongs, came_by, came_in, closed_in, is_wait, own, turns_in, waits_by}
-use Rattle.judy_many.specs.Stories.Moment.{Changed, Did, Ran}
-use Rattle.judy_many.specs.Watches.{Alert, AlertIn, Had, HasEach, HasHalf, IsAlert, IsAwake, IsBlocked, IsDone, IsDue, IsHeard, IsKept, IsOpen, IsStill, IsUnread, LeftTells, Listens, Looks, Queued, Rests, Stance, Watch, is_seat, nobody, own_after, unknown, upto_since, upto_wait, watch, watch_after, watch_since, woken}
+use Rattle.judy_many.specs.Nets.Act.{Came, Waited}
+use Rattle.judy_many.specs.Queues.{AreAwake, Line, StayAwake, awake_in, is_among, is_awake, is_more, mark_in, stands, stands_in}
+use Rattle.judy_many.specs.Stories.{Mine, Moment, Phase, Story, acts_in, belongs, came_by, came_in, own, turns_in}
+use Rattle.judy_many.specs.Stories.Moment.{Did}
+use Rattle.judy_many.specs.Watches.{Alert, AlertIn, Excused, Had, HasEach, HasHalf, IsAlert, IsAwake, IsDue, IsHeard, IsKept, IsOpen, IsStill, IsUnread, LeftTells, Listens, Looks, Queued, Rests, Skips, Stance, Watch, is_seat, nobody, own_after, unknown, watch, watch_after, watch_since, woken}
 use Rattle.judy_many.proofs.Owning.{own-append, own-mine, same_eq}
+use Rattle.judy_many.proofs.Sharing.{Fills, NoWait, had_keep, no_wait, upto_here, upto_quiet}
 use Rattle.judy_many.proofs.Telling.{acts_in-append, split}
 
 never : false ≡ true → ⊥
@@ -32,37 +31,6 @@ never e = cc
 pub watch-append : (n i : ℕ) (w : Watch) (a b : Story) → watch_since n i w (a ++ b) ≡ watch_since n i (watch_since n i w a) b
 watch-append n i w [] b = refl
 watch-append n i w (m ∷ a) b = watch-append n i (watch_after n i w m) a b
-
-upto-append : (upto before a b : Story) → upto_since upto before (a ++ b) ≡ upto_since (upto_since upto before a) (before ++ a) b
-upto-append upto before [] b = ap (λ t. upto_since upto t b) (sym (append-nil before))
-upto-append upto before (m ∷ a) b =
-    upto-append (if waits_by m then before ++ m ∷ [] else upto) (before ++ m ∷ []) a b
-    ∙ ap (λ t. upto_since (upto_since (if waits_by m then before ++ m ∷ [] else upto) (before ++ m ∷ []) a) t b) (append_assoc before (m ∷ []) a)
-
--- no wait is among these moments
-abbrev NoWait : Story → Type 0
-NoWait story = waits_in (acts_in story) ≡ 0
-
-no_wait : (m : Moment) (more : Story) → NoWait (m ∷ more) → (waits_by m ≡ false) × NoWait more
-no_wait (Did a) more h = none (is_wait a) (waits_in (acts_in more)) h
-  where
-    none : (b : Bool) (k : ℕ) → (if b then 1 else 0) + k ≡ 0 → (b ≡ false) × (k ≡ 0)
-    none true k e = absurd (omega (arith, e))
-    none false k e = (refl, omega (arith, e))
-no_wait (Ran n turns) more h = (refl, h)
-no_wait (Changed text left) more h = (refl, h)
-
-upto_same : (upto before more : Story) → NoWait more → upto_since upto before more ≡ upto
-upto_same upto before [] h = refl
-upto_same upto before (m ∷ more) h =
-    let k = no_wait m more h in
-    ap (λ b. upto_since (if b then before ++ m ∷ [] else upto) (before ++ m ∷ []) more) k.0 ∙ upto_same upto (before ++ m ∷ []) more k.1
-
-upto_quiet : (story more : Story) → NoWait more → upto_wait (story ++ more) ≡ upto_wait story
-upto_quiet story more h = upto-append [] [] story more ∙ upto_same (upto_wait story) story more h
-
-upto_here : (story : Story) (sleeps : Bool) (told : List ℕ) → upto_wait (story ++ Did (Waited sleeps told) ∷ []) ≡ story ++ Did (Waited sleeps told) ∷ []
-upto_here story sleeps told = upto-append [] [] story (Did (Waited sleeps told) ∷ [])
 
 own_none : (n : ℕ) (m : Moment) (story : Story) → own n (m ∷ story) ≡ [] → (belongs n m ≡ false) × (own n story ≡ [])
 own_none n m story h = none (belongs n m) h
@@ -89,8 +57,8 @@ own_same n story more none = own-append n story more ∙ ap (λ l. own n story +
 -- ---- waits
 
 -- where no wait is among the moments, there is nothing to show of one
-pub no_looks : (story more : Story) → NoWait more → Looks story more
-no_looks story more quiet p q sleeps told cut = absurd (there p more quiet cut)
+pub no_looks : (share : ℕ) (story more : Story) → NoWait more → Looks share story more
+no_looks share story more quiet p q sleeps told cut = absurd (there p more quiet cut)
   where
     there : (p more : Story) → NoWait more → more ≡ p ++ Did (Waited sleeps told) ∷ q → ⊥
     there [] more quiet e =
@@ -105,8 +73,8 @@ no_looks story more quiet p q sleeps told cut = absurd (there p more quiet cut)
         rest : x ∷ more ≡ m ∷ (p ++ Did (Waited sleeps told) ∷ q) → more ≡ p ++ Did (Waited sleeps told) ∷ q
         rest e = cc
 
-pub awake-append : (story more : Story) → IsAwake story → Looks story more → IsAwake (story ++ more)
-awake-append story more h looks p q told cut n i is_open = elim (split story more p (Did (Waited true told) ∷ q) cut) [
+pub awake-append : (share : ℕ) (story more : Story) → IsAwake story → Looks share story more → IsAwake (story ++ more)
+awake-append share story more h looks p q told cut n i is_open = elim (split story more p (Did (Waited true told) ∷ q) cut) [
   | inl c ↦ inside c.0 c.1 c.2
   | inr c ↦ subst (λ t. Rests n i t) (sym c.1) ((looks c.0 q true told c.2 n i (subst (IsOpen n i) c.1 is_open)).0 refl)
 ]
@@ -120,16 +88,16 @@ awake-append story more h looks p q told cut n i is_open = elim (split story mor
         first : Did (Waited true told) ∷ q ≡ x ∷ (r ++ more) → x ≡ Did (Waited true told)
         first e = cc
 
-pub each-append : (story more : Story) → HasEach story → Looks story more → HasEach (story ++ more)
-each-append story more h looks p q sleeps told cut n i is_open = elim (split story more p (Did (Waited sleeps told) ∷ q) cut) [
+pub each-append : (share : ℕ) (story more : Story) → HasEach share story → Looks share story more → HasEach share (story ++ more)
+each-append share story more h looks p q sleeps told cut n i is_open = elim (split story more p (Did (Waited sleeps told) ∷ q) cut) [
   | inl c ↦ inside c.0 c.1 c.2
-  | inr c ↦ subst (λ t. ((watch n i t).turned ≡ true) ⊎ Rests n i (upto_wait t)) (sym c.1) ((looks c.0 q sleeps told c.2 n i (subst (IsOpen n i) c.1 is_open)).1)
+  | inr c ↦ subst (λ t. ((watch n i t).turned ≡ true) ⊎ Excused share n i t) (sym c.1) ((looks c.0 q sleeps told c.2 n i (subst (IsOpen n i) c.1 is_open)).1)
 ]
   where
-    inside : (r : Story) → story ≡ p ++ r → Did (Waited sleeps told) ∷ q ≡ r ++ more → ((watch n i p).turned ≡ true) ⊎ Rests n i (upto_wait p)
+    inside : (r : Story) → story ≡ p ++ r → Did (Waited sleeps told) ∷ q ≡ r ++ more → ((watch n i p).turned ≡ true) ⊎ Excused share n i p
     inside [] is e =
         let same : story ≡ p = is ∙ append-nil p in
-        subst (λ t. ((watch n i t).turned ≡ true) ⊎ Rests n i (upto_wait t)) (append-nil story ∙ same) ((looks [] q sleeps told (sym e) n i (subst (IsOpen n i) (sym (append-nil story ∙ same)) is_open)).1)
+        subst (λ t. ((watch n i t).turned ≡ true) ⊎ Excused share n i t) (append-nil story ∙ same) ((looks [] q sleeps told (sym e) n i (subst (IsOpen n i) (sym (append-nil story ∙ same)) is_open)).1)
     inside (x ∷ r) is e = h p r sleeps told (is ∙ ap (λ y. p ++ y ∷ r) (first e)) n i is_open
       where
         first : Did (Waited sleeps told) ∷ q ≡ x ∷ (r ++ more) → x ≡ Did (Waited sleeps told)
@@ -142,8 +110,8 @@ awake_none p q told cut = absurd (some p cut)
     some [] e = cc
     some (m ∷ p) e = cc
 
-pub each_none : HasEach []
-each_none p q sleeps told cut = absurd (some p cut)
+pub each_none : (share : ℕ) → HasEach share []
+each_none share p q sleeps told cut = absurd (some p cut)
   where
     some : (p : Story) → [] ≡ p ++ Did (Waited sleeps told) ∷ q → ⊥
     some [] e = cc
@@ -164,17 +132,35 @@ still_rests n i v story live (inr (pending, more, unasked)) = inr (unasked, λ e
 
 -- ---- one slot
 
+-- what excuses a connection in a round does so until the next wait
+excused_keep : (share n i : ℕ) (story more : Story) → NoWait more → Excused share n i story → Excused share n i (story ++ more)
+excused_keep share n i story more quiet (inl rests) = inl (subst (λ u. Rests n i u) (sym (upto_quiet story more quiet)) rests)
+excused_keep share n i story more quiet (inr had) = inr (had_keep share n story more quiet had)
+
+stance_keep : (phase : Phase) (line : Line) (had : ℕ → Type 0) (i : ℕ) (v : View) (w : Watch) (r r' : Type 0) → (r → r') → Stance phase line had i v w r → Stance phase line had i v w r'
+stance_keep Phase.Reads line had i v w r r' keep (inl (heard, inl (d, s, inl half))) = inl (heard, inl (d, s, inl half))
+stance_keep Phase.Reads line had i v w r r' keep (inl (heard, inl (d, s, inr rested))) = inl (heard, inl (d, s, inr (keep rested)))
+stance_keep Phase.Reads line had i v w r r' keep (inl (heard, inr (still, inl turned))) = inl (heard, inr (still, inl turned))
+stance_keep Phase.Reads line had i v w r r' keep (inl (heard, inr (still, inr rested))) = inl (heard, inr (still, inr (keep rested)))
+stance_keep Phase.Reads line had i v w r r' keep (inr due) = inr due
+stance_keep Phase.Writes line had i v w r r' keep (heard, inl (k, inl turned)) = (heard, inl (k, inl turned))
+stance_keep Phase.Writes line had i v w r r' keep (heard, inl (k, inr rested)) = (heard, inl (k, inr (keep rested)))
+stance_keep Phase.Writes line had i v w r r' keep (heard, inr (s, inl half, not)) = (heard, inr (s, inl half, not))
+stance_keep Phase.Writes line had i v w r r' keep (heard, inr (s, inr rested, not)) = (heard, inr (s, inr (keep rested), not))
+stance_keep Phase.Sweeps line had i v w r r' keep (k, inl turned) = (k, inl turned)
+stance_keep Phase.Sweeps line had i v w r r' keep (k, inr rested) = (k, inr (keep rested))
+
 -- what others do
-pub alert_keep : (phase : Phase) (queued : Queued) (i : ℕ) (v : View) (story more : Story) → own v.number more ≡ [] → NoWait more → Alert phase queued i v story → Alert phase queued i v (story ++ more)
-alert_keep phase queued i v story more none quiet h = kept queued.line queued.had h
+pub alert_keep : (share : ℕ) (phase : Phase) (queued : Queued) (i : ℕ) (v : View) (story more : Story) → own v.number more ≡ [] → NoWait more → Alert share phase queued i v story → Alert share phase queued i v (story ++ more)
+alert_keep share phase queued i v story more none quiet h = kept queued.line queued.had h
   where
-    kept : (line : Option Line) (had : ℕ → Type 0) → AlertIn phase line had i v story → AlertIn phase line had i v (story ++ more)
+    kept : (line : Option Line) (had : ℕ → Type 0) → AlertIn share phase line had i v story → AlertIn share phase line had i v (story ++ more)
     kept None had h = tt
     kept (Some line) had h = record {
       seat = λ j sits. h.seat j (subst (λ t. list_any (is_seat j) (acts_in t) ≡ true) (own_same v.number story more none) sits);
       kept = h.kept;
-      stance = subst (λ w. Stance phase line had i v w (Rests v.number i (upto_wait (story ++ more)))) (sym (watch-append v.number i unknown story more ∙ watch_other v.number i (watch v.number i story) more none quiet))
-          (subst (λ u. Stance phase line had i v (watch v.number i story) (Rests v.number i u)) (sym (upto_quiet story more quiet)) h.stance);
+      stance = subst (λ w. Stance phase line had i v w (Excused share v.number i (story ++ more))) (sym (watch-append v.number i unknown story more ∙ watch_other v.number i (watch v.number i story) more none quiet))
+          (stance_keep phase line had i v (watch v.number i story) _ _ (excused_keep share v.number i story more quiet) h.stance);
     }
 
 -- the queue changed elsewhere, or other slots had their turns
@@ -190,18 +176,18 @@ stance_beside Phase.Writes line line' had had' i v w r wakes stays to from (hear
 stance_beside Phase.Sweeps line line' had had' i v w r wakes stays to from (inl due, d) = (inl (wakes due.0, due.1), d)
 stance_beside Phase.Sweeps line line' had had' i v w r wakes stays to from (inr still, d) = (inr still, d)
 
-pub alert_beside : (phase : Phase) (line line' : Line) (had had' : ℕ → Type 0) (i : ℕ) (v : View) (story : Story)
+pub alert_beside : (share : ℕ) (phase : Phase) (line line' : Line) (had had' : ℕ → Type 0) (i : ℕ) (v : View) (story : Story)
     → (awake_in line i ≡ true → awake_in line' i ≡ true) → (stands_in line i ≡ true → stands_in line' i ≡ true) → (had i → had' i) → (had' i → had i)
-    → IsAlert phase line had i v story → IsAlert phase line' had' i v story
-alert_beside phase line line' had had' i v story wakes stays to from h = record {
+    → IsAlert share phase line had i v story → IsAlert share phase line' had' i v story
+alert_beside share phase line line' had had' i v story wakes stays to from h = record {
   seat = h.seat;
   kept = h.kept;
   stance = stance_beside phase line line' had had' i v _ _ wakes stays to from h.stance;
 }
 
 -- before the first turn of a round more slots may be awake
-pub alert_anew : (line line' : Line) (i : ℕ) (v : View) (story : Story) → StayAwake line line' → Alert Phase.Reads (nobody line) i v story → Alert Phase.Reads (nobody line') i v story
-alert_anew line line' i v story stay h = record {
+pub alert_anew : (share : ℕ) (line line' : Line) (i : ℕ) (v : View) (story : Story) → StayAwake line line' → Alert share Phase.Reads (nobody line) i v story → Alert share Phase.Reads (nobody line') i v story
+alert_anew share line line' i v story stay h = record {
   seat = h.seat;
   kept = h.kept;
   stance = anew _ _ h.stance;
@@ -213,9 +199,9 @@ alert_anew line line' i v story stay h = record {
     anew w r (inr (due, not)) = inr ((stay i due.0, due.1), not)
 
 -- and after the last one, whatever had its turn
-pub alert_swept : (line line' : Line) (had had' : ℕ → Type 0) (i : ℕ) (v : View) (story : Story) → (awake_in line i ≡ true → awake_in line' i ≡ true)
-    → IsAlert Phase.Sweeps line had i v story → IsAlert Phase.Sweeps line' had' i v story
-alert_swept line line' had had' i v story wakes h = record {
+pub alert_swept : (share : ℕ) (line line' : Line) (had had' : ℕ → Type 0) (i : ℕ) (v : View) (story : Story) → (awake_in line i ≡ true → awake_in line' i ≡ true)
+    → IsAlert share Phase.Sweeps line had i v story → IsAlert share Phase.Sweeps line' had' i v story
+alert_swept share line line' had had' i v story wakes h = record {
   seat = h.seat;
   kept = h.kept;
   stance = swept _ _ h.stance;
@@ -234,11 +220,13 @@ awake_stands line i h = of_mark (mark_in line.marks i) h
     of_mark mark.Done e = refl
     of_mark mark.Ready e = refl
     of_mark mark.Ended e = refl
+    of_mark mark.Passed e = refl
+    of_mark mark.PassedEnded e = refl
 
 -- all that stand in the queue had the first half of their turn
-pub alert_read : (line : Line) (had : ℕ → Type 0) (i : ℕ) (v : View) (story : Story) → (stands_in line i ≡ true → had i)
-    → IsAlert Phase.Reads line had i v story → IsAlert Phase.Reads line (λ j. Unit {0}) i v story
-alert_read line had i v story all h = record {
+pub alert_read : (share : ℕ) (line : Line) (had : ℕ → Type 0) (i : ℕ) (v : View) (story : Story) → (stands_in line i ≡ true → had i)
+    → IsAlert share Phase.Reads line had i v story → IsAlert share Phase.Reads line (λ j. Unit {0}) i v story
+alert_read share line had i v story all h = record {
   seat = h.seat;
   kept = h.kept;
   stance = read _ _ h.stance;
@@ -250,8 +238,8 @@ alert_read line had i v story all h = record {
     read w r (inr (due, not)) = absurd (not (all (awake_stands line i due.0)))
 
 -- the second half begins
-pub alert_turned : (line : Line) (i : ℕ) (v : View) (story : Story) → IsAlert Phase.Reads line (λ j. Unit {0}) i v story → IsAlert Phase.Writes line (λ j. ⊥) i v story
-alert_turned line i v story h = record {
+pub alert_turned : (share : ℕ) (line : Line) (i : ℕ) (v : View) (story : Story) → IsAlert share Phase.Reads line (λ j. Unit {0}) i v story → IsAlert share Phase.Writes line (λ j. ⊥) i v story
+alert_turned share line i v story h = record {
   seat = h.seat;
   kept = h.kept;
   stance = turned _ _ h.stance;
@@ -263,9 +251,9 @@ alert_turned line i v story h = record {
     turned w r (inr (due, not)) = absurd (not tt)
 
 -- all that stand in the queue had the second half
-pub alert_told : (line : Line) (had had' : ℕ → Type 0) (i : ℕ) (v : View) (story : Story) → (stands_in line i ≡ true → had i)
-    → IsAlert Phase.Writes line had i v story → IsAlert Phase.Sweeps line had' i v story
-alert_told line had had' i v story all h = record {
+pub alert_told : (share : ℕ) (line : Line) (had had' : ℕ → Type 0) (i : ℕ) (v : View) (story : Story) → (stands_in line i ≡ true → had i)
+    → IsAlert share Phase.Writes line had i v story → IsAlert share Phase.Sweeps line had' i v story
+alert_told share line had had' i v story all h = record {
   seat = h.seat;
   kept = h.kept;
   stance = told _ _ h.stance;
@@ -307,31 +295,33 @@ same_seat n i story more mine came h j sits = h j (sym all ∙ sits)
         ∙ or_false (list_any (is_seat j) (acts_in (own n story)))
 
 -- the client of a slot was seen to have another view after moments of its own
-module _ (i : ℕ) (v v' : View) (story more : Story) (same : v'.number ≡ v.number) (mine : Mine v.number more) (came : came_in (acts_in more) ≡ 0) (quiet : NoWait more) where
+module _ (share i : ℕ) (v v' : View) (story more : Story) (same : v'.number ≡ v.number) (mine : Mine v.number more) (came : came_in (acts_in more) ≡ 0) (quiet : NoWait more) where
   seen : (phase : Phase) (line : Line) (had : ℕ → Type 0) → ((j : ℕ) → list_any (is_seat j) (acts_in (own v.number story)) ≡ true → j ≡ i) → IsKept v'
-      → Stance phase line had i v' (watch_since v.number i (watch v.number i story) more) (Rests v.number i (upto_wait story)) → IsAlert phase line had i v' (story ++ more)
+      → Stance phase line had i v' (watch_since v.number i (watch v.number i story) more) (Excused share v.number i story) → IsAlert share phase line had i v' (story ++ more)
   seen phase line had seat kept stance = record {
     seat = subst (λ n. (j : ℕ) → list_any (is_seat j) (acts_in (own n (story ++ more))) ≡ true → j ≡ i) (sym same) (same_seat v.number i story more mine came seat);
     kept = kept;
-    stance = subst (λ n. Stance phase line had i v' (watch n i (story ++ more)) (Rests n i (upto_wait (story ++ more)))) (sym same)
-        (subst (λ w. Stance phase line had i v' w (Rests v.number i (upto_wait (story ++ more)))) (sym (watch-append v.number i unknown story more))
-        (subst (λ u. Stance phase line had i v' (watch_since v.number i (watch v.number i story) more) (Rests v.number i u)) (sym (upto_quiet story more quiet)) stance));
+    stance = subst (λ n. Stance phase line had i v' (watch n i (story ++ more)) (Excused share n i (story ++ more))) (sym same)
+        (subst (λ w. Stance phase line had i v' w (Excused share v.number i (story ++ more))) (sym (watch-append v.number i unknown story more))
+        (stance_keep phase line had i v' (watch_since v.number i (watch v.number i story) more) _ _ (excused_keep share v.number i story more quiet) stance));
   }
 
   -- the first half
-  pub alert_listens : (line : Line) (had had' : ℕ → Type 0) → had' i → stands_in line i ≡ true → Listens v v' more → IsAlert Phase.Reads line had i v story
-      → IsAlert Phase.Reads line had' i v' (story ++ more)
-  alert_listens line had had' done stood listens h =
+  pub alert_listens : (counts : List ℕ) (line : Line) (had had' : ℕ → Type 0) → had' i → stands_in line i ≡ true → Listens v v' more ⊎ Skips share counts v v' more → Fills share (Some counts) v story
+      → IsAlert share Phase.Reads line had i v story → IsAlert share Phase.Reads line had' i v' (story ++ more)
+  alert_listens counts line had had' done stood (inl listens) fills h =
       let (kept, heard, half) = listens i (watch v.number i story) h.kept (before _ _ h.stance) in
       seen Phase.Reads line had' h.seat kept (inl (heard, inl (done, stood, inl half)))
     where
       before : (w : Watch) (r : Type 0) → Stance Phase.Reads line had i v w r → IsUnread v ⊎ IsHeard v w
       before w r (inl k) = inr k.0
       before w r (inr k) = inl k.0.1
+  alert_listens counts line had had' done stood (inr (full, number, kept, unread, none)) fills h =
+      seen Phase.Reads line had' h.seat (kept h.kept) (inl ((λ quits less. absurd (never (sym less ∙ unread))), inl (done, stood, inr (inr (fills full)))))
 
   -- the second half
-  pub alert_tells : (line line' : Line) (had had' : ℕ → Type 0) (so : Left) → (so ≡ left.More → awake_in line' i ≡ true) → LeftTells so v v' more
-      → IsAlert Phase.Writes line had i v story → IsAlert Phase.Writes line' had' i v' (story ++ more)
+  pub alert_tells : (line line' : Line) (had had' : ℕ → Type 0) (so : Left) → (is_more so ≡ true → awake_in line' i ≡ true) → LeftTells so v v' more
+      → IsAlert share Phase.Writes line had i v story → IsAlert share Phase.Writes line' had' i v' (story ++ more)
   alert_tells line line' had had' so wakes tells h = by_left so wakes tells
     where
       w : Watch
@@ -341,7 +331,7 @@ module _ (i : ℕ) (v v' : View) (story more : Story) (same : v'.number ≡ v.nu
       w' = watch_since v.number i w more
 
       r : Type 0
-      r = Rests v.number i (upto_wait story)
+      r = Excused share v.number i story
 
       has : (HasHalf v w → w'.turned ≡ true) → Stance Phase.Writes line had i v w r → Had w' r
       has turns (heard, inl (k, inl turned)) = inl (turns (inl turned))
@@ -349,8 +339,11 @@ module _ (i : ℕ) (v v' : View) (story more : Story) (same : v'.number ≡ v.nu
       has turns (heard, inr (s, inl half, not)) = inl (turns half)
       has turns (heard, inr (s, inr rested, not)) = inr rested
 
-      by_left : (so : Left) → (so ≡ left.More → awake_in line' i ≡ true) → LeftTells so v v' more → IsAlert Phase.Writes line' had' i v' (story ++ more)
+      by_left : (so : Left) → (is_more so ≡ true → awake_in line' i ≡ true) → LeftTells so v v' more → IsAlert share Phase.Writes line' had' i v' (story ++ more)
       by_left left.More wakes tells =
+          let (kept, heard, none, turns) = tells i w h.kept h.stance.0 in
+          seen Phase.Writes line' had' h.seat kept (heard, inl (inl (wakes refl, λ some. absurd (some none)), has turns h.stance))
+      by_left left.Passed wakes tells =
           let (kept, heard, none, turns) = tells i w h.kept h.stance.0 in
           seen Phase.Writes line' had' h.seat kept (heard, inl (inl (wakes refl, λ some. absurd (some none)), has turns h.stance))
       by_left left.Nothing wakes tells =
@@ -363,11 +356,11 @@ module _ (i : ℕ) (v v' : View) (story more : Story) (same : v'.number ≡ v.nu
 
 -- ---- a wait
 
-module _ (line line' : Line) (i : ℕ) (v : View) (story : Story) (sleeps : Bool) (told : List ℕ) where
+module _ (share : ℕ) (line line' : Line) (i : ℕ) (v : View) (story : Story) (sleeps : Bool) (told : List ℕ) where
   abbrev last : Story
   last = Did (Waited sleeps told) ∷ []
 
-  pub alert_waits : StayAwake line line' → AreAwake told line' → Lives (own v.number story) v → Alert Phase.Sweeps (nobody line) i v story → Alert Phase.Reads (nobody line') i v (story ++ last)
+  pub alert_waits : StayAwake line line' → AreAwake told line' → Lives (own v.number story) v → Alert share Phase.Sweeps (nobody line) i v story → Alert share Phase.Reads (nobody line') i v (story ++ last)
   alert_waits stay wakes lives h = record {
     seat = λ j sits. h.seat j (subst (λ t. list_any (is_seat j) (acts_in t) ≡ true) (own_same v.number story last refl) sits);
     kept = h.kept;
@@ -378,7 +371,7 @@ module _ (line line' : Line) (i : ℕ) (v : View) (story : Story) (sleeps : Bool
       w = watch v.number i story
 
       rested : Type 0
-      rested = Rests v.number i (upto_wait (story ++ last))
+      rested = Excused share v.number i (story ++ last)
 
       unread : IsDue line i v ⊎ IsStill v w → IsUnread v
       unread (inl due) = due.1
@@ -405,14 +398,14 @@ module _ (line line' : Line) (i : ℕ) (v : View) (story : Story) (sleeps : Bool
             subst (IsHeard v) (sym (next false e)) (quiet still),
             inr (
               calmed,
-              inr (subst (λ t. Rests v.number i t) (sym (upto_here story sleeps told))
-                  (still_rests v.number i v (story ++ last) (subst (λ t. IsLive (acts_in t) (turns_in t) v) (sym (own_same v.number story last refl)) lives.live) calmed)),
+              inr (inl (subst (λ t. Rests v.number i t) (sym (upto_here story sleeps told))
+                  (still_rests v.number i v (story ++ last) (subst (λ t. IsLive (acts_in t) (turns_in t) v) (sym (own_same v.number story last refl)) lives.live) calmed))),
             ),
           )
 
   -- at a wait that may sleep nothing is owed to the client of a slot; and it had its turn
-  pub alert_looks : (sleeps ≡ true → awake_in line i ≡ true → ⊥) → Lives (own v.number story) v → Alert Phase.Sweeps (nobody line) i v story
-      → (sleeps ≡ true → Rests v.number i story) × (((watch v.number i story).turned ≡ true) ⊎ Rests v.number i (upto_wait story))
+  pub alert_looks : (sleeps ≡ true → awake_in line i ≡ true → ⊥) → Lives (own v.number story) v → Alert share Phase.Sweeps (nobody line) i v story
+      → (sleeps ≡ true → Rests v.number i story) × (((watch v.number i story).turned ≡ true) ⊎ Excused share v.number i story)
   alert_looks asleep lives h = (λ e. rests e h.stance.0, h.stance.1)
     where
       rests : sleeps ≡ true → IsDue line i v ⊎ IsStill v (watch v.number i story) → Rests v.number i story
@@ -421,9 +414,9 @@ module _ (line line' : Line) (i : ℕ) (v : View) (story : Story) (sleeps : Bool
 
 -- ---- an arrival
 
-pub alert_comes : (line : Line) (i : ℕ) (v : View) (story : Story) → own v.number story ≡ [] → awake_in line i ≡ true → IsNew v
-    → Alert Phase.Reads (nobody line) i v (story ++ Did (Came v.number i) ∷ [])
-alert_comes line i v story none awake new = record {
+pub alert_comes : (share : ℕ) (line : Line) (i : ℕ) (v : View) (story : Story) → own v.number story ≡ [] → awake_in line i ≡ true → IsNew v
+    → Alert share Phase.Reads (nobody line) i v (story ++ Did (Came v.number i) ∷ [])
+alert_comes share line i v story none awake new = record {
   seat = λ j sits. seated j (subst (λ t. list_any (is_seat j) (acts_in t) ≡ true) all sits);
   kept = record { more = λ some. absurd (some new.waiting); whole = λ some. absurd (some new.waiting) };
   stance = inr ((awake, λ some. absurd (some new.pending)), λ n. n);

@@ -16,6 +16,7 @@ use Rattle.judy_many.specs.Nets.{Act, Acts, DidLog}
 use Rattle.judy_many.specs.Others.{IsLimited}
 use Rattle.judy_many.specs.Questions.{AreAsked, IsLastStage, MayFail, Stage, stage_since}
 use Rattle.judy_many.specs.Rules.{Rules}
+use Rattle.judy_many.specs.Shares.{AreCounted, HasShares}
 use Rattle.judy_many.specs.Statuses.{Keeps, Lasts, Passes}
 use Rattle.judy_many.specs.Stories.{AreRead, AreSingle, AreWithin, HasTurns, IsPhased, Phase, Share, Story, acts_in, came_in, closed_in, most, own, runs_in, turns_in, turns_since, writes_since}
 use Rattle.judy_many.specs.Watches.{Alert, HasEach, IsAwake, Queued, unqueued}
@@ -83,6 +84,7 @@ pub record IsTold {B S : Type 0} (rules : Rules S) (limits : Limits) (first : S)
   pub phases : IsPhased false story
   pub quiet : phase ≡ Phase.Reads → writes_since false story ≡ false
   pub fair : HasTurns story
+  pub shared : HasShares limits.share story
   pub unlost : lost_in (acts_in story) ≡ lost
   pub waited : waits_in (acts_in story) ≡ past.waits
   pub reads : AreRead limits None story
@@ -90,7 +92,7 @@ pub record IsTold {B S : Type 0} (rules : Rules S) (limits : Limits) (first : S)
   pub allowed : MayKeep limits past.journal
   pub settled : phase ≡ Phase.Writes → AreSettled past.journal
   pub awake : IsAwake story
-  pub each : HasEach story
+  pub each : HasEach limits.share story
   pub limited : IsLimited limits.tenant_clients [] story
   pub inquired : IsInquired (is_some limits.journal) [] story
   pub asked : AreAsked Stage.Unasked story
@@ -99,7 +101,7 @@ pub record IsTold {B S : Type 0} (rules : Rules S) (limits : Limits) (first : S)
 
 -- So far this happened. Each client in a slot is one of its own number, below the count of connections,
 -- and every connection is served so far. Each connection that came is in a slot or was closed. Those
--- whose slots had no turn in this phase may have one.
+-- whose slots had no turn in this phase may have one. In the first phase of a round the loop has counted who was heard.
 pub record Crowd {B S : Type 0} (view : B → View) (rules : Rules S) (limits : Limits) (first : S) (start : Acts) (phase : Phase) (queued : Queued) (past : Past) (log : Acts) (slots : List (Option B)) (count : ℕ) (now : S) : Type 0 where
   pub story : Story
   pub is_told : IsTold rules limits first start phase 0 past log slots count now story
@@ -110,7 +112,8 @@ pub record Crowd {B S : Type 0} (view : B → View) (rules : Rules S) (limits : 
   pub served : (n : ℕ) → IsServed (own n story)
   pub ready : (i : ℕ) (b : B) → At slots i b → (queued.had i → ⊥) → (share : Share) → turns_since (view b).number share 0 story + most phase share ≤ 1
   pub ends : (n : ℕ) → n < count → (closed_in (acts_in (own n story)) ≡ 1) ⊎ IsThere view slots n
-  pub alert : (i : ℕ) (b : B) → At slots i b → Alert phase queued i (view b) story
+  pub alert : (i : ℕ) (b : B) → At slots i b → Alert limits.share phase queued i (view b) story
+  pub counted : phase ≡ Phase.Reads → AreCounted queued.counts story
 
 -- After a crowd so far the journal failed, which is the last answer.
 pub record HasFailed {B S : Type 0} (view : B → View) (rules : Rules S) (limits : Limits) (first : S) (start : Acts) (began : Option Journal) (log : Acts) (slots : List (Option B)) (count : ℕ) (now : S) : Type 0 where
@@ -146,12 +149,15 @@ pub record HasServedMany {S : Type 0} (rules : Rules S) (limits : Limits) (write
   -- since the server last waited each connection was read at most once, had lines run at most once, and
   -- was written at most once
   pub fair : HasTurns story
+  -- since the server last waited at most so many connections of each tenant were heard: read, or lines of them run
+  pub shared : HasShares limits.share story
   -- Before each wait that may sleep, each open connection was read until nothing more had come, all its
   -- lines were run, and their answers are written; or its answers wait for the client to read, and the
   -- system was asked to tell when it does.
   pub awake : IsAwake story
-  -- between two waits each open connection to which something was owed at the first one had its turn
-  pub each : HasEach story
+  -- between two waits each open connection to which something was owed at the first one had its turn, or as many
+  -- connections of its tenant as a share were heard
+  pub each : HasEach limits.share story
   -- at each moment at most so many connections were open, and at most so many came
   pub few : HasFew limits.clients story
   pub total : came_in (acts_in story) ≤ limits.connections

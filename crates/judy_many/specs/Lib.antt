@@ -21,6 +21,7 @@ pub mod Queues
 pub mod Records
 pub mod Rules
 pub mod Sessions
+pub mod Shares
 pub mod Slots
 pub mod Statuses
 pub mod Stories

@@ -7,6 +7,8 @@
 --     StayAwake q q'          slots that are awake stay so
 use Rattle.std.specs.List.{list_any}
 use Rattle.std.specs.Prelude.{◌≡◌, ◌==◌, ◌⊎◌, ◌<◌, ◌≤◌, ℕ, Bool, true, false, List, length, slice_index_or}
+use Rattle.judy_many.specs.declared.queue.Left.{Left}
+use Rattle.judy_many.specs.declared.queue.Left.TheVariants as left
 use Rattle.judy_many.specs.declared.queue.Mark.{Mark}
 use Rattle.judy_many.specs.declared.queue.Mark.TheVariants as mark
 
@@ -27,6 +29,8 @@ stands mark.Out = false
 stands mark.Done = true
 stands mark.Ready = true
 stands mark.Ended = true
+stands mark.Passed = true
+stands mark.PassedEnded = true
 
 -- whether a slot of this mark has a turn owed
 abbrev pub is_awake : Mark → Bool
@@ -34,6 +38,25 @@ is_awake mark.Out = false
 is_awake mark.Done = false
 is_awake mark.Ready = true
 is_awake mark.Ended = true
+is_awake mark.Passed = true
+is_awake mark.PassedEnded = true
+
+-- whether a slot of this mark was passed over in this round
+abbrev pub is_passed : Mark → Bool
+is_passed mark.Out = false
+is_passed mark.Done = false
+is_passed mark.Ready = false
+is_passed mark.Ended = false
+is_passed mark.Passed = true
+is_passed mark.PassedEnded = true
+
+-- whether a client may have another turn at once
+abbrev pub is_more : Left → Bool
+is_more left.More = true
+is_more left.Passed = true
+is_more left.Nothing = false
+is_more left.Blocked = false
+is_more left.Closed = false
 
 abbrev pub mark_in : List Mark → ℕ → Mark
 mark_in marks slot = slice_index_or marks slot mark.Out
@@ -52,6 +75,10 @@ stands_in q i = stands (mark_in q.marks i)
 -- the slot has a place in the queue
 abbrev pub IsPlaced : Line → ℕ → Type 0
 IsPlaced q i = (k : ℕ) × (k < length q.order) × (slot_in q.order k ≡ i)
+
+-- the slot is in a list
+abbrev pub IsIn : ℕ → List ℕ → Type 0
+IsIn i slots = (k : ℕ) × (k < length slots) × (slot_in slots k ≡ i)
 
 -- whether a slot is among these
 abbrev pub is_among : ℕ → List ℕ → Bool

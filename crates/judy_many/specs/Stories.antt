@@ -21,7 +21,7 @@ use Rattle.judy_many.specs.declared.network.Got.{Got}
 use Rattle.judy_many.specs.declared.network.Got.TheVariants as got
 use Rattle.judy_many.specs.declared.serve.Limits.{Limits}
 use Rattle.judy_many.specs.Nets.{Act}
-use Rattle.judy_many.specs.Nets.Act.{Came, Refused, Read, Dry, Ended, Broke, Wrote, Failed, Closed, Waited, Lost, Asked, Questioned, Reported, Warned, Tabled, Untabled, Named, Replied, Began, Kept, Unkept, Synced, Unsynced, Took}
+use Rattle.judy_many.specs.Nets.Act.{Came, Read, Dry, Ended, Broke, Wrote, Failed, Closed, Waited, Asked, Questioned, Reported, Warned, Tabled, Untabled, Named, Replied, Began, Kept, Unkept, Synced, Unsynced, Took}
 use Rattle.judy_many.specs.Sessions.{Turn, records_in}
 
 -- an answer of the system, or lines of one connection that were run one after another, or the table of
@@ -397,6 +397,14 @@ turns_since n share count (m ∷ story) = turns_since n share (turns_after n sha
 -- at most once.
 abbrev pub HasTurns : Story → Type 0
 HasTurns story = (p q : Story) → story ≡ p ++ q → (n : ℕ) (share : Share) → turns_since n share 0 p ≤ 1
+
+-- the moments up to the last wait, with it
+abbrev pub upto_since : Story → Story → Story → Story
+upto_since upto before [] = upto
+upto_since upto before (m ∷ story) = upto_since (if waits_by m then before ++ m ∷ [] else upto) (before ++ m ∷ []) story
+
+abbrev pub upto_wait : Story → Story
+upto_wait story = upto_since [] [] story
 
 -- moments of one open connection in one phase of a round
 pub record IsPiece (n : ℕ) (phase : Phase) (more : Story) : Type 0 where

@@ -2,10 +2,11 @@
 --     watch n i story     what is known of connection n in slot i
 --     Rests n i story     nothing is owed to it
 --     IsAwake story       before each wait that may sleep nothing is owed to an open connection
---     HasEach story       between two waits each open connection that was owed something had its turn
+--     HasEach share story between two waits each open connection that was owed something had its turn, or its tenant
+--                         had its share
 --     Alert ..            what the loop keeps of a client for this
 use Rattle.std.specs.List.{list_any}
-use Rattle.std.specs.Prelude.{◌≡◌, ◌⊎◌, ◌==◌, ◌<◌, ℕ, Bool, true, false, List, [], ◌∷◌, ◌++◌, Option, Some, None, if◌then◌else◌, length}
+use Rattle.std.specs.Prelude.{◌≡◌, ◌⊎◌, ◌==◌, ◌<◌, ◌≤◌, ℕ, Bool, true, false, List, [], ◌∷◌, ◌++◌, Option, Some, None, if◌then◌else◌, length}
 use Rattle.judy_model.specs.Stream.{served}
 use Rattle.judy_protocol.specs.Talks.{HasNoLf}
 use Rattle.judy_many.specs.declared.client.Fate.{Fate}
@@ -17,7 +18,8 @@ use Rattle.judy_many.specs.Nets.{Act}
 use Rattle.judy_many.specs.Nets.Act.{Came, Read, Dry, Ended, Broke, Wrote, Failed, Closed, Waited}
 use Rattle.judy_many.specs.Queues.{IsBefore, Line, awake_in, is_among, stands_in}
 use Rattle.judy_many.specs.Sessions.{Turn, lines_in, texts}
-use Rattle.judy_many.specs.Stories.{Moment, Phase, Story, acts_in, belongs, closed_in, own, turns_in, waits_by}
+use Rattle.judy_many.specs.Shares.{HadShare, count_in, group_of}
+use Rattle.judy_many.specs.Stories.{Moment, Phase, Story, acts_in, belongs, closed_in, own, turns_in, upto_wait, waits_by}
 use Rattle.judy_many.specs.Stories.Moment.{Changed, Did, Ran}
 
 -- what is known of a connection
@@ -92,51 +94,49 @@ is_seat i act = false
 abbrev pub IsOpen : ℕ → ℕ → Story → Type 0
 IsOpen n i story = (list_any (is_seat i) (acts_in (own n story)) ≡ true) × (closed_in (acts_in (own n story)) ≡ 0)
 
--- the moments up to the last wait, with it
-abbrev pub upto_since : Story → Story → Story → Story
-upto_since upto before [] = upto
-upto_since upto before (m ∷ story) = upto_since (if waits_by m then before ++ m ∷ [] else upto) (before ++ m ∷ []) story
-
-abbrev pub upto_wait : Story → Story
-upto_wait story = upto_since [] [] story
-
 -- before each wait that may sleep nothing is owed to an open connection
 abbrev pub IsAwake : Story → Type 0
 IsAwake story = (p q : Story) (told : List ℕ) → story ≡ p ++ Did (Waited true told) ∷ q → (n i : ℕ) → IsOpen n i p → Rests n i p
 
+-- a connection needs no turn in this round: nothing was owed to it at the last wait, or its group has had its share
+abbrev pub Excused : ℕ → ℕ → ℕ → Story → Type 0
+Excused share n i story = Rests n i (upto_wait story) ⊎ HadShare share n story
+
 -- before each wait: since the one before it each open connection to which something was owed then had its
--- turn
-abbrev pub HasEach : Story → Type 0
-HasEach story = (p q : Story) (sleeps : Bool) (told : List ℕ) → story ≡ p ++ Did (Waited sleeps told) ∷ q → (n i : ℕ) → IsOpen n i p
-    → ((watch n i p).turned ≡ true) ⊎ Rests n i (upto_wait p)
+-- turn, or as many connections of its tenant as a share were heard
+abbrev pub HasEach : ℕ → Story → Type 0
+HasEach share story = (p q : Story) (sleeps : Bool) (told : List ℕ) → story ≡ p ++ Did (Waited sleeps told) ∷ q → (n i : ℕ) → IsOpen n i p
+    → ((watch n i p).turned ≡ true) ⊎ Excused share n i p
 
 -- both, at a wait of more moments
-abbrev pub Looks : Story → Story → Type 0
-Looks story more = (p q : Story) (sleeps : Bool) (told : List ℕ) → more ≡ p ++ Did (Waited sleeps told) ∷ q → (n i : ℕ) → IsOpen n i (story ++ p)
-    → (sleeps ≡ true → Rests n i (story ++ p)) × (((watch n i (story ++ p)).turned ≡ true) ⊎ Rests n i (upto_wait (story ++ p)))
+abbrev pub Looks : ℕ → Story → Story → Type 0
+Looks share story more = (p q : Story) (sleeps : Bool) (told : List ℕ) → more ≡ p ++ Did (Waited sleeps told) ∷ q → (n i : ℕ) → IsOpen n i (story ++ p)
+    → (sleeps ≡ true → Rests n i (story ++ p)) × (((watch n i (story ++ p)).turned ≡ true) ⊎ Excused share n i (story ++ p))
 
 -- ---- what the loop keeps
 
--- the queue, where it is known, and the slots that had a turn in this phase of a round
+-- the queue, where it is known, the slots that had a turn in this phase of a round, and in the first one how many
+-- connections of each group were heard, where that is known
 pub record Queued : Type 1 where
   pub line : Option Line
   pub had : ℕ → Type 0
+  pub counts : Option (List ℕ)
 
 -- no slot has had a turn
 abbrev pub nobody : Line → Queued
-nobody line = record { line = Some line; had = λ i. ⊥ }
+nobody line = record { line = Some line; had = λ i. ⊥; counts = Some [] }
 
 -- each slot has had one
 abbrev pub everybody : Line → Queued
-everybody line = record { line = Some line; had = λ i. Unit {0} }
+everybody line = record { line = Some line; had = λ i. Unit {0}; counts = None }
 
 -- a slot that stands in the queue before this place has had one
-abbrev pub those_before : Line → ℕ → Queued
-those_before line place = record { line = Some line; had = IsBefore line.order place }
+abbrev pub those_before : Line → ℕ → List ℕ → Queued
+those_before line place counts = record { line = Some line; had = IsBefore line.order place; counts = Some counts }
 
 -- nothing is known of the queue: the server ends
 abbrev pub unqueued : Queued
-unqueued = record { line = None; had = λ i. Unit {0} }
+unqueued = record { line = None; had = λ i. Unit {0}; counts = None }
 
 -- a line is whole in these bytes
 abbrev pub HasLine : List ℕ → Type 0
@@ -191,17 +191,17 @@ Stance Phase.Writes line had i v w rested =
     IsHeard v w × (((IsDue line i v ⊎ IsStill v w) × Had w rested) ⊎ ((stands_in line i ≡ true) × (HasHalf v w ⊎ rested) × (had i → ⊥)))
 Stance Phase.Sweeps line had i v w rested = (IsDue line i v ⊎ IsStill v w) × Had w rested
 
-pub record IsAlert (phase : Phase) (line : Line) (had : ℕ → Type 0) (i : ℕ) (v : View) (story : Story) : Type 0 where
+pub record IsAlert (share : ℕ) (phase : Phase) (line : Line) (had : ℕ → Type 0) (i : ℕ) (v : View) (story : Story) : Type 0 where
   pub seat : (j : ℕ) → list_any (is_seat j) (acts_in (own v.number story)) ≡ true → j ≡ i
   pub kept : IsKept v
-  pub stance : Stance phase line had i v (watch v.number i story) (Rests v.number i (upto_wait story))
+  pub stance : Stance phase line had i v (watch v.number i story) (Excused share v.number i story)
 
-abbrev pub AlertIn : Phase → Option Line → (ℕ → Type 0) → ℕ → View → Story → Type 0
-AlertIn phase None had i v story = Unit {0}
-AlertIn phase (Some line) had i v story = IsAlert phase line had i v story
+abbrev pub AlertIn : ℕ → Phase → Option Line → (ℕ → Type 0) → ℕ → View → Story → Type 0
+AlertIn share phase None had i v story = Unit {0}
+AlertIn share phase (Some line) had i v story = IsAlert share phase line had i v story
 
-abbrev pub Alert : Phase → Queued → ℕ → View → Story → Type 0
-Alert phase queued i v story = AlertIn phase queued.line queued.had i v story
+abbrev pub Alert : ℕ → Phase → Queued → ℕ → View → Story → Type 0
+Alert share phase queued i v story = AlertIn share phase queued.line queued.had i v story
 
 -- ---- the halves of a turn
 
@@ -235,11 +235,15 @@ FateTells fate.Drained v v' more = Relays v v' more IsStill
 FateTells fate.Blocked v v' more = Relays v v' more IsStill
 FateTells (fate.Ends how) v v' more = Unit {0}
 
+-- or it is passed over, since its group has had its share
+abbrev pub Skips : ℕ → List ℕ → View → View → Story → Type 0
+Skips share counts v v' more = (share ≤ count_in counts (group_of v.who)) × (v'.number ≡ v.number) × (IsKept v → IsKept v') × (v'.more ≡ true) × (more ≡ [])
+
 -- the same for a slot
-abbrev pub SlotListens : Option View → Option View → Story → Type 0
-SlotListens (Some v) (Some v') more = Listens v v' more
-SlotListens None new more = Unit {0}
-SlotListens (Some v) None more = Unit {0}
+abbrev pub SlotListens : ℕ → List ℕ → Option View → Option View → Story → Type 0
+SlotListens share counts (Some v) (Some v') more = Listens v v' more ⊎ Skips share counts v v' more
+SlotListens share counts None new more = Unit {0}
+SlotListens share counts (Some v) None more = Unit {0}
 
 -- a client was closed, or it is as it was and nothing happened
 abbrev pub IsClosedOr : Bool → Option View → Option View → Story → Type 0
@@ -248,6 +252,7 @@ IsClosedOr false old new more = (new ≡ old) × (more ≡ [])
 
 abbrev pub LeftTells : Left → View → View → Story → Type 0
 LeftTells left.More v v' more = Relays v v' more IsUnpended
+LeftTells left.Passed v v' more = Relays v v' more IsUnpended
 LeftTells left.Nothing v v' more = Relays v v' more IsStill
 LeftTells left.Blocked v v' more = Relays v v' more IsStill
 LeftTells left.Closed v v' more = ⊥

@@ -11,6 +11,7 @@ ghost use Rattle.judy_many.specs.Others.{AreLimited};
 ghost use Rattle.judy_many.specs.Present.{speaker_since, speakers_at};
 ghost use Rattle.judy_many.specs.Rules.{rules_of};
 ghost use Rattle.judy_many.specs.Sessions.{AreTurns, Turn, records_in};
+ghost use Rattle.judy_many.specs.Shares.{IsHeardIf};
 ghost use Rattle.judy_many.specs.Statuses.{Passes};
 ghost use Rattle.judy_many.specs.Stories.{AreSingle, IsPiece, Story, acts_in, has_failed, own, turns_in};
 ghost use Rattle.judy_many.specs.Stories.Phase.{Reads, Writes};
@@ -43,6 +44,8 @@ pub struct Client<P: Copy, C: Drop> {
     pub since: u64,
     /// When the client came.
     pub came: u64,
+    /// Whether it was passed over in the last round in which it stood in the queue.
+    pub passed: bool,
 }
 
 impl<P: Copy, C: Drop> Client<P, C> {
@@ -66,12 +69,13 @@ impl<P: Copy, C: Drop> Client<P, C> {
             quits: false,
             since: now,
             came: now,
+            passed: false,
         }
     }
 }
 
 /// Whether a client is ready to be heard: no line of it asked to quit, and its answers are written.
-fn is_ready<P: Copy, C: Drop>(client: &Client<P, C>) -> bool
+pub fn is_ready<P: Copy, C: Drop>(client: &Client<P, C>) -> bool
     ensures unasked { result ≡ true → client.now.quits ≡ false }
     ensures written { result ≡ true → client.now.answers ≡ [] }
     ensures why { result ≡ false → (client.now.answers ≡ [] → ⊥) ⊎ (client.now.quits ≡ true) }
@@ -166,7 +170,8 @@ pub fn listen<S: Shows, N: Network>(
         × ((past : Story) → speaker_since None (turns_in (own (N.number client.old.connection) past))
         ≡ option_map S.who client.old.session.speaker
         → Passes (rules_of S.made S.seen S.noted S.status S.changed S.caps S.leavers) past service.old more service.new)
-        × Listens (view_of S.who N.number client.old) (view_of S.who N.number client.new) more }
+        × Listens (view_of S.who N.number client.old) (view_of S.who N.number client.new) more
+        × IsHeardIf (view_of S.who N.number client.old) more }
     ensures same { N.number client.new.connection ≡ N.number client.old.connection }
     ensures logins { (S.seen service.new).logins ≡ (S.seen service.old).logins }
     ensures speakers { (S.seen service.new).speakers ≡ (S.seen service.old).speakers }

@@ -23,6 +23,7 @@ mod reloads;
 mod rounds;
 mod serve;
 mod session;
+mod shares;
 mod shows;
 mod sockets;
 mod sweeps;

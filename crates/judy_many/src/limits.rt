@@ -25,5 +25,9 @@ pub const QUESTION_LIMIT: usize = 4096;
 /// The most bytes of the text of what the sockets count.
 pub const COUNTS_LIMIT: usize = 16384;
 
+/// The groups of connections of which each has its share of a round: one a tenant, of which there are at most
+/// 64, one of the connections on which nobody speaks, and one of any further tenant.
+pub const GROUPS_LIMIT: usize = 66;
+
 /// The most tenants whose bytes in the journal are told.
 pub const TENANTS_SHOWN: usize = 128;

@@ -1,8 +1,10 @@
 //! The slots whose clients have a turn, in the order in which they were marked.
-ghost use Rattle.std.specs.Prelude.{◌≡◌, ◌≢◌, ◌<◌, ℕ, [], length, true, false};
-ghost use Rattle.judy_many.specs.Queues.{AreApart, IsPlaced, StayAwake, awake_in, is_awake, mark_in, slot_in, stands, stands_in};
+ghost use Rattle.std.specs.Prelude.{◌≡◌, ◌≢◌, ◌⊎◌, ◌<◌, ℕ, [], length, true, false};
+ghost use Rattle.arrayvec.specs.ArrayVec.{array_vec_len};
+ghost use Rattle.judy_many.specs.Queues.{AreApart, IsIn, IsPlaced, StayAwake, awake_in, is_awake, is_more, is_passed, mark_in, slot_in, stands, stands_in};
 
 use crate::limits::CLIENTS_LIMIT;
+use arrayvec::ArrayVec;
 use std::marker::Model;
 
 /// What is known of a slot's connection.
@@ -16,6 +18,10 @@ pub enum Mark {
     Ready,
     /// The same, and the client was seen to send no more, or to be gone.
     Ended,
+    /// It is ready, and was passed over in this round.
+    Passed,
+    /// It has ended, and was passed over in this round.
+    PassedEnded,
 }
 
 /// What is left of a slot after its turn.
@@ -23,6 +29,8 @@ pub enum Mark {
 pub enum Left {
     /// Its client may have another turn at once.
     More,
+    /// The same, and it was passed over in this round, since its tenant had its share.
+    Passed,
     /// Its client has sent nothing more.
     Nothing,
     /// Its client takes no more for now.
@@ -34,15 +42,20 @@ pub enum Left {
 /// The mark of a slot after its turn.
 fn settled(mark: Mark, left: Left) -> Mark
     ensures stands { stands result ≡ stands mark }
-    ensures more { left ≡ Left.More → stands mark ≡ true → is_awake result ≡ true }
+    ensures more { is_more left ≡ true → stands mark ≡ true → is_awake result ≡ true }
 {
     match (left, mark) {
         (Left::More, Mark::Done) => Mark::Ready,
+        (Left::Passed, Mark::Done) => Mark::Passed,
+        (Left::Passed, Mark::Ready) => Mark::Passed,
+        (Left::Passed, Mark::Ended) => Mark::PassedEnded,
         (Left::Nothing, Mark::Ready) => Mark::Done,
         (Left::Blocked, Mark::Ready) => Mark::Done,
         (Left::Blocked, Mark::Ended) => Mark::Done,
         (Left::Closed, Mark::Ready) => Mark::Done,
         (Left::Closed, Mark::Ended) => Mark::Done,
+        (Left::Closed, Mark::Passed) => Mark::Done,
+        (Left::Closed, Mark::PassedEnded) => Mark::Done,
         _ => mark,
     }
 }
@@ -56,6 +69,37 @@ fn marked(mark: Mark, seen: Mark) -> Mark
         Mark::Ended
     } else {
         seen
+    }
+}
+
+/// Whether a slot of this mark was passed over.
+fn is_passed(mark: Mark) -> bool
+    ensures { result ≡ is_passed mark }
+{
+    mark == Mark::Passed || mark == Mark::PassedEnded
+}
+
+/// Whether a slot of this mark has a turn owed.
+fn is_awake(mark: Mark) -> bool
+    ensures { result ≡ is_awake mark }
+{
+    mark != Mark::Out && mark != Mark::Done
+}
+
+/// Whether a slot had ended by these marks.
+fn has_ended(marks: &[Mark; CLIENTS_LIMIT], slot: usize) -> bool {
+    slot < CLIENTS_LIMIT && marks[slot] == Mark::Ended
+}
+
+/// The mark of a slot after a round, if it was passed over. All others leave the queue.
+fn sifted(mark: Mark) -> Mark
+    ensures passed { is_passed mark ≡ true → is_awake result ≡ true }
+    ensures others { is_passed mark ≡ false → result ≡ Mark.Out }
+{
+    match mark {
+        Mark::Passed => Mark::Ready,
+        Mark::PassedEnded => Mark::Ended,
+        _ => Mark::Out,
     }
 }
 
@@ -158,7 +202,7 @@ impl Queue {
         ensures order { self.new.order ≡ self.old.order }
         ensures others { (i : ℕ) → i ≢ slot → mark_in self.new.marks i ≡ mark_in self.old.marks i }
         ensures stands { (i : ℕ) → stands_in self.new i ≡ stands_in self.old i }
-        ensures more { left ≡ Left.More → stands_in self.old slot ≡ true → awake_in self.new slot ≡ true }
+        ensures more { is_more left ≡ true → stands_in self.old slot ≡ true → awake_in self.new slot ≡ true }
     {
         // The proof sees the marks also where none is changed.
         let _ = &self.marks;
@@ -181,20 +225,61 @@ impl Queue {
         self.settle(slot, Left::Closed);
     }
 
-    /// Takes the slots out that have nothing more to do. The others stay in their order.
-    pub fn end_round(&mut self)
-        ensures stay { StayAwake self.old self.new }
+    /// Takes out all slots but those that were passed over, which stay in their order. Those of the others that
+    /// have more to do come into `later`, in their order.
+    fn sift(&mut self, later: &mut ArrayVec<usize, CLIENTS_LIMIT>)
+        requires { array_vec_len later.old ≡ 0 }
+        ensures awake { (i : ℕ) → awake_in self.old i ≡ true
+            → (awake_in self.new i ≡ true) ⊎ IsIn i later.new.items }
     {
         let mut kept = 0;
         for place in 0..self.count {
             let slot = self.order[place];
-            if self.marks[slot] == Mark::Done {
-                self.marks[slot] = Mark::Out;
+            let mark = self.marks[slot];
+            self.marks[slot] = sifted(mark);
+            if is_passed(mark) {
+                self.order[kept] = slot;
+                kept += 1;
                 continue;
             }
-            self.order[kept] = slot;
-            kept += 1;
+            if !is_awake(mark) {
+                continue;
+            }
+            later.push(slot);
         }
         self.count = kept;
+    }
+
+    /// The marks of all slots.
+    fn marks(&self) -> [Mark; CLIENTS_LIMIT]
+        ensures { result ≡ self.now.marks }
+    {
+        self.marks
+    }
+
+    /// Puts a slot at the end again, which has ended if it had this mark.
+    fn put_back(&mut self, slot: usize, ended: bool)
+        ensures stay { StayAwake self.old self.new }
+        ensures wakes { slot < 1024 → awake_in self.new slot ≡ true }
+    {
+        if ended {
+            self.mark_ended(slot);
+            return;
+        }
+        self.mark_ready(slot);
+    }
+
+    /// Takes the slots out that have nothing more to do. Those that were passed over stand before all others, and
+    /// both stay in their order.
+    pub fn end_round(&mut self)
+        ensures stay { StayAwake self.old self.new }
+    {
+        let marks = self.marks();
+        let mut later = ArrayVec::new();
+        self.sift(&mut later);
+        for place in 0..later.len() {
+            let slot = later[place];
+            self.put_back(slot, has_ended(&marks, slot));
+        }
     }
 }

@@ -6,12 +6,13 @@ ghost use Rattle.judy_many.specs.Books.{Journal, has_room, noted_by};
 ghost use Rattle.judy_many.specs.Crowds.{Crowd, HasFailed, Past, past_of};
 ghost use Rattle.judy_many.specs.Others.{AreLimited};
 ghost use Rattle.judy_many.specs.Present.{speakers_at};
-ghost use Rattle.judy_many.specs.Queues.{AreApart, stands_in};
+ghost use Rattle.judy_many.specs.Queues.{AreApart, is_more, stands_in};
 ghost use Rattle.judy_many.specs.Slots.{AreKnown, IsKnownSlot};
 ghost use Rattle.judy_many.specs.Lives.{SlotDid, view_of};
 ghost use Rattle.judy_many.specs.Nets.{Acts, DidLog};
 ghost use Rattle.judy_many.specs.Rules.{rules_of};
 ghost use Rattle.judy_many.specs.Sessions.{AreTurns, records_in};
+ghost use Rattle.judy_many.specs.Shares.{SlotCounts};
 ghost use Rattle.judy_many.specs.Statuses.{Passes};
 ghost use Rattle.judy_many.specs.Stories.{AreSingle, Story, acts_in, turns_in};
 ghost use Rattle.judy_many.specs.Stories.Phase.{Reads, Sweeps, Writes};
@@ -24,6 +25,7 @@ use crate::network::Network;
 use crate::queue::Left;
 use crate::serve::Limits;
 use crate::session::Rooms;
+use crate::shares::{Shares, may_listen};
 use crate::shows::Shows;
 use judy_protocol::Served;
 use std::alloc::Global;
@@ -38,6 +40,7 @@ fn listen_at<S: Shows, N: Network>(
     slot: &mut Option<Box<Client<S::Speaker, N::Connection>>>,
     others: &[Option<Box<Client<S::Speaker, N::Connection>>>],
     keeper: &mut Keeper,
+    shares: &mut Shares,
     limits: Limits,
     now: u64,
 ) -> bool
@@ -56,8 +59,10 @@ fn listen_at<S: Shows, N: Network>(
         × ((past : Story) → IsInquired (is_some limits.journal) past more)
         × ((past : Story) → SpeaksIn past (option_map (λ b. view_of S.who N.number b.value) slot.old)
         → Passes (rules_of S.made S.seen S.noted S.status S.changed S.caps S.leavers) past service.old more service.new)
-        × SlotListens (option_map (λ b. view_of S.who N.number b.value) slot.old)
-        (option_map (λ b. view_of S.who N.number b.value) slot.new) more }
+        × SlotListens limits.share shares.old (option_map (λ b. view_of S.who N.number b.value) slot.old)
+        (option_map (λ b. view_of S.who N.number b.value) slot.new) more
+        × SlotCounts limits.share shares.old shares.new
+        (option_map (λ b. view_of S.who N.number b.value) slot.old) more }
     ensures logins { (S.seen service.new).logins ≡ (S.seen service.old).logins }
     ensures speakers { (S.seen service.new).speakers ≡ (S.seen service.old).speakers }
     ensures known { IsKnownSlot (λ b. option_map S.who b.value.session.speaker)
@@ -66,6 +71,10 @@ fn listen_at<S: Shows, N: Network>(
     let Some(mut client) = slot.take() else {
         return false;
     };
+    if !may_listen::<S, N>(&*service, &mut client, shares, limits.share) {
+        *slot = Some(client);
+        return false;
+    }
     if let Some(how) = listen(
         alloc,
         network,
@@ -92,6 +101,7 @@ fn listen_to<S: Shows, N: Network>(
     rooms: &mut Rooms,
     clients: &mut Clients<S, N>,
     keeper: &mut Keeper,
+    shares: &mut Shares,
     limits: Limits,
     place: usize,
     now: u64,
@@ -104,11 +114,11 @@ fn listen_to<S: Shows, N: Network>(
     ensures crowd { (first : S) (start : Acts) (waits : ℕ) (began : Option Journal)
         → Crowd (λ b. view_of S.who N.number b.value)
         (rules_of S.made S.seen S.noted S.status S.changed S.caps S.leavers) limits first start Reads
-        (those_before clients.old.queue place) (past_of waits began keeper.old)
+        (those_before clients.old.queue place shares.old) (past_of waits began keeper.old)
         (N.log network.old) clients.old.slots.items clients.old.accepted service.old
         → Crowd (λ b. view_of S.who N.number b.value)
         (rules_of S.made S.seen S.noted S.status S.changed S.caps S.leavers) limits first start Reads
-        (those_before clients.old.queue (place + 1)) (past_of waits began keeper.new)
+        (those_before clients.old.queue (place + 1) shares.new) (past_of waits began keeper.new)
         (N.log network.new) clients.new.slots.items clients.new.accepted service.new }
     ensures queue { clients.new.queue ≡ clients.old.queue }
     ensures logins { (S.seen service.new).logins ≡ (S.seen service.old).logins }
@@ -129,6 +139,7 @@ fn listen_to<S: Shows, N: Network>(
         &mut slot,
         clients.slots.as_slice(),
         keeper,
+        shares,
         limits,
         now,
     );
@@ -174,15 +185,32 @@ pub fn listen_all<S: Shows, N: Network>(
     ensures known { AreKnown (λ b. option_map S.who b.value.session.speaker)
         (S.seen service.new).speakers clients.new.slots.items }
 {
+    let mut shares = Shares::new();
     for place in 0..clients.queue.len() {
         if !keeper.make_room(network) {
             return false;
         }
         listen_to(
-            alloc, network, service, rooms, clients, keeper, limits, place, now,
+            alloc,
+            network,
+            service,
+            rooms,
+            clients,
+            keeper,
+            &mut shares,
+            limits,
+            place,
+            now,
         );
     }
     true
+}
+
+/// What is left of a slot whose client may have another turn at once, if this says whether it was passed over.
+fn goes_on(passed: bool) -> Left
+    ensures { is_more result ≡ true }
+{
+    if passed { Left::Passed } else { Left::More }
 }
 
 /// The second half of the turn of the client in a slot, if there is one.
@@ -206,7 +234,7 @@ fn tell_at<S: Served, N: Network>(
         return Left::Blocked;
     };
     let left = match tell::<S, N>(network, &mut client, now) {
-        Fate::Ready => Left::More,
+        Fate::Ready => goes_on(client.passed),
         Fate::Drained => Left::Nothing,
         Fate::Blocked => Left::Blocked,
         Fate::Ends(how) => {
@@ -230,11 +258,11 @@ fn tell_to<S: Shows, N: Network>(
     ensures crowd { (limits : Limits) (first now : S) (start : Acts) (past : Past)
         → Crowd (λ b. view_of S.who N.number b.value)
         (rules_of S.made S.seen S.noted S.status S.changed S.caps S.leavers) limits first start Writes
-        (those_before clients.old.queue place) past
+        (those_before clients.old.queue place []) past
         (N.log network.old) clients.old.slots.items clients.old.accepted now
         → Crowd (λ b. view_of S.who N.number b.value)
         (rules_of S.made S.seen S.noted S.status S.changed S.caps S.leavers) limits first start Writes
-        (those_before clients.new.queue (place + 1)) past
+        (those_before clients.new.queue (place + 1) []) past
         (N.log network.new) clients.new.slots.items clients.new.accepted now }
     ensures order { clients.new.queue.order ≡ clients.old.queue.order }
     ensures stands { (i : ℕ) → stands_in clients.new.queue i ≡ stands_in clients.old.queue i }

@@ -42,6 +42,9 @@ pub struct Limits {
     /// The most connections on which one tenant may be logged in at once: 1 to 1,024. Without this there
     /// is no limit.
     pub tenant_clients: Option<u32>,
+    /// The most clients of one tenant that are heard in a round: 1 to 1,024. Those on whose connections nobody
+    /// is logged in count as one tenant.
+    pub share: u32,
     /// How many connections are accepted before the server ends.
     pub connections: u64,
     /// How many seconds a connection may last on which nobody is logged in.

@@ -40,10 +40,11 @@ connections_of n = if n == 4294967295 then 18446744073709551615 else n
 
 -- the limits of the command line; there are questions if a status socket or a control socket was asked
 -- for
-abbrev pub limits_of : ℕ → Option ℕ → ℕ → ℕ → Option ℕ → Option ℕ → Desks → Option (List ℕ) → When → Limits
-limits_of clients tenant_clients connections login idle turn desks directory w = record {
+abbrev pub limits_of : ℕ → Option ℕ → ℕ → ℕ → ℕ → Option ℕ → Option ℕ → Desks → Option (List ℕ) → When → Limits
+limits_of clients tenant_clients share connections login idle turn desks directory w = record {
   clients = clients;
   tenant_clients = tenant_clients;
+  share = share;
   connections = connections_of connections;
   login = Some login;
   idle = idle;
@@ -60,7 +61,7 @@ batch_of true = batches.EachRead
 -- which answers a job writes at once to its standard output; `serve` writes none there
 abbrev pub batch_in : Job → Batch
 batch_in (job.Run words batch) = batch_of batch
-batch_in (job.Serve config socket watch control clients tenant_clients connections login idle turn reserve directory w segment new_journal check) = batches.EachReply
+batch_in (job.Serve config socket watch control clients tenant_clients share connections login idle turn reserve directory w segment new_journal check) = batches.EachReply
 batch_in (job.Compact directory) = batches.EachReply
 batch_in (job.Repair directory sure drop_later) = batches.EachReply
 batch_in (job.Journal directory tenant new check) = batches.EachReply
@@ -68,7 +69,7 @@ batch_in (job.Journal directory tenant new check) = batches.EachReply
 -- the job is one of the two programs
 abbrev pub IsProgram : Job → Type 0
 IsProgram (job.Run words batch) = Unit {0}
-IsProgram (job.Serve config socket watch control clients tenant_clients connections login idle turn reserve directory w segment new_journal check) = Unit {0}
+IsProgram (job.Serve config socket watch control clients tenant_clients share connections login idle turn reserve directory w segment new_journal check) = Unit {0}
 IsProgram (job.Compact directory) = ⊥
 IsProgram (job.Repair directory sure drop_later) = ⊥
 IsProgram (job.Journal directory tenant new check) = ⊥
@@ -107,9 +108,9 @@ module _ (has : List ℕ → Kept → Type 0) where
   HasDone secret (job.Run words batch) status text from to log log' = (ran : Ran)
       × HasRun IsServedStep seen_of held_words (IsNewService secret None) words (batch_of batch) ran from to
       × (status ≡ run_status ran) × (text ≡ run_text ran) × (log' ≡ log)
-  HasDone secret (job.Serve config socket watch control clients tenant_clients connections login idle turn reserve directory w segment new_journal check) status text from to log log' = (hosted : Hosted)
+  HasDone secret (job.Serve config socket watch control clients tenant_clients share connections login idle turn reserve directory w segment new_journal check) status text from to log log' = (hosted : Hosted)
       × ServesBy check directory secret reserve hosted config socket (desks_at watch control)
-      (limits_of clients tenant_clients connections login idle turn (desks_at watch control) directory w) log log'
+      (limits_of clients tenant_clients share connections login idle turn (desks_at watch control) directory w) log log'
       × (status ≡ host_status hosted) × (text ≡ host_text hosted) × (to ≡ from)
   HasDone secret (job.Compact directory) status text from to log log' = ⊥
   HasDone secret (job.Repair directory sure drop_later) status text from to log log' = ⊥

@@ -112,10 +112,10 @@ module _ (has : List ℕ → Kept → Type 0) where
   -- The first that was asked of the system is a secret. It gave none, and nothing else was asked. Or a server ran with
   -- it; the status and the line on standard error say how it ended, and standard output shows nothing.
   abbrev pub KeepsPromises : Job → ℕ → Option (List ℕ) → Wire → Wire → Log → Log → Type 0
-  KeepsPromises (job.Serve config socket watch control clients tenant_clients connections login idle turn reserve directory w segment new_journal check) status text from to log log' = HasNoSecret status text from to log log'
+  KeepsPromises (job.Serve config socket watch control clients tenant_clients share connections login idle turn reserve directory w segment new_journal check) status text from to log log' = HasNoSecret status text from to log log'
       ⊎ ((secret : List ℕ) × (mid : Log) × (hosted : Hosted) × Logs log (Drawn secret ∷ []) mid
       × ServesWell secret config socket (desks_at watch control) reserve
-      (limits_of clients tenant_clients connections login idle turn (desks_at watch control) directory w) mid log' check directory hosted
+      (limits_of clients tenant_clients share connections login idle turn (desks_at watch control) directory w) mid log' check directory hosted
       × (status ≡ host_status hosted) × (text ≡ host_text hosted) × (to ≡ from))
   KeepsPromises (job.Run words batch) status text from to log log' = Unit {0}
   KeepsPromises (job.Compact directory) status text from to log log' = Unit {0}

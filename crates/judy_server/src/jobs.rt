@@ -149,6 +149,7 @@ fn do_job_with<K: Chosen, R: Source, W: Sink, H: Journals>(
             control,
             clients,
             tenant_clients,
+            share,
             connections,
             login,
             idle,
@@ -169,6 +170,7 @@ fn do_job_with<K: Chosen, R: Source, W: Sink, H: Journals>(
             let limits = Limits {
                 clients: *clients,
                 tenant_clients: *tenant_clients,
+                share: *share,
                 connections: connections_of(*connections),
                 login: Some(*login),
                 idle: *idle,

@@ -12,7 +12,7 @@ module _ (has : List ℕ → Kept → Type 0) where
   ended : (secret : List ℕ) (j : Job) (status : ℕ) (text : Option (List ℕ)) (from to : Wire) (log log' : Log)
       → HasDone has secret j status text from to log log' → HasEnded j status text
   ended secret (job.Run words batch) status text from to log log' h = (h.0, h.2, h.3)
-  ended secret (job.Serve config socket watch control clients tenant_clients connections login idle turn reserve journal sync segment new_journal check) status text from to log log' h = (h.0, h.2, h.3)
+  ended secret (job.Serve config socket watch control clients tenant_clients share connections login idle turn reserve journal sync segment new_journal check) status text from to log log' h = (h.0, h.2, h.3)
   ended secret (job.Compact directory) status text from to log log' h = absurd h
   ended secret (job.Repair directory sure drop_later) status text from to log log' h = absurd h
   ended secret (job.Journal directory tenant new check) status text from to log log' h = absurd h

@@ -56,7 +56,7 @@ host-told host.Journal h = inl (codes "judyd: journal fault", refl)
 
 pub well-is-silent : (j : Job) (status : ℕ) (text : Option (List ℕ)) → IsFinished j status text → status ≡ 0 → text ≡ None
 well-is-silent (job.Run words batch) status text (inl (how, is, told)) e = told ∙ run-silent how (sym is ∙ e)
-well-is-silent (job.Serve config socket watch control clients tenant_clients connections login idle turn reserve journal sync segment new_journal check) status text (inl (how, is, told)) e =
+well-is-silent (job.Serve config socket watch control clients tenant_clients share connections login idle turn reserve journal sync segment new_journal check) status text (inl (how, is, told)) e =
     told ∙ host-silent how (sym is ∙ e)
 well-is-silent (job.Compact directory) status text (inl (ended, none)) e = none
 well-is-silent (job.Repair directory sure drop_later) status text (inl (ended, none)) e = none
@@ -69,7 +69,7 @@ pub faults-are-told : (j : Job) (status : ℕ) (text : Option (List ℕ)) → Is
     → ((line : List ℕ) × text ≡ Some line) ⊎ ((status ≡ 3) × (text ≡ None))
 faults-are-told (job.Run words batch) status text p (inl (how, is, told)) h =
     let (line, by) = run-told how (λ e. h (is ∙ e)) in inl (line, told ∙ by)
-faults-are-told (job.Serve config socket watch control clients tenant_clients connections login idle turn reserve journal sync segment new_journal check) status text p (inl (how, is, told)) h =
+faults-are-told (job.Serve config socket watch control clients tenant_clients share connections login idle turn reserve journal sync segment new_journal check) status text p (inl (how, is, told)) h =
     elim (host-told how (λ e. h (is ∙ e))) [
       | inl t ↦ inl (t.0, told ∙ t.1)
       | inr t ↦ inr (is ∙ t.0, told ∙ t.1)

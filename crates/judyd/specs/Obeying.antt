@@ -32,7 +32,7 @@ IsRepaired sure status = IsUpkept status ⊎ ((sure ≡ false) × (status ≡ 1)
 -- the status, and the line on standard error, if any, are those of a way in which the job can end
 abbrev pub HasEnded : Job → ℕ → Option (List ℕ) → Type 0
 HasEnded (job.Run words batch) status text = (ran : Ran) × (status ≡ run_status ran) × (text ≡ run_text ran)
-HasEnded (job.Serve config socket watch control clients tenant_clients connections login idle turn reserve journal sync segment new_journal check) status text =
+HasEnded (job.Serve config socket watch control clients tenant_clients share connections login idle turn reserve journal sync segment new_journal check) status text =
     (hosted : Hosted) × (status ≡ host_status hosted) × (text ≡ host_text hosted)
 HasEnded (job.Compact directory) status text = IsUpkept status × (text ≡ None)
 HasEnded (job.Repair directory sure drop_later) status text = IsRepaired sure status × (text ≡ None)
@@ -68,8 +68,8 @@ module _ (has : List ℕ → Kept → Type 0) where
 
   -- so it is for each program that serves
   abbrev pub KeepsAll : Result Job Refusal → ℕ → Type 0
-  KeepsAll (Ok (job.Serve config socket watch control clients tenant_clients connections login idle turn reserve journal sync segment new_journal check)) status =
-      HasDoneAll (job.Serve config socket watch control clients tenant_clients connections login idle turn reserve journal sync segment new_journal check) status
+  KeepsAll (Ok (job.Serve config socket watch control clients tenant_clients share connections login idle turn reserve journal sync segment new_journal check)) status =
+      HasDoneAll (job.Serve config socket watch control clients tenant_clients share connections login idle turn reserve journal sync segment new_journal check) status
   KeepsAll (Ok (job.Run words batch)) status = Unit {0}
   KeepsAll (Ok (job.Compact directory)) status = Unit {0}
   KeepsAll (Ok (job.Repair directory sure drop_later)) status = Unit {0}

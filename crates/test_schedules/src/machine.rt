@@ -69,6 +69,8 @@ pub struct Machine {
     waits: u32,
     vain: u32,
     journaled: usize,
+    /// Whether a tenant's share is as many as there may be clients, so that none of them is passed over.
+    pub even: bool,
     /// Whether the server was asleep when nothing could happen any more.
     pub asleep: bool,
     /// Whether there was no end.
@@ -105,6 +107,7 @@ impl Machine {
             waits: 0,
             vain: 0,
             journaled: 0,
+            even: true,
             asleep: false,
             endless: false,
             stopped: false,
@@ -261,9 +264,10 @@ impl Machine {
 
     /// Notes who was to have a turn and had none. Those who have lines that may be answered are next.
     fn look_at_turns(&mut self) {
+        let even = self.even;
         for peer in self.peers.iter_mut() {
             let served = peer.place == Place::Served;
-            if served && peer.due && !peer.is_in_line() {
+            if even && served && peer.due && !peer.is_in_line() {
                 peer.note(Wrong::Skipped);
             }
             peer.due = served && peer.is_owed();

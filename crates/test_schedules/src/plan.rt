@@ -120,7 +120,8 @@ fn draw_time(draw: &mut Draw) -> Option<u32> {
 }
 
 /// The limits of a server to which this number of clients comes. In a crowd there is one place, for which
-/// the others wait. Each client has a tenant of its own, so that one connection a tenant is enough.
+/// the others wait. Each client has a tenant of its own, so that one connection a tenant is enough. With a share of
+/// one, those on which nobody is logged in have their turns one after another.
 pub fn draw_limits(draw: &mut Draw, peers: usize, crowd: bool) -> Limits {
     let places = draw.one_of(&[1, 2, 3, PEERS_LIMIT, PEERS_LIMIT, PEERS_LIMIT]);
     let places = if crowd { 1 } else { places };
@@ -128,6 +129,7 @@ pub fn draw_limits(draw: &mut Draw, peers: usize, crowd: bool) -> Limits {
     Limits {
         clients: places.min(PEERS_LIMIT) as u32,
         tenant_clients: if ends { Some(1) } else { None },
+        share: draw.one_of(&[1, PEERS_LIMIT, PEERS_LIMIT]) as u32,
         connections: if ends {
             peers.min(PEERS_LIMIT) as u64
         } else {

@@ -145,6 +145,7 @@ pub fn play(alloc: Global, seed: u64) -> Result<Option<Finding>, AllocError> {
         return Ok(Some(Finding::Ended(Ending::Memory)));
     };
     let mut machine = Machine::new(peers, chances, draw);
+    machine.even = limits.share as usize >= PEERS_LIMIT;
     let ending = serve_many(alloc, &mut machine, &mut service, limits, writer);
     Ok(judge(&machine, ending))
 }

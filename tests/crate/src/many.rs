@@ -9,6 +9,7 @@ mod limited;
 mod questions;
 mod reloads;
 mod rounds;
+mod shares;
 mod stage;
 mod talks;
 mod theatre;

@@ -201,7 +201,7 @@ module _ (lost : CrashesLoseNothing) (exact : FullIsForNew) (has : List ℕ → 
 
   -- each run keeps all promises
   pub keeps-promises : EveryRunKeepsPromises has
-  keeps-promises (job.Serve config socket watch control clients tenant_clients connections login idle turn reserve directory w segment new_journal check) status text from to log log' (inl done) =
+  keeps-promises (job.Serve config socket watch control clients tenant_clients share connections login idle turn reserve directory w segment new_journal check) status text from to log log' (inl done) =
       let (how, serves, is, told, same) = done.done in
       inr (
         done.secret,
@@ -209,12 +209,12 @@ module _ (lost : CrashesLoseNothing) (exact : FullIsForNew) (has : List ℕ → 
         how,
         done.drawn,
         serves-well done.secret config socket (desks_at watch control) reserve
-            (limits_of clients tenant_clients connections login idle turn (desks_at watch control) directory w) done.mid log' check directory w refl how serves,
+            (limits_of clients tenant_clients share connections login idle turn (desks_at watch control) directory w) done.mid log' check directory w refl how serves,
         is,
         told,
         same,
       )
-  keeps-promises (job.Serve config socket watch control clients tenant_clients connections login idle turn reserve directory w segment new_journal check) status text from to log log' (inr none) = inl none
+  keeps-promises (job.Serve config socket watch control clients tenant_clients share connections login idle turn reserve directory w segment new_journal check) status text from to log log' (inr none) = inl none
   keeps-promises (job.Run words batch) status text from to log log' h = tt
   keeps-promises (job.Compact directory) status text from to log log' h = tt
   keeps-promises (job.Repair directory sure drop_later) status text from to log log' h = tt

@@ -27,10 +27,10 @@ module _ (has : List ℕ → Kept → Type 0) where
   run-asks-nothing secret words batch status text from to log log' (how, has_run, is, told, same) = same
 
   -- `serve` neither reads standard input nor writes standard output
-  pub serve-says-nothing : (secret config socket : List ℕ) (watch control : Option (List ℕ)) (clients : ℕ) (tenant_clients : Option ℕ) (connections login : ℕ) (idle turn reserve : Option ℕ) (directory : Option (List ℕ)) (sync : Sync) (segment : ℕ) (new_journal check : Bool)
+  pub serve-says-nothing : (secret config socket : List ℕ) (watch control : Option (List ℕ)) (clients : ℕ) (tenant_clients : Option ℕ) (share connections login : ℕ) (idle turn reserve : Option ℕ) (directory : Option (List ℕ)) (sync : Sync) (segment : ℕ) (new_journal check : Bool)
       (status : ℕ) (text : Option (List ℕ)) (from to : Wire) (log log' : Log)
-      → HasDone has secret (job.Serve config socket watch control clients tenant_clients connections login idle turn reserve directory sync segment new_journal check) status text from to log log' → to ≡ from
-  serve-says-nothing secret config socket watch control clients tenant_clients connections login idle turn reserve directory sync segment new_journal check status text from to log log' (hosted, serves, is, told, same) = same
+      → HasDone has secret (job.Serve config socket watch control clients tenant_clients share connections login idle turn reserve directory sync segment new_journal check) status text from to log log' → to ≡ from
+  serve-says-nothing secret config socket watch control clients tenant_clients share connections login idle turn reserve directory sync segment new_journal check status text from to log log' (hosted, serves, is, told, same) = same
 
   -- the first that is asked of the system is a secret, and the job is done with it
   pub drawn-once : (asked : Job) (status : ℕ) (text : Option (List ℕ)) (from to : Wire) (log log' : Log)

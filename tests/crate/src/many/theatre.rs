@@ -47,6 +47,7 @@ pub fn limits(clients: u32, connections: u32) -> Limits {
     Limits {
         clients,
         tenant_clients: None,
+        share: 1024,
         connections: u64::from(connections),
         login: None,
         idle: None,

@@ -34,15 +34,19 @@ fn sockets_text(
     format!(in alloc; "{}{status}{control}", socket.0)
 }
 
-// How many clients a server has at once, and how many of one tenant, as a text.
+// How many clients a server has at once, how many of one tenant, and how many of one are heard in a round, if
+// that is not 8, as a text.
 fn clients_text(
     alloc: Global,
     clients: u32,
     tenant_clients: Option<u32>,
+    share: u32,
 ) -> Result<String, AllocError> {
-    match tenant_clients {
-        Some(most) => format!(in alloc; "{clients}/{most}"),
-        None => format!(in alloc; "{clients}"),
+    match (tenant_clients, share) {
+        (Some(most), 8) => format!(in alloc; "{clients}/{most}"),
+        (Some(most), share) => format!(in alloc; "{clients}/{most}:{share}"),
+        (None, 8) => format!(in alloc; "{clients}"),
+        (None, share) => format!(in alloc; "{clients}:{share}"),
     }
 }
 
@@ -85,6 +89,7 @@ fn job_text(alloc: Global, job: Job) -> Result<String, AllocError> {
             control,
             clients,
             tenant_clients,
+            share,
             connections,
             login,
             idle,
@@ -97,7 +102,7 @@ fn job_text(alloc: Global, job: Job) -> Result<String, AllocError> {
             check,
         } => {
             let sockets = sockets_text(alloc, socket, status, control)?;
-            let clients = clients_text(alloc, clients, tenant_clients)?;
+            let clients = clients_text(alloc, clients, tenant_clients, share)?;
             let limits = limits_text(alloc, connections, login, idle, turn, reserve)?;
             let journal = journal_text(alloc, journal, sync, segment, new_journal)?;
             format!(in alloc;
@@ -236,6 +241,11 @@ serve --config c --socket s --tenant-clients 0 -> usage
 serve --config c --socket s --tenant-clients 1025 -> usage
 serve --config c --socket s --tenant-clients -1 -> usage
 serve --config c --socket s --tenant-clients -> usage
+serve --config c --socket s --share 1 -> serve c s 64:1 4294967295 10 0 0 0 false
+serve --share=1024 --config c --socket s --tenant-clients 2 -> serve c s 64/2:1024 4294967295 10 0 0 0 false
+serve --config c --socket s --share 0 -> usage
+serve --config c --socket s --share 1025 -> usage
+serve --config c --socket s --share -> usage
 serve --config c --socket s --clients 0 -> usage
 serve --config c --socket s --clients 1025 -> usage
 serve --config c --socket s --clients -1 -> usage

@@ -278,6 +278,7 @@ fn host(alloc: Global, system: &mut Play<'_>, start: &Start) -> Hosted {
     let limits = Limits {
         clients: start.clients,
         tenant_clients: None,
+        share: 1024,
         connections: start.connections,
         login: None,
         idle: None,

@@ -68,6 +68,7 @@ fn limits(connections: u64, idle: Option<u32>, turn: Option<u32>) -> Limits {
     Limits {
         clients: 2,
         tenant_clients: None,
+        share: 1024,
         connections,
         login: None,
         idle,

@@ -12,6 +12,7 @@ use Rattle.judy_many.specs.Stories.{is_end, is_fault, told}
 use Rattle.judy_many.specs.Stories.Moment.{Ran}
 use Rattle.judy_many.specs.Stories.Phase.{Reads}
 use Rattle.judy_many.proofs.Looking.{listens_dry, listens_held, listens_not, listens_read}
+use Rattle.judy_many.proofs.Hearing.{heard_lines, heard_not, heard_read}
 use Rattle.judy_many.proofs.Inquiring.{inquired_quiet, inquired_turn, listens_turn, passes_reads, passes_turn, piece_turn, single_turn, stays_asked, turn_acts, turn_story, turn_turns}
 use Rattle.judy_many.proofs.Living.{no_log, then_log}
 use Rattle.judy_many.proofs.Recording.{noted_none}
@@ -23,7 +24,7 @@ use Rattle.judy_many.proofs.client.listen.Goals as goal
 pub returns-then-not-is_ready-clause-goes : goal.returns-then-not-is_ready-clause-goes
 returns-then-not-is_ready-clause-goes g c =
     let v = view_of g.S.Served.who g.N.Network.number c.args.client.now in
-    ([], no_log _, piece_none v.number Reads, refl, stays_none v, noted_none c.args.keeper.now, tt, (λ e. tt), (λ past. tt), (λ past h. refl), listens_not v (c.is_ready.ensures.why c.if-not-is_ready.true))
+    ([], no_log _, piece_none v.number Reads, refl, stays_none v, noted_none c.args.keeper.now, tt, (λ e. tt), (λ past. tt), (λ past h. refl), listens_not v (c.is_ready.ensures.why c.if-not-is_ready.true), heard_not v (c.is_ready.ensures.why c.if-not-is_ready.true))
 
 pub returns-then-not-is_empty-clause-goes : goal.returns-then-not-is_empty-clause-goes
 returns-then-not-is_empty-clause-goes g c =
@@ -48,6 +49,7 @@ returns-then-not-is_empty-clause-goes g c =
       inquired_turn names caps n keep v.who takes [] turns inquires.free barred free,
       passes_turn rules c.args.service.now c.hear.new.service n keep v.who takes [] turns tt run,
       listens_turn names caps n keep v.who takes v _ [] turns refl (listens_held v _ n turns _ c.requires.room refl unasked (c.is_empty.ensures.some c.if-not-is_empty.true) hears),
+      λ w u. heard_lines [] (told (inquiry names caps keep n v.who takes)) n turns,
     )
 
 pub returns-in-Bytes-clause-goes : goal.returns-in-Bytes-clause-goes
@@ -80,6 +82,7 @@ returns-in-Bytes-clause-goes g c =
       inquired_turn names caps n keep v.who takes acts turns inquires.free barred free,
       passes_turn rules c.args.service.now c.hear-in-Bytes.new.service n keep v.who takes acts turns mine run,
       listens_turn names caps n keep v.who takes v _ acts turns refl (listens_read v _ _ n acts turns _ refl mine few told_more hears),
+      λ w u. heard_lines (told acts) (told (inquiry names caps keep n v.who takes)) n turns,
     )
 
 pub returns-in-Nothing-clause-goes : goal.returns-in-Nothing-clause-goes
@@ -99,6 +102,7 @@ returns-in-Nothing-clause-goes g c =
       (λ past. inquired_quiet (is_some c.args.limits.journal) past (told acts) (turns_in-told acts)),
       (λ past h. passes_reads (rules_of g.S.Served.made g.S.Served.seen g.S.Shows.noted g.S.Shows.status g.S.Shows.changed g.S.Shows.caps g.S.Shows.leavers) c.args.service.now n acts mine past),
       listens_dry v _ n acts refl mine few told_more (c.in-Nothing.ensures.none refl),
+      λ w u. heard_read acts _ told_more,
     )
 
 pub returns-in-End-clause-goes : goal.returns-in-End-clause-goes
@@ -122,6 +126,7 @@ returns-in-End-clause-goes g c =
       (λ past. inquired_quiet (is_some c.args.limits.journal) past (told acts) (turns_in-told acts)),
       (λ past h. passes_reads (rules_of g.S.Served.made g.S.Served.seen g.S.Shows.noted g.S.Shows.status g.S.Shows.changed g.S.Shows.caps g.S.Shows.leavers) c.args.service.now n acts mine past),
       listens_dry v _ n acts refl mine few told_more (c.in-End.ensures.none refl),
+      λ w u. heard_read acts _ told_more,
     )
 
 pub returns-in-Fault-clause-goes : goal.returns-in-Fault-clause-goes
@@ -145,4 +150,5 @@ returns-in-Fault-clause-goes g c =
       (λ past. inquired_quiet (is_some c.args.limits.journal) past (told acts) (turns_in-told acts)),
       (λ past h. passes_reads (rules_of g.S.Served.made g.S.Served.seen g.S.Shows.noted g.S.Shows.status g.S.Shows.changed g.S.Shows.caps g.S.Shows.leavers) c.args.service.now n acts mine past),
       listens_dry v _ n acts refl mine few told_more (c.in-Fault.ensures.none refl),
+      λ w u. heard_read acts _ told_more,
     )

@@ -10,7 +10,7 @@ use Rattle.judy_many.proofs.rounds.listen_all.Goals as goal
 
 pub loop-place-init : goal.loop-place-init
 loop-place-init g c = record {
-  crowd = λ first start waits began h. begins (λ b. view_of g.S.Served.who g.N.Network.number b.value) (rules_of g.S.Served.made g.S.Served.seen g.S.Shows.noted g.S.Shows.status g.S.Shows.changed g.S.Shows.caps g.S.Shows.leavers) c.args.limits first start Reads c.args.clients.now.queue (past_of waits began c.args.keeper.now) _ _ _ _ h;
+  crowd = λ first start waits began h. begins (λ b. view_of g.S.Served.who g.N.Network.number b.value) (rules_of g.S.Served.made g.S.Served.seen g.S.Shows.noted g.S.Shows.status g.S.Shows.changed g.S.Shows.caps g.S.Shows.leavers) c.args.limits first start Reads c.args.clients.now.queue c.new-shares.result c.new-shares.ensures.none (past_of waits began c.args.keeper.now) _ _ _ _ h;
   queue = refl;
   logins = refl;
   speakers = refl;
@@ -38,4 +38,4 @@ loop-place-preserved g c =
 
 pub returns-clause-crowd : goal.returns-clause-crowd
 returns-clause-crowd g c = λ first start waits began e h.
-    all_read (λ b. view_of g.S.Served.who g.N.Network.number b.value) (rules_of g.S.Served.made g.S.Served.seen g.S.Shows.noted g.S.Shows.status g.S.Shows.changed g.S.Shows.caps g.S.Shows.leavers) c.args.limits first start c.args.clients.now.queue c.loop-place.clients.queue c.loop-place.place (past_of waits began c.loop-place.keeper) _ _ _ _ c.loop-place.invariant.queue c.len-place-end.ensures.found (let n = c.len-place-end.ensures.long in omega (arith, n)) (c.loop-place.invariant.crowd first start waits began h)
+    all_read (λ b. view_of g.S.Served.who g.N.Network.number b.value) (rules_of g.S.Served.made g.S.Served.seen g.S.Shows.noted g.S.Shows.status g.S.Shows.changed g.S.Shows.caps g.S.Shows.leavers) c.args.limits first start c.args.clients.now.queue c.loop-place.clients.queue c.loop-place.shares c.loop-place.place (past_of waits began c.loop-place.keeper) _ _ _ _ c.loop-place.invariant.queue c.len-place-end.ensures.found (let n = c.len-place-end.ensures.long in omega (arith, n)) (c.loop-place.invariant.crowd first start waits began h)

@@ -1,4 +1,4 @@
-use Rattle.std.proofs.Common.{arith, refl, ◌∙◌}
+use Rattle.std.proofs.Common.{[], arith, refl, ◌∙◌}
 use Rattle.judy_many.specs.Lives.{view_of}
 use Rattle.judy_many.specs.Stories.Phase.{Writes}
 use Rattle.judy_many.proofs.Crowding.{all_told, begins}
@@ -7,7 +7,7 @@ use Rattle.judy_many.proofs.rounds.tell_all.Goals as goal
 
 pub loop-place-init : goal.loop-place-init
 loop-place-init g c = record {
-  crowd = λ limits first now start past h. begins (λ b. view_of g.S.Served.who g.N.Network.number b.value) (rules_of g.S.Served.made g.S.Served.seen g.S.Shows.noted g.S.Shows.status g.S.Shows.changed g.S.Shows.caps g.S.Shows.leavers) limits first start Writes c.args.clients.now.queue past _ _ _ now h;
+  crowd = λ limits first now start past h. begins (λ b. view_of g.S.Served.who g.N.Network.number b.value) (rules_of g.S.Served.made g.S.Served.seen g.S.Shows.noted g.S.Shows.status g.S.Shows.changed g.S.Shows.caps g.S.Shows.leavers) limits first start Writes c.args.clients.now.queue [] (λ g. refl) past _ _ _ now h;
   order = refl;
   stands = λ i. refl;
   known = λ speakers k. k;

@@ -11,6 +11,7 @@ use Rattle.judy_many.specs.declared.queue.Left.TheVariants as left
 use Rattle.std.specs.Prelude.{option_map}
 use Rattle.judy_many.specs.Watches.{LeftTells, SlotTells}
 use Rattle.judy_many.proofs.Looking.{tells_left, tells_none, tells_stay}
+use Rattle.judy_many.proofs.Hearing.{tells_more}
 use Rattle.judy_many.proofs.Living.{no_log, then_log}
 use Rattle.judy_many.proofs.Telling.{acts_in-append, turns_in-append}
 use Rattle.judy_many.proofs.rounds.tell_at.Goals as goal
@@ -56,8 +57,8 @@ returns-clause-did g c = elim c.match-tell.branch [
             (subst (λ x. Stays (view_of g.S.Served.who g.N.Network.number x) (view_of g.S.Served.who g.N.Network.number c.tell.new.client) more)
             c.deref_mut.ensures.value stays),
         subst (λ l. SlotTells l (option_map (λ b. view_of g.S.Served.who g.N.Network.number b.value) c.args.slot.now) (Some (view_of g.S.Served.who g.N.Network.number c.tell.new.client)) more) (sym w.left-is)
-            (tells_stay (λ b. view_of g.S.Served.who g.N.Network.number b.value) left.More c.args.slot.now c.in-Some.client (view_of g.S.Served.who g.N.Network.number c.tell.new.client) more c.in-Some.ensures.value
-            (subst (λ x. LeftTells left.More (view_of g.S.Served.who g.N.Network.number x) (view_of g.S.Served.who g.N.Network.number c.tell.new.client) more) c.deref_mut.ensures.value looks)),
+            (tells_stay (λ b. view_of g.S.Served.who g.N.Network.number b.value) w.goes_on-left.result c.args.slot.now c.in-Some.client (view_of g.S.Served.who g.N.Network.number c.tell.new.client) more c.in-Some.ensures.value
+            (tells_more w.goes_on-left.result _ _ more w.goes_on-left.ensures (subst (λ x. LeftTells left.More (view_of g.S.Served.who g.N.Network.number x) (view_of g.S.Served.who g.N.Network.number c.tell.new.client) more) c.deref_mut.ensures.value looks))),
       )
   | in-Drained w ↦
       let (more, log, piece, none, stays, looks) = w.in-Drained.ensures.goes in

@@ -24,7 +24,7 @@ pub returns-else-check : goal.returns-else-check
 returns-else-check g c = rw (c.in-Serve.is, c.if-check.false) (
   c.host_by-hosted.result,
   moved (λ a b w v n s d r. HostsBy g.H.Journals.may_have d c.args.secret.now c.in-Serve.reserve c.host_by-hosted.result a b (desks_at w v)
-      (record { clients = c.in-Serve.clients; tenant_clients = c.in-Serve.tenant_clients; connections = n; login = Some c.in-Serve.login; idle = c.in-Serve.idle; turn = c.in-Serve.turn; status = s; journal = r })
+      (record { clients = c.in-Serve.clients; tenant_clients = c.in-Serve.tenant_clients; share = c.in-Serve.share; connections = n; login = Some c.in-Serve.login; idle = c.in-Serve.idle; turn = c.in-Serve.turn; status = s; journal = r })
       (g.H.Network.log c.args.system.now) (g.H.Network.log c.host_by-hosted.new.system))
       c.as_str-file.result.now c.in-Serve.config c.as_str-path.result.now c.in-Serve.socket _ c.in-Serve.status _ c.in-Serve.control
       c.connections_of.result (connections_of c.in-Serve.connections) c.has_desk.result (is_some c.in-Serve.status || is_some c.in-Serve.control)

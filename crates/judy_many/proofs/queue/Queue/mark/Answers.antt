@@ -8,7 +8,7 @@ use Rattle.judy_many.proofs.queue.Queue.mark.Goals as goal
 
 -- a slot that is awake stands in the queue
 standing : (m : Mark) → is_awake m ≡ true → stands m ≡ true
-standing m e = elim m as (λ m. is_awake m ≡ true → stands m ≡ true) [ mark.Out ↦ λ e. e | mark.Done ↦ λ e. refl | mark.Ready ↦ λ e. e | mark.Ended ↦ λ e. e ] e
+standing m e = elim m as (λ m. is_awake m ≡ true → stands m ≡ true) [ mark.Out ↦ λ e. e | mark.Done ↦ λ e. refl | mark.Ready ↦ λ e. e | mark.Ended ↦ λ e. e | mark.Passed ↦ λ e. e | mark.PassedEnded ↦ λ e. e ] e
 
 pub bounds-self-inside-self-inside : goal.bounds-self-inside-self-inside
 bounds-self-inside-self-inside c =
