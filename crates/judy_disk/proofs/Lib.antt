@@ -1,4 +1,5 @@
 mod Texts
+mod Listed
 mod NameLaws
 mod Runs
 mod Sums

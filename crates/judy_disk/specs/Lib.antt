@@ -1,6 +1,7 @@
 pub mod Acts
 pub mod Folders
 pub mod Growth
+pub mod Listings
 pub mod Manifests
 pub mod Names
 pub mod Notes

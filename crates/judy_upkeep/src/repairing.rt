@@ -244,7 +244,7 @@ fn scan<F: Files + Clone + Drop>(folder: &mut Folder<'_, F>) -> Result<Found, Di
     let found = folder.scan_unnamed()?;
     let last = u64::min(found.last.unwrap_or(0), manifest.last);
     match manifest.lack(found.snapshot.unwrap_or(0), last) {
-        Some(lack) => Err(DiskFault::from(lack)),
+        Some(lack) => Err(DiskFault::lacking(lack)),
         None => Ok(found),
     }
 }
