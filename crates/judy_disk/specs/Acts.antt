@@ -101,6 +101,11 @@ abbrev pub IsAt : Place → DiskFault → Type 0
 IsAt p (fault.System at reason) = at ≡ p
 IsAt p other = ⊥
 
+-- the fault is that the disk has no room
+abbrev pub IsFull : DiskFault → Type 0
+IsFull (fault.System at reason) = (error_kind reason ≡ kind.StorageFull) ⊎ (error_kind reason ≡ kind.QuotaExceeded)
+IsFull other = ⊥
+
 -- the fault is that a file is not there
 abbrev pub IsAbsent : DiskFault → Type 0
 IsAbsent (fault.System at reason) = error_kind reason ≡ kind.NotFound
@@ -176,6 +181,11 @@ abbrev pub GivesManifest : Result ℕ DiskFault → List ℕ → List Act → Li
 GivesManifest (Ok n) room acts acts' = (n ≤ length room) × (acts' ≡ acts ++ Gave place.Manifest (take n room) ∷ [])
 GivesManifest (Err why) room acts acts' = (IsAbsent why × (acts' ≡ acts ++ Absent (Read place.Manifest) ∷ []))
     ⊎ ((IsAbsent why → ⊥) × (acts' ≡ acts ++ Failed (Read place.Manifest) ∷ []))
+
+-- Bytes of a file were read, from this place on, and nothing else was asked.
+abbrev pub GivesAt : {T : Type 0} → Place → ℕ → Result T DiskFault → List ℕ → List Act → List Act → Type 0
+GivesAt p at (Ok done) bytes acts acts' = acts' ≡ acts ++ GaveAt p at bytes ∷ []
+GivesAt p at (Err why) bytes acts acts' = IsAt p why × (acts' ≡ acts ++ Failed (ReadAt p at (length bytes)) ∷ [])
 
 -- ---- what a call on a file has asked
 

@@ -9,7 +9,7 @@
 use Rattle.std.specs.Prelude.{◌≡◌, ◌⊎◌, ◌++◌, ◌<◌, ℕ, Bool, List, [], ◌∷◌, Option, Some, None, Result, Ok, Err, max}
 use Rattle.judy_disk.specs.Acts.{Act, Ask, Asks, AsksAll, ChecksEmpty, FailsIn, IsAbsent, IsAt, done_all, size_by}
 use Rattle.judy_disk.specs.Acts.Act.{Absent, Did, Failed, Gave, Measured, Refused}
-use Rattle.judy_disk.specs.Acts.Ask.{Lock, Make, Measure, Open, Read, Remove, Rename, Secure, TryLock, Write}
+use Rattle.judy_disk.specs.Acts.Ask.{Lock, Make, Open, Read, Remove, Rename, Secure, TryLock, Write}
 use Rattle.judy_disk.specs.Manifests.{text_of}
 use Rattle.judy_disk.specs.Notes.{act_if}
 use Rattle.judy_disk.specs.declared.faults.DiskFault.{DiskFault}
@@ -35,12 +35,6 @@ Unopened p acts acts' = (acts' ≡ acts ++ Failed (Make p) ∷ []) ⊎ (acts' �
 abbrev pub MakesOrOpens : {T : Type 0} → Place → Result T DiskFault → List Act → List Act → Type 0
 MakesOrOpens p (Ok file) acts acts' = Opened p acts acts'
 MakesOrOpens p (Err why) acts acts' = IsAt p why × Unopened p acts acts'
-
--- A file was opened for writing and measured, and nothing else was asked.
-abbrev pub OpensAll : {T : Type 0} → Place → Result T DiskFault → List Act → List Act → Type 0
-OpensAll p (Ok file) acts acts' = (size : ℕ) × (acts' ≡ (acts ++ Did (Open p) ∷ []) ++ Measured p size ∷ [])
-OpensAll p (Err why) acts acts' = IsAt p why × ((acts' ≡ acts ++ Failed (Open p) ∷ [])
-    ⊎ (acts' ≡ (acts ++ Did (Open p) ∷ []) ++ Failed (Measure p) ∷ []))
 
 -- A file of this name was removed, if it was there, and then one was made. Nothing else was asked.
 abbrev pub MakesAnew : {T : Type 0} → Place → Result T DiskFault → List Act → List Act → Type 0

@@ -5,6 +5,7 @@ pub mod Listings
 pub mod Manifests
 pub mod Names
 pub mod Notes
+pub mod Rewriting
 pub mod Rooms
 pub mod Scans
 pub mod Spending

@@ -1,6 +1,6 @@
 //! What can be wrong with the directory of a journal.
 ghost use Rattle.std.specs.Prelude.{◌≡◌, IsFalse, IsTrue};
-ghost use Rattle.judy_disk.specs.Acts.{IsAbsent, IsToldBy};
+ghost use Rattle.judy_disk.specs.Acts.{IsAbsent, IsFull, IsToldBy};
 ghost use Rattle.judy_disk.specs.Scans.{fault_of};
 
 use crate::manifest::Lack;
@@ -66,7 +66,10 @@ impl DiskFault {
     }
 
     /// Whether the disk has no room.
-    pub(crate) fn is_full(&self) -> bool {
+    pub(crate) fn is_full(&self) -> bool
+        ensures is { IsTrue result → IsFull self.now }
+        ensures is_not { IsFalse result → IsFull self.now → ⊥ }
+    {
         match self {
             DiskFault::System { reason, .. } => matches!(
                 reason.kind(),

@@ -3,7 +3,7 @@ ghost use Rattle.std.specs.Prelude.{◌≡◌, [], IfOk};
 ghost use Rattle.judy_disk.specs.Acts.{Asks, TriesLock};
 ghost use Rattle.judy_disk.specs.Acts.Ask.{Lock, Rename, Share, TryLock, TryShare};
 ghost use Rattle.judy_disk.specs.Folders.{asked_of, Begins, BeginsMade, ChecksVacant, FindsManifest, LocksIfFree, LocksIfThere, LocksOpened};
-ghost use Rattle.judy_disk.specs.Folders.{MakesAnew, MakesOrOpens, OpensAll, PutsManifest, RaisesFound, RaisesManifest, Removes, Takes, WritesManifest};
+ghost use Rattle.judy_disk.specs.Folders.{MakesAnew, MakesOrOpens, PutsManifest, RaisesFound, RaisesManifest, Removes, Takes, WritesManifest};
 ghost use Rattle.judy_disk.specs.Growth.{acts_of, file_of, place_of, room_of};
 ghost use Rattle.judy_disk.specs.Listings.{Finds, FindsNames, Scans, ScansNew};
 ghost use Rattle.judy_disk.specs.Rooms.{room_at};
@@ -64,16 +64,6 @@ impl<'a, F: Files> Folder<'a, F> {
             Some(manifest) => Ok(Some(manifest)),
             None => Err(DiskFault::Manifest),
         }
-    }
-
-    /// Opens one of its files for writing behind what it has.
-    pub(crate) fn open_growing(&mut self, place: Place) -> Result<Growing<F>, DiskFault>
-        ensures acts { OpensAll place result (asked_of self.old) (asked_of self.new) }
-        ensures file { IfOk result (λ file. (place_of file ≡ place) × (acts_of file ≡ [])) }
-    {
-        let file = Written::new(self.open_to_write(place)?);
-        let len = file.measure(&mut self.log, place)?;
-        Ok(Growing::new(file, place, len))
     }
 
     /// A file that has a byte is at fault. One that is not there is none.
@@ -189,7 +179,7 @@ impl<'a, F: Locks> Folder<'a, F> {
     }
 
     /// Makes a file anew. One that was begun before is removed.
-    fn make_written(&mut self, place: Place) -> Result<Written<F>, DiskFault>
+    pub(crate) fn make_written(&mut self, place: Place) -> Result<Written<F>, DiskFault>
         ensures { MakesAnew place result (asked_of self.old) (asked_of self.new) }
     {
         let _removed = self.remove(place);

@@ -2,8 +2,8 @@
 //! and whether that is done.
 ghost use Rattle.std.specs.Prelude.{◌<◌, ◌≤◌, IfOk, OnSome};
 ghost use Rattle.std.specs.Io.Iter.{read_dir_left};
-ghost use Rattle.judy_disk.specs.Acts.{Asks, GivesManifest, IsToldAt, Measures, TriesLock};
-ghost use Rattle.judy_disk.specs.Acts.Ask.{Cut, Fill, ListNames, Lock, Make, Open, Remove, Rename, Secure, Share, Sync, TryLock, TryShare, Write};
+ghost use Rattle.judy_disk.specs.Acts.{Asks, GivesAt, GivesManifest, IsToldAt, Measures, TriesLock};
+ghost use Rattle.judy_disk.specs.Acts.Ask.{Cut, Fill, ListNames, Lock, Make, Open, OpenToRead, Remove, Rename, Secure, Share, Sync, TryLock, TryShare, Write};
 ghost use Rattle.judy_disk.specs.Folders.{asked_of};
 ghost use Rattle.judy_disk.specs.Listings.{GivesName};
 
@@ -26,6 +26,30 @@ const OWNER_ALONE: u32 = 0o600;
 
 /// The user number of root.
 const ROOT: u32 = 0;
+
+/// Reads the bytes of a file from this place on, as many as the room has.
+fn read_from<R: Read + Seek>(file: &mut R, at: u64, room: &mut [u8]) -> io::Result<()> {
+    file.seek(SeekFrom::Start(at))?;
+    file.read_exact(room)
+}
+
+/// Reads the bytes of a file from this place on, as many as the room has.
+pub(crate) fn read_at<R: Read + Seek>(
+    log: &mut Record,
+    file: &mut R,
+    place: Place,
+    at: u64,
+    room: &mut [u8],
+) -> Result<(), DiskFault>
+    ensures { GivesAt place at result room.new log.old.acts log.new.acts }
+{
+    let done = read_from(file, at, &mut *room);
+    match done.is_ok() {
+        true => log.gave_at(place, at, room),
+        false => log.asked(Asked::ReadAt(at, room.len() as u64), place, &[], false),
+    }
+    done_at(place, done)
+}
 
 /// A file that is written.
 #[derive(Drop)]
@@ -159,6 +183,15 @@ impl<'a, F: Files> Folder<'a, F> {
         ensures { IsToldAt place result }
     {
         self.open_with(OpenOptions::new().read(true), place)
+    }
+
+    /// Opens one of its files for reading.
+    pub(crate) fn open_to_read(&mut self, place: Place) -> Result<F::File, DiskFault>
+        ensures { Asks (OpenToRead place) result (asked_of self.old) (asked_of self.new) }
+    {
+        let done = self.open(place);
+        self.log.asked(Asked::OpenToRead, place, &[], done.is_ok());
+        done
     }
 
     /// Opens one of its files for writing.

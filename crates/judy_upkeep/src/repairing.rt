@@ -204,7 +204,7 @@ fn whole_len<F: Files>(
 
 /// What goes out of a segment of which this number of bytes stays.
 fn part_of<F: Files>(
-    folder: &Folder<'_, F>,
+    folder: &mut Folder<'_, F>,
     segment: u64,
     from: u64,
 ) -> Result<Part, JournalFault> {
@@ -221,7 +221,7 @@ fn part_of<F: Files>(
 /// All of the segments from one on to the last.
 fn parts_from<F: Files>(
     alloc: Global,
-    folder: &Folder<'_, F>,
+    folder: &mut Folder<'_, F>,
     first: u64,
     last: u64,
 ) -> Result<Vec<Part>, JournalFault> {
