@@ -1,10 +1,9 @@
 -- Sums of the bytes of shares, and the first words of lines.
-use Rattle.std.proofs.Common.{◌≡◌, ◌≢◌, ◌<◌, ◌≤◌, ◌+◌, ◌-◌, ◌^◌, ℕ, zero, suc, Bool, true, false, ◌==◌, cond, List, [], ◌∷◌, ◌++◌, length, take, get_or, Some, sym, ap, ◌∙◌, refl, arith, drop}
-use Rattle.std.specs.Prelude.{min, slice_get, slice_index_or, slice_set, nat_eq, IsSomeAnd, if◌then◌else◌}
+use Rattle.std.proofs.Common.{◌≡◌, ◌<◌, ◌≤◌, ◌+◌, ◌-◌, ◌^◌, ℕ, zero, suc, Bool, true, false, ◌==◌, cond, List, [], ◌∷◌, ◌++◌, length, take, get_or, sym, ap, ◌∙◌, refl, arith, drop}
+use Rattle.std.specs.Prelude.{min, slice_get, slice_index_or, slice_set, IsSomeAnd, if◌then◌else◌}
 use Rattle.judy_model.specs.Stream.{lines_of}
 use Rattle.judy_model.proofs.lemmas.LineLemmas.{lines_of-bytes, lines_of-line}
 use Rattle.judy_protocol.specs.Talks.{HasNoLf}
-use Rattle.std.proofs.lemmas.Bool.Decides.{nat_tests}
 use Rattle.judy_disk.specs.Spending.{bytes_if, first_word, spent_by, spent_in, line_bytes}
 use Rattle.judy_disk.specs.declared.spent.Share.{Share}
 

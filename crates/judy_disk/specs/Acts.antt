@@ -36,6 +36,14 @@ pub data Ask : Type 0 where
   Remove : Place → Ask
   -- a file is read whole
   Read : Place → Ask
+  -- a file that is there is opened for reading
+  OpenToRead : Place → Ask
+  -- bytes of a file are read, from this place in it on, and this number of them
+  ReadAt : Place → ℕ → ℕ → Ask
+  -- a listing of the directory is begun
+  ListNames : Ask
+  -- the next name of a listing
+  NextName : Ask
   -- a file is locked, unless another program has locked it
   TryLock : Place → Ask
   -- a file is locked, once no other program has locked it
@@ -55,8 +63,16 @@ pub data Act : Type 0 where
   Refused : Ask → Act
   -- the file has this number of bytes
   Measured : Place → ℕ → Act
+  -- it was not done, since the file is not there
+  Absent : Ask → Act
   -- the file has these bytes
   Gave : Place → List ℕ → Act
+  -- the file has these bytes, from this place in it on
+  GaveAt : Place → ℕ → List ℕ → Act
+  -- the directory has a file of this name
+  Listed : List ℕ → Act
+  -- the listing has no other names
+  AllListed : Act
 
 -- the file that is at fault if it fails
 abbrev pub place_at : Ask → Place
@@ -71,6 +87,10 @@ place_at (Secure p) = p
 place_at (Rename p q) = q
 place_at (Remove p) = p
 place_at (Read p) = p
+place_at (OpenToRead p) = p
+place_at (ReadAt p at n) = p
+place_at ListNames = place.Folder
+place_at NextName = place.Folder
 place_at (TryLock p) = p
 place_at (Lock p) = p
 place_at (TryShare p) = p
@@ -80,6 +100,11 @@ place_at (Share p) = p
 abbrev pub IsAt : Place → DiskFault → Type 0
 IsAt p (fault.System at reason) = at ≡ p
 IsAt p other = ⊥
+
+-- the fault is that the disk has no room
+abbrev pub IsFull : DiskFault → Type 0
+IsFull (fault.System at reason) = (error_kind reason ≡ kind.StorageFull) ⊎ (error_kind reason ≡ kind.QuotaExceeded)
+IsFull other = ⊥
 
 -- the fault is that a file is not there
 abbrev pub IsAbsent : DiskFault → Type 0
@@ -154,7 +179,13 @@ pub record TriesLock (ask : Ask) (result : Result Bool DiskFault) (acts acts' : 
 -- The manifest's file was read, and nothing else. Its bytes are the first of this room.
 abbrev pub GivesManifest : Result ℕ DiskFault → List ℕ → List Act → List Act → Type 0
 GivesManifest (Ok n) room acts acts' = (n ≤ length room) × (acts' ≡ acts ++ Gave place.Manifest (take n room) ∷ [])
-GivesManifest (Err why) room acts acts' = acts' ≡ acts ++ Failed (Read place.Manifest) ∷ []
+GivesManifest (Err why) room acts acts' = (IsAbsent why × (acts' ≡ acts ++ Absent (Read place.Manifest) ∷ []))
+    ⊎ ((IsAbsent why → ⊥) × (acts' ≡ acts ++ Failed (Read place.Manifest) ∷ []))
+
+-- Bytes of a file were read, from this place on, and nothing else was asked.
+abbrev pub GivesAt : {T : Type 0} → Place → ℕ → Result T DiskFault → List ℕ → List Act → List Act → Type 0
+GivesAt p at (Ok done) bytes acts acts' = acts' ≡ acts ++ GaveAt p at bytes ∷ []
+GivesAt p at (Err why) bytes acts acts' = IsAt p why × (acts' ≡ acts ++ Failed (ReadAt p at (length bytes)) ∷ [])
 
 -- ---- what a call on a file has asked
 

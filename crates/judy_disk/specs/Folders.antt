@@ -6,10 +6,10 @@
 --     PutsManifest m result acts acts'  a manifest was put in the place of the one before
 --     RaisesManifest to result ..       the same, unless it names these files already
 --     LocksIfFree, LocksIfThere, LocksOpened, Takes    a file was locked
-use Rattle.std.specs.Prelude.{◌≡◌, ◌⊎◌, ◌++◌, ◌<◌, ℕ, Bool, true, false, List, [], ◌∷◌, Option, Some, None, Result, Ok, Err, max}
-use Rattle.judy_disk.specs.Acts.{Act, Ask, Asks, AsksAll, ChecksEmpty, FailsIn, IsAbsent, IsAt, Measures, done_all, size_by}
-use Rattle.judy_disk.specs.Acts.Act.{Did, Failed, Gave, Measured, Refused}
-use Rattle.judy_disk.specs.Acts.Ask.{Lock, Make, Measure, Open, Read, Remove, Rename, Secure, TryLock, Write}
+use Rattle.std.specs.Prelude.{◌≡◌, ◌⊎◌, ◌++◌, ◌<◌, ℕ, Bool, List, [], ◌∷◌, Option, Some, None, Result, Ok, Err, max}
+use Rattle.judy_disk.specs.Acts.{Act, Ask, Asks, AsksAll, ChecksEmpty, FailsIn, IsAbsent, IsAt, done_all, size_by}
+use Rattle.judy_disk.specs.Acts.Act.{Absent, Did, Failed, Gave, Measured, Refused}
+use Rattle.judy_disk.specs.Acts.Ask.{Lock, Make, Open, Read, Remove, Rename, Secure, TryLock, Write}
 use Rattle.judy_disk.specs.Manifests.{text_of}
 use Rattle.judy_disk.specs.Notes.{act_if}
 use Rattle.judy_disk.specs.declared.faults.DiskFault.{DiskFault}
@@ -35,12 +35,6 @@ Unopened p acts acts' = (acts' ≡ acts ++ Failed (Make p) ∷ []) ⊎ (acts' �
 abbrev pub MakesOrOpens : {T : Type 0} → Place → Result T DiskFault → List Act → List Act → Type 0
 MakesOrOpens p (Ok file) acts acts' = Opened p acts acts'
 MakesOrOpens p (Err why) acts acts' = IsAt p why × Unopened p acts acts'
-
--- A file was opened for writing and measured, and nothing else was asked.
-abbrev pub OpensAll : {T : Type 0} → Place → Result T DiskFault → List Act → List Act → Type 0
-OpensAll p (Ok file) acts acts' = (size : ℕ) × (acts' ≡ (acts ++ Did (Open p) ∷ []) ++ Measured p size ∷ [])
-OpensAll p (Err why) acts acts' = IsAt p why × ((acts' ≡ acts ++ Failed (Open p) ∷ [])
-    ⊎ (acts' ≡ (acts ++ Did (Open p) ∷ []) ++ Failed (Measure p) ∷ []))
 
 -- A file of this name was removed, if it was there, and then one was made. Nothing else was asked.
 abbrev pub MakesAnew : {T : Type 0} → Place → Result T DiskFault → List Act → List Act → Type 0
@@ -98,12 +92,13 @@ pub record BeginsMade {T : Type 0} (p : Place) (n : ℕ) (result : Result T Disk
 
 -- ---- the manifest
 
--- The manifest was read, and nothing else was asked. What is found is what its text says.
+-- The manifest was read, and nothing else was asked. What is found is what its text says. None is found only if the
+-- system said that there is none.
 abbrev pub FindsManifest : Result (Option Manifest) DiskFault → List Act → List Act → Type 0
 FindsManifest (Ok (Some m)) acts acts' = acts' ≡ acts ++ Gave place.Manifest (text_of m) ∷ []
-FindsManifest (Ok None) acts acts' = acts' ≡ acts ++ Failed (Read place.Manifest) ∷ []
+FindsManifest (Ok None) acts acts' = acts' ≡ acts ++ Absent (Read place.Manifest) ∷ []
 FindsManifest (Err why) acts acts' = (acts' ≡ acts ++ Failed (Read place.Manifest) ∷ [])
-    ⊎ ((text : List ℕ) × (acts' ≡ acts ++ Gave place.Manifest text ∷ []))
+    ⊎ ((text : List ℕ) × (why ≡ fault.Manifest) × (acts' ≡ acts ++ Gave place.Manifest text ∷ []))
 
 -- how a manifest is written under another name
 abbrev pub writes_of : Manifest → List Ask

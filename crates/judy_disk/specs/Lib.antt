@@ -1,9 +1,11 @@
 pub mod Acts
 pub mod Folders
 pub mod Growth
+pub mod Listings
 pub mod Manifests
 pub mod Names
 pub mod Notes
+pub mod Rewriting
 pub mod Rooms
 pub mod Scans
 pub mod Spending

@@ -44,20 +44,28 @@ ask_of ask p more bytes =
     else if ask == 11 then Ask.Lock p
     else if ask == 12 then Ask.TryShare p
     else if ask == 13 then Ask.Share p
-    else Ask.Read p
+    else if ask == 14 then Ask.Read p
+    else if ask == 15 then Ask.OpenToRead p
+    else if ask == 16 then Ask.ReadAt p (slice_index more 0) (slice_index more 1)
+    else if ask == 17 then Ask.ListNames
+    else Ask.NextName
 
 -- the answer to what was asked, by its number
 abbrev pub answer_to : ℕ → Ask → Act
 answer_to answer ask =
     if answer == 0 then Act.Did ask
     else if answer == 1 then Act.Failed ask
-    else Act.Refused ask
+    else if answer == 2 then Act.Refused ask
+    else Act.Absent ask
 
--- the same, or the size of a file, or its bytes
+-- the same, or the size of a file, its bytes, or a name
 abbrev pub answer_of : ℕ → ℕ → Place → List ℕ → List ℕ → Act
 answer_of answer ask p more bytes =
     if answer == 3 then Act.Measured p (slice_index more 0)
     else if answer == 4 then Act.Gave p bytes
+    else if answer == 5 then Act.GaveAt p (slice_index more 0) bytes
+    else if answer == 6 then Act.Listed bytes
+    else if answer == 7 then Act.AllListed
     else answer_to answer (ask_of ask p more bytes)
 
 -- what was asked of a file, with these bytes
@@ -72,6 +80,10 @@ ask_by asked.Secure p bytes = Ask.Secure p
 ask_by (asked.Rename q) p bytes = Ask.Rename p q
 ask_by asked.Remove p bytes = Ask.Remove p
 ask_by asked.Read p bytes = Ask.Read p
+ask_by asked.OpenToRead p bytes = Ask.OpenToRead p
+ask_by (asked.ReadAt at n) p bytes = Ask.ReadAt p at n
+ask_by asked.ListNames p bytes = Ask.ListNames
+ask_by asked.NextName p bytes = Ask.NextName
 ask_by asked.TryLock p bytes = Ask.TryLock p
 ask_by asked.Lock p bytes = Ask.Lock p
 ask_by asked.TryShare p bytes = Ask.TryShare p

@@ -7,17 +7,23 @@
 --     old_snapshots, old_segments      the files that a snapshot stands for
 --     IsArranged segments snapshots torn f    the files that are read, and those that are not needed
 --     IsUnarranged segments snapshots fault   why they are not read
-use Rattle.std.specs.Prelude.{◌≡◌, ◌⊎◌, ◌≤◌, ◌<◌, ◌+◌, ◌-◌, ◌^◌, ◌==◌, ℕ, Bool, true, false, List, [], ◌∷◌, ◌++◌, map, nat_lt, if◌then◌else◌, is_some, string_bytes, Option, Some, None}
+--     ArrangesBy m segments snapshots torn result    the files as a manifest wants them
+use Rattle.std.specs.Prelude.{◌≡◌, ◌⊎◌, ◌≤◌, ◌<◌, ◌+◌, ◌-◌, ◌^◌, ◌==◌, ℕ, Bool, true, false, List, [], ◌∷◌, ◌++◌, map, nat_lt, if◌then◌else◌, is_some, string_bytes, unwrap_or, Option, Some, None, Result, Ok, Err}
 use Rattle.std.specs.List.{All, Contains, filter_map}
+use Rattle.std.specs.List.Sorted.{IsPermutation}
 use Rattle.std.specs.IoError.{error_kind}
 use Rattle.std.specs.declared.io.ErrorKind.TheVariants as kind
 use Rattle.judy_disk.specs.declared.faults.DiskFault.{DiskFault}
 use Rattle.judy_disk.specs.declared.faults.DiskFault.TheVariants as fault
+use Rattle.judy_disk.specs.declared.manifest.Lack.{Lack}
+use Rattle.judy_disk.specs.declared.manifest.Lack.TheVariants as lack
+use Rattle.judy_disk.specs.declared.manifest.Manifest.{Manifest}
 use Rattle.judy_disk.specs.declared.names.Named.{Named}
 use Rattle.judy_disk.specs.declared.names.Named.TheVariants as named
 use Rattle.judy_disk.specs.declared.names.Place.{Place}
 use Rattle.judy_disk.specs.declared.names.Place.TheVariants as place
 use Rattle.judy_disk.specs.declared.scan.Found.{Found}
+use Rattle.judy_disk.specs.Manifests.{lack_of}
 use Rattle.judy_disk.specs.Names.{named_of}
 
 abbrev pub IsGreatest : List ℕ → Option ℕ → Type 0
@@ -90,6 +96,11 @@ abbrev pub torn_in : Named → List ℕ
 torn_in (named.Torn n) = n ∷ []
 torn_in _ = []
 
+-- no file of a journal has this name
+abbrev pub is_other : Named → Bool
+is_other named.Other = true
+is_other _ = false
+
 -- the greatest of these numbers, 0 for none
 abbrev pub IsGreatestOr0 : List ℕ → ℕ → Type 0
 IsGreatestOr0 numbers n = IsGreatest numbers (Some n) ⊎ ((numbers ≡ []) × (n ≡ 0))
@@ -117,3 +128,44 @@ IsOther name other = ⊥
 abbrev pub IsUnarranged : List ℕ → List ℕ → DiskFault → Type 0
 IsUnarranged segments snapshots why = ((n : ℕ) × (why ≡ fault.Missing (place.Segment n)) × IsLacking segments snapshots n)
     ⊎ IsOutOfMemory why
+
+-- ---- the files as a manifest wants them
+
+-- the files that are read, of segments in any order
+pub record IsFound (segments snapshots torn : List ℕ) (f : Found) : Type 0 where
+  pub sorted : List ℕ
+  pub same : IsPermutation segments sorted
+  pub arranged : IsArranged sorted snapshots torn f
+
+-- why they are not read
+pub record IsUnfound (segments snapshots : List ℕ) (why : DiskFault) : Type 0 where
+  pub sorted : List ℕ
+  pub same : IsPermutation segments sorted
+  pub unarranged : IsUnarranged sorted snapshots why
+
+-- how files do not fit a manifest, as a fault
+abbrev pub fault_of : Lack → DiskFault
+fault_of (lack.Snapshot n) = fault.Missing (place.Snapshot n)
+fault_of (lack.Segment n) = fault.Missing (place.Segment n)
+fault_of (lack.Behind n) = fault.Behind n
+
+-- how the files that are read do not fit a manifest
+abbrev pub lack_in : Manifest → Found → Option Lack
+lack_in m f = lack_of m (unwrap_or f.snapshot 0) (unwrap_or f.last 0)
+
+-- The files that are read fit the manifest, or this is how they do not.
+abbrev pub FitsBy : Manifest → List ℕ → List ℕ → List ℕ → Result Found DiskFault → Type 0
+FitsBy m segments snapshots torn (Ok f) = IsFound segments snapshots torn f × (lack_in m f ≡ None)
+FitsBy m segments snapshots torn (Err why) = IsUnfound segments snapshots why
+    ⊎ ((f : Found) × (lack : Lack) × IsFound segments snapshots torn f × (lack_in m f ≡ Some lack) × (why ≡ fault_of lack))
+
+-- An older snapshot than that of the manifest is told first, whichever segments there are.
+abbrev pub ArrangesFrom : Option Lack → Manifest → List ℕ → List ℕ → List ℕ → Result Found DiskFault → Type 0
+ArrangesFrom None m segments snapshots torn result = FitsBy m segments snapshots torn result
+ArrangesFrom (Some lack) m segments snapshots torn result = result ≡ Err (fault_of lack)
+
+-- The files that are read fit the manifest, or a fault says why not.
+pub record ArrangesBy (m : Manifest) (segments snapshots torn : List ℕ) (result : Result Found DiskFault) : Type 0 where
+  pub newest : ℕ
+  pub greatest : IsGreatestOr0 snapshots newest
+  pub by : ArrangesFrom (lack_of m newest m.last) m segments snapshots torn result

@@ -2,7 +2,7 @@
 --     shares_of spent                 the bytes by tenant and segment
 --     spent_by chosen shares          the bytes of the shares that are chosen
 --     spent_in chosen segment lines   the bytes of the records of a segment that are chosen
-use Rattle.std.specs.Prelude.{ℕ, ◌+◌, Bool, ◌&&◌, List, [], ◌∷◌, Option, Some, None, length, take, nat_lt, nat_eq, if◌then◌else◌}
+use Rattle.std.specs.Prelude.{ℕ, ◌+◌, Bool, ◌&&◌, List, [], ◌∷◌, length, nat_eq, if◌then◌else◌}
 use Rattle.judy_model.specs.Grammar.{is_name}
 use Rattle.judy_disk.specs.declared.spent.Share.{Share}
 use Rattle.judy_disk.specs.declared.spent.Spent.{Spent}

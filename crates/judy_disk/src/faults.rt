@@ -1,6 +1,7 @@
 //! What can be wrong with the directory of a journal.
-ghost use Rattle.std.specs.Prelude.{◌≡◌, IsTrue};
-ghost use Rattle.judy_disk.specs.Acts.{IsAbsent, IsToldBy};
+ghost use Rattle.std.specs.Prelude.{◌≡◌, IsFalse, IsTrue};
+ghost use Rattle.judy_disk.specs.Acts.{IsAbsent, IsFull, IsToldBy};
+ghost use Rattle.judy_disk.specs.Scans.{fault_of};
 
 use crate::manifest::Lack;
 use crate::names::Place;
@@ -42,9 +43,21 @@ impl DiskFault {
         DiskFault::System { place, reason }
     }
 
+    /// Files do not fit the manifest.
+    pub fn lacking(lack: Lack) -> DiskFault
+        ensures { result ≡ fault_of lack }
+    {
+        match lack {
+            Lack::Snapshot(number) => DiskFault::Missing(Place::Snapshot(number)),
+            Lack::Segment(number) => DiskFault::Missing(Place::Segment(number)),
+            Lack::Behind(number) => DiskFault::Behind(number),
+        }
+    }
+
     /// Whether a file is not there.
     pub(crate) fn is_absent(&self) -> bool
-        ensures { IsTrue result → IsAbsent self.now }
+        ensures is { IsTrue result → IsAbsent self.now }
+        ensures is_not { IsFalse result → IsAbsent self.now → ⊥ }
     {
         match self {
             DiskFault::System { reason, .. } => reason.kind() == io::ErrorKind::NotFound,
@@ -53,7 +66,10 @@ impl DiskFault {
     }
 
     /// Whether the disk has no room.
-    pub(crate) fn is_full(&self) -> bool {
+    pub(crate) fn is_full(&self) -> bool
+        ensures is { IsTrue result → IsFull self.now }
+        ensures is_not { IsFalse result → IsFull self.now → ⊥ }
+    {
         match self {
             DiskFault::System { reason, .. } => matches!(
                 reason.kind(),
@@ -75,16 +91,6 @@ impl DiskFault {
 /// What helps where there is no manifest.
 const NO_MANIFEST: &str =
     ": if a new journal is wanted here, or this is one of an older version: judyd journal DIR --new";
-
-impl From<Lack> for DiskFault {
-    fn from(lack: Lack) -> DiskFault {
-        match lack {
-            Lack::Snapshot(number) => DiskFault::Missing(Place::Snapshot(number)),
-            Lack::Segment(number) => DiskFault::Missing(Place::Segment(number)),
-            Lack::Behind(number) => DiskFault::Behind(number),
-        }
-    }
-}
 
 /// What was done to a file, or the fault that the system's refusal is.
 pub(crate) fn done_at<T>(place: Place, done: io::Result<T>) -> Result<T, DiskFault>

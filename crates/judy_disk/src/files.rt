@@ -24,6 +24,22 @@ impl<F: Files> Written<F> {
         let reason = io::Error::from(io::ErrorKind::AlreadyExists);
         Err(DiskFault::at(place, reason))
     }
+
+    /// Cuts off what follows this number of bytes, and secures the rest. A file that has fewer is at
+    /// fault.
+    pub(crate) fn cut_to(&self, log: &mut Record, place: Place, len: u64) -> Result<(), DiskFault>
+        ensures { CutsTo place len result log.old.acts log.new.acts }
+    {
+        let size = self.measure(log, place)?;
+        if size < len {
+            let reason = io::Error::from(io::ErrorKind::UnexpectedEof);
+            return Err(DiskFault::at(place, reason));
+        }
+        if size > len {
+            self.cut(log, place, len)?;
+        }
+        self.secure(log, place)
+    }
 }
 
 /// A file that is written from its front on. Behind its end it may have zeros, which are written over. It
@@ -123,36 +139,17 @@ impl<F: Files> Growing<F> {
         self.file.sync(&mut self.log, self.place)
     }
 
-    /// Cuts off what follows this number of bytes, and secures the rest. A file that has fewer is at
-    /// fault. The next byte goes behind them.
-    pub(crate) fn cut(&mut self, len: u64) -> Result<(), DiskFault>
-        ensures acts { CutsTo (place_of self.old) len result (acts_of self.old) (acts_of self.new) }
-        ensures place { place_of self.new ≡ place_of self.old }
-        ensures done { OnOk result (room_of self.new ≡ room_at len) }
-        ensures undone { OnErr result (room_of self.new ≡ room_of self.old) }
-    {
-        let size = self.file.measure(&mut self.log, self.place)?;
-        if size < len {
-            let reason = io::Error::from(io::ErrorKind::UnexpectedEof);
-            return Err(DiskFault::at(self.place, reason));
-        }
-        if size > len {
-            self.file.cut(&mut self.log, self.place, len)?;
-        }
-        self.file.secure(&mut self.log, self.place)?;
-        self.room = Room {
-            end: len,
-            made: len,
-        };
-        Ok(())
-    }
-
     /// Cuts off the zeros behind the end, and secures the file. Nothing is appended afterwards.
     pub fn close(&mut self) -> Result<(), DiskFault>
         ensures acts { CutsTo (place_of self.old) (end_of self.old) result (acts_of self.old) (acts_of self.new) }
         ensures place { place_of self.new ≡ place_of self.old }
+        ensures done { OnOk result (room_of self.new ≡ room_at (end_of self.old)) }
+        ensures undone { OnErr result (room_of self.new ≡ room_of self.old) }
     {
-        self.cut(self.room.end)
+        let end = self.room.end;
+        self.file.cut_to(&mut self.log, self.place, end)?;
+        self.room = Room { end, made: end };
+        Ok(())
     }
 
     /// Secures the file whole.

@@ -3,14 +3,15 @@ ghost use Rattle.std.specs.Prelude.{◌≡◌, [], IfOk};
 ghost use Rattle.judy_disk.specs.Acts.{Asks, TriesLock};
 ghost use Rattle.judy_disk.specs.Acts.Ask.{Lock, Rename, Share, TryLock, TryShare};
 ghost use Rattle.judy_disk.specs.Folders.{asked_of, Begins, BeginsMade, ChecksVacant, FindsManifest, LocksIfFree, LocksIfThere, LocksOpened};
-ghost use Rattle.judy_disk.specs.Folders.{MakesAnew, MakesOrOpens, OpensAll, PutsManifest, RaisesFound, RaisesManifest, Removes, Takes, WritesManifest};
+ghost use Rattle.judy_disk.specs.Folders.{MakesAnew, MakesOrOpens, PutsManifest, RaisesFound, RaisesManifest, Removes, Takes, WritesManifest};
 ghost use Rattle.judy_disk.specs.Growth.{acts_of, file_of, place_of, room_of};
+ghost use Rattle.judy_disk.specs.Listings.{Finds, FindsNames, Scans, ScansNew};
 ghost use Rattle.judy_disk.specs.Rooms.{room_at};
 ghost use Rattle.judy_disk.specs.declared.faults.DiskFault.TheVariants.{Compacted, InUse};
 ghost use Rattle.judy_disk.specs.declared.names.Place.TheVariants.{CompactLock, NewSegment, ReadLock, Segment, Snapshot, StartLock};
 ghost use Rattle.judy_disk.specs.declared.names.Place.TheVariants as Place;
 
-use crate::faults::{DiskFault, done_at};
+use crate::faults::DiskFault;
 use crate::files::{Growing, NewSnapshot};
 use crate::locks::Locks;
 use crate::manifest::{MANIFEST_ROOM, Manifest};
@@ -19,7 +20,7 @@ use crate::record::Record;
 use crate::scan::{Found, Names};
 use crate::system::Written;
 use std::alloc::Global;
-use std::fs::{self, Files, OpenOptions};
+use std::fs::{Files, OpenOptions};
 use std::io;
 
 /// The directory of a journal, by its path. It keeps a log of what was asked of the system about its files.
@@ -56,23 +57,13 @@ impl<'a, F: Files> Folder<'a, F> {
         let mut room = [0u8; MANIFEST_ROOM];
         let len = match self.read_manifest(&mut room) {
             Ok(len) => len,
-            Err(fault) if fault.is_absent() => return Ok(None),
-            Err(fault) => return Err(fault),
+            Err(unread) if unread.is_absent() => return Ok(None),
+            Err(unread) => return Err(unread),
         };
         match Manifest::read(&room[..len]) {
             Some(manifest) => Ok(Some(manifest)),
             None => Err(DiskFault::Manifest),
         }
-    }
-
-    /// Opens one of its files for writing behind what it has.
-    pub(crate) fn open_growing(&mut self, place: Place) -> Result<Growing<F>, DiskFault>
-        ensures acts { OpensAll place result (asked_of self.old) (asked_of self.new) }
-        ensures file { IfOk result (λ file. (place_of file ≡ place) × (acts_of file ≡ [])) }
-    {
-        let file = Written::new(self.open_to_write(place)?);
-        let len = file.measure(&mut self.log, place)?;
-        Ok(Growing::new(file, place, len))
     }
 
     /// A file that has a byte is at fault. One that is not there is none.
@@ -114,39 +105,40 @@ impl<'a, F: Files> Folder<'a, F> {
 
 impl<'a, F: Files + Clone + Drop> Folder<'a, F> {
     /// The names of its files.
-    fn names(&self) -> Result<Names, DiskFault> {
-        let listed = fs::read_dir(&(self.files, self.alloc), self.path.as_str());
-        let entries = done_at(Place::Folder, listed)?;
+    fn names(&mut self) -> Result<Names, DiskFault>
+        ensures { FindsNames result (asked_of self.old) (asked_of self.new) }
+    {
+        let mut listing = self.list()?;
         let mut names = Names::new(self.alloc);
-        for entry in entries {
-            let entry = done_at(Place::Folder, entry)?;
+        while let Some(entry) = self.next_listed(&mut listing)? {
             names.put(self.alloc, entry.file_name())?;
         }
         Ok(names)
     }
 
     /// Which files the directory has, whatever its manifest names. Nothing is changed.
-    pub fn scan_unnamed(&self) -> Result<Found, DiskFault> {
+    pub fn scan_unnamed(&mut self) -> Result<Found, DiskFault>
+        ensures { Finds result (asked_of self.old) (asked_of self.new) }
+    {
         self.names()?.arrange(self.alloc)
     }
 
     /// Which files the directory has. Those that its manifest names are all there. Nothing is changed.
-    pub fn scan(&mut self) -> Result<Found, DiskFault> {
+    pub fn scan(&mut self) -> Result<Found, DiskFault>
+        ensures { Scans result (asked_of self.old) (asked_of self.new) }
+    {
         // A file that comes later is not missing, so the manifest is read first.
-        let manifest = self.manifest()?.ok_or(DiskFault::NoManifest)?;
-        let mut names = self.names()?;
-        if let Some(lack) = manifest.lack(names.snapshot(), manifest.last) {
-            return Err(DiskFault::from(lack));
-        }
-        let found = names.arrange(self.alloc)?;
-        match manifest.lack(found.snapshot.unwrap_or(0), found.last.unwrap_or(0)) {
-            Some(lack) => Err(DiskFault::from(lack)),
-            None => Ok(found),
-        }
+        let manifest = match self.manifest()? {
+            Some(manifest) => manifest,
+            None => return Err(DiskFault::NoManifest),
+        };
+        self.names()?.arrange_by(self.alloc, manifest)
     }
 
     /// Which files the directory of a new journal has: it has no manifest yet. Nothing is changed.
-    pub fn scan_new(&mut self) -> Result<Found, DiskFault> {
+    pub fn scan_new(&mut self) -> Result<Found, DiskFault>
+        ensures { ScansNew result (asked_of self.old) (asked_of self.new) }
+    {
         match self.manifest() {
             Ok(None) => self.scan_unnamed(),
             Ok(Some(_)) | Err(DiskFault::Manifest) => Err(DiskFault::HasManifest),
@@ -187,7 +179,7 @@ impl<'a, F: Locks> Folder<'a, F> {
     }
 
     /// Makes a file anew. One that was begun before is removed.
-    fn make_written(&mut self, place: Place) -> Result<Written<F>, DiskFault>
+    pub(crate) fn make_written(&mut self, place: Place) -> Result<Written<F>, DiskFault>
         ensures { MakesAnew place result (asked_of self.old) (asked_of self.new) }
     {
         let _removed = self.remove(place);

@@ -2,7 +2,7 @@
 ghost use Rattle.std.specs.Prelude.{◌≡◌, ℕ, List, [], ◌∷◌, ◌++◌};
 ghost use Rattle.std.specs.Borrow.{ftrue};
 ghost use Rattle.judy_disk.specs.Acts.{Act, lock_by, size_by};
-ghost use Rattle.judy_disk.specs.Acts.Act.{Gave};
+ghost use Rattle.judy_disk.specs.Acts.Act.{Absent, AllListed, Gave, GaveAt, Listed};
 ghost use Rattle.judy_disk.specs.Notes.{act_if, act_of, ask_by, ask_of, place_of};
 
 use crate::names::Place;
@@ -65,6 +65,14 @@ pub(crate) enum Asked {
     Remove,
     /// It is read whole.
     Read,
+    /// It is opened for reading.
+    OpenToRead,
+    /// Bytes are read from this place on, and this number of them.
+    ReadAt(u64, u64),
+    /// A listing of the directory is begun.
+    ListNames,
+    /// The next name of a listing.
+    NextName,
     /// It is locked, if that is possible now.
     TryLock,
     /// It is locked.
@@ -94,6 +102,10 @@ fn numbers_of_ask(asked: Asked) -> (u64, u64, u64)
         }
         Asked::Remove => (9, 0, 0),
         Asked::Read => (14, 0, 0),
+        Asked::OpenToRead => (15, 0, 0),
+        Asked::ReadAt(at, len) => (16, at, len),
+        Asked::ListNames => (17, 0, 0),
+        Asked::NextName => (18, 0, 0),
         Asked::TryLock => (10, 0, 0),
         Asked::Lock => (11, 0, 0),
         Asked::TryShare => (12, 0, 0),
@@ -128,6 +140,15 @@ impl Record {
         }
     }
 
+    /// Notes what was asked of a file that is not there.
+    pub(crate) fn absent(&mut self, asked: Asked, place: Place)
+        ensures { self.new.acts ≡ self.old.acts ++ Absent (ask_by asked place []) ∷ [] }
+    {
+        let (kind, number) = numbers_of(place);
+        let (ask, first, second) = numbers_of_ask(asked);
+        self.note(&[8, ask, kind, number], &[first, second], &[]);
+    }
+
     /// Notes whether a file was locked, or another program has the lock.
     pub(crate) fn tried(&mut self, asked: Asked, place: Place, locked: &io::Result<bool>)
         ensures { self.new.acts ≡ self.old.acts ++ lock_by (ask_by asked place []) locked.now ∷ [] }
@@ -158,5 +179,27 @@ impl Record {
     {
         let (kind, number) = numbers_of(place);
         self.note(&[4, 0, kind, number], &[], bytes);
+    }
+
+    /// Notes the bytes of a file from this place on.
+    pub(crate) fn gave_at(&mut self, place: Place, at: u64, bytes: &[u8])
+        ensures { self.new.acts ≡ self.old.acts ++ GaveAt place at bytes.now ∷ [] }
+    {
+        let (kind, number) = numbers_of(place);
+        self.note(&[5, 0, kind, number], &[at], bytes);
+    }
+
+    /// Notes a name that was listed.
+    pub(crate) fn listed(&mut self, name: &str)
+        ensures { self.new.acts ≡ self.old.acts ++ Listed name.now ∷ [] }
+    {
+        self.note(&[6, 0, 0, 0], &[], name.as_bytes());
+    }
+
+    /// Notes that no other names are listed.
+    pub(crate) fn all_listed(&mut self)
+        ensures { self.new.acts ≡ self.old.acts ++ AllListed ∷ [] }
+    {
+        self.note(&[7, 0, 0, 0], &[], &[]);
     }
 }

@@ -1,11 +1,12 @@
 //! Which files a journal's directory has.
-ghost use Rattle.std.specs.Prelude.{◌≡◌, ◌⊎◌, ◌++◌, ◌∷◌, [], IfErr, IfOk, OnOk, map};
+ghost use Rattle.std.specs.Prelude.{◌≡◌, ◌⊎◌, ◌++◌, ◌∷◌, [], false, IfErr, IfOk, OnOk, map};
 ghost use Rattle.std.specs.List.Sorted.{IsNonDecreasing, IsPermutation};
 ghost use Rattle.judy_disk.specs.Names.{named_of};
 ghost use Rattle.judy_disk.specs.Scans.{Continues, IsArranged, IsGap, IsGreatest, IsGreatestOr0, IsOther, IsOutOfMemory, IsRun, IsUnarranged, Misses};
-ghost use Rattle.judy_disk.specs.Scans.{first_after, is_newest, old_segments, old_snapshots, segment_in, snapshot_in, torn_in};
+ghost use Rattle.judy_disk.specs.Scans.{ArrangesBy, first_after, is_newest, is_other, old_segments, old_snapshots, segment_in, snapshot_in, torn_in};
 
 use crate::faults::DiskFault;
+use crate::manifest::Manifest;
 use crate::names::{Named, Place, read_name};
 use std::alloc::Global;
 use std::io;
@@ -75,6 +76,7 @@ impl Names {
             ≡ self.old.snapshots.items ++ snapshot_in (named_of name.now)) }
         ensures torn { OnOk result (self.new.torn.items
             ≡ self.old.torn.items ++ torn_in (named_of name.now)) }
+        ensures known { OnOk result (is_other (named_of name.now) ≡ false) }
         ensures refused { IfErr result (λ why. IsOutOfMemory why ⊎ IsOther name.now why) }
     {
         match read_name(name) {
@@ -107,6 +109,20 @@ impl Names {
         let mut found = arrange(alloc, segments, self.snapshots.as_slice())?;
         leave_torn(self.torn.as_slice(), &mut found.old)?;
         Ok(found)
+    }
+
+    /// Arranges the files. Those that a manifest names are all there.
+    pub fn arrange_by(&mut self, alloc: Global, manifest: Manifest) -> Result<Found, DiskFault>
+        ensures { ArrangesBy manifest self.old.segments.items self.old.snapshots.items self.old.torn.items result }
+    {
+        if let Some(lack) = manifest.lack(self.snapshot(), manifest.last) {
+            return Err(DiskFault::lacking(lack));
+        }
+        let found = self.arrange(alloc)?;
+        match manifest.lack(found.snapshot.unwrap_or(0), found.last.unwrap_or(0)) {
+            Some(lack) => Err(DiskFault::lacking(lack)),
+            None => Ok(found),
+        }
     }
 }
 

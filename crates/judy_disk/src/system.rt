@@ -1,9 +1,11 @@
 //! What is asked of the system. Each function that has a log makes one call of the system, and notes what it asks
 //! and whether that is done.
-ghost use Rattle.std.specs.Prelude.{◌≤◌, IfOk};
-ghost use Rattle.judy_disk.specs.Acts.{Asks, GivesManifest, IsToldAt, Measures, TriesLock};
-ghost use Rattle.judy_disk.specs.Acts.Ask.{Cut, Fill, Lock, Make, Open, Remove, Rename, Secure, Share, Sync, TryLock, TryShare, Write};
+ghost use Rattle.std.specs.Prelude.{◌<◌, ◌≤◌, IfOk, OnSome};
+ghost use Rattle.std.specs.Io.Iter.{read_dir_left};
+ghost use Rattle.judy_disk.specs.Acts.{Asks, GivesAt, GivesManifest, IsToldAt, Measures, TriesLock};
+ghost use Rattle.judy_disk.specs.Acts.Ask.{Cut, Fill, ListNames, Lock, Make, Open, OpenToRead, Remove, Rename, Secure, Share, Sync, TryLock, TryShare, Write};
 ghost use Rattle.judy_disk.specs.Folders.{asked_of};
+ghost use Rattle.judy_disk.specs.Listings.{GivesName};
 
 use crate::faults::{DiskFault, done_at};
 use crate::folder::Folder;
@@ -11,7 +13,8 @@ use crate::locks::Locks;
 use crate::manifest::MANIFEST_ROOM;
 use crate::names::Place;
 use crate::record::{Asked, Record};
-use std::fs::{self, Files, OpenFile, OpenOptions};
+use std::alloc::Global;
+use std::fs::{self, DirEntry, Files, OpenFile, OpenOptions, ReadDir};
 use std::io::{self, Read, Seek, SeekFrom, Write};
 use std::os::unix::fs::{MetadataExt, OpenOptionsExt};
 
@@ -23,6 +26,30 @@ const OWNER_ALONE: u32 = 0o600;
 
 /// The user number of root.
 const ROOT: u32 = 0;
+
+/// Reads the bytes of a file from this place on, as many as the room has.
+fn read_from<R: Read + Seek>(file: &mut R, at: u64, room: &mut [u8]) -> io::Result<()> {
+    file.seek(SeekFrom::Start(at))?;
+    file.read_exact(room)
+}
+
+/// Reads the bytes of a file from this place on, as many as the room has.
+pub(crate) fn read_at<R: Read + Seek>(
+    log: &mut Record,
+    file: &mut R,
+    place: Place,
+    at: u64,
+    room: &mut [u8],
+) -> Result<(), DiskFault>
+    ensures { GivesAt place at result room.new log.old.acts log.new.acts }
+{
+    let done = read_from(file, at, &mut *room);
+    match done.is_ok() {
+        true => log.gave_at(place, at, room),
+        false => log.asked(Asked::ReadAt(at, room.len() as u64), place, &[], false),
+    }
+    done_at(place, done)
+}
 
 /// A file that is written.
 #[derive(Drop)]
@@ -158,6 +185,15 @@ impl<'a, F: Files> Folder<'a, F> {
         self.open_with(OpenOptions::new().read(true), place)
     }
 
+    /// Opens one of its files for reading.
+    pub(crate) fn open_to_read(&mut self, place: Place) -> Result<F::File, DiskFault>
+        ensures { Asks (OpenToRead place) result (asked_of self.old) (asked_of self.new) }
+    {
+        let done = self.open(place);
+        self.log.asked(Asked::OpenToRead, place, &[], done.is_ok());
+        done
+    }
+
     /// Opens one of its files for writing.
     pub(crate) fn open_to_write(&mut self, place: Place) -> Result<F::File, DiskFault>
         ensures { Asks (Open place) result (asked_of self.old) (asked_of self.new) }
@@ -191,6 +227,7 @@ impl<'a, F: Files> Folder<'a, F> {
         let read = self.try_read(room);
         match &read {
             Ok(len) => self.log.gave(Place::Manifest, &room[..*len]),
+            Err(fault) if fault.is_absent() => self.log.absent(Asked::Read, Place::Manifest),
             Err(_) => self.log.asked(Asked::Read, Place::Manifest, &[], false),
         }
         read
@@ -252,6 +289,48 @@ impl<'a, F: Files> Folder<'a, F> {
         };
         self.log.asked(Asked::Remove, place, &[], done.is_ok());
         done
+    }
+}
+
+/// The names of a directory's files, as the system lists them.
+pub(crate) type Listing<'a, F> = ReadDir<(&'a F, Global), Global>;
+
+/// A file of a directory, as the system lists it.
+pub(crate) type Entry<'a, F> = DirEntry<(&'a F, Global), Global>;
+
+impl<'a, F: Files + Clone + Drop> Folder<'a, F> {
+    /// Begins a listing of the directory.
+    pub(crate) fn list(&mut self) -> Result<Listing<'a, F>, DiskFault>
+        ensures { Asks ListNames result (asked_of self.old) (asked_of self.new) }
+    {
+        let listing = fs::read_dir(&(self.files, self.alloc), self.path.as_str());
+        self.log
+            .asked(Asked::ListNames, Place::Folder, &[], listing.is_ok());
+        done_at(Place::Folder, listing)
+    }
+
+    /// The next file of a listing. None if it has listed all.
+    pub(crate) fn next_listed(
+        &mut self,
+        listing: &mut Listing<'a, F>,
+    ) -> Result<Option<Entry<'a, F>>, DiskFault>
+        ensures given { GivesName result (asked_of self.old) (asked_of self.new) }
+        ensures fewer { IfOk result (λ next. OnSome next (read_dir_left listing.new < read_dir_left listing.old)) }
+    {
+        match listing.next() {
+            Some(Ok(entry)) => {
+                self.log.listed(entry.file_name());
+                Ok(Some(entry))
+            }
+            Some(Err(e)) => {
+                self.log.asked(Asked::NextName, Place::Folder, &[], false);
+                Err(DiskFault::at(Place::Folder, e))
+            }
+            None => {
+                self.log.all_listed();
+                Ok(None)
+            }
+        }
     }
 }
 

@@ -57,7 +57,7 @@ fn of_disk(fault: DiskFault) -> JournalFault {
 }
 
 /// How many of the bytes behind the last whole commit will be kept beside: none if they are zeros.
-fn torn_len<F: Locks>(folder: &Folder<'_, F>, end: &Option<End>) -> Result<u64, DiskFault> {
+fn torn_len<F: Locks>(folder: &mut Folder<'_, F>, end: &Option<End>) -> Result<u64, DiskFault> {
     match end {
         Some(end) if end.torn > 0 => folder.torn_len(end.segment, end.size),
         _ => Ok(0),
@@ -65,13 +65,12 @@ fn torn_len<F: Locks>(folder: &Folder<'_, F>, end: &Option<End>) -> Result<u64, 
 }
 
 /// Tells that a commit was cut off, if one was, and where it is kept.
-fn tell_cut<F: Locks + Eprint>(rt: &F, folder: &Folder<'_, F>, end: &Option<End>, kept: u64) {
-    let Some(end) = end else {
-        return;
+fn tell_cut<F: Locks + Eprint>(rt: &F, folder: &mut Folder<'_, F>, end: &Option<End>, kept: u64) {
+    let end = match end {
+        Some(end) if end.torn > 0 => end,
+        _ => return,
     };
-    if end.torn == 0 {
-        return;
-    }
+    let is_kept = kept > 0 && folder.keeps_torn(end.segment, kept);
     let (path, file, torn) = (folder.path(), Place::Segment(end.segment), end.torn);
     let beside = Place::Torn(end.segment);
     if kept == 0 {
@@ -83,7 +82,7 @@ fn tell_cut<F: Locks + Eprint>(rt: &F, folder: &Folder<'_, F>, end: &Option<End>
         );
         return;
     }
-    if !folder.keeps_torn(end.segment, kept) {
+    if !is_kept {
         tell_line(
             rt,
             format_args!(

@@ -204,7 +204,7 @@ fn whole_len<F: Files>(
 
 /// What goes out of a segment of which this number of bytes stays.
 fn part_of<F: Files>(
-    folder: &Folder<'_, F>,
+    folder: &mut Folder<'_, F>,
     segment: u64,
     from: u64,
 ) -> Result<Part, JournalFault> {
@@ -221,7 +221,7 @@ fn part_of<F: Files>(
 /// All of the segments from one on to the last.
 fn parts_from<F: Files>(
     alloc: Global,
-    folder: &Folder<'_, F>,
+    folder: &mut Folder<'_, F>,
     first: u64,
     last: u64,
 ) -> Result<Vec<Part>, JournalFault> {
@@ -244,7 +244,7 @@ fn scan<F: Files + Clone + Drop>(folder: &mut Folder<'_, F>) -> Result<Found, Di
     let found = folder.scan_unnamed()?;
     let last = u64::min(found.last.unwrap_or(0), manifest.last);
     match manifest.lack(found.snapshot.unwrap_or(0), last) {
-        Some(lack) => Err(DiskFault::from(lack)),
+        Some(lack) => Err(DiskFault::lacking(lack)),
         None => Ok(found),
     }
 }

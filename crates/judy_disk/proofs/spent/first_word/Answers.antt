@@ -1,4 +1,4 @@
-use Rattle.std.proofs.Common.{◌∙◌, sym, arith}
+use Rattle.std.proofs.Common.{◌∙◌, arith}
 use Rattle.judy_disk.proofs.Sums.{front_is, whole_is}
 use Rattle.judy_disk.proofs.spent.first_word.Goals as goal
 
