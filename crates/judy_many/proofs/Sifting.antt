@@ -1,12 +1,12 @@
 -- The end of a round: slots that were passed over stay, and those that had a turn come behind them.
 --     sift_passed        the slot at a place was passed over, and stays
 --     awake_*            slots that are awake stay so, or are among those that come back later
-use Rattle.std.proofs.Common.{◌≡◌, ◌⊎◌, inl, inr, ◌<◌, ◌≤◌, ◌+◌, ℕ, zero, suc, Bool, true, false, List, [], ◌∷◌, ◌++◌, length, arith, ap, refl, sym, subst, ◌∙◌, slice_index_or, slice_set}
-use Rattle.std.proofs.lemmas.Bool.Decides.{eqb_tells}
-use Rattle.std.proofs.lemmas.List.{get_or-set_other, get_or-set_same, length-append}
+use Rattle.std.proofs.Common.{◌≡◌, ◌≢◌, ◌⊎◌, inl, inr, ◌<◌, ◌≤◌, ◌+◌, ℕ, zero, suc, Bool, true, false, List, [], ◌∷◌, ◌++◌, length, arith, ap, refl, sym, subst, ◌∙◌, slice_index_or, slice_set, take}
+use Rattle.std.proofs.lemmas.Bool.Decides.{eqb_tells, leb_tells}
+use Rattle.std.proofs.lemmas.List.{get_or-set_other, get_or-set_same, get_or-take, length-append, length-take}
 use Rattle.judy_many.specs.declared.queue.Mark.{Mark}
 use Rattle.judy_many.specs.declared.queue.Mark.TheVariants as mark
-use Rattle.judy_many.specs.Queues.{IsIn, IsSifted, is_awake, mark_in, slot_in, stands}
+use Rattle.judy_many.specs.Queues.{AreAhead, ArePassed, AreTurned, IsIn, IsLonger, IsOpen, IsSifted, is_awake, is_passed, mark_in, slot_in, stands}
 use Rattle.judy_many.proofs.Queueing.{sift_in, standing_below}
 use Rattle.judy_many.proofs.Seats.{index_or_same}
 
@@ -21,20 +21,20 @@ awake_standing mark.PassedEnded e = refl
 
 -- ---- slots in a list
 
+slot_before : (x : ℕ) (slots : List ℕ) (k : ℕ) → k < length slots → slot_in (slots ++ x ∷ []) k ≡ slot_in slots k
+slot_before x [] k few = absurd (omega (arith, few))
+slot_before x (s ∷ slots) zero few = refl
+slot_before x (s ∷ slots) (suc k) few = slot_before x slots k (omega (arith, few))
+
+slot_last : (x : ℕ) (slots : List ℕ) → slot_in (slots ++ x ∷ []) (length slots) ≡ x
+slot_last x [] = refl
+slot_last x (s ∷ slots) = slot_last x slots
+
 in_longer : (i x : ℕ) (slots : List ℕ) → IsIn i slots → IsIn i (slots ++ x ∷ [])
-in_longer i x slots (k, few, is) = (k, (let e = length-append slots (x ∷ []) in omega (arith, e, few)), before slots k few ∙ is)
-  where
-    before : (slots : List ℕ) (k : ℕ) → k < length slots → slot_in (slots ++ x ∷ []) k ≡ slot_in slots k
-    before [] k few = absurd (omega (arith, few))
-    before (s ∷ slots) zero few = refl
-    before (s ∷ slots) (suc k) few = before slots k (omega (arith, few))
+in_longer i x slots (k, few, is) = (k, (let e = length-append slots (x ∷ []) in omega (arith, e, few)), slot_before x slots k few ∙ is)
 
 in_last : (x : ℕ) (slots : List ℕ) → IsIn x (slots ++ x ∷ [])
-in_last x slots = (length slots, (let e = length-append slots (x ∷ []) in omega (arith, e)), last slots)
-  where
-    last : (slots : List ℕ) → slot_in (slots ++ x ∷ []) (length slots) ≡ x
-    last [] = refl
-    last (s ∷ slots) = last slots
+in_last x slots = (length slots, (let e = length-append slots (x ∷ []) in omega (arith, e)), slot_last x slots)
 
 -- ---- one slot
 
@@ -110,6 +110,96 @@ module _ (first marks : List Mark) (later : List ℕ) (slot : ℕ) (m : Mark) (h
     ]
     | inr q ↦ inr q
   ]
+
+-- ---- who was passed over
+
+-- what was not looked at has its first marks
+abbrev pub AreFirst : List Mark → List Mark → List ℕ → ℕ → ℕ → Type 0
+AreFirst first marks order place count = (k : ℕ) → place ≤ k → k < count → mark_in marks (slot_in order k) ≡ mark_in first (slot_in order k)
+
+-- the slots before a place were passed over
+abbrev pub ArePassedTo : List Mark → List ℕ → ℕ → Type 0
+ArePassedTo first order kept = (k : ℕ) → k < kept → is_passed (mark_in first (slot_in order k)) ≡ true
+
+module _ (first : List Mark) (order : List ℕ) (count kept place : ℕ) (marks : List Mark) (m : Mark) (h : IsSifted order count kept place marks) (same : AreFirst first marks order place count)
+    (below : place < count) (within : place < length order) where
+  abbrev pub placed : ℕ
+  placed = slice_index_or order place 0
+
+  here : placed ≡ slot_in order place
+  here = index_or_same order place 0 1024 within
+
+  -- the first mark of the slot at this place
+  pub first_mark : mark_in marks placed ≡ mark_in first placed
+  first_mark = subst (λ i. mark_in marks i ≡ mark_in first i) (sym here) (same place (omega arith) below)
+
+  pub first_left : AreFirst first (slice_set marks placed m) order (place + 1) count
+  first_left k far few =
+      get_or-set_other marks placed (slot_in order k) m mark.Out (λ e. let at = h.apart k place (inr (omega (arith, far), few)) (inr (omega arith, below)) (e ∙ here) in absurd (omega (arith, at, far)))
+      ∙ same k (omega (arith, far)) few
+
+  pub first_kept : AreFirst first (slice_set marks placed m) (slice_set order kept placed) (place + 1) count
+  first_kept k far few =
+      let short = h.short in
+      let moved : slot_in (slice_set order kept placed) k ≡ slot_in order k = get_or-set_other order kept k placed 1024 (λ e. absurd (omega (arith, far, e, short))) in
+      subst (λ i. mark_in (slice_set marks placed m) i ≡ mark_in first i) (sym moved) (first_left k far few)
+
+  pub passed_kept : is_passed (mark_in marks placed) ≡ true → ArePassedTo first order kept → ArePassedTo first (slice_set order kept placed) (kept + 1)
+  passed_kept passed before k few = elim (eqb_tells k kept) [
+    | inl p ↦
+        let short = h.short in
+        let last : slot_in (slice_set order kept placed) kept ≡ placed = get_or-set_same order kept placed 1024 (omega (arith, short, within)) in
+        subst (λ j. is_passed (mark_in first (slot_in (slice_set order kept placed) j)) ≡ true) (sym p.1)
+        (subst (λ i. is_passed (mark_in first i) ≡ true) (sym last) (sym (ap is_passed first_mark) ∙ passed))
+    | inr p ↦
+        let d = p.1 in
+        subst (λ i. is_passed (mark_in first i) ≡ true) (sym (get_or-set_other order kept k placed 1024 d)) (before k (omega (arith, few, d)))
+  ]
+
+-- one more slot in a list
+pub turned_more : (first : List Mark) (later : List ℕ) (slot : ℕ) → is_passed (mark_in first slot) ≡ false → AreTurned first later → AreTurned first (later ++ slot ∷ [])
+turned_more first [] slot turned h zero few = turned
+turned_more first [] slot turned h (suc k) few = absurd (omega (arith, few))
+turned_more first (s ∷ later) slot turned h zero few = h 0 (omega arith)
+turned_more first (s ∷ later) slot turned h (suc k) few = turned_more first later slot turned (λ k few. h (suc k) (omega (arith, few))) k (omega (arith, few))
+
+pub passed_all : (first : List Mark) (order : List ℕ) (kept : ℕ) → ArePassedTo first order kept → ArePassed first (take kept order)
+passed_all first order kept h k few =
+    let less : k < kept = let e = length-take kept order in omega (arith, e, few) in
+    subst (λ i. is_passed (mark_in first i) ≡ true) (sym (get_or-take kept order k 1024 less)) (h k less)
+
+-- the slots before a place were passed over, and the others were not
+pub record AreParted (first : List Mark) (order : List ℕ) (place : ℕ) : Type 0 where
+  pub passed : (k : ℕ) → k < place → k < length order → is_passed (mark_in first (slot_in order k)) ≡ true
+  pub turned : (k : ℕ) → place ≤ k → k < length order → is_passed (mark_in first (slot_in order k)) ≡ false
+  pub short : place ≤ length order
+
+pub parted_all : (first : List Mark) (order : List ℕ) → ArePassed first order → AreParted first order (length order)
+parted_all first order h = record { passed = λ k few within. h k within; turned = λ k far within. absurd (omega (arith, far, within)); short = omega arith }
+
+-- one that was not passed over came to the end
+pub parted_more : (first : List Mark) (order order' : List ℕ) (place slot : ℕ) → is_passed (mark_in first slot) ≡ false → IsLonger slot order order' → AreParted first order place → AreParted first order' place
+parted_more first order order' place slot turned (inl same) h = subst (λ l. AreParted first l place) (sym same) h
+parted_more first order order' place slot turned (inr longer) h = subst (λ l. AreParted first l place) (sym longer) (record {
+  passed = λ k few within. let short = h.short in subst (λ i. is_passed (mark_in first i) ≡ true) (sym (slot_before slot order k (omega (arith, few, short)))) (h.passed k few (omega (arith, few, short)));
+  turned = λ k far within. elim (eqb_tells k (length order)) [
+    | inl p ↦ subst (λ j. is_passed (mark_in first (slot_in (order ++ slot ∷ []) j)) ≡ false) (sym p.1) (subst (λ i. is_passed (mark_in first i) ≡ false) (sym (slot_last slot order)) turned)
+    | inr p ↦
+        let d = p.1 in
+        let less : k < length order = let e = length-append order (slot ∷ []) in omega (arith, e, within, d) in
+        subst (λ i. is_passed (mark_in first i) ≡ false) (sym (slot_before slot order k less)) (h.turned k far less)
+  ];
+  short = let e = length-append order (slot ∷ []) in let f = h.short in omega (arith, e, f);
+})
+
+pub ahead_of : (first : List Mark) (order : List ℕ) (place : ℕ) → AreParted first order place → AreAhead first order
+ahead_of first order place h j k here there turned passed = elim (leb_tells place j) [
+  | inl p ↦ elim (leb_tells place k) [
+    | inl q ↦ absurd (apart (is_passed (mark_in first (slot_in order k))) (h.turned k q.1 there) passed)
+    | inr q ↦ let a = p.1 in let b = q.1 in omega (arith, a, b)
+  ]
+  | inr p ↦ absurd (apart (is_passed (mark_in first (slot_in order j))) turned (h.passed j p.1 here))
+]
 
 -- ---- those that come back
 

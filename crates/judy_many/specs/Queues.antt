@@ -6,7 +6,7 @@
 --     IsPlaced q slot         the slot has a place in the queue
 --     StayAwake q q'          slots that are awake stay so
 use Rattle.std.specs.List.{list_any}
-use Rattle.std.specs.Prelude.{◌≡◌, ◌==◌, ◌⊎◌, ◌<◌, ◌≤◌, ℕ, Bool, true, false, List, length, slice_index_or}
+use Rattle.std.specs.Prelude.{◌≡◌, ◌==◌, ◌⊎◌, ◌<◌, ◌≤◌, ℕ, Bool, true, false, List, [], ◌∷◌, ◌++◌, length, slice_index_or}
 use Rattle.judy_many.specs.declared.queue.Left.{Left}
 use Rattle.judy_many.specs.declared.queue.Left.TheVariants as left
 use Rattle.judy_many.specs.declared.queue.Mark.{Mark}
@@ -79,6 +79,22 @@ IsPlaced q i = (k : ℕ) × (k < length q.order) × (slot_in q.order k ≡ i)
 -- the slot is in a list
 abbrev pub IsIn : ℕ → List ℕ → Type 0
 IsIn i slots = (k : ℕ) × (k < length slots) × (slot_in slots k ≡ i)
+
+-- these slots were passed over, by these marks; or none of them was
+abbrev pub ArePassed : List Mark → List ℕ → Type 0
+ArePassed marks slots = (k : ℕ) → k < length slots → is_passed (mark_in marks (slot_in slots k)) ≡ true
+
+abbrev pub AreTurned : List Mark → List ℕ → Type 0
+AreTurned marks slots = (k : ℕ) → k < length slots → is_passed (mark_in marks (slot_in slots k)) ≡ false
+
+-- each slot that was passed over, by these marks, stands before each that was not
+abbrev pub AreAhead : List Mark → List ℕ → Type 0
+AreAhead marks slots = (j k : ℕ) → j < length slots → k < length slots → is_passed (mark_in marks (slot_in slots j)) ≡ false
+    → is_passed (mark_in marks (slot_in slots k)) ≡ true → k < j
+
+-- a slot came to the end, or none did
+abbrev pub IsLonger : ℕ → List ℕ → List ℕ → Type 0
+IsLonger slot slots slots' = (slots' ≡ slots) ⊎ (slots' ≡ slots ++ slot ∷ [])
 
 -- whether a slot is among these
 abbrev pub is_among : ℕ → List ℕ → Bool

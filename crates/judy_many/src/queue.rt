@@ -1,7 +1,7 @@
 //! The slots whose clients have a turn, in the order in which they were marked.
 ghost use Rattle.std.specs.Prelude.{◌≡◌, ◌≢◌, ◌⊎◌, ◌<◌, ℕ, [], length, true, false};
 ghost use Rattle.arrayvec.specs.ArrayVec.{array_vec_len};
-ghost use Rattle.judy_many.specs.Queues.{AreApart, IsIn, IsPlaced, StayAwake, awake_in, is_awake, is_more, is_passed, mark_in, slot_in, stands, stands_in};
+ghost use Rattle.judy_many.specs.Queues.{AreAhead, AreApart, ArePassed, AreTurned, IsIn, IsLonger, IsPlaced, StayAwake, awake_in, is_awake, is_more, is_passed, mark_in, slot_in, stands, stands_in};
 
 use crate::limits::CLIENTS_LIMIT;
 use arrayvec::ArrayVec;
@@ -165,6 +165,7 @@ impl Queue {
     pub fn mark_ready(&mut self, slot: usize)
         ensures stay { StayAwake self.old self.new }
         ensures wakes { slot < 1024 → awake_in self.new slot ≡ true }
+        ensures order { IsLonger slot self.old.order self.new.order }
     {
         self.mark(slot, Mark::Ready);
     }
@@ -173,6 +174,7 @@ impl Queue {
     pub fn mark_ended(&mut self, slot: usize)
         ensures stay { StayAwake self.old self.new }
         ensures wakes { slot < 1024 → awake_in self.new slot ≡ true }
+        ensures order { IsLonger slot self.old.order self.new.order }
     {
         self.mark(slot, Mark::Ended);
     }
@@ -183,6 +185,7 @@ impl Queue {
         requires { is_awake seen ≡ true }
         ensures stay { StayAwake self.old self.new }
         ensures wakes { slot < 1024 → awake_in self.new slot ≡ true }
+        ensures order { IsLonger slot self.old.order self.new.order }
     {
         if slot >= CLIENTS_LIMIT {
             return;
@@ -231,6 +234,8 @@ impl Queue {
         requires { array_vec_len later.old ≡ 0 }
         ensures awake { (i : ℕ) → awake_in self.old i ≡ true
             → (awake_in self.new i ≡ true) ⊎ IsIn i later.new.items }
+        ensures kept { ArePassed self.old.marks self.new.order }
+        ensures turned { AreTurned self.old.marks later.new.items }
     {
         let mut kept = 0;
         for place in 0..self.count {
@@ -261,6 +266,7 @@ impl Queue {
     fn put_back(&mut self, slot: usize, ended: bool)
         ensures stay { StayAwake self.old self.new }
         ensures wakes { slot < 1024 → awake_in self.new slot ≡ true }
+        ensures order { IsLonger slot self.old.order self.new.order }
     {
         if ended {
             self.mark_ended(slot);
@@ -273,6 +279,7 @@ impl Queue {
     /// both stay in their order.
     pub fn end_round(&mut self)
         ensures stay { StayAwake self.old self.new }
+        ensures ahead { AreAhead self.old.marks self.new.order }
     {
         let marks = self.marks();
         let mut later = ArrayVec::new();

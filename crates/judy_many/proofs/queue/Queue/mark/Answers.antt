@@ -1,5 +1,6 @@
-use Rattle.std.proofs.Common.{◌≡◌, arith, false, refl, rules, true}
+use Rattle.std.proofs.Common.{◌≡◌, ◌∙◌, ◌∷◌, ◌++◌, [], ap, arith, false, inl, inr, refl, rules, true}
 use Rattle.std.proofs.lemmas.Grind.{common_steps}
+use Rattle.std.proofs.lemmas.List.{take_more_set}
 use Rattle.judy_many.specs.Queues.{is_awake, mark_in, stands}
 use Rattle.judy_many.specs.declared.queue.Mark.{Mark}
 use Rattle.judy_many.specs.declared.queue.Mark.TheVariants as mark
@@ -20,3 +21,15 @@ invariant_of-self c =
     let out : stands (mark_in c.self.inside.marks c.args.slot) ≡ false = first_of (search rules, grind (arith, common_steps)) in
     let room = has_room c.self.inside.order c.self.inside.count c.args.slot c.self.inside.marks c.self.invariant (omega arith) (omega arith) (omega arith) out in
     queue_push c.self.inside.order c.self.inside.count c.args.slot c.self.inside.marks c.args.seen c.self.invariant (omega arith) (omega arith) (omega arith) out (standing c.args.seen c.requires)
+
+pub returns-then-slot-ge-CLIENTS_LIMIT-clause-order : goal.returns-then-slot-ge-CLIENTS_LIMIT-clause-order
+returns-then-slot-ge-CLIENTS_LIMIT-clause-order c = inl refl
+
+pub returns-then-eq-clause-order : goal.returns-then-eq-clause-order
+returns-then-eq-clause-order c =
+    let out : stands (mark_in c.self.inside.marks c.args.slot) ≡ false = first_of (search rules, grind (arith, common_steps)) in
+    let room = has_room c.self.inside.order c.self.inside.count c.args.slot c.self.inside.marks c.self.invariant (omega arith) (omega arith) (omega arith) out in
+    inr (take_more_set c.self.inside.order c.self.inside.count c.args.slot (omega (arith, room)) ∙ ap (λ q. q.order ++ c.args.slot ∷ []) c.self.view_is)
+
+pub returns-clause-order : goal.returns-clause-order
+returns-clause-order c = inl (ap (λ q. q.order) c.self.view_is)
