@@ -4,5 +4,6 @@ pub mod Hosting
 pub mod Journaled
 pub mod Opening
 pub mod Program
+pub mod Scanning
 pub mod TableEnds
 pub mod Tables

@@ -1,5 +1,7 @@
 //! The journal of a server on the system's disk.
 ghost use Rattle.std.specs.Prelude.{IfOk, IfSome, IsTrue, OnOk};
+ghost use Rattle.judy_disk.specs.Folders.{asked_of};
+ghost use Rattle.judy_programs.specs.Scanning.{ScansAs};
 ghost use Rattle.judy_recovery.specs.Whole.{HasPlayedJournal, HasResumed, Kept};
 
 use crate::ahead::{Ahead, SEGMENT_LIMIT, fill};
@@ -135,6 +137,20 @@ fn take<F: Locks + Eprint>(rt: &F, folder: &mut Folder<'_, F>) -> Result<F::File
     folder.take()
 }
 
+/// Which files a directory has. Those that its manifest names are all there, or it is that of a new journal, if
+/// that is expected.
+fn scan<F: Locks + Clone + Drop>(
+    folder: &mut Folder<'_, F>,
+    is_new: bool,
+) -> Result<Found, DiskFault>
+    ensures { ScansAs is_new result (asked_of folder.old) (asked_of folder.new) }
+{
+    if is_new {
+        return folder.scan_new();
+    }
+    folder.scan()
+}
+
 /// Makes the file of a segment, which takes the place of the current one, and raises the manifest to it. The
 /// zeros behind the end of the one before are cut off first, which leaves room for the manifest.
 fn begin_at<F: Locks>(
@@ -211,15 +227,6 @@ impl<'a, F: Locks + Clock + Eprint + Clone + Drop> Directory<'a, F> {
         self.ahead.is_full(size)
     }
 
-    /// Which files a directory has. Those that its manifest names are all there, or it is that of a new
-    /// journal, if that is expected.
-    fn scan(&self, folder: &mut Folder<'_, F>) -> Result<Found, DiskFault> {
-        if self.is_new {
-            return folder.scan_new();
-        }
-        folder.scan()
-    }
-
     /// What the disk refused last, and why.
     pub fn take_fault(&mut self) -> Option<JournalFault> {
         self.fault.take()
@@ -288,7 +295,7 @@ impl<'a, F: Locks + Clock + Eprint + Clone + Drop> Directory<'a, F> {
         let reading = folder.read_lock().map_err(|e| of_disk(e))?;
         hold_to_read(self.rt, &mut folder, &reading).map_err(|e| of_disk(e))?;
         let lock = take(self.rt, &mut folder).map_err(|e| of_disk(e))?;
-        let found = self.scan(&mut folder).map_err(|e| of_disk(e))?;
+        let found = scan(&mut folder, self.is_new).map_err(|e| of_disk(e))?;
         let resumed = self.resume_in(alloc, &mut folder, &found, player)?;
         self.folder = Some(folder);
         self.lock = Some(lock);
@@ -326,7 +333,7 @@ impl<'a, F: Locks + Clock + Eprint + Clone + Drop> Directory<'a, F> {
         ensures { OnOk result ((kept : Kept) × (played : P)
             × HasPlayedJournal P.plays kept player.old played × P.readied played player.new) }
     {
-        let found = self.scan(folder).map_err(|e| of_disk(e))?;
+        let found = scan(folder, self.is_new).map_err(|e| of_disk(e))?;
         recover(folder, alloc, &found, player)?;
         player.ready()?;
         Ok(())

@@ -3,3 +3,4 @@ pub mod Leaving
 pub mod Lines
 pub mod Repairing
 pub mod Replacing
+pub mod Scanning

@@ -1,6 +1,8 @@
 //! Finds damage of a journal, and cuts it off.
 ghost use Rattle.std.specs.Prelude.{◌≡◌, ◌≤◌, length, IfOk, IfSome};
+ghost use Rattle.judy_disk.specs.Folders.{asked_of};
 ghost use Rattle.judy_upkeep.specs.Repairing.{whole_by, wounded};
+ghost use Rattle.judy_upkeep.specs.Scanning.{ScansSome};
 
 use crate::closing::Nobody;
 use judy_disk::{DiskFault, Folder, Found, Locks, Manifest, Place};
@@ -237,9 +239,12 @@ fn parts_from<F: Files>(
 
 /// The files of a directory. Those that its manifest names are all there; there may be more, as after a repair
 /// that did not come to its end.
-fn scan<F: Files + Clone + Drop>(folder: &mut Folder<'_, F>) -> Result<Found, DiskFault> {
-    let Some(manifest) = folder.manifest()? else {
-        return Err(DiskFault::NoManifest);
+fn scan<F: Files + Clone + Drop>(folder: &mut Folder<'_, F>) -> Result<Found, DiskFault>
+    ensures { ScansSome result (asked_of folder.old) (asked_of folder.new) }
+{
+    let manifest = match folder.manifest()? {
+        Some(manifest) => manifest,
+        None => return Err(DiskFault::NoManifest),
     };
     let found = folder.scan_unnamed()?;
     let last = u64::min(found.last.unwrap_or(0), manifest.last);
