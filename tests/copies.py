@@ -7,7 +7,9 @@ was. A copy without an edit is the control: it must be proved. The only wrong bo
 the function's place: that needs no control, since the proof is the real one. A function that calls
 itself is copied with its cycle, into a module of its own; a method of a trait's impl, or a cycle that uses
 private items, can't be copied. It is edited in its place, one edit of each such function at a time. All other functions keep their contracts and lose their proofs: these are holes, which the
-compiler takes as proved, so that only what is tried is checked (`--allow-holes`, `--only`).
+compiler takes as proved, so that only what is tried is checked (`--allow-holes`, `--only`). Their bodies
+become endless loops: a proof sees of them the contracts alone. A program is checked as a library, without its
+`main`, so that the code of the crates below is not linked.
 
 A copy that is made without tactics (`#[tactic(none)]`) has its written answers checked, and the check
 names the goals that are left. That is quick, and most wrong bodies fall there: an answer that the
@@ -24,6 +26,9 @@ TACTIC = re.compile(r"^ *#!?\[tactic\([^\n]*\)\]\n", re.M)
 FN = re.compile(r"^( *)(?=(?:pub(?:\([a-z]+\))? )?(?:const |unsafe )*fn )", re.M)
 GOALS = "use Rattle.%s.proofs.%s.Goals as %s\n"
 ANSWER = "\npub %s : %s.%s\n%s = anything\n"
+NO_STUB = re.compile(r"\bconst fn\b|-> [^{]*\bimpl\b")
+STUB = "\n    loop {}\n"
+NO_MAIN = "const NO_MAIN: u64 = 0;"
 HOLE = "use %s.{statement}\n%s\n\npub %s_spec : {M : Type 1} → statement M\n%s_spec = anything\n"
 COPIED, PLACED, FILED, WHOLE = "as a copy", "in its place", "as files", "alone"
 CARRIED = "use %s\n"
@@ -282,7 +287,7 @@ class Batch:
         self.spans += [(file, 0, len(text), tried) for file, text in texts.items()]
 
     def dig(self):
-        """Makes holes of the proofs of all functions that are not asked for."""
+        """Makes holes of the proofs of all functions that are not asked for, and stubs of their bodies. `main` goes."""
         asked = set(self.asked)
         kept = {self.cited(it) for it in self.sources.functions if it.path() in asked}
         for it in self.sources.functions:
@@ -291,9 +296,25 @@ class Batch:
                 continue
             for path in proof:
                 self.texts.pop(path, None)
+            if it.path() == "main" and self.is_as_it_was(it.file):
+                self.changes.setdefault(it.file, []).append((it.start, it.end, NO_MAIN, None))
+                continue
             name = "+" + it.cycle if it.cycle else it.name
             stated = cited if it.cycle else cited + ".Statement"
             self.texts[cited[len("Rattle.%s." % self.crate) :].replace(".", "/") + "/Proof.antt"] = HOLE % (stated, imports_of(self.crate), name, name)
+            self.stub(it)
+
+    def stub(self, it):
+        """Gives a function a body that costs nothing. A cycle of calls stays one. A body stays of which callers see
+        more than its contract, and one of a file that an edit changes."""
+        text = self.sources.texts[it.file]
+        has_body = text[it.body : it.end - 1].strip() and not NO_STUB.search(text[it.start : it.body])
+        if has_body and not it.cycle and self.is_as_it_was(it.file):
+            self.changes.setdefault(it.file, []).append((it.body, it.end - 1, STUB, None))
+
+    def is_as_it_was(self, file):
+        """Whether no edit has changed this file."""
+        return self.texts[file] == self.sources.texts[file]
 
     def folder(self, it):
         """The front of the names of all that stands in the folder of a function's proof."""
