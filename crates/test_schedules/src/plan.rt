@@ -129,7 +129,7 @@ pub fn draw_limits(draw: &mut Draw, peers: usize, crowd: bool) -> Limits {
     Limits {
         clients: places.min(PEERS_LIMIT) as u32,
         tenant_clients: if ends { Some(1) } else { None },
-        share: draw.one_of(&[1, PEERS_LIMIT, PEERS_LIMIT]) as u32,
+        share: draw.one_of(&[1, PEERS_LIMIT, PEERS_LIMIT]).min(PEERS_LIMIT) as u32,
         connections: if ends {
             peers.min(PEERS_LIMIT) as u64
         } else {
