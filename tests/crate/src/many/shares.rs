@@ -3,7 +3,7 @@ use crate::many::theatre::{Part, giving, limits, play, stage};
 use judy_many::{Ending, Limits};
 use std::test::Fail;
 
-// So many clients of a tenant are heard in a round.
+// This number of clients, of which a tenant has this share of a round.
 fn shared(clients: u32, share: u32) -> Limits {
     Limits {
         share,
