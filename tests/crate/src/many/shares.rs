@@ -43,43 +43,31 @@ fn a_tenant_has_its_share_of_a_round(rt: HostRuntime) -> Result<(), Fail> {
     Ok(())
 }
 
-// Three connections of alice with many lines each, and a share of one: they have their turns one after
-// another, and no wait tells of them.
-#[test]
-fn connections_of_a_tenant_take_turns(rt: HostRuntime) -> Result<(), Fail> {
+// Whether three connections of alice, with many lines each, have their turns in this order.
+fn has_order(rt: HostRuntime, share: u32, order: &[u8]) -> Result<bool, Fail> {
     let alloc = rt.alloc();
     let mut many = [b'\n'; 4096];
     many[..15].copy_from_slice(b"AUTH alice abc\n");
     let parts = [giving(&many), giving(&many), giving(&many)];
-    let order: [&[usize]; 64] = [&[]; 64];
+    let waits: [&[usize]; 64] = [&[]; 64];
     let mut stage = stage(alloc, &parts)?;
-    stage.order = &order;
-    let ending = play(alloc, &mut stage, shared(3, 1))?;
-    assert_eq!(rt; ending, Ending::Done);
-    assert!(rt;
-        stage
-            .asked()
-            .starts_with(b".a0a1a2r0w0.r1w1w0.r2w2w1.w0.w2.w1.w0.w2.w1.")
-    );
+    stage.order = &waits;
+    let ending = play(alloc, &mut stage, shared(3, share))?;
+    Ok(ending == Ending::Done && stage.asked().starts_with(order))
+}
+
+// With a share of one they have their turns one after another, and no wait tells of them.
+#[test]
+fn connections_of_a_tenant_take_turns(rt: HostRuntime) -> Result<(), Fail> {
+    let order = b".a0a1a2r0w0.r1w1w0.r2w2w1.w0.w2.w1.w0.w2.w1.";
+    assert!(rt; has_order(rt, 1, order)?);
     Ok(())
 }
 
 // With a share of three all three have a turn in each round.
 #[test]
 fn a_share_of_all_passes_over_none(rt: HostRuntime) -> Result<(), Fail> {
-    let alloc = rt.alloc();
-    let mut many = [b'\n'; 4096];
-    many[..15].copy_from_slice(b"AUTH alice abc\n");
-    let parts = [giving(&many), giving(&many), giving(&many)];
-    let order: [&[usize]; 64] = [&[]; 64];
-    let mut stage = stage(alloc, &parts)?;
-    stage.order = &order;
-    let ending = play(alloc, &mut stage, shared(3, 3))?;
-    assert_eq!(rt; ending, Ending::Done);
-    assert!(rt;
-        stage
-            .asked()
-            .starts_with(b".a0a1a2r0r1r2w0w1w2.w0w1w2.w0w1w2.")
-    );
+    let order = b".a0a1a2r0r1r2w0w1w2.w0w1w2.w0w1w2.";
+    assert!(rt; has_order(rt, 3, order)?);
     Ok(())
 }
