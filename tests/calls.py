@@ -1,4 +1,4 @@
-"""The calls of the protocol, from the code that reads them, beside the tables of the pages and of the client."""
+"""The calls of the protocol, from their definition, beside the tables of the pages and of the client."""
 
 import os
 import re
@@ -9,9 +9,11 @@ sys.path.insert(0, os.path.join(TOP, "clients", "python"))
 
 from judyd.wording import CALLS, WORDS  # noqa: E402
 
-CODE = "crates/judy_protocol/src/commands.rt"
-FUNCTION = re.compile(r"^pub fn \w+(?:<'a>)?\(command: &\[u8\](.*?)\) -> .*?^}$", re.M | re.S)
-CALL = re.compile(r'b"(J\w+)"(?:\.as_slice\(\) \{\n\s+return| =>) Some\(\w+::(\w+)', re.M)
+CODE = "crates/judy_model/specs/Commands.antt"
+COMMAND = re.compile(r'\(codes "(J\w+)", to (\w+) (\w+)\)')
+CALL = re.compile(r"^(\w+)_with (\w+) (key )?\(?numbers\.(\w+).* = Some \(?\w+\.(\w+)", re.M)
+KINDS = {"One": "one", "Long": "long", "Str": "string", "Bytes": "bytes"}
+COUNTS = {"Nothing": 0, "One": 1, "Two": 2}
 LETTERS = {"name": "", "key": "K", "i": "W", "k": "W", "n": "W", "v": "W"}
 CHANGES, INSERTS = {"Set", "Unset", "Insert", "Delete", "Free"}, {"Set", "Insert"}
 REFUSALS = {"ERR JOURNAL", "ERR READONLY", "ERR FROZEN", "FULL", "ERR MEMORY"}
@@ -24,12 +26,14 @@ def read(path):
 
 
 def source():
-    """Each call of the code: the forms of its fields after the name, K for a key and W for a word, and the
+    """Each command: the forms of its fields after the name, K for a key and W for a word, and the
     refusals that it may get beyond those of every line."""
+    text, made = read(CODE), {}
+    for kind, operation, key, count, variant in CALL.findall(text):
+        made.setdefault((kind, operation), []).append(("K" * bool(key) + "W" * COUNTS[count], variant))
     forms, refusals = {}, {}
-    for function in FUNCTION.finditer(read(CODE)):
-        form = "".join("K" if "Key" in field else "W" for field in function.group(1).split(",") if field.strip())
-        for word, variant in CALL.findall(function.group(0)):
+    for word, kind, operation in COMMAND.findall(text):
+        for form, variant in made.get((KINDS[kind], operation), [("", operation)]):
             forms.setdefault(word, set()).add(form)
             refusals.setdefault(word, set()).update({"ERR JOURNAL", "ERR READONLY", "ERR FROZEN"} if variant in CHANGES else (), {"FULL", "ERR MEMORY"} if variant in INSERTS else ())
     return forms, refusals
@@ -87,7 +91,7 @@ def manual():
 
 
 def faults():
-    """What does not agree with the code."""
+    """What does not agree with the definition."""
     forms, refusals = source()
     if len(forms) < 40:
         yield "%s has %d calls, which are too few: it was not read" % (CODE, len(forms))

@@ -14,7 +14,9 @@ become endless loops: a proof sees of them the contracts alone. A program is che
 A copy that is made without tactics (`#[tactic(none)]`) has its written answers checked, and the check
 names the goals that are left. That is quick, and most wrong bodies fall there: an answer that the
 control has too is refused. The others are copied again with their tactics. Where an edit names the goal
-that refuses it, all other goals that were left are holes, so that this one alone is searched."""
+that refuses it, all other goals that were left are holes, so that this one alone is searched: by an answer
+that tries what the compiler tries of itself. So the compiler prints neither the goal nor a file to begin with,
+which takes as long as the search. If the control is not proved so, the compiler's own tactics are tried."""
 
 import re
 
@@ -22,10 +24,14 @@ from edits import place_in, replaced
 from functions import CYCLE, head_of, own_impl_around
 from holes import imports_of, with_the_hole
 
+UNREAD = re.compile(r"is not in scope|has no field|is no name|operand is missing|expected the end|cannot continue")
 TACTIC = re.compile(r"^ *#!?\[tactic\([^\n]*\)\]\n", re.M)
 FN = re.compile(r"^( *)(?=(?:pub(?:\([a-z]+\))? )?(?:const |unsafe )*fn )", re.M)
 GOALS = "use Rattle.%s.proofs.%s.Goals as %s\n"
 ANSWER = "\npub %s : %s.%s\n%s = anything\n"
+TRIED = "use Rattle.std.proofs.Common as common_of_copy\nuse Rattle.std.proofs.lemmas.Grind as grind_of_copy\n"
+SEARCH = "pub %s : %s.%s\n%s c = first_of (search common_of_copy.rules, grind (common_of_copy.arith, grind_of_copy.common_steps))\n"
+WITH_LEMMAS = re.compile(r"#\[tactic\([^\]\n]*\b(?:using|unfolding)\(")
 NO_STUB = re.compile(r"\bconst fn\b|-> [^{]*\bimpl\b")
 STUB = "\n    loop {}\n"
 NO_MAIN = "const NO_MAIN: u64 = 0;"
@@ -38,16 +44,21 @@ class Try:
     """How an edit is tried: its function, for COPIED the name of the copy (None: it is put in the place of
     its function), and the text of the function with the edit; with tactics, the goals that are holes. For
     FILED the files that are copied, and what is added to their names. Of the written answers only those to
-    the goals `kept` are checked; all, if it is None."""
+    the goals `kept` are checked; all, if it is None. If it is `chosen`, the goal that refuses it is known to be
+    one without an answer; it `writes` an answer to that."""
 
     def __init__(self, edit, how, function=None, text=None):
         self.edit, self.how, self.function, self.text, self.name = edit, how, function, text, None
-        self.holes, self.files, self.suffix = None, None, None
+        self.holes, self.files, self.suffix, self.chosen, self.writes = None, None, None, False, True
         self.kept = {edit.goal} if edit.goal and function and not function.cycle else None
 
     def path(self):
         """The path of what is tried, below the crate."""
         return self.function.path(self.name)
+
+    def searched(self):
+        """The goals that are searched by an answer in writing: that which refuses it, if all others are answered."""
+        return [self.edit.goal] if self.writes and self.holes is not None and self.chosen and not WITH_LEMMAS.search(self.text) else []
 
 
 def functions_in(edit, sources):
@@ -148,9 +159,10 @@ class Batch:
         self.texts, self.changes, self.imports = with_the_hole(holes.texts if holes else sources.texts), {}, {}
         self.asked, self.spans, self.dug = [], [], {}
 
-    def copy(self, function, text, name, tried=None, goals=None, kept=None):
+    def copy(self, function, text, name, tried=None, goals=None, kept=None, searched=()):
         """Adds a copy of a function, with this text, under this name. Without tactics if `goals` is None,
-        otherwise with a hole for each of these goals. Of its written answers these are kept."""
+        otherwise with a hole for each of these goals, and with an answer that searches for each of those. Of its
+        written answers these are kept."""
         if name.startswith("@"):
             self.copy_cycle(function, text, name, tried)
             return
@@ -165,8 +177,8 @@ class Batch:
         for path, proof in {} if function.cycle else self.sources.proof_of(function).items():
             self.texts[as_copy + path[len(below) :]] = re.sub(re.escape(cited[0]) + r"(?![\w-])", cited[1], proof)
         self.keep_answers(as_copy, kept)
-        if goals:
-            self.dig_goals(as_copy + "Answers.antt", cited[1], goals)
+        if goals or searched:
+            self.dig_goals(as_copy + "Answers.antt", cited[1], goals, searched)
         self.asked.append(function.path(name))
 
     def copy_cycle(self, function, text, name, tried):
@@ -201,13 +213,15 @@ class Batch:
         if self.holes and path in self.texts:
             self.texts[path] = self.holes.answers(self.texts[path], kept)
 
-    def dig_goals(self, path, cited, goals):
-        """Answers goals of a function by holes."""
+    def dig_goals(self, path, cited, goals, searched):
+        """Answers goals of a function by holes, and others by a search."""
         text = self.texts.get(path, "")
         found = re.search(r"^use %s\.Goals as (\S+)$" % re.escape(cited), text, re.M)
         alias = found[1] if found else "goal_of_copy"
         head = "" if found else GOALS % (self.crate, cited.split(".proofs.")[1], alias)
         head += "" if imports_of(self.crate) in text else imports_of(self.crate) + "\n"
+        head += TRIED if searched else ""
+        text += "".join("\n" + SEARCH % (it, alias, it, it) for it in searched)
         self.dug[path] = (head + text).count("\n")
         self.texts[path] = head + text + "".join(ANSWER % (it, alias, it, it) for it in goals)
 
@@ -215,21 +229,21 @@ class Batch:
         """Whether a hole of a function, or of a copy of it, has an error: it answers no goal of it, or one that
         has an answer."""
         path = "/".join(["proofs", *function.place(name), "Answers.antt"])
-        return path in self.dug and any(file == path and line > self.dug[path] for file, line, _, _ in errors)
+        return path in self.dug and any(file == path and (line > self.dug[path] or UNREAD.search(said)) for file, line, _, said in errors)
 
     def copy_all(self, tries):
         """Adds a copy of the function of each of these, under its name, or puts it in its place."""
         for it in tries:
             if it.name:
-                self.copy(it.function, it.text, it.name, it, it.holes, it.kept)
+                self.copy(it.function, it.text, it.name, it, it.holes, it.kept, it.searched())
                 self.change_imports(it.edit)
                 continue
             self.place(it, without_tactics(it.text) if it.holes is None else it.text)
             place = it.function.place()
             folder = "/".join(["proofs", *place]) + "/"
             self.keep_answers(folder, it.kept)
-            if it.holes:
-                self.dig_goals(folder + "Answers.antt", "Rattle.%s.proofs.%s" % (self.crate, ".".join(place)), it.holes)
+            if it.holes or it.searched():
+                self.dig_goals(folder + "Answers.antt", "Rattle.%s.proofs.%s" % (self.crate, ".".join(place)), it.holes, it.searched())
 
     def place(self, tried, text=None):
         """Gives a function the text that is tried."""

@@ -34,7 +34,7 @@ class Goals:
             if it.function and it.function.cycle:
                 it.holes = []
             elif goals and it.edit.goal in goals:
-                it.holes = [one for one in goals if one != it.edit.goal]
+                it.holes, it.chosen = [one for one in goals if one != it.edit.goal], True
 
     def of_controls(self, tries):
         """The holes of the control of each function of which some body has holes: all goals but those that

@@ -107,8 +107,8 @@ class Commands(unittest.TestCase):
         return recorder.lines
 
     def test_each_call_of_the_protocol_has_a_method(self):
-        with open(os.path.join(TOP, "crates", "judy_protocol", "src", "commands.rt"), encoding="utf-8") as file:
-            known = set(re.findall(r'b"(J[A-Z0-9]+)"', file.read()))
+        with open(os.path.join(TOP, "crates", "judy_model", "specs", "Commands.antt"), encoding="utf-8") as file:
+            known = set(re.findall(r'\(codes "(J[A-Z0-9]+)", to ', file.read()))
         self.assertGreaterEqual(len(known), 40)
         self.assertEqual({line.split()[0].decode() for line in self.made()}, known)
 

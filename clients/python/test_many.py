@@ -197,6 +197,14 @@ class Ends(WithBoth):
             if error is not ValueError:
                 self.both("judyl", "get_many", lambda: things, [[b"JLG a %d" % it for it in range(1000)]], error)
 
+    def test_one_thing_alone(self):
+        for thing, error in ((5, None), (True, None), (Seven(), None), (-1, ValueError), (MAX + 1, ValueError), (5.0, TypeError), ("5", TypeError), (None, TypeError), (Broken(), ZeroDivisionError)):
+            number = b"%d" % thing.__index__() if error is None else b""
+            for kind, things, line in (("judy1", [thing], b"J1S a " + number), ("judyl", [(thing, thing)], b"JLI a " + number + b" " + number), ("judyl", [(thing, 7)], b"JLI a " + number + b" 7")):
+                self.both(kind, "update", lambda things=things: things, [[line]] if error is None else [], error)
+            for make in (list, tuple, iter):
+                self.both("judyl", "delete_many", lambda make=make, thing=thing: make([thing]), [[b"JLD a " + number]] if error is None else [], error or 0)
+
     def test_keys_that_are_none(self):
         plain = [b"%d" % at for at in range(1500)]
         for kind, letters in (("judysl", b"JSL"), ("judyhs", b"JHS")):

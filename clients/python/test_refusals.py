@@ -63,7 +63,7 @@ class Refusals(WithClient):
     def test_a_client_waits_for_so_long(self):
         self.assertEqual((judyd.TIMEOUT, inspect.signature(Client).parameters["timeout"].default), (30.0, 30.0))
         with Client(self.served.path) as client:
-            self.assertEqual(client._link.connection._sock.gettimeout(), 30.0)
+            self.assertEqual(client._link.connection._timeout, 30.0)
         self.assertIn("at most 30 seconds (`timeout`)", " ".join(judyd.__doc__.split()))
         self.assertIn("by default 30", " ".join(Client.__doc__.split()))
         self.assertIn("may be serving other clients just then", " ".join(TimedOut.__doc__.split()))

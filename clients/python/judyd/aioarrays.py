@@ -9,7 +9,7 @@ from .connection import SameServer
 from .errors import all_checked
 from .fields import MAX, flags_of, is_word, numbers_of, stop_of, values_of, word_of
 from .lines import Lines, joined
-from .many import ABSENT, add_step, get_key, insert_entry, pairs_of, windows
+from .many import ABSENT, Ahead, add_step, get_key, insert_entry, pairs_of
 from .strings import Item, StringWalk
 from .walks import Ask, RankedWalk, Steps, index_of_item, indexes_of, items_of
 
@@ -47,14 +47,14 @@ class Many:
 
     async def _many(
         self, things: Iterable[T], lines_of: Callable[[List[T]], Optional[Lines]], call: Callable[[Any, T], Any],
-        is_quiet: bool = False,
+        is_quiet: bool = False, is_ahead: bool = True,
     ) -> AsyncIterator[Tuple[List[T], bytes]]:  # fmt: skip
         """These things in windows, each with the replies to its calls. A refusal is raised after the
-        window that has it. `lines_of` makes the lines of a window at once. Where it gives none, `call`
+        window that has it. A window is made ahead unless the caller has a part in what comes between two
+        of them. `lines_of` makes the lines of a window at once. Where it gives none, `call`
         makes the call of each thing."""
         same = SameServer(self._asker._server)
-        for window in windows(things):
-            lines = lines_of(window)
+        for window, lines in Ahead(things, lines_of, is_ahead):
             if lines is None:
                 replies = await self._piped(window, call, is_quiet)
             else:
@@ -101,7 +101,7 @@ class Judy1(Many, Judy1Calls[SoonYes, SoonNumber, SoonFound]):
         """Those of these indexes that are in the set, in the order given, with many lines in flight
         at once."""
         words = filter(is_word, indexes)
-        async for window, replies in self._many(words, partial(self._lines, b"T"), lambda calls, index: calls.test(index)):
+        async for window, replies in self._many(words, partial(self._lines, b"T"), lambda calls, index: calls.test(index), is_ahead=False):
             for index in compress(window, flags_of(replies)):
                 yield index
 
@@ -145,7 +145,7 @@ class Map(Many, MapCalls[K, SoonYes, SoonNumber, SoonFound], Generic[K]):
     async def get_many(self, keys: Iterable[K]) -> AsyncIterator[Tuple[K, Optional[int]]]:
         """Each of these keys with its value, or with None, with many lines in flight at once. A key
         that is out of range is absent."""
-        async for window, replies in self._many(keys, partial(self._lines, b"G"), get_key):
+        async for window, replies in self._many(keys, partial(self._lines, b"G"), get_key, is_ahead=False):
             for item in zip(window, values_of(replies)):
                 yield item
 

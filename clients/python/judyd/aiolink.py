@@ -22,6 +22,7 @@ class Window:
 
     def __init__(self, lines: Lines, replies: "asyncio.Future[bytes]") -> None:
         self.data = lines.data()
+        self.told_sent = lines.told_sent
         self.missing = lines.count
         self.come: List[bytes] = []  # the replies, in pieces
         self.replies = replies
@@ -155,6 +156,8 @@ class Link(asyncio.Protocol):
             window.sent = now
         self._waiting.extend(unsent)
         self._transport.write(b"".join(window.data for window in unsent))
+        for window in unsent:
+            window.told_sent()
         if self._timer is None and self._timeout is not None:
             self._timer = self._loop.call_later(self._timeout, self._check_time, self._timeout)
 

@@ -26,6 +26,9 @@ Number = TypeVar("Number", covariant=True)
 Found = TypeVar("Found", covariant=True)
 Item = TypeVar("Item", covariant=True)
 
+Plain = Callable[[Sequence[Any]], Optional[Sequence[int]]]
+"""Checks many numbers at once."""
+
 _QUERY = re.compile(rb"(?:J1|JL|JSL|JHS)(?:T|G|C|BC|[FNLP]E?) |(?:USED|PING|HELLO)$|AUTH ")
 _CHANGE = re.compile(rb"(?:J1|JL|JSL|JHS)(?:S|U|I|D|FA) ")
 
@@ -65,7 +68,7 @@ class Calls(Bound, Generic[Number]):
     def _line(self, letters: bytes, *fields: bytes) -> bytes:
         return b" ".join((self._prefix + letters, self._field, *fields))
 
-    def _formed(self, keys: Sequence[Any]) -> Optional[List[Any]]:
+    def _formed(self, keys: Sequence[Any]) -> Optional[Sequence[Any]]:
         """Many keys, as `_form` takes them; None if one of them needs a look of its own."""
         return plain_words(keys)
 
@@ -185,16 +188,20 @@ class MapCalls(Calls[Number], Generic[K, Yes, Number, Found]):
         """The lines that add to many keys, made at once; None if a pair needs a look of its own."""
         return self._pair_lines(b"A", plain_steps, steps)
 
-    def _pair_lines(self, letters: bytes, plain: Callable[[Sequence[Any]], Optional[List[int]]], pairs: Sequence[Any]) -> Optional[Lines]:
+    def _pair_lines(self, letters: bytes, plain: Plain, pairs: Sequence[Any]) -> Optional[Lines]:
         """The lines of a call for many pairs of a key and a number."""
         if not set(map(type, pairs)) <= {tuple, list} or set(map(len, pairs)) != {2}:
             return None
-        fields = list(chain.from_iterable(pairs))
+        fields = self._pair_fields(list(chain.from_iterable(pairs)), plain)
+        return None if fields is None else FormedLines(self._line(letters, self._form, b"%d"), fields, len(pairs))
+
+    def _pair_fields(self, fields: List[Any], plain: Plain) -> Optional[Sequence[Any]]:
+        """Keys and numbers in turns, as lines have them; None if one of them needs a look of its own."""
         keys, numbers = self._formed(fields[::2]), plain(fields[1::2])
         if keys is None or numbers is None:
             return None
         fields[::2], fields[1::2] = keys, numbers
-        return FormedLines(self._line(letters, self._form, b"%d"), fields, len(pairs))
+        return fields
 
     def _add(self, key: K, n: int) -> Any:
         return self._put(b"A", value_of, self._key(key), step_field(n))
@@ -215,6 +222,10 @@ class JudyLCalls(MapCalls[int, Yes, Number, Found], Empties[Number, Found], Gene
 
     def _key(self, key: int) -> bytes:
         return word_field(key)
+
+    def _pair_fields(self, fields: List[Any], plain: Plain) -> Optional[Sequence[Any]]:
+        words = plain_words(fields)
+        return super()._pair_fields(fields, plain) if words is None else words
 
     def by_count(self, nth: int) -> Item:
         """ByCount: the n-th index, counted from 1, and its value; or None."""

@@ -6,13 +6,14 @@ import socket
 import ssl
 import struct
 import time
-from typing import Callable, List, Optional, Tuple, Union
+from typing import Callable, List, Optional, Sequence, Tuple, Union
 
 from .errors import Closed, ConnectionLost, NoServer, Restarted, TimedOut
 from .lines import Lines, cut
 
 Address = Union[str, bytes, "os.PathLike[str]", "os.PathLike[bytes]", Tuple[str, int]]
 """The path of a socket, or a host and a port."""
+Ready = Callable[[Optional[float]], Sequence[object]]
 
 _BUSY = (BlockingIOError, InterruptedError, ssl.SSLWantReadError, ssl.SSLWantWriteError)
 _PIECE = 65536
@@ -27,6 +28,7 @@ class Connection:
         self._pieces: List[bytes] = []
         self._sent = 0  # bytes of the exchange that were sent
         self._is_local = not isinstance(address, tuple)  # a write to a server that has ended fails at once
+        self._is_plain = self._is_local or tls is None  # bytes go and come as they are
         self._sock: Optional[socket.socket] = None
         self.is_open = True  # it was not closed here
         self.server: Optional[int] = None
@@ -35,8 +37,11 @@ class Connection:
             self.server = server_of(self._sock)
             if tls is not None and isinstance(address, tuple):
                 self._sock = tls.wrap_socket(self._sock, server_hostname=address[0])
+            self._sock.setblocking(False)
         except OSError as e:
             raise no_server(address, e) from e
+        self._come = ready_of(self._sock, select.POLLIN)
+        self._come_or_go = ready_of(self._sock, select.POLLIN | select.POLLOUT)
 
     def close(self) -> None:
         """Closes this process's end of the connection."""
@@ -60,10 +65,12 @@ class Connection:
         missing = lines.count - (b"".join(self._pieces).count(b"\n") if self._pieces else 0)
         self._sent = 0
         try:
-            if (lines.count == 1 or self._is_local) and self._send_at_once(self._sock, lines):
+            is_sent = (self._is_local or (lines.count == 1 and self._is_plain)) and self._send_at_once(self._sock, lines)
+            if is_sent:
+                lines.told_sent()
                 self._read(self._sock, missing)
             else:
-                self._exchange_both_ways(self._sock, memoryview(lines.data())[self._sent :], missing)
+                self._exchange_both_ways(self._sock, lines, missing)
             return self._replies(lines.count)
         except (OSError, EOFError) as e:
             raise self._lost(e, lines.data()) from e
@@ -90,12 +97,7 @@ class Connection:
         return exception
 
     def _send_at_once(self, sock: socket.socket, lines: Lines) -> bool:
-        """Sends one line, or what the socket's buffers take without a wait. Returns whether that is all."""
-        if lines.count == 1:  # a server reads a line to its end before it replies
-            sock.sendall(lines.data())
-            self._sent = len(lines.data())
-            return True
-        sock.setblocking(False)
+        """Sends what the socket's buffers take without a wait. Returns whether that is all."""
         try:
             for piece in lines.pieces():
                 sent = sock.send(piece)
@@ -108,39 +110,38 @@ class Connection:
         except OSError:
             self._take(sock, lines.count)  # the replies that came before the end
             raise
-        finally:
-            sock.settimeout(self._timeout)
 
     def _read(self, sock: socket.socket, missing: int) -> None:
         """Waits for the missing replies, once all lines are sent."""
         while missing > 0:
-            piece = sock.recv(_PIECE)
+            self._wait(self._come)
+            try:
+                piece = sock.recv(_PIECE)
+            except _BUSY:
+                continue
             if not piece:
                 raise EOFError("the server closed the connection")
             self._pieces.append(piece)
             missing -= piece.count(b"\n")
 
-    def _exchange_both_ways(self, sock: socket.socket, left: memoryview, missing: int) -> None:
+    def _exchange_both_ways(self, sock: socket.socket, lines: Lines, missing: int) -> None:
         """Sends the rest of the lines, and reads meanwhile."""
-        sock.setblocking(False)
-        try:
-            while True:
-                missing, is_open = self._take(sock, missing)
-                if missing <= 0:
-                    return
-                if not is_open:
-                    raise EOFError("the server closed the connection")
-                if left:
-                    left = self._give(sock, left, missing)
-                self._wait(sock, bool(left))
-        finally:
-            sock.settimeout(self._timeout)
+        left = memoryview(lines.data())[self._sent :]
+        while True:
+            missing, is_open = self._take(sock, missing)
+            if missing <= 0:
+                return
+            if not is_open:
+                raise EOFError("the server closed the connection")
+            if left:
+                left = self._give(sock, left, missing)
+                if not left:
+                    lines.told_sent()
+            self._wait(self._come_or_go if left else self._come)
 
-    def _wait(self, sock: socket.socket, is_writing: bool) -> None:
-        """Waits until a byte can come or go."""
-        ready = select.poll()
-        ready.register(sock, select.POLLIN | (select.POLLOUT if is_writing else 0))
-        if not ready.poll(None if self._timeout is None else self._timeout * 1000):
+    def _wait(self, ready: Ready) -> None:
+        """Waits until a byte can come, or also until one can go."""
+        if not ready(None if self._timeout is None else self._timeout * 1000):
             raise socket.timeout()
 
     def _take(self, sock: socket.socket, missing: int) -> Tuple[int, bool]:
@@ -168,6 +169,14 @@ class Connection:
             raise
         self._sent += sent
         return left[sent:]
+
+
+def ready_of(sock: socket.socket, events: int) -> Ready:
+    """A function that waits for one of these events of a socket, for so many milliseconds at most, and tells
+    whether one came."""
+    ready = select.poll()
+    ready.register(sock, events)
+    return ready.poll
 
 
 def server_of(sock: socket.socket) -> Optional[int]:

@@ -2,6 +2,7 @@
 
 import operator
 import re
+from array import array
 from typing import Any, Iterable, List, NamedTuple, Optional, Sequence, SupportsIndex, Tuple
 
 from .errors import JudyError, KeyTooLong
@@ -94,12 +95,18 @@ def is_word(thing: Any) -> bool:
     return True
 
 
-def plain_words(things: Sequence[Any]) -> Optional[List[int]]:
+def plain_words(things: Sequence[Any]) -> Optional[Sequence[int]]:
     """Many words, checked at once; None if one of the things is no word."""
-    return _plain_numbers(things, 0)
+    if not set(map(type, things)) <= {int}:
+        return _plain_numbers(things, 0)
+    try:
+        array("Q", things)  # which takes words alone
+    except OverflowError:
+        return None
+    return things
 
 
-def plain_steps(things: Sequence[Any]) -> Optional[List[int]]:
+def plain_steps(things: Sequence[Any]) -> Optional[Sequence[int]]:
     """What many additions add, modulo 2^64, checked at once; None if one of the things is no step."""
     steps = _plain_numbers(things, -MAX)
     return steps if steps is None or min(steps, default=0) >= 0 else [step % (MAX + 1) for step in steps]

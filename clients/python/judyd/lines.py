@@ -1,6 +1,6 @@
 """Lines that are sent together, and their replies, as bytes. So many lines cost little more than the bytes."""
 
-from typing import Any, Collection, Iterable, List, Sequence
+from typing import Any, Callable, Collection, Iterable, List, Optional, Sequence
 
 PIECE = 250
 """How many lines that are alike are made at once. A server works on them while the next ones are made."""
@@ -12,6 +12,7 @@ class Lines:
     def __init__(self, data: bytes, count: int) -> None:
         self._data = data
         self.count = count
+        self.meanwhile: Optional[Callable[[], None]] = None
 
     @classmethod
     def of(cls, lines: Collection[bytes]) -> "Lines":
@@ -26,9 +27,18 @@ class Lines:
         """The bytes as one."""
         return self._data
 
+    def told_sent(self) -> None:
+        """Does what is to be done once all lines are sent, while the server works on them."""
+        if self.meanwhile is not None:
+            self.meanwhile()
+
     def each(self) -> List[bytes]:
         """Each line by itself."""
         return cut(self.data())
+
+    def whole(self) -> "Lines":
+        """The same lines, made in full."""
+        return self
 
 
 class FormedLines(Lines):
@@ -49,6 +59,10 @@ class FormedLines(Lines):
     def data(self) -> bytes:
         """The bytes as one."""
         return b"".join(self.pieces())
+
+    def whole(self) -> Lines:
+        """The same lines, made in full."""
+        return Lines(self.data(), self.count)
 
 
 def joined(lines: Collection[bytes]) -> bytes:

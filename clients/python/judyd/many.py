@@ -29,6 +29,47 @@ def windows(things: Iterable[T], size: int = WINDOW) -> Iterator[List[T]]:
         yield window
 
 
+AT_HAND: Tuple[type, ...] = (list, tuple, range, dict, set, frozenset, type({}.keys()), type({}.items()), type({}.values()))
+"""What has all its things, so that it does not matter when they are taken."""
+
+
+class Ahead(Generic[T]):
+    """Windows of things, each with its lines, or with None where `lines_of` makes none. The next window of
+    things that are at hand is made once the lines of one are sent: while the server works on them."""
+
+    def __init__(self, things: Iterable[T], lines_of: Callable[[List[T]], Optional[Lines]], is_ahead: bool) -> None:
+        self._windows = windows(things)
+        self._lines_of = lines_of
+        self._is_ahead = is_ahead and type(things) in AT_HAND
+        self._made: List[Tuple[List[T], Optional[Lines]]] = []  # at most one
+        self._raised: Optional[Exception] = None
+
+    def __iter__(self) -> Iterator[Tuple[List[T], Optional[Lines]]]:
+        while True:
+            if self._raised is not None:
+                raise self._raised
+            window, lines = self._made.pop() if self._made else self._next()
+            if not window:
+                return
+            if lines is not None and self._is_ahead:
+                lines.meanwhile = self._make
+            yield window, lines
+
+    def _next(self) -> Tuple[List[T], Optional[Lines]]:
+        window: List[T] = next(self._windows, [])
+        return window, self._lines_of(window) if window else None
+
+    def _make(self) -> None:
+        """Makes the next window, or keeps the exception, which counts only after the window before."""
+        if self._made or self._raised is not None:
+            return
+        try:
+            window, lines = self._next()
+            self._made.append((window, None if lines is None else lines.whole()))
+        except Exception as e:
+            self._raised = e
+
+
 def pairs_of(entries: Any) -> Iterable[Tuple[Any, int]]:
     """The pairs of a mapping, or pairs that are given as such."""
     pairs: Iterable[Tuple[Any, int]] = entries.items() if hasattr(entries, "items") else entries
@@ -55,6 +96,11 @@ def get_key(calls: Any, key: Any) -> Any:
         return None
 
 
+def no_lines(_: List[Any]) -> Optional[Lines]:
+    """No lines, so that each thing gets a call of its own."""
+    return None
+
+
 class Many:
     """Calls of an array for many things, with many lines in flight at once."""
 
@@ -62,16 +108,16 @@ class Many:
 
     def _many(
         self, things: Iterable[T], lines_of: Callable[[List[T]], Optional[Lines]], call: Callable[[Any, T], Any],
-        is_quiet: bool = False,
+        is_quiet: bool = False, is_ahead: bool = True,
     ) -> Iterator[Tuple[List[T], bytes]]:  # fmt: skip
         """These things in windows, each with the replies to its calls. A refusal is raised after the
-        window that has it. The calls are quiet if nobody looks at their results.
+        window that has it. The calls are quiet if nobody looks at their results. A window is made ahead
+        unless the caller has a part in what comes between two of them.
 
         `lines_of` makes the lines of a window at once. Where it gives none, and for a client with a
         catalogue, which has lines of its own among them, `call` makes the call of each thing."""
         same = SameServer(self._asker._server)
-        for window in windows(things):
-            lines = lines_of(window) if self._asker._catalogue is None else None
+        for window, lines in Ahead(things, no_lines if self._asker._catalogue is not None else lines_of, is_ahead):
             if lines is None:
                 replies = self._piped(window, call, is_quiet)
             else:

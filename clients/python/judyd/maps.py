@@ -160,7 +160,7 @@ class MapBase(Many, MapCalls[K, bool, int, Optional[int]], Generic[K]):
     def get_many(self, keys: Iterable[K]) -> Iterator[Tuple[K, Optional[int]]]:
         """Each of these keys with its value, or with None, with many lines in flight at once. A key
         that is out of range is absent."""
-        for window, replies in self._many(keys, partial(self._lines, b"G"), get_key):
+        for window, replies in self._many(keys, partial(self._lines, b"G"), get_key, is_ahead=False):
             yield from zip(window, values_of(replies))
 
     def clear(self) -> None:

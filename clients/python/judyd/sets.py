@@ -100,7 +100,7 @@ class Judy1(Ranked[int], Many, Judy1Calls[bool, int, Optional[int]], MutableSet[
     def among(self, indexes: Iterable[int]) -> Iterator[int]:
         """Those of these indexes that are in the set, in the order given, with many lines in flight
         at once."""
-        for window, replies in self._many(filter(is_word, indexes), partial(self._lines, b"T"), lambda calls, index: calls.test(index)):
+        for window, replies in self._many(filter(is_word, indexes), partial(self._lines, b"T"), lambda calls, index: calls.test(index), is_ahead=False):
             yield from compress(window, flags_of(replies))
 
     def _in(self, pipe: Any) -> Any:

@@ -158,7 +158,8 @@ impl<'a, F: Locks> Folder<'a, F> {
 
     /// Gives a file that was secured its name. It has that after a crash too.
     fn secure_name(&mut self, from: Place, to: Place) -> Result<(), DiskFault>
-        ensures { AsksAll (Rename from to ∷ Secure Place.Folder ∷ []) result (asked_of self.old) (asked_of self.new) }
+        ensures { AsksAll (Rename from to ∷ Secure Place.Folder ∷ []) result
+            (asked_of self.old) (asked_of self.new) }
     {
         match self.rename(from, to) {
             Ok(()) => self.sync(),

@@ -7,19 +7,23 @@ use Rattle.std.specs.Ordering.{eq_by_cmp}
 use Rattle.std.specs.FinMap.{find}
 use Rattle.hex.specs.Hex.{decode_of}
 use Rattle.hex.specs.declared.error.FromHexError.{FromHexError}
+use Rattle.judy_model.specs.declared.calls.Call.{Call}
 use Rattle.judy_model.specs.declared.calls.Call.TheVariants.{One, Long, Str, Bytes, Used}
 use Rattle.judy_model.specs.declared.calls.OneCall.{OneCall}
-use Rattle.judy_model.specs.declared.calls.OneCall.TheVariants as one
 use Rattle.judy_model.specs.declared.calls.LongCall.{LongCall}
-use Rattle.judy_model.specs.declared.calls.LongCall.TheVariants as long
 use Rattle.judy_model.specs.declared.calls.StrCall.{StrCall}
 use Rattle.judy_model.specs.declared.calls.StrCall.TheVariants as str
 use Rattle.judy_model.specs.declared.calls.BytesCall.{BytesCall}
 use Rattle.judy_model.specs.declared.calls.BytesCall.TheVariants as bytes
-use Rattle.judy_model.specs.declared.calls.Given.TheVariants.{Nothing, Value, Plus}
+use Rattle.judy_model.specs.declared.commands.Kind.{Kind}
+use Rattle.judy_model.specs.declared.commands.Kind.TheVariants as kind
+use Rattle.judy_model.specs.declared.commands.Numbers.{Numbers}
+use Rattle.judy_model.specs.declared.commands.Numbers.TheVariants as numbers
+use Rattle.judy_model.specs.declared.commands.Operation.{Operation}
 use Rattle.judy_model.specs.declared.names.TheConstants.{NAME_LIMIT, TOKEN_LIMIT, KEY_LIMIT}
 use Rattle.judy_model.specs.declared.requests.Line.{Line}
 use Rattle.judy_model.specs.declared.requests.Line.TheVariants as request
+use Rattle.judy_model.specs.Commands.{commands, one_with, long_with, string_with, bytes_with, free_with}
 use Rattle.judy_model.specs.Contents.{max_word, string_order}
 
 -- ---- fields
@@ -108,10 +112,12 @@ key_of (letter ∷ digits) = if letter == 120 && nat_le (length digits) (2 * KEY
 abbrev pub string_of : List ℕ → Option (List ℕ)
 string_of field = option_and_then (λ key. if is_string key then Some key else None) (key_of field)
 
--- the numbers that fields spell, each of them
-abbrev pub numbers_of_fields : List (List ℕ) → Option (List ℕ)
-numbers_of_fields [] = Some []
-numbers_of_fields (field ∷ fields) = option_and_then (λ n. option_map (λ ns. n ∷ ns) (numbers_of_fields fields)) (number_of_field field)
+-- the numbers that fields spell: at most two fields, each of them a number
+abbrev pub numbers_of_fields : List (List ℕ) → Option Numbers
+numbers_of_fields [] = Some numbers.Nothing
+numbers_of_fields (f ∷ []) = option_map (λ i. numbers.One i) (number_of_field f)
+numbers_of_fields (f ∷ g ∷ []) = option_and_then (λ i. option_map (λ j. numbers.Two i j) (number_of_field g)) (number_of_field f)
+numbers_of_fields (f ∷ g ∷ h ∷ more) = None
 
 -- ---- the commands
 
@@ -119,66 +125,43 @@ numbers_of_fields (field ∷ fields) = option_and_then (λ n. option_map (λ ns.
 abbrev pub at_command : {A : Type 0} → List ℕ → List (List ℕ × A) → Option A
 at_command command table = find string_order command table
 
--- the commands of a set that take these numbers, and their calls
-abbrev pub one_table : List ℕ → List (List ℕ × OneCall)
-one_table [] = (codes "J1FA", one.Free) ∷ []
-one_table (i ∷ []) =
-    (codes "J1S", one.Set i) ∷ (codes "J1U", one.Unset i) ∷ (codes "J1T", one.Test i) ∷ (codes "J1BC", one.ByCount i)
-    ∷ (codes "J1F", one.First i) ∷ (codes "J1N", one.Next i) ∷ (codes "J1L", one.Last i) ∷ (codes "J1P", one.Prev i)
-    ∷ (codes "J1FE", one.FirstEmpty i) ∷ (codes "J1NE", one.NextEmpty i) ∷ (codes "J1LE", one.LastEmpty i) ∷ (codes "J1PE", one.PrevEmpty i) ∷ []
-one_table (i ∷ j ∷ []) = (codes "J1C", one.Count i j) ∷ []
-one_table (i ∷ j ∷ k ∷ more) = []
-
--- those of a JudyL
-abbrev pub long_table : List ℕ → List (List ℕ × LongCall)
-long_table [] = (codes "JLFA", long.Free) ∷ []
-long_table (i ∷ []) =
-    (codes "JLI", long.Insert i Nothing) ∷ (codes "JLD", long.Delete i) ∷ (codes "JLG", long.Get i) ∷ (codes "JLBC", long.ByCount i)
-    ∷ (codes "JLF", long.First i) ∷ (codes "JLN", long.Next i) ∷ (codes "JLL", long.Last i) ∷ (codes "JLP", long.Prev i)
-    ∷ (codes "JLFE", long.FirstEmpty i) ∷ (codes "JLNE", long.NextEmpty i) ∷ (codes "JLLE", long.LastEmpty i) ∷ (codes "JLPE", long.PrevEmpty i) ∷ []
-long_table (i ∷ j ∷ []) = (codes "JLI", long.Insert i (Value j)) ∷ (codes "JLA", long.Insert i (Plus j)) ∷ (codes "JLC", long.Count i j) ∷ []
-long_table (i ∷ j ∷ k ∷ more) = []
-
--- those of a JudySL, with this key
-abbrev pub string_table : List ℕ → List ℕ → List (List ℕ × StrCall)
-string_table key [] =
-    (codes "JSLI", str.Insert key Nothing) ∷ (codes "JSLD", str.Delete key) ∷ (codes "JSLG", str.Get key)
-    ∷ (codes "JSLF", str.First key) ∷ (codes "JSLN", str.Next key) ∷ (codes "JSLL", str.Last key) ∷ (codes "JSLP", str.Prev key) ∷ []
-string_table key (v ∷ []) = (codes "JSLI", str.Insert key (Value v)) ∷ (codes "JSLA", str.Insert key (Plus v)) ∷ []
-string_table key (v ∷ w ∷ more) = []
-
--- those of a JudyHS, with this key
-abbrev pub bytes_table : List ℕ → List ℕ → List (List ℕ × BytesCall)
-bytes_table key [] = (codes "JHSI", bytes.Insert key Nothing) ∷ (codes "JHSD", bytes.Delete key) ∷ (codes "JHSG", bytes.Get key) ∷ []
-bytes_table key (v ∷ []) = (codes "JHSI", bytes.Insert key (Value v)) ∷ (codes "JHSA", bytes.Insert key (Plus v)) ∷ []
-bytes_table key (v ∷ w ∷ more) = []
-
--- the call of a set that a command makes with the fields after the name
-abbrev pub one_call : List ℕ → List (List ℕ) → Option OneCall
-one_call command more = option_and_then (λ numbers. at_command command (one_table numbers)) (numbers_of_fields more)
+-- the call of a set that an operation makes with the fields after the name
+abbrev pub one_call : Operation → List (List ℕ) → Option OneCall
+one_call operation more = option_and_then (λ numbers. one_with operation numbers) (numbers_of_fields more)
 
 -- that of a JudyL
-abbrev pub long_call : List ℕ → List (List ℕ) → Option LongCall
-long_call command more = option_and_then (λ numbers. at_command command (long_table numbers)) (numbers_of_fields more)
+abbrev pub long_call : Operation → List (List ℕ) → Option LongCall
+long_call operation more = option_and_then (λ numbers. long_with operation numbers) (numbers_of_fields more)
 
 -- that of a JudySL; its key comes before the numbers
-abbrev pub string_call : List ℕ → List (List ℕ) → Option StrCall
-string_call command [] = at_command command ((codes "JSLFA", str.Free) ∷ [])
-string_call command (key ∷ more) = option_and_then (λ k. option_and_then (λ numbers. at_command command (string_table k numbers))
-    (numbers_of_fields more)) (string_of key)
+abbrev pub string_call : Operation → List (List ℕ) → Option StrCall
+string_call operation [] = free_with operation str.Free
+string_call operation (key ∷ more) =
+    option_and_then (λ k. option_and_then (λ numbers. string_with operation k numbers) (numbers_of_fields more)) (string_of key)
 
 -- that of a JudyHS; its key comes before the numbers
-abbrev pub bytes_call : List ℕ → List (List ℕ) → Option BytesCall
-bytes_call command [] = at_command command ((codes "JHSFA", bytes.Free) ∷ [])
-bytes_call command (key ∷ more) = option_and_then (λ k. option_and_then (λ numbers. at_command command (bytes_table k numbers))
-    (numbers_of_fields more)) (key_of key)
+abbrev pub bytes_call : Operation → List (List ℕ) → Option BytesCall
+bytes_call operation [] = free_with operation bytes.Free
+bytes_call operation (key ∷ more) =
+    option_and_then (λ k. option_and_then (λ numbers. bytes_with operation k numbers) (numbers_of_fields more)) (key_of key)
+
+-- the call of an array of this kind and name
+abbrev pub call_by : Kind → Operation → List ℕ → List (List ℕ) → Option Call
+call_by kind.One operation name more = option_map (λ call. One name call) (one_call operation more)
+call_by kind.Long operation name more = option_map (λ call. Long name call) (long_call operation more)
+call_by kind.Str operation name more = option_map (λ call. Str name call) (string_call operation more)
+call_by kind.Bytes operation name more = option_map (λ call. Bytes name call) (bytes_call operation more)
+
+-- the call that a word of the table makes with a name and the fields after it
+abbrev pub call_of : List ℕ → List ℕ → List (List ℕ) → Option Call
+call_of word name more = option_and_then (λ c. call_by c.kind c.operation name more) (at_command word commands)
 
 -- ---- lines
 
--- the fields are a command, the name of the array, and the arguments of the call
-abbrev pub SpellCall : {C : Type 0} → (List ℕ → List (List ℕ) → Option C) → List (List ℕ) → List ℕ → C → Type 0
-SpellCall call_with fields name call = (command : List ℕ) × (more : List (List ℕ))
-    × (fields ≡ command ∷ name ∷ more) × IsTrue (is_name name) × (call_with command more ≡ Some call)
+-- the fields are a word of the table, the name of the array, and the arguments of the call
+abbrev pub SpellCall : List (List ℕ) → Call → Type 0
+SpellCall fields call = (word name : List ℕ) × (more : List (List ℕ))
+    × (fields ≡ word ∷ name ∷ more) × IsTrue (is_name name) × (call_of word name more ≡ Some call)
 
 -- the fields spell the request
 abbrev pub Spell : List (List ℕ) → Line → Type 0
@@ -187,10 +170,10 @@ Spell fields request.Quit = fields ≡ codes "QUIT" ∷ []
 Spell fields request.Ping = fields ≡ codes "PING" ∷ []
 Spell fields request.Hello = fields ≡ codes "HELLO" ∷ []
 Spell fields (request.Call Used) = fields ≡ codes "USED" ∷ []
-Spell fields (request.Call (One name call)) = SpellCall one_call fields name call
-Spell fields (request.Call (Long name call)) = SpellCall long_call fields name call
-Spell fields (request.Call (Str name call)) = SpellCall string_call fields name call
-Spell fields (request.Call (Bytes name call)) = SpellCall bytes_call fields name call
+Spell fields (request.Call (One name call)) = SpellCall fields (One name call)
+Spell fields (request.Call (Long name call)) = SpellCall fields (Long name call)
+Spell fields (request.Call (Str name call)) = SpellCall fields (Str name call)
+Spell fields (request.Call (Bytes name call)) = SpellCall fields (Bytes name call)
 
 -- the line spells the request
 abbrev pub IsRequest : List ℕ → Line → Type 0

@@ -8,6 +8,7 @@ pub mod Service
 pub mod Worlds
 pub mod Replies
 pub mod Owned
+pub mod Commands
 pub mod Grammar
 pub mod Reading
 pub mod Stream

@@ -1,12 +1,14 @@
 -- The request of a line, computed. It is the request that the grammar gives the line; None if the
 -- grammar gives none.
-use Rattle.std.specs.Prelude.{◌≡◌, ℕ, List, [], ◌∷◌, ◌↔◌, ◌==◌, Option, Some, None, option_map, slice_index, if◌then◌else◌, codes}
+use Rattle.std.specs.Prelude.{◌≡◌, ℕ, List, [], ◌∷◌, ◌↔◌, Option, Some, None, option_map, if◌then◌else◌, codes}
 use Rattle.std.specs.Ordering.{eq_by_cmp}
-use Rattle.judy_model.specs.declared.calls.Call.TheVariants.{One, Long, Str, Bytes, Used}
+use Rattle.judy_model.specs.declared.calls.Call.TheVariants.{Used}
+use Rattle.judy_model.specs.declared.commands.Command.{Command}
 use Rattle.judy_model.specs.declared.requests.Line.{Line}
 use Rattle.judy_model.specs.declared.requests.Line.TheVariants as request
+use Rattle.judy_model.specs.Commands.{commands}
 use Rattle.judy_model.specs.Contents.{string_order}
-use Rattle.judy_model.specs.Grammar.{IsRequest, fields_of, is_name, is_token, at_command, one_call, long_call, string_call, bytes_call}
+use Rattle.judy_model.specs.Grammar.{IsRequest, fields_of, is_name, is_token, at_command, call_by}
 
 -- the login of a command with a name and one more field
 abbrev pub auth_of : List ℕ → List ℕ → List (List ℕ) → Option Line
@@ -14,15 +16,14 @@ auth_of command name (token ∷ []) =
     if eq_by_cmp string_order command (codes "AUTH") then (if is_token token then Some (request.Auth name token) else None) else None
 auth_of command name more = None
 
--- the request with this command, name and further fields; the second letter of the command gives
--- the kind of the array
+-- the request of a command of the table, or else a login
+abbrev pub request_by : Option Command → List ℕ → List ℕ → List (List ℕ) → Option Line
+request_by (Some c) word name more = option_map (λ call. request.Call call) (call_by c.kind c.operation name more)
+request_by None word name more = auth_of word name more
+
+-- the request with this word, name and further fields
 abbrev pub named_request : List ℕ → List ℕ → List (List ℕ) → Option Line
-named_request command name more =
-    if slice_index command 1 == 49 then option_map (λ call. request.Call (One name call)) (one_call command more)
-    else if slice_index command 1 == 76 then option_map (λ call. request.Call (Long name call)) (long_call command more)
-    else if slice_index command 1 == 83 then option_map (λ call. request.Call (Str name call)) (string_call command more)
-    else if slice_index command 1 == 72 then option_map (λ call. request.Call (Bytes name call)) (bytes_call command more)
-    else auth_of command name more
+named_request word name more = request_by (at_command word commands) word name more
 
 -- the request that the fields of a line spell
 abbrev pub request_of_fields : List (List ℕ) → Option Line

@@ -3,6 +3,7 @@
 #![tactic(auto)]
 
 pub mod calls;
+pub mod commands;
 pub mod grammar;
 pub mod key_order;
 pub mod laws;
@@ -15,6 +16,7 @@ pub mod tokens;
 mod unchanged;
 
 pub use calls::{BytesCall, Call, Given, LongCall, OneCall, StrCall};
+pub use commands::{Command, Kind, Numbers, Operation};
 pub use grammar::{is_name_letter, is_string, name_ok, token_ok};
 pub use names::{KEY_LIMIT, Key, NAME_LIMIT, Name, TOKEN_LIMIT};
 pub use owned::{OwnedKey, OwnedReply};

@@ -3,6 +3,7 @@ mod FieldCuts
 pub mod KnownBytes
 mod Digits
 mod Texts
+mod NoCommands
 mod Spelled
 pub mod Turned
 pub mod Talking

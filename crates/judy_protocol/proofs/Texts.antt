@@ -14,18 +14,6 @@ use Rattle.judy_model.specs.Contents.{string_order}
 pub other_text : (x p q : List ℕ) → q ≡ p → false ≡ pointwise nat_eq x q → eq_by_cmp string_order x p ≡ false
 other_text x p q e h = sym (texts_ties x p) ∙ ap (pointwise nat_eq x) (sym e) ∙ sym h
 
--- a test that fails
-pub none_of_1 : {A : Type 0} (b0 : Bool) (x0 : Option A) → b0 ≡ false → cond b0 x0 None ≡ None
-none_of_1 b0 x0 h0 = rw h0 refl
-
--- two tests that fail
-pub none_of_2 : {A : Type 0} (b0 b1 : Bool) (x0 x1 : Option A) → b0 ≡ false → b1 ≡ false → cond b0 x0 (cond b1 x1 None) ≡ None
-none_of_2 b0 b1 x0 x1 h0 h1 = rw (h0, h1) refl
-
--- three tests that fail
-pub none_of_3 : {A : Type 0} (b0 b1 b2 : Bool) (x0 x1 x2 : Option A) → b0 ≡ false → b1 ≡ false → b2 ≡ false → cond b0 x0 (cond b1 x1 (cond b2 x2 None)) ≡ None
-none_of_3 b0 b1 b2 x0 x1 x2 h0 h1 h2 = rw (h0, h1, h2) refl
-
 -- four tests that fail
 pub none_of_4 : {A : Type 0} (b0 b1 b2 b3 : Bool) (x0 x1 x2 x3 : Option A) → b0 ≡ false → b1 ≡ false → b2 ≡ false → b3 ≡ false
     → cond b0 x0 (cond b1 x1 (cond b2 x2 (cond b3 x3 None))) ≡ None
@@ -48,8 +36,3 @@ none_passes test x (e ∷ table) all fails =
 pub too_short : {A : Type 0} (n : ℕ) (x : List ℕ) (table : List (List ℕ × A)) → list_all (λ e. nat_le n (length e.0)) table ≡ true
     → length x < n → find string_order x table ≡ None
 too_short n x table all short = none_passes (λ w. nat_le n (length w)) x table all (grind (arith, nat_tests))
-
--- a table of shorter words
-pub too_long : {A : Type 0} (n : ℕ) (x : List ℕ) (table : List (List ℕ × A)) → list_all (λ e. nat_le (length e.0) n) table ≡ true
-    → n < length x → find string_order x table ≡ None
-too_long n x table all long = none_passes (λ w. nat_le (length w) n) x table all (grind (arith, nat_tests))

@@ -1,173 +1,200 @@
-//! The commands of each kind of array, by what comes after the name.
-ghost use Rattle.std.specs.Prelude.{◌≡◌, [], ◌∷◌, codes};
-ghost use Rattle.judy_model.specs.declared.calls.BytesCall.TheVariants as bytes;
-ghost use Rattle.judy_model.specs.declared.calls.StrCall.TheVariants as str;
-ghost use Rattle.judy_model.specs.Grammar.{at_command, bytes_table, long_table, one_table, string_table};
+//! The commands of lines, and the calls that they make.
+ghost use Rattle.std.specs.Prelude.{◌≡◌, ◌++◌, codes};
+ghost use Rattle.judy_model.specs.Commands.{bytes_with, commands, long_with, one_with, string_with};
+ghost use Rattle.judy_model.specs.Grammar.{at_command};
 
-use judy_model::{BytesCall, Given, Key, LongCall, OneCall, StrCall};
+use judy_model::{
+    BytesCall, Command, Given, Key, Kind, LongCall, Numbers, OneCall, Operation, StrCall,
+};
 
-/// The call of a set with only its name.
-pub fn one_free(command: &[u8]) -> Option<OneCall>
-    ensures { result ≡ at_command command.now (one_table []) }
+/// The command of a set with these letters after `J1`.
+fn one_command(letters: &[u8]) -> Option<Command>
+    ensures { result ≡ at_command (codes "J1" ++ letters.now) commands }
 {
-    if command == b"J1FA".as_slice() {
-        return Some(OneCall::Free);
-    }
-    None
+    let operation = match letters {
+        b"S" => Operation::Insert,
+        b"U" => Operation::Remove,
+        b"T" => Operation::Look,
+        b"C" => Operation::Count,
+        b"BC" => Operation::Nth,
+        b"F" => Operation::First,
+        b"N" => Operation::Next,
+        b"L" => Operation::Last,
+        b"P" => Operation::Prev,
+        b"FE" => Operation::FirstEmpty,
+        b"NE" => Operation::NextEmpty,
+        b"LE" => Operation::LastEmpty,
+        b"PE" => Operation::PrevEmpty,
+        b"FA" => Operation::Free,
+        _ => return None,
+    };
+    Some(Command {
+        kind: Kind::One,
+        operation,
+    })
 }
 
-/// The call of a set with one word.
-pub fn one_call(command: &[u8], i: u64) -> Option<OneCall>
-    ensures { result ≡ at_command command.now (one_table (i ∷ [])) }
+/// The command of a map from words with these letters after `JL`.
+fn long_command(letters: &[u8]) -> Option<Command>
+    ensures { result ≡ at_command (codes "JL" ++ letters.now) commands }
 {
-    match command {
-        b"J1S" => Some(OneCall::Set(i)),
-        b"J1U" => Some(OneCall::Unset(i)),
-        b"J1T" => Some(OneCall::Test(i)),
-        b"J1BC" => Some(OneCall::ByCount(i)),
-        b"J1F" => Some(OneCall::First(i)),
-        b"J1N" => Some(OneCall::Next(i)),
-        b"J1L" => Some(OneCall::Last(i)),
-        b"J1P" => Some(OneCall::Prev(i)),
-        b"J1FE" => Some(OneCall::FirstEmpty(i)),
-        b"J1NE" => Some(OneCall::NextEmpty(i)),
-        b"J1LE" => Some(OneCall::LastEmpty(i)),
-        b"J1PE" => Some(OneCall::PrevEmpty(i)),
+    let operation = match letters {
+        b"I" => Operation::Insert,
+        b"A" => Operation::Add,
+        b"D" => Operation::Remove,
+        b"G" => Operation::Look,
+        b"C" => Operation::Count,
+        b"BC" => Operation::Nth,
+        b"F" => Operation::First,
+        b"N" => Operation::Next,
+        b"L" => Operation::Last,
+        b"P" => Operation::Prev,
+        b"FE" => Operation::FirstEmpty,
+        b"NE" => Operation::NextEmpty,
+        b"LE" => Operation::LastEmpty,
+        b"PE" => Operation::PrevEmpty,
+        b"FA" => Operation::Free,
+        _ => return None,
+    };
+    Some(Command {
+        kind: Kind::Long,
+        operation,
+    })
+}
+
+/// The command of a map from strings with these letters after `JSL`.
+fn string_command(letters: &[u8]) -> Option<Command>
+    ensures { result ≡ at_command (codes "JSL" ++ letters.now) commands }
+{
+    let operation = match letters {
+        b"I" => Operation::Insert,
+        b"A" => Operation::Add,
+        b"D" => Operation::Remove,
+        b"G" => Operation::Look,
+        b"F" => Operation::First,
+        b"N" => Operation::Next,
+        b"L" => Operation::Last,
+        b"P" => Operation::Prev,
+        b"FA" => Operation::Free,
+        _ => return None,
+    };
+    Some(Command {
+        kind: Kind::Str,
+        operation,
+    })
+}
+
+/// The command of a map from byte keys with these letters after `JHS`.
+fn bytes_command(letters: &[u8]) -> Option<Command>
+    ensures { result ≡ at_command (codes "JHS" ++ letters.now) commands }
+{
+    let operation = match letters {
+        b"I" => Operation::Insert,
+        b"A" => Operation::Add,
+        b"D" => Operation::Remove,
+        b"G" => Operation::Look,
+        b"FA" => Operation::Free,
+        _ => return None,
+    };
+    Some(Command {
+        kind: Kind::Bytes,
+        operation,
+    })
+}
+
+/// The command that a word stands for.
+pub fn command_of(word: &[u8]) -> Option<Command>
+    ensures { result ≡ at_command word.now commands }
+{
+    match word {
+        [b'J', b'1', letters @ ..] => one_command(letters),
+        [b'J', b'L', letters @ ..] => long_command(letters),
+        [b'J', b'S', b'L', letters @ ..] => string_command(letters),
+        [b'J', b'H', b'S', letters @ ..] => bytes_command(letters),
         _ => None,
     }
 }
 
-/// The call of a set with two words.
-pub fn one_pair_call(command: &[u8], i: u64, j: u64) -> Option<OneCall>
-    ensures { result ≡ at_command command.now (one_table (i ∷ j ∷ [])) }
+/// The call of a set.
+pub fn one_with(operation: Operation, numbers: Numbers) -> Option<OneCall>
+    ensures { result ≡ one_with operation numbers }
 {
-    if command == b"J1C".as_slice() {
-        return Some(OneCall::Count(i, j));
-    }
-    None
+    let call = match (operation, numbers) {
+        (Operation::Insert, Numbers::One(i)) => OneCall::Set(i),
+        (Operation::Remove, Numbers::One(i)) => OneCall::Unset(i),
+        (Operation::Look, Numbers::One(i)) => OneCall::Test(i),
+        (Operation::Count, Numbers::Two(i, k)) => OneCall::Count(i, k),
+        (Operation::Nth, Numbers::One(n)) => OneCall::ByCount(n),
+        (Operation::First, Numbers::One(i)) => OneCall::First(i),
+        (Operation::Next, Numbers::One(i)) => OneCall::Next(i),
+        (Operation::Last, Numbers::One(i)) => OneCall::Last(i),
+        (Operation::Prev, Numbers::One(i)) => OneCall::Prev(i),
+        (Operation::FirstEmpty, Numbers::One(i)) => OneCall::FirstEmpty(i),
+        (Operation::NextEmpty, Numbers::One(i)) => OneCall::NextEmpty(i),
+        (Operation::LastEmpty, Numbers::One(i)) => OneCall::LastEmpty(i),
+        (Operation::PrevEmpty, Numbers::One(i)) => OneCall::PrevEmpty(i),
+        (Operation::Free, Numbers::Nothing) => OneCall::Free,
+        _ => return None,
+    };
+    Some(call)
 }
 
-/// The call of a map from words with only its name.
-pub fn long_free(command: &[u8]) -> Option<LongCall>
-    ensures { result ≡ at_command command.now (long_table []) }
+/// The call of a map from words.
+pub fn long_with(operation: Operation, numbers: Numbers) -> Option<LongCall>
+    ensures { result ≡ long_with operation numbers }
 {
-    if command == b"JLFA".as_slice() {
-        return Some(LongCall::Free);
-    }
-    None
+    let call = match (operation, numbers) {
+        (Operation::Insert, Numbers::One(i)) => LongCall::Insert(i, Given::Nothing),
+        (Operation::Insert, Numbers::Two(i, v)) => LongCall::Insert(i, Given::Value(v)),
+        (Operation::Add, Numbers::Two(i, n)) => LongCall::Insert(i, Given::Plus(n)),
+        (Operation::Remove, Numbers::One(i)) => LongCall::Delete(i),
+        (Operation::Look, Numbers::One(i)) => LongCall::Get(i),
+        (Operation::Count, Numbers::Two(i, k)) => LongCall::Count(i, k),
+        (Operation::Nth, Numbers::One(n)) => LongCall::ByCount(n),
+        (Operation::First, Numbers::One(i)) => LongCall::First(i),
+        (Operation::Next, Numbers::One(i)) => LongCall::Next(i),
+        (Operation::Last, Numbers::One(i)) => LongCall::Last(i),
+        (Operation::Prev, Numbers::One(i)) => LongCall::Prev(i),
+        (Operation::FirstEmpty, Numbers::One(i)) => LongCall::FirstEmpty(i),
+        (Operation::NextEmpty, Numbers::One(i)) => LongCall::NextEmpty(i),
+        (Operation::LastEmpty, Numbers::One(i)) => LongCall::LastEmpty(i),
+        (Operation::PrevEmpty, Numbers::One(i)) => LongCall::PrevEmpty(i),
+        (Operation::Free, Numbers::Nothing) => LongCall::Free,
+        _ => return None,
+    };
+    Some(call)
 }
 
-/// The call of a map from words with one word.
-pub fn long_call(command: &[u8], i: u64) -> Option<LongCall>
-    ensures { result ≡ at_command command.now (long_table (i ∷ [])) }
+/// The call of a map from strings, with a string.
+pub fn string_with<'a>(operation: Operation, key: Key<'a>, numbers: Numbers) -> Option<StrCall<'a>>
+    ensures { result ≡ string_with operation key.entry numbers }
 {
-    match command {
-        b"JLI" => Some(LongCall::Insert(i, Given::Nothing)),
-        b"JLD" => Some(LongCall::Delete(i)),
-        b"JLG" => Some(LongCall::Get(i)),
-        b"JLBC" => Some(LongCall::ByCount(i)),
-        b"JLF" => Some(LongCall::First(i)),
-        b"JLN" => Some(LongCall::Next(i)),
-        b"JLL" => Some(LongCall::Last(i)),
-        b"JLP" => Some(LongCall::Prev(i)),
-        b"JLFE" => Some(LongCall::FirstEmpty(i)),
-        b"JLNE" => Some(LongCall::NextEmpty(i)),
-        b"JLLE" => Some(LongCall::LastEmpty(i)),
-        b"JLPE" => Some(LongCall::PrevEmpty(i)),
-        _ => None,
-    }
+    let call = match (operation, numbers) {
+        (Operation::Insert, Numbers::Nothing) => StrCall::Insert(key, Given::Nothing),
+        (Operation::Insert, Numbers::One(v)) => StrCall::Insert(key, Given::Value(v)),
+        (Operation::Add, Numbers::One(n)) => StrCall::Insert(key, Given::Plus(n)),
+        (Operation::Remove, Numbers::Nothing) => StrCall::Delete(key),
+        (Operation::Look, Numbers::Nothing) => StrCall::Get(key),
+        (Operation::First, Numbers::Nothing) => StrCall::First(key),
+        (Operation::Next, Numbers::Nothing) => StrCall::Next(key),
+        (Operation::Last, Numbers::Nothing) => StrCall::Last(key),
+        (Operation::Prev, Numbers::Nothing) => StrCall::Prev(key),
+        _ => return None,
+    };
+    Some(call)
 }
 
-/// The call of a map from words with two words.
-pub fn long_pair_call(command: &[u8], i: u64, j: u64) -> Option<LongCall>
-    ensures { result ≡ at_command command.now (long_table (i ∷ j ∷ [])) }
+/// The call of a map from byte keys, with a key.
+pub fn bytes_with<'a>(operation: Operation, key: Key<'a>, numbers: Numbers) -> Option<BytesCall<'a>>
+    ensures { result ≡ bytes_with operation key.entry numbers }
 {
-    if command == b"JLI".as_slice() {
-        return Some(LongCall::Insert(i, Given::Value(j)));
-    }
-    if command == b"JLA".as_slice() {
-        return Some(LongCall::Insert(i, Given::Plus(j)));
-    }
-    if command == b"JLC".as_slice() {
-        return Some(LongCall::Count(i, j));
-    }
-    None
-}
-
-/// The call of a map from strings with only its name.
-pub fn string_free(command: &[u8]) -> Option<StrCall<'static>>
-    ensures { result ≡ at_command command.now ((codes "JSLFA", str.Free) ∷ []) }
-{
-    if command == b"JSLFA".as_slice() {
-        return Some(StrCall::Free);
-    }
-    None
-}
-
-/// The call of a map from strings with a string.
-pub fn string_call<'a>(command: &[u8], key: Key<'a>) -> Option<StrCall<'a>>
-    ensures { result ≡ at_command command.now (string_table key.entry []) }
-{
-    match command {
-        b"JSLI" => Some(StrCall::Insert(key, Given::Nothing)),
-        b"JSLD" => Some(StrCall::Delete(key)),
-        b"JSLG" => Some(StrCall::Get(key)),
-        b"JSLF" => Some(StrCall::First(key)),
-        b"JSLN" => Some(StrCall::Next(key)),
-        b"JSLL" => Some(StrCall::Last(key)),
-        b"JSLP" => Some(StrCall::Prev(key)),
-        _ => None,
-    }
-}
-
-/// The call of a map from strings with a string and a word.
-pub fn string_put<'a>(command: &[u8], key: Key<'a>, value: u64) -> Option<StrCall<'a>>
-    ensures { result ≡ at_command command.now (string_table key.entry (value ∷ [])) }
-{
-    if command == b"JSLI".as_slice() {
-        return Some(StrCall::Insert(key, Given::Value(value)));
-    }
-    if command == b"JSLA".as_slice() {
-        return Some(StrCall::Insert(key, Given::Plus(value)));
-    }
-    None
-}
-
-/// The call of a map from byte keys with only its name.
-pub fn bytes_free(command: &[u8]) -> Option<BytesCall<'static>>
-    ensures { result ≡ at_command command.now ((codes "JHSFA", bytes.Free) ∷ []) }
-{
-    if command == b"JHSFA".as_slice() {
-        return Some(BytesCall::Free);
-    }
-    None
-}
-
-/// The call of a map from byte keys with a key.
-pub fn bytes_call<'a>(command: &[u8], key: Key<'a>) -> Option<BytesCall<'a>>
-    ensures { result ≡ at_command command.now (bytes_table key.entry []) }
-{
-    if command == b"JHSI".as_slice() {
-        return Some(BytesCall::Insert(key, Given::Nothing));
-    }
-    if command == b"JHSD".as_slice() {
-        return Some(BytesCall::Delete(key));
-    }
-    if command == b"JHSG".as_slice() {
-        return Some(BytesCall::Get(key));
-    }
-    None
-}
-
-/// The call of a map from byte keys with a key and a word.
-pub fn bytes_put<'a>(command: &[u8], key: Key<'a>, value: u64) -> Option<BytesCall<'a>>
-    ensures { result ≡ at_command command.now (bytes_table key.entry (value ∷ [])) }
-{
-    if command == b"JHSI".as_slice() {
-        return Some(BytesCall::Insert(key, Given::Value(value)));
-    }
-    if command == b"JHSA".as_slice() {
-        return Some(BytesCall::Insert(key, Given::Plus(value)));
-    }
-    None
+    let call = match (operation, numbers) {
+        (Operation::Insert, Numbers::Nothing) => BytesCall::Insert(key, Given::Nothing),
+        (Operation::Insert, Numbers::One(v)) => BytesCall::Insert(key, Given::Value(v)),
+        (Operation::Add, Numbers::One(n)) => BytesCall::Insert(key, Given::Plus(n)),
+        (Operation::Remove, Numbers::Nothing) => BytesCall::Delete(key),
+        (Operation::Look, Numbers::Nothing) => BytesCall::Get(key),
+        _ => return None,
+    };
+    Some(call)
 }

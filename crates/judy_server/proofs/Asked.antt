@@ -1,17 +1,25 @@
 -- What is known of a call that a line asks for, and of its speaker.
 use Rattle.std.proofs.Common.{◌≡◌, ◌<◌, ℕ, Bool, true, false, cond, List, [], ◌∷◌, length, Option, Some, None, refl, sym, ◌∙◌, ap, subst}
-use Rattle.std.specs.Prelude.{IfSome, IsTrue, codes, option_map, option_and_then, slice_index, ◌==◌}
+use Rattle.std.specs.Prelude.{IfSome, IsTrue, codes, option_map, option_and_then}
 use Rattle.std.specs.Ordering.{eq_by_cmp}
+use Rattle.judy_model.specs.Commands.{commands, free_with, string_with}
 use Rattle.judy_model.specs.Contents.{string_order}
-use Rattle.judy_model.specs.Grammar.{at_command, fields_of, is_name, is_string, key_of, numbers_of_fields, one_call, long_call}
-use Rattle.judy_model.specs.Grammar.{bytes_call, string_call, string_of, string_table}
-use Rattle.judy_model.specs.Reading.{auth_of, named_request, request_of_fields}
+use Rattle.judy_model.specs.Grammar.{at_command, call_by, fields_of, is_name, is_string, key_of, numbers_of_fields, one_call, long_call}
+use Rattle.judy_model.specs.Grammar.{bytes_call, string_call, string_of}
+use Rattle.judy_model.specs.Reading.{auth_of, named_request, request_by, request_of_fields}
 use Rattle.judy_model.specs.Speakers.{Speaker}
 use Rattle.judy_model.specs.declared.calls.Call.{Call}
 use Rattle.judy_model.specs.declared.calls.Call.TheVariants.{One, Long, Str, Bytes, Used}
 use Rattle.judy_model.specs.declared.calls.StrCall.{StrCall}
 use Rattle.judy_model.specs.declared.calls.StrCall.TheVariants as str
-use Rattle.judy_model.specs.declared.requests.Line.{Line}
+use Rattle.judy_model.specs.declared.commands.Command.{Command}
+use Rattle.judy_model.specs.declared.commands.Kind.{Kind}
+use Rattle.judy_model.specs.declared.commands.Kind.TheVariants as kind
+use Rattle.judy_model.specs.declared.commands.Numbers.{Numbers}
+use Rattle.judy_model.specs.declared.commands.Numbers.TheVariants as numbers
+use Rattle.judy_model.specs.declared.commands.Operation.{Operation}
+use Rattle.judy_model.specs.declared.commands.Operation.TheVariants.{Insert, Add, Remove, Look, Count, Nth, First, Next, Last, Prev, Free}
+use Rattle.judy_model.specs.declared.commands.Operation.TheVariants.{FirstEmpty, NextEmpty, LastEmpty, PrevEmpty}
 use Rattle.judy_model.specs.declared.requests.Line.TheVariants as request
 use Rattle.judy_kinds.specs.Calls.{has_key_string, has_string}
 use Rattle.judy_protocol.specs.Services.{IsAsked, IsKnown}
@@ -24,32 +32,61 @@ use Rattle.judy_table.proofs.lemmas.Seats.{knows-place, login-knows}
 
 -- ---- the key of a call of a JudySL
 
--- each value of a table passes
-Each : {A : Type 0} → (A → Bool) → List (List ℕ × A) → Type 0
-Each test [] = Unit {0}
-Each test (e ∷ es) = (test e.1 ≡ true) × Each test es
-
--- so the value of a command passes
-at_passes : {A : Type 0} (test : A → Bool) (command : List ℕ) (table : List (List ℕ × A)) (v : A) → Each test table
-    → at_command command table ≡ Some v → test v ≡ true
-unfolding Each
-at_passes test command [] v each h = cc
-at_passes test command (e ∷ es) v each h = by (eq_by_cmp string_order command e.0) h (λ k. at_passes test command es v each.1 k)
-  where
-    by : (b : Bool) → cond b (Some e.1) (at_command command es) ≡ Some v → (at_command command es ≡ Some v → test v ≡ true) → test v ≡ true
-    by true h later = let is : e.1 ≡ v = cc in ap test (sym is) ∙ each.0
-    by false h later = later h
+-- the call, if there is one, passes
+abbrev Passes : Option StrCall → Type 0
+Passes o = IfSome o (λ c. has_key_string c ≡ true)
 
 -- the calls with a string pass
-table_passes : (key : List ℕ) (numbers : List ℕ) → is_string key ≡ true → Each has_key_string (string_table key numbers)
-unfolding Each
-table_passes key [] h = (h, (h, (h, (h, (h, (h, (h, tt)))))))
-table_passes key (v ∷ []) h = (h, (h, tt))
-table_passes key (v ∷ w ∷ more) h = tt
+with_passes : (operation : Operation) (key : List ℕ) (ns : Numbers) → is_string key ≡ true → Passes (string_with operation key ns)
+with_passes Insert key numbers.Nothing h = h
+with_passes Insert key (numbers.One i) h = h
+with_passes Insert key (numbers.Two i j) h = tt
+with_passes Add key numbers.Nothing h = tt
+with_passes Add key (numbers.One i) h = h
+with_passes Add key (numbers.Two i j) h = tt
+with_passes Remove key numbers.Nothing h = h
+with_passes Remove key (numbers.One i) h = tt
+with_passes Remove key (numbers.Two i j) h = tt
+with_passes Look key numbers.Nothing h = h
+with_passes Look key (numbers.One i) h = tt
+with_passes Look key (numbers.Two i j) h = tt
+with_passes First key numbers.Nothing h = h
+with_passes First key (numbers.One i) h = tt
+with_passes First key (numbers.Two i j) h = tt
+with_passes Next key numbers.Nothing h = h
+with_passes Next key (numbers.One i) h = tt
+with_passes Next key (numbers.Two i j) h = tt
+with_passes Last key numbers.Nothing h = h
+with_passes Last key (numbers.One i) h = tt
+with_passes Last key (numbers.Two i j) h = tt
+with_passes Prev key numbers.Nothing h = h
+with_passes Prev key (numbers.One i) h = tt
+with_passes Prev key (numbers.Two i j) h = tt
+with_passes Count key ns h = tt
+with_passes Nth key ns h = tt
+with_passes FirstEmpty key ns h = tt
+with_passes NextEmpty key ns h = tt
+with_passes LastEmpty key ns h = tt
+with_passes PrevEmpty key ns h = tt
+with_passes Free key ns h = tt
 
-free_passes : Each has_key_string ((codes "JSLFA", str.Free) ∷ [])
-unfolding Each
-free_passes = (refl, tt)
+-- that which frees an array has no key
+free_passes : (operation : Operation) → Passes (free_with operation str.Free)
+free_passes Free = refl
+free_passes Insert = tt
+free_passes Add = tt
+free_passes Remove = tt
+free_passes Look = tt
+free_passes Count = tt
+free_passes Nth = tt
+free_passes First = tt
+free_passes Next = tt
+free_passes Last = tt
+free_passes Prev = tt
+free_passes FirstEmpty = tt
+free_passes NextEmpty = tt
+free_passes LastEmpty = tt
+free_passes PrevEmpty = tt
 
 kept : (b : Bool) (key k : List ℕ) → b ≡ is_string key → cond b (Some key) None ≡ Some k → is_string k ≡ true
 kept true key k e h = let is : key ≡ k = cc in ap is_string (sym is) ∙ sym e
@@ -59,30 +96,26 @@ string_passes : (o : Option (List ℕ)) (k : List ℕ) → option_and_then (λ k
 string_passes None k h = cc
 string_passes (Some key) k h = kept (is_string key) key k refl h
 
-numbers_pass : (command key : List ℕ) (o : Option (List ℕ)) (c : StrCall) → is_string key ≡ true
-    → option_and_then (λ numbers. at_command command (string_table key numbers)) o ≡ Some c → has_key_string c ≡ true
-numbers_pass command key None c h e = cc
-numbers_pass command key (Some numbers) c h e = at_passes has_key_string command (string_table key numbers) c (table_passes key numbers h) e
+each_passes : {A : Type 0} (f : A → Option StrCall) (o : Option A) → ((x : A) → o ≡ Some x → Passes (f x)) → Passes (option_and_then f o)
+each_passes f None all = tt
+each_passes f (Some x) all = all x refl
 
-keyed : (command : List ℕ) (more : List (List ℕ)) (o : Option (List ℕ)) (c : StrCall) → ((k : List ℕ) → o ≡ Some k → is_string k ≡ true)
-    → option_and_then (λ k. option_and_then (λ numbers. at_command command (string_table k numbers)) (numbers_of_fields more)) o ≡ Some c
-    → has_key_string c ≡ true
-keyed command more None c all e = cc
-keyed command more (Some k) c all e = numbers_pass command k (numbers_of_fields more) c (all k refl) e
-
-string_call_passes : (command : List ℕ) (more : List (List ℕ)) (c : StrCall) → string_call command more ≡ Some c → has_key_string c ≡ true
-string_call_passes command [] c e = at_passes has_key_string command ((codes "JSLFA", str.Free) ∷ []) c free_passes e
-string_call_passes command (key ∷ more) c e = keyed command more (string_of key) c (string_passes (key_of key)) e
+string_call_passes : (operation : Operation) (more : List (List ℕ)) → Passes (string_call operation more)
+string_call_passes operation [] = free_passes operation
+string_call_passes operation (key ∷ more) =
+    each_passes (λ k. option_and_then (λ ns. string_with operation k ns) (numbers_of_fields more)) (string_of key)
+    (λ k is. each_passes (λ ns. string_with operation k ns) (numbers_of_fields more)
+    (λ ns e. with_passes operation k ns (string_passes (key_of key) k is)))
 
 -- ---- a request of a line
 
-not_one : {C : Type 0} (wrap : C → Line) (o : Option C) (name : List ℕ) (c : StrCall) → ((x : C) → wrap x ≡ request.Call (Str name c) → ⊥)
-    → option_map wrap o ≡ Some (request.Call (Str name c)) → ⊥
-not_one wrap None name c never h = cc
-not_one wrap (Some x) name c never h = let is : wrap x ≡ request.Call (Str name c) = cc in never x is
+not_string : {C : Type 0} (wrap : C → Call) (o : Option C) (name : List ℕ) (c : StrCall) → ((x : C) → wrap x ≡ Str name c → ⊥)
+    → option_map (λ x. request.Call x) (option_map wrap o) ≡ Some (request.Call (Str name c)) → ⊥
+not_string wrap None name c never h = cc
+not_string wrap (Some x) name c never h = let is : wrap x ≡ Str name c = cc in never x is
 
-the_string : (other name : List ℕ) (o : Option StrCall) (c : StrCall) → option_map (λ call. request.Call (Str other call)) o
-    ≡ Some (request.Call (Str name c)) → o ≡ Some c
+the_string : (other name : List ℕ) (o : Option StrCall) (c : StrCall)
+    → option_map (λ x. request.Call x) (option_map (λ x. Str other x) o) ≡ Some (request.Call (Str name c)) → o ≡ Some c
 the_string other name None c h = cc
 the_string other name (Some x) c h = let is : x ≡ c = cc in ap Some is
 
@@ -96,21 +129,16 @@ not_auth command other (token ∷ []) name c h = by (eq_by_cmp string_order comm
     by true false h = cc
     by false b h = cc
 
--- a request of an array, by the letter of its kind
-by_letter : (one long string bytes : Bool) (command other : List ℕ) (more : List (List ℕ)) (name : List ℕ) (c : StrCall)
-    → cond one (option_map (λ call. request.Call (One other call)) (one_call command more))
-    (cond long (option_map (λ call. request.Call (Long other call)) (long_call command more))
-    (cond string (option_map (λ call. request.Call (Str other call)) (string_call command more))
-    (cond bytes (option_map (λ call. request.Call (Bytes other call)) (bytes_call command more)) (auth_of command other more))))
-    ≡ Some (request.Call (Str name c)) → has_key_string c ≡ true
-by_letter true long string bytes command other more name c h = absurd (not_one (λ call. request.Call (One other call))
-    (one_call command more) name c (λ x e. cc) h)
-by_letter false true string bytes command other more name c h = absurd (not_one (λ call. request.Call (Long other call))
-    (long_call command more) name c (λ x e. cc) h)
-by_letter false false true bytes command other more name c h = string_call_passes command more c (the_string other name (string_call command more) c h)
-by_letter false false false true command other more name c h = absurd (not_one (λ call. request.Call (Bytes other call))
-    (bytes_call command more) name c (λ x e. cc) h)
-by_letter false false false false command other more name c h = absurd (not_auth command other more name c h)
+-- a request of an array
+request_passes : (c : Command) (other : List ℕ) (more : List (List ℕ)) (name : List ℕ) (call : StrCall)
+    → option_map (λ x. request.Call x) (call_by c.kind c.operation other more) ≡ Some (request.Call (Str name call)) → has_key_string call ≡ true
+request_passes c other more name call = by c.kind
+  where
+    by : (k : Kind) → option_map (λ x. request.Call x) (call_by k c.operation other more) ≡ Some (request.Call (Str name call)) → has_key_string call ≡ true
+    by kind.One h = absurd (not_string (λ x. One other x) (one_call c.operation more) name call (λ x e. cc) h)
+    by kind.Long h = absurd (not_string (λ x. Long other x) (long_call c.operation more) name call (λ x e. cc) h)
+    by kind.Str h = subst Passes (the_string other name (string_call c.operation more) call h) (string_call_passes c.operation more)
+    by kind.Bytes h = absurd (not_string (λ x. Bytes other x) (bytes_call c.operation more) name call (λ x e. cc) h)
 
 fields_pass : (fields : List (List ℕ)) (name : List ℕ) (c : StrCall) → request_of_fields fields ≡ Some (request.Call (Str name c)) → has_key_string c ≡ true
 fields_pass [] name c h = cc
@@ -127,9 +155,12 @@ fields_pass (command ∷ []) name c h = by (eq_by_cmp string_order command (code
     by false false false false h = cc
 fields_pass (command ∷ other ∷ more) name c h = by (is_name other) h
   where
+    by_row : (o : Option Command) → request_by o command other more ≡ Some (request.Call (Str name c)) → has_key_string c ≡ true
+    by_row None h = absurd (not_auth command other more name c h)
+    by_row (Some row) h = request_passes row other more name c h
+
     by : (a : Bool) → cond a (named_request command other more) None ≡ Some (request.Call (Str name c)) → has_key_string c ≡ true
-    by true h = by_letter (slice_index command 1 == 49) (slice_index command 1 == 76) (slice_index command 1 == 83)
-        (slice_index command 1 == 72) command other more name c h
+    by true h = by_row (at_command command commands) h
     by false h = cc
 
 -- if a call that a line asks for is one of a JudySL, it has a string as its key

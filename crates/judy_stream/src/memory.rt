@@ -1,9 +1,12 @@
 //! A source and a sink in memory. Their bytes are known, they fail where the caller says, and they
 //! allocate nothing.
-ghost use Rattle.std.specs.Prelude.{◌≡◌, ◌<◌, ◌≤◌, [], drop, length, Some, false};
+ghost use Rattle.std.specs.Prelude.{◌≡◌, ◌<◌, ◌≤◌, ◌+◌, ◌++◌, [], drop, take, length, nat_lt, Some, true, false};
 ghost use Rattle.std.specs.Io.KnownBytes.{Keeps};
+ghost use Rattle.judy_stream.specs.declared.Pull.TheVariants.{Bytes, End, Fault};
+ghost use Rattle.judy_stream.specs.declared.Push.TheVariants as push;
 ghost use Rattle.judy_stream.specs.Streams.{any_flush, any_pull, any_push, Pulls, EndsAtEnd, given, gave_after, ends_after, faults_after, Pushes, push_faults_after, flush_faults_after, pending_after, pending_flushed};
-ghost use Rattle.judy_stream.specs.Tapes.{next_stop, stops, tape_answer, tape_after, page_answer, page_after, page_flush, page_flushed, refused};
+ghost use Rattle.judy_stream.specs.Tapes.{next_stop, stops, fails_here, piece_len, tape_answer, tape_after};
+ghost use Rattle.judy_stream.specs.Tapes.{page_room, page_answer, page_after, page_flush, page_flushed, refused};
 
 use crate::{Pull, Push, Sink, Source};
 use std::marker::Model;
@@ -76,6 +79,13 @@ fn stop_of_piece(at: usize, cuts: &[usize], fails_at: Option<usize>, bound: usiz
     }
 }
 
+/// Whether something fails at this place.
+fn is_here(at: usize, place: Option<usize>) -> bool
+    ensures { result ≡ fails_here at place }
+{
+    place == Some(at)
+}
+
 impl<'a> Tape<'a> {
     /// A tape before its first byte, with all counts 0.
     ///
@@ -106,6 +116,55 @@ impl<'a> Tape<'a> {
             faults: 0,
         }
     }
+
+    /// Fails, and forgets the place at which it does.
+    fn fail(&mut self)
+        requires { fails_here self.old.at self.old.fails_at ≡ true }
+        ensures { self.new ≡ tape_after Fault self.old }
+    {
+        self.fails_at = None;
+        self.faults = self.faults.saturating_add(1);
+    }
+
+    /// Reports its end.
+    fn end(&mut self)
+        requires { fails_here self.old.at self.old.fails_at ≡ false }
+        ensures { self.new ≡ tape_after End self.old }
+    {
+        self.ends = self.ends.saturating_add(1);
+    }
+
+    /// How many bytes it gives into this much room, where some are left.
+    fn piece(&self, room: usize) -> usize
+        requires room { 0 < room }
+        requires left { self.now.at < length self.now.whole }
+        ensures len { result ≡ piece_len self.now room }
+        ensures some { 1 ≤ result }
+        ensures within { result ≤ room }
+        ensures left { self.now.at + result ≤ length self.now.whole }
+    {
+        let stop = stop_of_piece(self.at, self.cuts, self.fails_at, self.whole.len());
+        room.min(self.step.min(stop - self.at))
+    }
+
+    /// Copies the next n bytes to the front of the buffer.
+    fn copy(&self, buf: &mut [u8], n: usize)
+        requires room { n ≤ length buf.old }
+        requires left { self.now.at + n ≤ length self.now.whole }
+        ensures { buf.new ≡ take n (drop self.now.at self.now.whole) ++ drop n buf.old }
+    {
+        buf[..n].copy_from_slice(&self.whole[self.at..self.at + n]);
+    }
+
+    /// Goes past n bytes, which it gave.
+    fn pass(&mut self, n: usize)
+        requires here { fails_here self.old.at self.old.fails_at ≡ false }
+        requires left { self.old.at + n ≤ length self.old.whole }
+        ensures { self.new ≡ tape_after (Bytes n) self.old }
+    {
+        self.at += n;
+        self.gave = self.gave.saturating_add(1);
+    }
 }
 
 impl<'a> Source for Tape<'a> {
@@ -129,21 +188,17 @@ impl<'a> Source for Tape<'a> {
         ensures ends { self.new.ends ≡ ends_after result self.old.ends }
         ensures faults { self.new.faults ≡ faults_after result self.old.faults }
     {
-        let at = self.at;
-        if self.fails_at == Some(at) {
-            self.fails_at = None;
-            self.faults = self.faults.saturating_add(1);
+        if is_here(self.at, self.fails_at) {
+            self.fail();
             return Pull::Fault;
         }
-        if at >= self.whole.len() {
-            self.ends = self.ends.saturating_add(1);
+        if self.at >= self.whole.len() {
+            self.end();
             return Pull::End;
         }
-        let stop = stop_of_piece(at, self.cuts, self.fails_at, self.whole.len());
-        let n = buf.len().min(self.step.min(stop - at));
-        buf[..n].copy_from_slice(&self.whole[at..at + n]);
-        self.at = at + n;
-        self.gave = self.gave.saturating_add(1);
+        let n = self.piece(buf.len());
+        self.copy(buf, n);
+        self.pass(n);
         Pull::Bytes(n)
     }
 }
@@ -244,6 +299,74 @@ impl<const N: usize> Page<N> {
     {
         &self.buffer[..self.len]
     }
+
+    /// Whether a push fails at this place.
+    fn push_fails(&self) -> bool
+        ensures { result ≡ fails_here (length self.now.bytes) self.now.push_fails_at }
+    {
+        is_here(self.len, self.push_fails_at)
+    }
+
+    /// Whether there is room below its limit.
+    fn has_room(&self) -> bool
+        ensures { result ≡ nat_lt (length self.now.bytes) self.now.limit }
+    {
+        self.len < self.limit
+    }
+
+    /// Refuses the bytes of a push. Where a push fails here, it forgets the place.
+    fn refuse(&mut self) -> Push
+        ensures answer { result ≡ refused self.old.refusal }
+        ensures after { self.new ≡ page_after push.Fault [] self.old }
+    {
+        if is_here(self.len, self.push_fails_at) {
+            self.push_fails_at = None;
+        }
+        self.faults = self.faults.saturating_add(1);
+        refuse(self.refusal)
+    }
+
+    /// How many bytes of a push it takes, where it has room.
+    fn piece(&self, len: usize) -> usize
+        requires some { 0 < len }
+        requires room { length self.now.bytes < self.now.limit }
+        ensures len { result ≡ page_room self.now len }
+        ensures some { 1 ≤ result }
+        ensures within { result ≤ len }
+        ensures limit { length self.now.bytes + result ≤ self.now.limit }
+    {
+        let stop = stop_of_piece(self.len, &[], self.push_fails_at, self.limit);
+        len.min(stop - self.len)
+    }
+
+    /// Appends bytes, which then wait for a flush.
+    fn append(&mut self, bytes: &[u8])
+        requires { length self.old.bytes + length bytes.now ≤ self.old.limit }
+        ensures { self.new ≡ record self.old { bytes = self.old.bytes ++ bytes.now; pending = true } }
+    {
+        let (len, end) = (self.len, self.len + bytes.len());
+        let page = &mut self.buffer[..];
+        page[len..end].copy_from_slice(bytes);
+        self.len = end;
+        self.pending = true;
+    }
+
+    /// Fails at a flush, and forgets the place at which it does.
+    fn fail_flush(&mut self)
+        requires { fails_here (length self.old.bytes) self.old.flush_fails_at ≡ true }
+        ensures { self.new ≡ page_flushed false self.old }
+    {
+        self.flush_fails_at = None;
+        self.faults = self.faults.saturating_add(1);
+    }
+
+    /// Has no bytes wait for a flush any longer.
+    fn clear(&mut self)
+        requires { fails_here (length self.old.bytes) self.old.flush_fails_at ≡ false }
+        ensures { self.new ≡ page_flushed true self.old }
+    {
+        self.pending = false;
+    }
 }
 
 impl<const N: usize> Sink for Page<N> {
@@ -263,22 +386,11 @@ impl<const N: usize> Sink for Page<N> {
         ensures faults { self.new.faults ≡ push_faults_after result self.old.faults }
         ensures pending { self.new.pending ≡ pending_after result self.old.pending }
     {
-        let len = self.len;
-        if self.push_fails_at == Some(len) {
-            self.push_fails_at = None;
-            self.faults = self.faults.saturating_add(1);
-            return refuse(self.refusal);
+        if self.push_fails() || !self.has_room() {
+            return self.refuse();
         }
-        if len >= self.limit {
-            self.faults = self.faults.saturating_add(1);
-            return refuse(self.refusal);
-        }
-        let stop = stop_of_piece(len, &[], self.push_fails_at, self.limit);
-        let n = bytes.len().min(stop - len);
-        let page = &mut self.buffer[..];
-        page[len..len + n].copy_from_slice(&bytes[..n]);
-        self.len = len + n;
-        self.pending = true;
+        let n = self.piece(bytes.len());
+        self.append(&bytes[..n]);
         Push::Took(n)
     }
 
@@ -289,12 +401,11 @@ impl<const N: usize> Sink for Page<N> {
         ensures faults { self.new.faults ≡ flush_faults_after result self.old.faults }
         ensures pending { self.new.pending ≡ pending_flushed result self.old.pending }
     {
-        if self.flush_fails_at == Some(self.len) {
-            self.flush_fails_at = None;
-            self.faults = self.faults.saturating_add(1);
+        if is_here(self.len, self.flush_fails_at) {
+            self.fail_flush();
             return false;
         }
-        self.pending = false;
+        self.clear();
         true
     }
 }

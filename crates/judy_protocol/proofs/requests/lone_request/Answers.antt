@@ -5,7 +5,7 @@ use Rattle.judy_protocol.proofs.requests.lone_request.Goals as goal
 
 pub returns : goal.returns
 returns c = sym (none_of_4 _ _ _ _ _ _ _ _
-    (other_text c.args.command.now (codes "QUIT") _ c.as_slice.ensures c.if-eq.ensures)
-    (other_text c.args.command.now (codes "USED") _ c.as_slice-2.ensures c.if-eq-2.ensures)
-    (other_text c.args.command.now (codes "PING") _ c.as_slice-3.ensures c.if-eq-3.ensures)
-    (other_text c.args.command.now (codes "HELLO") _ c.as_slice-4.ensures c.if-eq-4.ensures))
+    (other_text c.args.word.now (codes "QUIT") _ c.as_slice.ensures c.if-eq.ensures)
+    (other_text c.args.word.now (codes "USED") _ c.as_slice-2.ensures c.if-eq-2.ensures)
+    (other_text c.args.word.now (codes "PING") _ c.as_slice-3.ensures c.if-eq-3.ensures)
+    (other_text c.args.word.now (codes "HELLO") _ c.as_slice-4.ensures c.if-eq-4.ensures))

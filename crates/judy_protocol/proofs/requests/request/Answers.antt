@@ -4,7 +4,7 @@ use Rattle.judy_protocol.proofs.Spelled.{is_named}
 use Rattle.judy_protocol.proofs.requests.request.Goals as goal
 
 pub returns : goal.returns
-returns c = c.request_after_name.ensures
-    ∙ sym (is_named c.args.line.now c.in-Some.command.now c.in-Some-next_field.name.now c.in-Some-read.name
-    (fields_of c.in-Some.after_command.now) (fields_of c.in-Some-next_field.after_name.now) (fields_of c.in-Some-next_field.after_name.now)
+returns c = c.named_request.ensures
+    ∙ sym (is_named c.args.line.now c.in-Some.word.now c.in-Some-next_field.name.now c.in-Some-read.name
+    (fields_of c.in-Some.after_word.now) (fields_of c.in-Some-next_field.after_name.now) (fields_of c.in-Some-next_field.after_name.now)
     c.in-Some.ensures c.in-Some-next_field.ensures refl (sym c.read.ensures ∙ c.in-Some-read.is))

@@ -1,0 +1,13 @@
+use Rattle.std.proofs.Common.{◌++◌, sym, refl, arith}
+use Rattle.std.specs.Prelude.{codes}
+use Rattle.std.proofs.lemmas.Bool.Decides.{nat_tests}
+use Rattle.judy_model.specs.Commands.{commands}
+use Rattle.judy_protocol.proofs.NoCommands.{has_known_third, long_long}
+use Rattle.judy_protocol.proofs.Texts.{none_passes}
+use Rattle.judy_protocol.proofs.commands.long_command.Goals as goal
+
+pub returns-in_default-8 : goal.returns-in_default-8
+returns-in_default-8 c = sym (none_passes (has_known_third 76) (codes "JL" ++ c.args.letters.now) commands refl (grind (arith, nat_tests)))
+
+pub returns-in_default-9 : goal.returns-in_default-9
+returns-in_default-9 c = sym (long_long c.args.letters.now c.in_default.len_at_least)

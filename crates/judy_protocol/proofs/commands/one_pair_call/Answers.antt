@@ -1,8 +1,0 @@
-use Rattle.std.proofs.Common.{sym}
-use Rattle.std.specs.Prelude.{codes}
-use Rattle.judy_protocol.proofs.Texts.{other_text, none_of_1}
-use Rattle.judy_protocol.proofs.commands.one_pair_call.Goals as goal
-
-pub returns : goal.returns
-returns c = sym (none_of_1 _ _
-    (other_text c.args.command.now (codes "J1C") _ c.as_slice.ensures c.if-eq.ensures))
