@@ -16,7 +16,9 @@ names the goals that are left. That is quick, and most wrong bodies fall there: 
 control has too is refused. The others are copied again with their tactics. Where an edit names the goal
 that refuses it, all other goals that were left are holes, so that this one alone is searched: by an answer
 that tries what the compiler tries of itself. So the compiler prints neither the goal nor a file to begin with,
-which takes as long as the search. If the control is not proved so, the compiler's own tactics are tried."""
+which takes as long as the search. The answer has `STEPS` of the 10,000,000 steps that the compiler allows: goals of
+the control are proved in less, and a search that finds nothing would use up all. If the control is not proved so,
+the compiler's own tactics are tried."""
 
 import re
 
@@ -30,7 +32,11 @@ FN = re.compile(r"^( *)(?=(?:pub(?:\([a-z]+\))? )?(?:const |unsafe )*fn )", re.M
 GOALS = "use Rattle.%s.proofs.%s.Goals as %s\n"
 ANSWER = "\npub %s : %s.%s\n%s = anything\n"
 TRIED = "use Rattle.std.proofs.Common as common_of_copy\nuse Rattle.std.proofs.lemmas.Grind as grind_of_copy\n"
-SEARCH = "pub %s : %s.%s\n%s c = first_of (search common_of_copy.rules, grind (common_of_copy.arith, grind_of_copy.common_steps))\n"
+STEPS = 500000
+SEARCH = (
+    "pub %%s : %%s.%%s\n%%s c = first_of (search common_of_copy.rules steps %d, "
+    "grind (common_of_copy.arith, grind_of_copy.common_steps) steps %d)\n" % (STEPS, STEPS)
+)
 WITH_LEMMAS = re.compile(r"#\[tactic\([^\]\n]*\b(?:using|unfolding)\(")
 NO_STUB = re.compile(r"\bconst fn\b|-> [^{]*\bimpl\b")
 STUB = "\n    loop {}\n"
