@@ -51,16 +51,23 @@ class Try:
     its function), and the text of the function with the edit; with tactics, the goals that are holes. For
     FILED the files that are copied, and what is added to their names. Of the written answers only those to
     the goals `kept` are checked; all, if it is None. If it is `chosen`, the goal that refuses it is known to be
-    one without an answer; it `writes` an answer to that."""
+    one without an answer; it `writes` an answer to that. Its control must be proved to have the goals `proves`."""
 
     def __init__(self, edit, how, function=None, text=None):
         self.edit, self.how, self.function, self.text, self.name = edit, how, function, text, None
         self.holes, self.files, self.suffix, self.chosen, self.writes = None, None, None, False, True
         self.kept = {edit.goal} if edit.goal and function and not function.cycle else None
+        self.proves = [edit.goal]
 
     def path(self):
         """The path of what is tried, below the crate."""
         return self.function.path(self.name)
+
+    def choose(self, goals, of_function):
+        """Has the goal that refuses it searched, and no other of its goals that are left. If the edit made that goal,
+        which the function itself does not have, its control must have the goals that went with the edit."""
+        self.holes, self.chosen = [one for one in goals if one != self.edit.goal], True
+        self.proves = [self.edit.goal] if self.edit.goal in of_function else [one for one in of_function if one not in goals]
 
     def searched(self):
         """The goals that are searched by an answer in writing: that which refuses it, if all others are answered."""

@@ -1,11 +1,14 @@
 """A disk, as its calls leave it: which files a directory has and what they have, after each event of a
 recording; and what a loss of power may leave of that."""
 
+import operator
 import os
+from bisect import bisect_left
 from collections import namedtuple
 
 PAGE = 4096
 ZEROS = bytes(PAGE)
+MANY_ZEROS = (ZEROS,) * 256
 KINDS = ("new", "old", "between", "zeros", "noise", "lines", "stale")
 
 # What a file has: its pages, of which the last may be shorter, and its bytes.
@@ -20,6 +23,9 @@ Change = namedtuple("Change", "old new number")
 
 # A disk after an event: the secured names, the changes since, and the files, by number.
 Disk = namedtuple("Disk", "names changes files")
+
+# What `touched` found of files, each with the file, so that no other one gets its identity.
+TOUCHED = {}
 
 # What a loss leaves: the contents by name, and what was chosen for it.
 Left = namedtuple("Left", "contents chosen")
@@ -44,6 +50,8 @@ def solid(content):
 def shortened(content, most):
     """The content with at most so many pages of zeros at its end."""
     count = len(content.pages)
+    while content.pages[max(0, count - len(MANY_ZEROS)) : count] == MANY_ZEROS:
+        count -= len(MANY_ZEROS)
     while count > 0 and content.pages[count - 1] is ZEROS:
         count -= 1
     return cut(content, (count + most) * PAGE) if content.size > (count + most) * PAGE else content
@@ -214,11 +222,14 @@ def mixture_of(file, draw, stale, chosen):
         chosen.add("front")
         return front_of(file, draw)
     size = sizes_of(file, draw)
-    first = min(same_pages(file.secured, content) for content in file.later)
+    first, numbers = touched(file)
     last = (size + PAGE - 1) // PAGE
-    numbers = [number for number in range(first, last) if is_changed(file, number) or number + 1 == last]
+    numbers = numbers[: bisect_left(numbers, last)]
+    if last > first and last - 1 not in numbers[-1:]:
+        numbers.append(last - 1)
     only = draw.choice(numbers) if numbers and how == "one" else None
-    pages = [page_of(file.later[-1], number) or ZEROS for number in range(first, last)]
+    pages = list(file.later[-1].pages[first:last])
+    pages += [ZEROS] * (last - first - len(pages))
     for number in numbers:
         if how == "any":
             kind = draw.choice(("new", "new", *KINDS))
@@ -229,12 +240,21 @@ def mixture_of(file, draw, stale, chosen):
     return Content(file.secured.pages[:first] + tuple(pages), size)
 
 
+def touched(file):
+    """The first page of a file that some change touched, and the pages from there on that are other ones than those
+    that are secured, by their numbers."""
+    if id(file) not in TOUCHED:
+        first = min(same_pages(file.secured, content) for content in file.later)
+        most = max(len(file.secured.pages), len(file.later[-1].pages))
+        TOUCHED[id(file)] = (file, first, [number for number in range(first, most) if is_changed(file, number)])
+    return TOUCHED[id(file)][1:]
+
+
 def same_pages(one, other):
     """How many pages two contents begin with that no change has touched."""
-    count, most = 0, min(len(one.pages), len(other.pages))
-    while count < most and one.pages[count] is other.pages[count] and len(one.pages[count]) == PAGE:
-        count += 1
-    return count
+    same = list(map(operator.is_, one.pages, other.pages))
+    count = same.index(False) if False in same else len(same)
+    return count - 1 if count > 0 and len(one.pages[count - 1]) < PAGE else count
 
 
 def is_changed(file, number):

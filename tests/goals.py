@@ -34,16 +34,7 @@ class Goals:
             if it.function and it.function.cycle:
                 it.holes = []
             elif goals and it.edit.goal in goals:
-                it.holes, it.chosen = [one for one in goals if one != it.edit.goal], True
-
-    def of_control(self, it):
-        """The goals that the control of a copy must be proved to have: the one that refuses the copy. If the edit
-        made that goal, which the function itself does not have, these are the goals that went with the edit."""
-        if it.edit.name not in self.known and it.function.path() not in self.known:
-            return [it.edit.goal]
-        of_function = self.of(it.function)
-        lost = [one for one in of_function if one not in self.of_edit(it)]
-        return [it.edit.goal] if it.edit.goal in of_function else lost
+                it.choose(goals, self.of(it.function))
 
     def of_controls(self, tries):
         """The holes of the control of each function of which some body has holes: all goals but those that
@@ -51,7 +42,7 @@ class Goals:
         asked = {}
         for it in tries:
             if it.name and it.holes is not None:
-                asked.setdefault(it.function, set()).update(self.of_control(it))
+                asked.setdefault(it.function, set()).update(it.proves)
         return {one: [goal for goal in self.of(one) if goal not in goals] for one, goals in asked.items()}
 
     def note(self, it, goals):

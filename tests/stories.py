@@ -1,6 +1,7 @@
 """What the clients of a recorded run asked and were told, beside its disk: which records there are, in which
 order, what arrays they make, and which of them must be there at each moment."""
 
+import functools
 import sys
 from bisect import bisect_left
 from collections import namedtuple
@@ -100,6 +101,7 @@ class Story:
             arrays.play(record)
         return arrays
 
+    @functools.cached_property
     def answered(self):
         """How many records must be there after each event: those of all lines that were answered, and those of
         which an answer told."""
@@ -134,7 +136,7 @@ class Story:
         """The moments of the run: before it, and after each event of the disk. Events of these places are left
         out, as if they had not been asked."""
         disk, found = self.disk, [Moment(self.disk, 0, 0, -1)]
-        for at, (event, must) in enumerate(zip(self.events, self.answered())):
+        for at, (event, must) in enumerate(zip(self.events, self.answered)):
             if event.kind in "IO":
                 if must > found[-1].must:
                     found.append(Moment(disk, must, self.counts[at], at))
