@@ -27,6 +27,7 @@ from functions import CYCLE, head_of, own_impl_around
 from holes import imports_of, with_the_hole
 
 UNREAD = re.compile(r"is not in scope|has no field|is no name|operand is missing|expected the end|cannot continue")
+GONE = re.compile(UNREAD.pattern + r"|module `[\w.+-]+\.Goals`(?:$| has no )")
 TACTIC = re.compile(r"^ *#!?\[tactic\([^\n]*\)\]\n", re.M)
 FN = re.compile(r"^( *)(?=(?:pub(?:\([a-z]+\))? )?(?:const |unsafe )*fn )", re.M)
 GOALS = "use Rattle.%s.proofs.%s.Goals as %s\n"
@@ -242,7 +243,7 @@ class Batch:
         """Whether a hole of a function, or of a copy of it, has an error: it answers no goal of it, or one that
         has an answer."""
         path = "/".join(["proofs", *function.place(name), "Answers.antt"])
-        return path in self.dug and any(file == path and (line > self.dug[path] or UNREAD.search(said)) for file, line, _, said in errors)
+        return path in self.dug and any(file == path and (line > self.dug[path] or GONE.search(said)) for file, line, _, said in errors)
 
     def copy_all(self, tries):
         """Adds a copy of the function of each of these, under its name, or puts it in its place."""
