@@ -18,7 +18,8 @@ that refuses it, all other goals that were left are holes, so that this one alon
 that tries what the compiler tries of itself. So the compiler prints neither the goal nor a file to begin with,
 which takes as long as the search. The answer has `STEPS` of the 10,000,000 steps that the compiler allows: goals of
 the control are proved in less, and a search that finds nothing would use up all. If the control is not proved so,
-the compiler's own tactics are tried."""
+the compiler's own tactics are tried. A wrong body in the function's place has no control, so these are tried at
+once."""
 
 import re
 
@@ -71,8 +72,10 @@ class Try:
         self.proves = [self.edit.goal] if self.edit.goal in of_function else [one for one in of_function if one not in goals]
 
     def searched(self):
-        """The goals that are searched by an answer in writing: that which refuses it, if all others are answered."""
-        return [self.edit.goal] if self.writes and self.holes is not None and self.chosen and not WITH_LEMMAS.search(self.text) else []
+        """The goals that are searched by an answer in writing: that which refuses it, if all others are answered. One
+        that is put in its place has no control, which could tell that this search proves the real function."""
+        is_known = self.name and self.writes and self.holes is not None and self.chosen
+        return [self.edit.goal] if is_known and not WITH_LEMMAS.search(self.text) else []
 
 
 def functions_in(edit, sources):
