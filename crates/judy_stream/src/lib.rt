@@ -15,8 +15,6 @@
 //! rose. Each count begins at 0 and stays at `u64::MAX` once it gets there.
 #![tactic(auto)]
 
-#[cfg(test)]
-mod checks;
 mod handles;
 mod memory;
 

@@ -409,6 +409,3 @@ impl<const N: usize> Sink for Page<N> {
         true
     }
 }
-
-#[cfg(test)]
-mod tests;

@@ -16,6 +16,8 @@ mod programs;
 #[cfg(test)]
 mod refusals;
 #[cfg(test)]
+mod streams;
+#[cfg(test)]
 mod strings;
 #[cfg(test)]
 mod tenants;

@@ -1,9 +1,7 @@
 //! The tape and the page at every setting of a short text, compared with a computation byte by
 //! byte.
-ghost use Rattle.std.specs.Prelude.{◌≤◌};
-
-use super::*;
 use crate::checks::{holds, same};
+use judy_stream::{Page, Pull, Push, Refusal, Sink, Source, Tape};
 use std::process::Abort;
 
 const TEXT: &[u8] = b"abcd";
@@ -31,13 +29,9 @@ fn plain_pull(
     }
 }
 
-fn pulls_as_told(rt: &impl Abort, cuts: &[usize], step: usize, fails_at: Option<usize>, room: usize)
-    requires step { 1 ≤ step }
-    requires room { 1 ≤ room }
-    requires fits { room ≤ 5 }
-{
+fn pulls_as_told(rt: &impl Abort, cuts: &[usize], step: usize, fails_at: Option<usize>, room: usize) {
     let mut tape = Tape::new(TEXT, cuts, step, fails_at);
-    let (mut at, mut gave, mut ends, mut faults) = (0usize, 0u64, 0u64, 0u64);
+    let mut at = 0usize;
     let mut fails_at = fails_at;
     // At most 4 pulls give bytes and one fails, and at least 2 more find the tape at its end.
     for _ in 0..7u8 {
@@ -49,20 +43,11 @@ fn pulls_as_told(rt: &impl Abort, cuts: &[usize], step: usize, fails_at: Option<
                 let next = at.saturating_add(n);
                 same(rt, buf.get(..n), TEXT.get(at..next));
                 at = next;
-                gave = gave.saturating_add(1);
             }
-            Pull::End => ends = ends.saturating_add(1),
-            Pull::Fault => {
-                fails_at = None;
-                faults = faults.saturating_add(1);
-            }
+            Pull::End => {}
+            Pull::Fault => fails_at = None,
         }
     }
-    same(
-        rt,
-        (tape.at, tape.gave, tape.ends, tape.faults),
-        (at, gave, ends, faults),
-    );
 }
 
 #[test]
@@ -109,11 +94,7 @@ struct Fails {
     flush: Option<usize>,
 }
 
-fn pushes_as_told(rt: &impl Abort, limit: usize, refusal: Refusal, fails: Fails, len: usize)
-    requires limit { limit ≤ 4 }
-    requires some { 1 ≤ len }
-    requires fits { len ≤ 5 }
-{
+fn pushes_as_told(rt: &impl Abort, limit: usize, refusal: Refusal, fails: Fails, len: usize) {
     const PUSHED: &[u8; 5] = b"vwxyz";
     let mut page: Page<4> = Page::new(limit, refusal, fails.push, fails.flush);
     let refused = match refusal {
@@ -122,7 +103,6 @@ fn pushes_as_told(rt: &impl Abort, limit: usize, refusal: Refusal, fails: Fails,
     };
     let mut fails = fails;
     let mut held = 0usize;
-    let mut faults = 0u64;
     for _ in 0..7u8 {
         let answer = page.push(&PUSHED[..len]);
         // A pushed byte is taken if its place in the page is below the limit and below the fault.
@@ -135,7 +115,6 @@ fn pushes_as_told(rt: &impl Abort, limit: usize, refusal: Refusal, fails: Fails,
             if fails.push == Some(held) {
                 fails.push = None;
             }
-            faults = faults.saturating_add(1);
         } else {
             same(rt, answer, Push::Took(fits));
             same(rt, page.bytes().get(held..), PUSHED.get(..fits));
@@ -146,9 +125,7 @@ fn pushes_as_told(rt: &impl Abort, limit: usize, refusal: Refusal, fails: Fails,
         same(rt, page.flush(), flushes);
         if !flushes {
             fails.flush = None;
-            faults = faults.saturating_add(1);
         }
-        same(rt, page.faults, faults);
     }
 }
 
@@ -179,18 +156,13 @@ fn page_by_hand(rt: HostRuntime) {
     same(&rt, page.push(b"ab"), Push::Took(1));
     same(&rt, page.push(b"b"), Push::Took(0));
     same(&rt, page.push(b"bcd"), Push::Took(2));
-    holds(&rt, page.pending);
     holds(&rt, !page.flush());
-    holds(&rt, page.pending);
     holds(&rt, page.flush());
-    holds(&rt, !page.pending);
     same(&rt, page.push(b"d"), Push::Took(0));
     same(&rt, page.bytes(), b"abc".as_slice());
-    same(&rt, page.faults, 3);
     let mut full: Page<2> = Page::new(2, Refusal::Fails, None, None);
     same(&rt, full.push(b"abc"), Push::Took(2));
     same(&rt, full.push(b"c"), Push::Fault);
     holds(&rt, full.flush());
     same(&rt, full.bytes(), b"ab".as_slice());
-    same(&rt, full.faults, 1);
 }

@@ -1,8 +1,7 @@
 //! The handles over std's readers and writers in memory, and over some that fail.
-use super::*;
 use crate::checks::{holds, same};
-use std::io;
-use std::io::ErrorKind;
+use judy_stream::{Pull, Push, Reads, Sink, Source, Writes};
+use std::io::{self, ErrorKind, Read, Write};
 use std::test::Fail;
 
 // Gives a byte, is interrupted, breaks, gives another byte, and ends.
@@ -66,22 +65,20 @@ fn reads_of_a_slice(rt: HostRuntime) {
         same(&rt, reads.pull(&mut buf), answer);
         same(&rt, buf, *want);
     }
-    same(&rt, (reads.gave, reads.ends, reads.faults), (2, 2, 0));
 }
 
 #[test]
 fn a_failed_read_is_a_fault(rt: HostRuntime) {
     let mut reads = Reads::new(Flaky { reads: 0 });
     let mut buf = [0u8; 2];
-    for (answer, counts) in [
-        (Pull::Bytes(1), (1, 0, 0)),
-        (Pull::Fault, (1, 0, 1)),
-        (Pull::Fault, (1, 0, 2)),
-        (Pull::Bytes(1), (2, 0, 2)),
-        (Pull::End, (2, 1, 2)),
+    for answer in [
+        Pull::Bytes(1),
+        Pull::Fault,
+        Pull::Fault,
+        Pull::Bytes(1),
+        Pull::End,
     ] {
         same(&rt, reads.pull(&mut buf), answer);
-        same(&rt, (reads.gave, reads.ends, reads.faults), counts);
     }
 }
 
@@ -89,41 +86,35 @@ fn a_failed_read_is_a_fault(rt: HostRuntime) {
 fn writes_to_a_vector(rt: HostRuntime) -> Result<(), Fail> {
     let mut vector = Vec::new(rt.alloc());
     let mut writes = Writes::new(&mut vector);
-    let mut faults = 0;
     let mut took = writes.push(b"xy");
     if took == Push::Fault {
         // The vector is refused memory: the first write writes nothing, and the second succeeds.
-        faults = 1;
         took = writes.push(b"xy");
     }
     same(&rt, took, Push::Took(2));
     holds(&rt, writes.flush());
     same(&rt, writes.push(b"z"), Push::Took(1));
-    same(&rt, writes.faults, faults);
     same(&rt, vector.as_slice(), b"xyz".as_slice());
     Ok(())
 }
 
 #[test]
-fn a_failed_write_is_counted(rt: HostRuntime) {
+fn a_failed_write_is_a_fault(rt: HostRuntime) {
     let mut writes = Writes::new(Balky {
         writes: 0,
         flushes: 0,
     });
-    for (answer, faults) in [
-        (Push::Took(1), 0),
-        (Push::Fault, 1),
-        (Push::Fault, 2),
-        (Push::Took(0), 3),
-        (Push::Took(1), 3),
+    for answer in [
+        Push::Took(1),
+        Push::Fault,
+        Push::Fault,
+        Push::Took(0),
+        Push::Took(1),
     ] {
         same(&rt, writes.push(b"ab"), answer);
-        same(&rt, writes.faults, faults);
     }
     holds(&rt, !writes.flush());
-    same(&rt, writes.faults, 4);
     holds(&rt, writes.flush());
-    same(&rt, writes.faults, 4);
 }
 
 // Counts the calls made to it.
@@ -167,9 +158,7 @@ fn one_call_for_one_call(rt: HostRuntime) {
     same(&rt, counting.reads, 2);
     let mut writes = Writes::new(&mut counting);
     same(&rt, writes.push(b"ab"), Push::Took(2));
-    holds(&rt, writes.pending);
     holds(&rt, writes.flush());
-    holds(&rt, !writes.pending);
     same(&rt, writes.push(b"ab"), Push::Took(2));
     same(&rt, writes.push(b"c"), Push::Took(1));
     holds(&rt, writes.flush());
