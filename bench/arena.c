@@ -1,4 +1,4 @@
-/* What the calls of crates/bench_arena do, with a plain array and with calloc and free: arena ROUNDS.
+/* What the calls of `arena` of crates/bench do, with a plain array and with calloc and free: arena ROUNDS.
    Standard output has the sums, standard error the time of one call in tenths of a nanosecond. */
 #include <stdint.h>
 #include <stdio.h>

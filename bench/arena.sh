@@ -9,9 +9,9 @@ top=$(cd "$(dirname "$0")/.." && pwd)
 work=$(mktemp -d)
 trap 'rm -r "$work"' EXIT
 gcc -O2 -o "$work/plain" "$top/bench/arena.c"
-(cd "$top/crates/bench_arena" && rt run -- 1 >"$work/build.log" 2>&1)
+(cd "$top/crates/bench" && rt run -- arena 1 >"$work/build.log" 2>&1)
 for repeat in $(seq "$repeats"); do
-    "$top/crates/bench_arena/out/bench_arena" "$rounds" >"$work/ours.out" 2>"$work/ours.$repeat"
+    "$top/crates/bench/out/bench" arena "$rounds" >"$work/ours.out" 2>"$work/ours.$repeat"
     "$work/plain" "$rounds" >"$work/theirs.out" 2>"$work/theirs.$repeat"
     cmp "$work/ours.out" "$work/theirs.out"
 done

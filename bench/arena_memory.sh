@@ -7,8 +7,8 @@ set -e
 top=$(cd "$(dirname "$0")/.." && pwd)
 log=$(mktemp)
 trap 'rm "$log"' EXIT
-(cd "$top/crates/bench_arena" && rt run -- 1 >"$log" 2>&1) || { cat "$log"; exit 1; }
-python3 - "$top/crates/bench_arena/out/bench_arena" "${@:-64 512}" <<'P'
+(cd "$top/crates/bench" && rt run -- arena 1 >"$log" 2>&1) || { cat "$log"; exit 1; }
+python3 - "$top/crates/bench/out/bench" "${@:-64 512}" <<'P'
 import fcntl, os, subprocess, sys, time
 
 program, sizes = sys.argv[1], [int(size) for argument in sys.argv[2:] for size in argument.split()]
@@ -23,7 +23,7 @@ def most_memory(words):
     read, write = os.pipe()
     fcntl.fcntl(write, fcntl.F_SETPIPE_SZ, PAGE)
     os.write(write, b" " * PAGE)
-    with subprocess.Popen([program, "words", str(words)], stdout=write) as child:
+    with subprocess.Popen([program, "arena", "words", str(words)], stdout=write) as child:
         os.close(write)
         while not open(f"/proc/{child.pid}/syscall").read().startswith("1 0x1 "):
             if child.poll() is not None:

@@ -1,4 +1,4 @@
-/* The calls of libjudy's JudySL over the same strings as crates/bench_strings: strings KIND COUNT READS WALKS FREES MAKES. */
+/* The calls of libjudy's JudySL over the same strings as `strings` of crates/bench: strings KIND COUNT READS WALKS FREES MAKES. */
 #include <Judy.h>
 #include <inttypes.h>
 #include <stdint.h>
@@ -14,7 +14,7 @@ static uint64_t mixed(uint64_t seed) {
     return seed * UINT64_C(6364136223846793005) + UINT64_C(1442695040888963407);
 }
 
-/* The string of a number, as crates/bench_strings makes it. */
+/* The string of a number, as crates/bench makes it. */
 static void make_key(int paths, uint64_t i, uint8_t *text) {
     uint64_t seed = mixed(i);
     uint64_t letters = 4 + seed % 17;

@@ -11,13 +11,13 @@ top=$(cd "$(dirname "$0")/.." && pwd)
 work=$(mktemp -d)
 trap 'rm -r "$work"' EXIT
 gcc -O2 -o "$work/libjudy" "$top/bench/strings.c" -lJudy
-ours=${STRINGS:-$top/crates/bench_strings/out/bench_strings}
+ours=${STRINGS:-$top/crates/bench/out/bench}
 if [ -z "$STRINGS" ]; then
-    (cd "$top/crates/bench_strings" && rt run -- words 1 0 0 0 0 >"$work/build.log" 2>&1)
+    (cd "$top/crates/bench" && rt run -- strings words 1 0 0 0 0 >"$work/build.log" 2>&1)
 fi
 python3 - "$ours" "$work/libjudy" "$count" "$rounds" <<'P'
 import resource, statistics, subprocess, sys
-ours, theirs, count, rounds = sys.argv[1], sys.argv[2], int(sys.argv[3]), int(sys.argv[4])
+ours, theirs, count, rounds = [sys.argv[1], "strings"], [sys.argv[2]], int(sys.argv[3]), int(sys.argv[4])
 TIMES = 3
 # what is run, and how often each string is made, inserted, read, passed and freed: count, reads, walks, frees, makes
 PLANS = {"make": (0, 0, 0, TIMES), "all": (0, 0, 0, 0), "read": (TIMES, 0, 0, 0), "walk": (0, TIMES, 0, 0), "free": (0, 0, 1, 0)}
@@ -32,7 +32,7 @@ def spent():
 def seconds(program, kind, plan):
     """The processor time of one run, and its figures."""
     before = spent()
-    said = subprocess.run([program, kind, str(count), *map(str, plan)], stdout=subprocess.PIPE, encoding="ascii", check=True).stdout
+    said = subprocess.run([*program, kind, str(count), *map(str, plan)], stdout=subprocess.PIPE, encoding="ascii", check=True).stdout
     time = spent() - before
     figures = {name: int(number) for name, number in (it.split() for it in said.replace("\n", "").split(", "))}
     return time, figures
@@ -44,7 +44,7 @@ def costs(program, kind):
     for name, plan in PLANS.items():
         times[name], figures = seconds(program, kind, plan)
         if figures["read"] != plan[0] * count or figures["made"] != plan[3] * count:
-            sys.exit("%s: %s" % (program, figures))
+            sys.exit("%s: %s" % (program[0], figures))
     made = (times["make"] - times["all"]) / TIMES
     found = {
         "Insert": times["all"] - made,

@@ -1,4 +1,4 @@
-/* The calls of libjudy's Judy1 and JudyL over the same keys as crates/bench_words: words COUNT.
+/* The calls of libjudy's Judy1 and JudyL over the same keys as `words` of crates/bench: words COUNT.
    Standard output has the sums of the results, standard error the processor time of one call in
    tenths of a nanosecond. */
 #include <Judy.h>

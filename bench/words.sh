@@ -12,9 +12,9 @@ work=$(mktemp -d)
 trap 'rm -r "$work"' EXIT
 gcc -O2 -o "$work/libjudy" "$top/bench/words.c" -lJudy
 gcc -O2 -shared -fPIC -o "$work/cpu_clock.so" "$top/bench/cpu_clock.c"
-(cd "$top/crates/bench_words" && rt run -- 1 >"$work/build.log" 2>&1)
+(cd "$top/crates/bench" && rt run -- words 1 >"$work/build.log" 2>&1)
 for round in $(seq "$rounds"); do
-    LD_PRELOAD="$work/cpu_clock.so" "$top/crates/bench_words/out/bench_words" "$count" >"$work/ours.out" 2>"$work/ours.$round"
+    LD_PRELOAD="$work/cpu_clock.so" "$top/crates/bench/out/bench" words "$count" >"$work/ours.out" 2>"$work/ours.$round"
     "$work/libjudy" "$count" >"$work/theirs.out" 2>"$work/theirs.$round"
     cmp "$work/ours.out" "$work/theirs.out"
 done

@@ -98,7 +98,7 @@ def picture(width, height, title, parts):
 def uses():
     """For each crate of the program the crates of the repository that it uses."""
     rows = dict(re.findall(r"(?m)^(\w+):(.*)$", read("crates.txt")))
-    program = {name: used.split() for name, used in rows.items() if not name.startswith(("test_", "bench_")) and name != "judy_reference"}
+    program = {name: used.split() for name, used in rows.items() if not name.startswith("test_") and name not in ("bench", "judy_reference")}
     return {name: [it for it in used if it in program] for name, used in program.items()}
 
 

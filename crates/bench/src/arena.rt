@@ -1,17 +1,15 @@
-//! Times the calls of an arena: `bench_arena ROUNDS`. Or fills an arena, so that its memory can be
-//! measured: `bench_arena words WORDS`.
+//! Times the calls of an arena: `bench arena ROUNDS`. Or fills an arena, so that its memory can be
+//! measured: `bench arena words WORDS`.
 //!
 //! Standard output has a line for each call: a sum, the same on every machine. Standard error has
 //! the time of one call in tenths of a nanosecond.
-#![tactic(auto)]
-
 ghost use Rattle.std.specs.Prelude.{◌≤◌, length};
 ghost use Rattle.judy_arena.specs.Blocks.{words_of};
 
+use crate::times::tenths;
 use anyhow::{Result, anyhow};
 use judy_arena::{Arena, Block, NoMemory};
 use std::alloc::Global;
-use std::env::{self, Env};
 use std::rt::Clock;
 use std::time::Instant;
 
@@ -20,6 +18,28 @@ const PLACES: u64 = 512;
 
 /// How many blocks are kept at once.
 const KEPT: usize = 1_000;
+
+/// What is done.
+pub(crate) enum Plan {
+    /// Every call is timed, this many times.
+    Rounds(u64),
+    /// An arena is filled with this many words.
+    Words(u64),
+}
+
+pub(crate) const SMALL: Plan = Plan::Rounds(10_000);
+
+/// The plan in the words after `arena`.
+pub(crate) fn plan_of(words: &[String]) -> Option<Plan> {
+    match words {
+        [] => Some(SMALL),
+        [rounds] => Some(Plan::Rounds(rounds.parse::<u64>().ok()?)),
+        [kind, count] if kind.as_str() == "words" => {
+            Some(Plan::Words(count.parse::<u64>().ok()?))
+        }
+        _ => None,
+    }
+}
 
 /// Reads words of a block, spread over all places.
 fn read(arena: &Arena, block: Block, rounds: u64) -> u64
@@ -90,12 +110,7 @@ fn tell(
     rounds: u64,
     sum: u64,
 ) -> Result<()> {
-    let tenths = start
-        .elapsed(rt)?
-        .as_nanos()
-        .saturating_mul(10)
-        .checked_div(u128::from(rounds))
-        .unwrap_or(0);
+    let tenths = tenths(rt, start, rounds)?;
     println!(rt; "{call} {sum}")?;
     eprintln!(rt; "{call} {tenths}")?;
     Ok(())
@@ -141,34 +156,15 @@ fn take_words(alloc: Global, words: u64) -> Result<u64, NoMemory> {
     Ok(arena.region())
 }
 
-/// What the program does.
-enum Wanted {
-    /// Times every call, this many times.
-    Rounds(u64),
-    /// Fills an arena with this many words.
-    Words(u64),
-}
-
-/// What the words after the program's name ask for. The default is 10,000 rounds.
-fn read_wanted(rt: &(impl Env + Alloc)) -> Result<Wanted> {
-    let mut words = env::args(rt)?;
-    let _name = words.next();
-    let Some(first) = words.next() else {
-        return Ok(Wanted::Rounds(10_000));
-    };
-    if first.as_str() != "words" {
-        return Ok(Wanted::Rounds(first.as_str().parse()?));
-    }
-    match words.next() {
-        Some(count) => Ok(Wanted::Words(count.as_str().parse()?)),
-        None => Err(anyhow!("how many words?")),
-    }
-}
-
-fn main(rt: HostRuntime) -> Result<()> {
-    match read_wanted(&rt)? {
-        Wanted::Rounds(rounds) => time(&rt, rt.alloc(), rounds),
-        Wanted::Words(words) => match take_words(rt.alloc(), words) {
+/// Follows the plan.
+pub(crate) fn run(
+    rt: &(impl Clock + Print + Eprint + Alloc),
+    alloc: Global,
+    plan: Plan,
+) -> Result<()> {
+    match plan {
+        Plan::Rounds(rounds) => time(rt, alloc, rounds),
+        Plan::Words(words) => match take_words(alloc, words) {
             Ok(taken) => Ok(println!(rt; "words {taken}")?),
             Err(NoMemory) => Err(anyhow!("no memory")),
         },

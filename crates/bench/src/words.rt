@@ -1,19 +1,77 @@
-//! Times the calls of Judy1 and JudyL over many keys: `bench_words COUNT`.
+//! Times the calls of Judy1 and JudyL over many keys: `bench words COUNT`.
 //!
 //! Standard output has a line for each kind of array, pattern of keys and call: the sum of the
 //! results, the same on every machine. Standard error has the time of one call.
-#![tactic(auto)]
+pub(crate) mod arrays;
+pub(crate) mod pattern;
 
-mod arrays;
-mod pattern;
-
+use crate::times::tenths;
 use anyhow::{Result, anyhow};
 use arrays::{Map, Set, Words};
 use pattern::{PATTERNS, Pattern};
 use std::alloc::Global;
-use std::env::{self, Env};
 use std::rt::Clock;
 use std::time::Instant;
+
+/// The patterns of keys.
+#[derive(Clone, Copy)]
+enum Wanted {
+    All,
+    One(Pattern),
+}
+
+impl Wanted {
+    /// The patterns that a word names: the number of one, or 9 for all.
+    fn read(word: &str) -> Option<Wanted> {
+        match word {
+            "0" => Some(Wanted::One(Pattern::Random)),
+            "1" => Some(Wanted::One(Pattern::Sequential)),
+            "2" => Some(Wanted::One(Pattern::Dense)),
+            "3" => Some(Wanted::One(Pattern::Strided)),
+            "9" => Some(Wanted::All),
+            _ => None,
+        }
+    }
+
+    /// Whether a pattern is among them.
+    fn has(self, pattern: Pattern) -> bool {
+        match self {
+            Wanted::All => true,
+            Wanted::One(wanted) => wanted == pattern,
+        }
+    }
+}
+
+/// What is done.
+#[derive(Clone, Copy)]
+pub(crate) struct Plan {
+    /// How many keys an array has.
+    count: u64,
+    wanted: Wanted,
+    /// How many of the calls are made, at most.
+    most: u64,
+}
+
+pub(crate) const SMALL: Plan = Plan {
+    count: 1_000,
+    wanted: Wanted::All,
+    most: 12,
+};
+
+/// The plan in the words after `words`.
+pub(crate) fn plan_of(words: &[String]) -> Option<Plan> {
+    let mut plan = SMALL;
+    if let [count, ..] = words {
+        plan.count = count.parse::<u64>().ok()?;
+    }
+    if let [_, wanted, ..] = words {
+        plan.wanted = Wanted::read(wanted.as_str())?;
+    }
+    if let [_, _, most, ..] = words {
+        plan.most = most.parse::<u64>().ok()?;
+    }
+    (words.len() <= 3).then_some(plan)
+}
 
 /// The calls that are timed, in this order.
 #[derive(Clone, Copy, Debug, PartialEq, Eq)]
@@ -172,12 +230,12 @@ fn time<W: Words>(
     kind: &str,
     words: &mut W,
     pattern: Pattern,
-    count: u64,
-    most: u64,
+    plan: Plan,
 ) -> Result<()> {
+    let count = plan.count;
     let mut made = 0u64;
     for call in TIMED {
-        if made >= most {
+        if made >= plan.most {
             return Ok(());
         }
         made = made.wrapping_add(1);
@@ -185,12 +243,7 @@ fn time<W: Words>(
         let Some(sum) = make(alloc, words, call, pattern, count) else {
             return Err(anyhow!("no memory"));
         };
-        let tenths = start
-            .elapsed(rt)?
-            .as_nanos()
-            .saturating_mul(10)
-            .checked_div(u128::from(count))
-            .unwrap_or(0);
+        let tenths = tenths(rt, start, count)?;
         println!(rt; "{kind} {pattern:?} {call:?} {sum}")?;
         eprintln!(rt; "{kind} {pattern:?} {call:?} {tenths}")?;
         if call == Timed::Insert {
@@ -201,44 +254,17 @@ fn time<W: Words>(
     Ok(())
 }
 
-/// A number among the program's words, or the default.
-fn number(word: Option<String>, missing: u64) -> Result<u64> {
-    match word {
-        Some(word) => Ok(word.as_str().parse()?),
-        None => Ok(missing),
-    }
-}
-
-fn main(rt: HostRuntime) -> Result<()> {
-    let mut words = env::args(&rt)?;
-    let _name = words.next();
-    let count = number(words.next(), 1_000)?;
-    let wanted = number(words.next(), 9)?;
-    let most = number(words.next(), 12)?;
-    let alloc = rt.alloc();
-    let mut at = 0u64;
+/// Follows the plan.
+pub(crate) fn run(
+    rt: &(impl Clock + Print + Eprint + Alloc),
+    alloc: Global,
+    plan: Plan,
+) -> Result<()> {
     for pattern in PATTERNS {
-        if wanted == 9 || wanted == at {
-            time(
-                &rt,
-                alloc,
-                "Judy1",
-                &mut Set::new(alloc),
-                pattern,
-                count,
-                most,
-            )?;
-            time(
-                &rt,
-                alloc,
-                "JudyL",
-                &mut Map::new(alloc),
-                pattern,
-                count,
-                most,
-            )?;
+        if plan.wanted.has(pattern) {
+            time(rt, alloc, "Judy1", &mut Set::new(alloc), pattern, plan)?;
+            time(rt, alloc, "JudyL", &mut Map::new(alloc), pattern, plan)?;
         }
-        at = at.wrapping_add(1);
     }
     Ok(())
 }

@@ -137,6 +137,11 @@ impl Map {
             map: JudyL::new(),
         }
     }
+
+    /// The words taken from the machine.
+    pub(crate) fn region(&self) -> u64 {
+        self.arena.region()
+    }
 }
 
 impl Words for Map {

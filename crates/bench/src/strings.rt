@@ -1,24 +1,21 @@
-//! Many calls of a JudySL, to be timed from outside. The words of the command line are: `words` or
+//! Many calls of a JudySL, to be timed from outside. The words after `bench strings` are: `words` or
 //! `paths`, how many strings are inserted, how often all are read, how often a walk passes all of
 //! them, whether the map is freed at the end (0 or 1), and how often all strings are made without a
 //! call.
-#![tactic(auto)]
-
 mod keys;
 mod timed;
 
-use crate::keys::{Kind, key};
-use crate::timed::Timed;
+use anyhow::{Result, anyhow};
 use arrayvec::ArrayVec;
 use judy_arena::NoMemory;
 use judy_string::is_string;
+use keys::{Kind, key};
 use std::alloc::Global;
-use std::process::ExitCode;
-use std::{env, io};
+use timed::Timed;
 
-/// The work of the program.
+/// What is done.
 #[derive(Clone, Copy)]
-struct Plan {
+pub(crate) struct Plan {
     kind: Kind,
     strings: u64,
     reads: u64,
@@ -27,9 +24,18 @@ struct Plan {
     makes: u64,
 }
 
-/// The plan in the words of a command line. The program's name comes first.
-fn plan_of(words: &[String]) -> Option<Plan> {
-    let [_, kind, strings, reads, walks, frees, makes] = words else {
+pub(crate) const SMALL: Plan = Plan {
+    kind: Kind::Words,
+    strings: 1_000,
+    reads: 1,
+    walks: 1,
+    frees: 1,
+    makes: 1,
+};
+
+/// The plan in the words after `strings`.
+pub(crate) fn plan_of(words: &[String]) -> Option<Plan> {
+    let [kind, strings, reads, walks, frees, makes] = words else {
         return None;
     };
     Some(Plan {
@@ -94,9 +100,9 @@ struct Done {
     made: u64,
 }
 
-/// Follows the plan. Returns how many words the blocks have, and how many strings were read,
-/// passed, freed and made.
-fn run(alloc: Global, plan: Plan) -> Result<Done, NoMemory> {
+/// Makes all calls. Returns how many words the blocks have, and how many strings were read, passed,
+/// freed and made.
+fn make(alloc: Global, plan: Plan) -> Result<Done, NoMemory> {
     let mut made: u64 = 0;
     for _ in 0..plan.makes {
         made = made.wrapping_add(make_all(plan));
@@ -124,24 +130,10 @@ fn run(alloc: Global, plan: Plan) -> Result<Done, NoMemory> {
     })
 }
 
-/// The words of the command line. The program's name comes first.
-fn read_command(rt: &HostRuntime) -> io::Result<Vec<String>> {
-    let mut words = Vec::new(rt.alloc());
-    for word in env::args(rt)? {
-        words.push(word)?;
-    }
-    Ok(words)
-}
-
-fn main(rt: HostRuntime) -> ExitCode {
-    let Ok(words) = read_command(&rt) else {
-        return ExitCode::from(2);
-    };
-    let Some(plan) = plan_of(words.as_slice()) else {
-        return ExitCode::from(2);
-    };
-    let Ok(done) = run(rt.alloc(), plan) else {
-        return ExitCode::from(4);
+/// Follows the plan.
+pub(crate) fn run(rt: &(impl Print + Alloc), alloc: Global, plan: Plan) -> Result<()> {
+    let Ok(done) = make(alloc, plan) else {
+        return Err(anyhow!("no memory"));
     };
     let Done {
         words,
@@ -150,8 +142,6 @@ fn main(rt: HostRuntime) -> ExitCode {
         freed,
         made,
     } = done;
-    match println!(rt; "read {read}, passed {passed}, freed {freed}, made {made}, words {words}") {
-        Ok(()) => ExitCode::from(0),
-        Err(_) => ExitCode::from(4),
-    }
+    println!(rt; "read {read}, passed {passed}, freed {freed}, made {made}, words {words}")?;
+    Ok(())
 }
