@@ -1,6 +1,6 @@
 //! What commands are: each is of one kind of array, and does one thing there. The words are in
 //! specs/Commands.antt.
-ghost use Rattle.std.specs.Prelude.{◌≡◌, ◌<◌, Some, length, map, slice_get};
+ghost use Rattle.std.specs.Prelude.{◌≡◌, ◌<◌, ◌≤◌, Some, length, map, slice_get};
 ghost use Rattle.judy_model.specs.Commands.{command_place, command_words};
 
 /// How many commands there are.
@@ -93,7 +93,8 @@ pub enum Numbers {
 impl Command {
     /// The place of the command in the table; `COMMANDS` for what is no command.
     pub fn place(self) -> usize
-        ensures { result ≡ command_place self }
+        ensures place { result ≡ command_place self }
+        ensures few { result ≤ COMMANDS }
     {
         PLACES[self.kind as usize][self.operation as usize]
     }
