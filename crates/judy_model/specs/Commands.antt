@@ -2,7 +2,14 @@
 --     commands                 each word, the kind of its array, and what it does there
 --     one_with, long_with      the call of an operation with these numbers
 --     string_with, bytes_with  the same with a key
-use Rattle.std.specs.Prelude.{ℕ, List, [], ◌∷◌, Option, Some, None, codes}
+--     command_of call          the command that makes a call
+--     command_words            the words of the table
+--     command_place command    the place of a command in the table
+use Rattle.std.specs.Prelude.{◌&&◌, ℕ, Bool, List, [], ◌∷◌, Option, Some, None, codes, map, ◌==◌}
+use Rattle.std.specs.List.{position_or_len}
+use Rattle.judy_model.specs.declared.calls.Call.{Call}
+use Rattle.judy_model.specs.declared.calls.Call.TheVariants as call
+use Rattle.judy_model.specs.declared.calls.Given.{Given}
 use Rattle.judy_model.specs.declared.calls.OneCall.{OneCall}
 use Rattle.judy_model.specs.declared.calls.OneCall.TheVariants as one
 use Rattle.judy_model.specs.declared.calls.LongCall.{LongCall}
@@ -44,6 +51,45 @@ commands =
     ∷ (codes "JSLFA", to Str Free)
     ∷ (codes "JHSI", to Bytes Insert) ∷ (codes "JHSA", to Bytes Add) ∷ (codes "JHSD", to Bytes Remove) ∷ (codes "JHSG", to Bytes Look)
     ∷ (codes "JHSFA", to Bytes Free) ∷ []
+
+-- their words
+abbrev pub command_words : List (List ℕ)
+command_words = map (λ row. row.0) commands
+
+-- the number of a kind, in the order of its type
+abbrev pub kind_number : Kind → ℕ
+kind_number One = 0
+kind_number Long = 1
+kind_number Str = 2
+kind_number Bytes = 3
+
+-- that of an operation
+abbrev pub operation_number : Operation → ℕ
+operation_number Insert = 0
+operation_number Add = 1
+operation_number Remove = 2
+operation_number Look = 3
+operation_number Count = 4
+operation_number Nth = 5
+operation_number First = 6
+operation_number Next = 7
+operation_number Last = 8
+operation_number Prev = 9
+operation_number FirstEmpty = 10
+operation_number NextEmpty = 11
+operation_number LastEmpty = 12
+operation_number PrevEmpty = 13
+operation_number Free = 14
+
+-- whether two commands are one
+abbrev pub is_same : Command → Command → Bool
+is_same a b = kind_number a.kind == kind_number b.kind && operation_number a.operation == operation_number b.operation
+
+-- the place of a command in the table; its length for what is no command
+abbrev pub command_place : Command → ℕ
+command_place command = position_or_len (λ row. is_same row.1 command) commands
+
+-- ---- the calls that they make
 
 -- the call of a set
 abbrev pub one_with : Operation → Numbers → Option OneCall
@@ -109,3 +155,71 @@ bytes_with _ key _ = None
 abbrev pub free_with : {C : Type 0} → Operation → C → Option C
 free_with Free call = Some call
 free_with _ call = None
+
+-- ---- the command of a call
+
+-- what an insertion does, by what it is given
+abbrev pub given_operation : Given → Operation
+given_operation given.Nothing = Insert
+given_operation (Value v) = Insert
+given_operation (Plus n) = Add
+
+-- what the call of a set does
+abbrev pub one_operation : OneCall → Operation
+one_operation (one.Set i) = Insert
+one_operation (one.Unset i) = Remove
+one_operation (one.Test i) = Look
+one_operation (one.Count i k) = Count
+one_operation (one.ByCount n) = Nth
+one_operation (one.First i) = First
+one_operation (one.Next i) = Next
+one_operation (one.Last i) = Last
+one_operation (one.Prev i) = Prev
+one_operation (one.FirstEmpty i) = FirstEmpty
+one_operation (one.NextEmpty i) = NextEmpty
+one_operation (one.LastEmpty i) = LastEmpty
+one_operation (one.PrevEmpty i) = PrevEmpty
+one_operation one.Free = Free
+
+-- of a JudyL
+abbrev pub long_operation : LongCall → Operation
+long_operation (long.Insert i g) = given_operation g
+long_operation (long.Delete i) = Remove
+long_operation (long.Get i) = Look
+long_operation (long.Count i k) = Count
+long_operation (long.ByCount n) = Nth
+long_operation (long.First i) = First
+long_operation (long.Next i) = Next
+long_operation (long.Last i) = Last
+long_operation (long.Prev i) = Prev
+long_operation (long.FirstEmpty i) = FirstEmpty
+long_operation (long.NextEmpty i) = NextEmpty
+long_operation (long.LastEmpty i) = LastEmpty
+long_operation (long.PrevEmpty i) = PrevEmpty
+long_operation long.Free = Free
+
+-- of a JudySL
+abbrev pub string_operation : StrCall → Operation
+string_operation (str.Insert key g) = given_operation g
+string_operation (str.Delete key) = Remove
+string_operation (str.Get key) = Look
+string_operation (str.First key) = First
+string_operation (str.Next key) = Next
+string_operation (str.Last key) = Last
+string_operation (str.Prev key) = Prev
+string_operation str.Free = Free
+
+-- of a JudyHS
+abbrev pub bytes_operation : BytesCall → Operation
+bytes_operation (bytes.Insert key g) = given_operation g
+bytes_operation (bytes.Delete key) = Remove
+bytes_operation (bytes.Get key) = Look
+bytes_operation bytes.Free = Free
+
+-- the command that makes a call; None for `USED`, which asks for no array
+abbrev pub command_of : Call → Option Command
+command_of (call.One name c) = Some (to One (one_operation c))
+command_of (call.Long name c) = Some (to Long (long_operation c))
+command_of (call.Str name c) = Some (to Str (string_operation c))
+command_of (call.Bytes name c) = Some (to Bytes (bytes_operation c))
+command_of call.Used = None

@@ -2,11 +2,14 @@
 -- grammar gives none.
 use Rattle.std.specs.Prelude.{◌≡◌, ℕ, List, [], ◌∷◌, ◌↔◌, Option, Some, None, option_map, if◌then◌else◌, codes}
 use Rattle.std.specs.Ordering.{eq_by_cmp}
+use Rattle.judy_model.specs.declared.calls.Call.{Call}
 use Rattle.judy_model.specs.declared.calls.Call.TheVariants.{Used}
 use Rattle.judy_model.specs.declared.commands.Command.{Command}
+use Rattle.judy_model.specs.declared.commands.Kind.{Kind}
+use Rattle.judy_model.specs.declared.commands.Operation.{Operation}
 use Rattle.judy_model.specs.declared.requests.Line.{Line}
 use Rattle.judy_model.specs.declared.requests.Line.TheVariants as request
-use Rattle.judy_model.specs.Commands.{commands}
+use Rattle.judy_model.specs.Commands.{command_of, commands, to}
 use Rattle.judy_model.specs.Contents.{string_order}
 use Rattle.judy_model.specs.Grammar.{IsRequest, fields_of, is_name, is_token, at_command, call_by}
 
@@ -39,3 +42,8 @@ request_of line = request_of_fields (fields_of line)
 -- a line spells the computed request and no other
 abbrev pub SpellsAtMostOne : Type 0
 SpellsAtMostOne = (line : List ℕ) (request : Line) → IsRequest line request ↔ (request_of line ≡ Some request)
+
+-- a call that a command makes is of that command
+abbrev pub CallsAreOfTheirCommand : Type 0
+CallsAreOfTheirCommand = (kind : Kind) (operation : Operation) (name : List ℕ) (more : List (List ℕ)) (call : Call)
+    → call_by kind operation name more ≡ Some call → command_of call ≡ Some (to kind operation)

@@ -1,8 +1,10 @@
 //! The calls of a tenant, as in the manual pages Judy1(3), JudyL(3), JudySL(3) and JudyHS(3).
 ghost use Rattle.std.specs.Prelude.{◌≡◌};
+ghost use Rattle.judy_model.specs.Commands.{bytes_operation, command_of, given_operation, long_operation, one_operation, string_operation};
 ghost use Rattle.judy_model.specs.Tenant.{bytes_changes, changes, is_read_only, long_changes, new_pieces, one_changes, string_changes};
 ghost use Rattle.judy_model.specs.Tenant.{value_after, value_replied};
 
+use crate::commands::{Command, Kind, Operation};
 use crate::names::{Key, Name};
 use crate::quotas::Right;
 
@@ -139,6 +141,20 @@ pub enum BytesCall<'a> {
 }
 
 impl<'a> Call<'a> {
+    /// The command that makes the call. None for `USED`, which asks for no array.
+    pub fn command(&self) -> Option<Command>
+        ensures { result ≡ command_of self.now }
+    {
+        let (kind, operation) = match self {
+            Call::One(_, call) => (Kind::One, call.operation()),
+            Call::Long(_, call) => (Kind::Long, call.operation()),
+            Call::Str(_, call) => (Kind::Str, call.operation()),
+            Call::Bytes(_, call) => (Kind::Bytes, call.operation()),
+            Call::Used => return None,
+        };
+        Some(Command { kind, operation })
+    }
+
     /// Whether the call may change an array.
     pub fn changes(&self) -> bool
         ensures { result ≡ changes self.now }
@@ -176,6 +192,16 @@ impl<'a> Call<'a> {
 }
 
 impl Given {
+    /// What an insertion with it does.
+    pub fn operation(self) -> Operation
+        ensures { result ≡ given_operation self }
+    {
+        match self {
+            Given::Nothing | Given::Value(_) => Operation::Insert,
+            Given::Plus(_) => Operation::Add,
+        }
+    }
+
     /// The value of the entry afterwards, by its value before. A new entry counts as 0.
     pub fn value_after(self, before: u64) -> u64
         ensures { result ≡ value_after self before }
@@ -199,6 +225,28 @@ impl Given {
 }
 
 impl OneCall {
+    /// What the call does to the set.
+    pub fn operation(&self) -> Operation
+        ensures { result ≡ one_operation self.now }
+    {
+        match self {
+            OneCall::Set(_) => Operation::Insert,
+            OneCall::Unset(_) => Operation::Remove,
+            OneCall::Test(_) => Operation::Look,
+            OneCall::Count(_, _) => Operation::Count,
+            OneCall::ByCount(_) => Operation::Nth,
+            OneCall::First(_) => Operation::First,
+            OneCall::Next(_) => Operation::Next,
+            OneCall::Last(_) => Operation::Last,
+            OneCall::Prev(_) => Operation::Prev,
+            OneCall::FirstEmpty(_) => Operation::FirstEmpty,
+            OneCall::NextEmpty(_) => Operation::NextEmpty,
+            OneCall::LastEmpty(_) => Operation::LastEmpty,
+            OneCall::PrevEmpty(_) => Operation::PrevEmpty,
+            OneCall::Free => Operation::Free,
+        }
+    }
+
     /// Whether the call may change the set.
     pub fn changes(&self) -> bool
         ensures { result ≡ one_changes self.now }
@@ -208,6 +256,28 @@ impl OneCall {
 }
 
 impl LongCall {
+    /// What the call does to the map.
+    pub fn operation(&self) -> Operation
+        ensures { result ≡ long_operation self.now }
+    {
+        match self {
+            LongCall::Insert(_, given) => given.operation(),
+            LongCall::Delete(_) => Operation::Remove,
+            LongCall::Get(_) => Operation::Look,
+            LongCall::Count(_, _) => Operation::Count,
+            LongCall::ByCount(_) => Operation::Nth,
+            LongCall::First(_) => Operation::First,
+            LongCall::Next(_) => Operation::Next,
+            LongCall::Last(_) => Operation::Last,
+            LongCall::Prev(_) => Operation::Prev,
+            LongCall::FirstEmpty(_) => Operation::FirstEmpty,
+            LongCall::NextEmpty(_) => Operation::NextEmpty,
+            LongCall::LastEmpty(_) => Operation::LastEmpty,
+            LongCall::PrevEmpty(_) => Operation::PrevEmpty,
+            LongCall::Free => Operation::Free,
+        }
+    }
+
     /// Whether the call may change the map.
     pub fn changes(&self) -> bool
         ensures { result ≡ long_changes self.now }
@@ -220,6 +290,22 @@ impl LongCall {
 }
 
 impl<'a> StrCall<'a> {
+    /// What the call does to the map.
+    pub fn operation(&self) -> Operation
+        ensures { result ≡ string_operation self.now }
+    {
+        match self {
+            StrCall::Insert(_, given) => given.operation(),
+            StrCall::Delete(_) => Operation::Remove,
+            StrCall::Get(_) => Operation::Look,
+            StrCall::First(_) => Operation::First,
+            StrCall::Next(_) => Operation::Next,
+            StrCall::Last(_) => Operation::Last,
+            StrCall::Prev(_) => Operation::Prev,
+            StrCall::Free => Operation::Free,
+        }
+    }
+
     /// Whether the call may change the map.
     pub fn changes(&self) -> bool
         ensures { result ≡ string_changes self.now }
@@ -232,6 +318,18 @@ impl<'a> StrCall<'a> {
 }
 
 impl<'a> BytesCall<'a> {
+    /// What the call does to the map.
+    pub fn operation(&self) -> Operation
+        ensures { result ≡ bytes_operation self.now }
+    {
+        match self {
+            BytesCall::Insert(_, given) => given.operation(),
+            BytesCall::Delete(_) => Operation::Remove,
+            BytesCall::Get(_) => Operation::Look,
+            BytesCall::Free => Operation::Free,
+        }
+    }
+
     /// Whether the call may change the map.
     pub fn changes(&self) -> bool
         ensures { result ≡ bytes_changes self.now }

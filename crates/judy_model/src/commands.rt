@@ -1,5 +1,26 @@
 //! What commands are: each is of one kind of array, and does one thing there. The words are in
 //! specs/Commands.antt.
+ghost use Rattle.std.specs.Prelude.{◌≡◌, ◌<◌, ◌≤◌, Some, length, map, slice_get};
+ghost use Rattle.judy_model.specs.Commands.{command_place, command_words};
+
+/// How many commands there are.
+pub const COMMANDS: usize = 43;
+
+/// Their words, in the order of the table.
+static WORDS: [&'static str; COMMANDS] = [
+    "J1S", "J1U", "J1T", "J1C", "J1BC", "J1F", "J1N", "J1L", "J1P", "J1FE", "J1NE", "J1LE", "J1PE",
+    "J1FA", "JLI", "JLA", "JLD", "JLG", "JLC", "JLBC", "JLF", "JLN", "JLL", "JLP", "JLFE", "JLNE",
+    "JLLE", "JLPE", "JLFA", "JSLI", "JSLA", "JSLD", "JSLG", "JSLF", "JSLN", "JSLL", "JSLP",
+    "JSLFA", "JHSI", "JHSA", "JHSD", "JHSG", "JHSFA",
+];
+
+/// For each kind and operation, in the order of their types, the place of the command in the table.
+static PLACES: [[usize; 15]; 4] = [
+    [0, 43, 1, 2, 3, 4, 5, 6, 7, 8, 9, 10, 11, 12, 13],
+    [14, 15, 16, 17, 18, 19, 20, 21, 22, 23, 24, 25, 26, 27, 28],
+    [29, 30, 31, 32, 43, 43, 33, 34, 35, 36, 43, 43, 43, 43, 37],
+    [38, 39, 40, 41, 43, 43, 43, 43, 43, 43, 43, 43, 43, 43, 42],
+];
 
 /// The kinds of array.
 #[derive(Clone, Copy, Debug, PartialEq, Eq)]
@@ -67,4 +88,30 @@ pub enum Numbers {
     One(u64),
     /// Two numbers.
     Two(u64, u64),
+}
+
+impl Command {
+    /// The place of the command in the table; `COMMANDS` for what is no command.
+    pub fn place(self) -> usize
+        ensures place { result ≡ command_place self }
+        ensures few { result ≤ COMMANDS }
+    {
+        PLACES[self.kind as usize][self.operation as usize]
+    }
+}
+
+/// The text at a place.
+fn text_at(texts: &[&'static str], place: usize) -> &'static str
+    requires { place < length texts.now }
+    ensures { slice_get (map (λ text. text.now) texts.now) place ≡ Some result.now }
+{
+    texts[place]
+}
+
+/// The word of the command at a place of the table.
+pub fn command_word(place: usize) -> &'static str
+    requires { place < COMMANDS }
+    ensures { slice_get command_words place ≡ Some result.now }
+{
+    text_at(&WORDS, place)
 }

@@ -5,7 +5,7 @@ ghost use Rattle.judy_model.specs.Solo.{MemoryIsForNew, SoloGoesOn, SoloIsDeterm
 ghost use Rattle.judy_model.specs.Tenant.{AloneGoesOn};
 ghost use Rattle.judy_model.specs.Unchanged.{UnchangedAreTold};
 ghost use Rattle.judy_model.specs.WellFormed.{AnswersKeepAll, CallsKeepOthers, FullIsForNew, LooksKeepAll, QueriesKeepAll, StepKeepsForm, StepKeepsQuota};
-ghost use Rattle.judy_model.specs.Reading.{SpellsAtMostOne};
+ghost use Rattle.judy_model.specs.Reading.{CallsAreOfTheirCommand, SpellsAtMostOne};
 
 /// If two services agree on a tenant's quota, arrays, calls and refusals for memory, they answer it
 /// equally.
@@ -16,6 +16,11 @@ pub fn tenants_are_answered_equally()
 /// A line spells at most one request.
 pub fn lines_have_one_reading()
     ensures { SpellsAtMostOne }
+{}
+
+/// A call that a command makes is of that command.
+pub fn calls_are_of_their_command()
+    ensures { CallsAreOfTheirCommand }
 {}
 
 /// The nearest absent words at, above and below a word are found, if there are any.

@@ -16,7 +16,7 @@ pub mod tokens;
 mod unchanged;
 
 pub use calls::{BytesCall, Call, Given, LongCall, OneCall, StrCall};
-pub use commands::{Command, Kind, Numbers, Operation};
+pub use commands::{COMMANDS, Command, Kind, Numbers, Operation, command_word};
 pub use grammar::{is_name_letter, is_string, name_ok, token_ok};
 pub use names::{KEY_LIMIT, Key, NAME_LIMIT, Name, TOKEN_LIMIT};
 pub use owned::{OwnedKey, OwnedReply};

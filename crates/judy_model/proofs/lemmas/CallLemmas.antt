@@ -1,0 +1,122 @@
+-- A call that a command makes is of that command.
+use Rattle.std.proofs.Common.{◌≡◌, ℕ, List, [], ◌∷◌, refl, ap, ◌∙◌, sym, Option, Some, None}
+use Rattle.std.specs.Prelude.{IfSome, option_map, option_and_then}
+use Rattle.judy_model.specs.declared.calls.BytesCall.TheVariants as bytes
+use Rattle.judy_model.specs.declared.calls.Call.{Call}
+use Rattle.judy_model.specs.declared.calls.Call.TheVariants.{One, Long, Str, Bytes}
+use Rattle.judy_model.specs.declared.calls.StrCall.TheVariants as str
+use Rattle.judy_model.specs.declared.commands.Kind.{Kind}
+use Rattle.judy_model.specs.declared.commands.Kind.TheVariants as kind
+use Rattle.judy_model.specs.declared.commands.Numbers.{Numbers}
+use Rattle.judy_model.specs.declared.commands.Numbers.TheVariants as numbers
+use Rattle.judy_model.specs.declared.commands.Operation.{Operation}
+use Rattle.judy_model.specs.declared.commands.Operation.TheVariants.{Insert, Add, Remove, Look, Count, Nth, First, Next, Last, Prev, Free}
+use Rattle.judy_model.specs.declared.commands.Operation.TheVariants.{FirstEmpty, NextEmpty, LastEmpty, PrevEmpty}
+use Rattle.judy_model.specs.Commands.{bytes_operation, bytes_with, command_of, free_with, long_operation, long_with, one_operation, one_with}
+use Rattle.judy_model.specs.Commands.{string_operation, string_with, to}
+use Rattle.judy_model.specs.Grammar.{bytes_call, call_by, key_of, long_call, numbers_of_fields, one_call, string_call, string_of}
+
+-- the call, if there is one, is of this operation
+abbrev IsOf : {C : Type 0} → (C → Operation) → Operation → Option C → Type 0
+IsOf operation_of operation o = IfSome o (λ c. operation_of c ≡ operation)
+
+-- ---- by the numbers of a call
+
+one_made : (operation : Operation) (ns : Numbers) → IsOf one_operation operation (one_with operation ns)
+one_made Insert (numbers.One i) = refl
+one_made Remove (numbers.One i) = refl
+one_made Look (numbers.One i) = refl
+one_made Nth (numbers.One i) = refl
+one_made First (numbers.One i) = refl
+one_made Next (numbers.One i) = refl
+one_made Last (numbers.One i) = refl
+one_made Prev (numbers.One i) = refl
+one_made FirstEmpty (numbers.One i) = refl
+one_made NextEmpty (numbers.One i) = refl
+one_made LastEmpty (numbers.One i) = refl
+one_made PrevEmpty (numbers.One i) = refl
+one_made Count (numbers.Two i j) = refl
+one_made Free numbers.Nothing = refl
+one_made _ _ = tt
+
+long_made : (operation : Operation) (ns : Numbers) → IsOf long_operation operation (long_with operation ns)
+long_made Insert (numbers.One i) = refl
+long_made Remove (numbers.One i) = refl
+long_made Look (numbers.One i) = refl
+long_made Nth (numbers.One i) = refl
+long_made First (numbers.One i) = refl
+long_made Next (numbers.One i) = refl
+long_made Last (numbers.One i) = refl
+long_made Prev (numbers.One i) = refl
+long_made FirstEmpty (numbers.One i) = refl
+long_made NextEmpty (numbers.One i) = refl
+long_made LastEmpty (numbers.One i) = refl
+long_made PrevEmpty (numbers.One i) = refl
+long_made Insert (numbers.Two i j) = refl
+long_made Add (numbers.Two i j) = refl
+long_made Count (numbers.Two i j) = refl
+long_made Free numbers.Nothing = refl
+long_made _ _ = tt
+
+string_made : (operation : Operation) (key : List ℕ) (ns : Numbers) → IsOf string_operation operation (string_with operation key ns)
+string_made Insert key numbers.Nothing = refl
+string_made Remove key numbers.Nothing = refl
+string_made Look key numbers.Nothing = refl
+string_made First key numbers.Nothing = refl
+string_made Next key numbers.Nothing = refl
+string_made Last key numbers.Nothing = refl
+string_made Prev key numbers.Nothing = refl
+string_made Insert key (numbers.One i) = refl
+string_made Add key (numbers.One i) = refl
+string_made _ key _ = tt
+
+bytes_made : (operation : Operation) (key : List ℕ) (ns : Numbers) → IsOf bytes_operation operation (bytes_with operation key ns)
+bytes_made Insert key numbers.Nothing = refl
+bytes_made Remove key numbers.Nothing = refl
+bytes_made Look key numbers.Nothing = refl
+bytes_made Insert key (numbers.One i) = refl
+bytes_made Add key (numbers.One i) = refl
+bytes_made _ key _ = tt
+
+free_made : {C : Type 0} (operation_of : C → Operation) (operation : Operation) (call : C) → operation_of call ≡ Free
+    → IsOf operation_of operation (free_with operation call)
+free_made operation_of Free call is = is
+free_made operation_of _ call is = tt
+
+-- ---- by its fields
+
+then_made : {A C : Type 0} (operation_of : C → Operation) (operation : Operation) (f : A → Option C) (o : Option A)
+    → ((x : A) → IsOf operation_of operation (f x)) → IsOf operation_of operation (option_and_then f o)
+then_made operation_of operation f None all = tt
+then_made operation_of operation f (Some x) all = all x
+
+string_call_made : (operation : Operation) (more : List (List ℕ)) → IsOf string_operation operation (string_call operation more)
+string_call_made operation [] = free_made string_operation operation str.Free refl
+string_call_made operation (key ∷ more) =
+    then_made string_operation operation (λ k. option_and_then (λ ns. string_with operation k ns) (numbers_of_fields more)) (string_of key)
+    (λ k. then_made string_operation operation (λ ns. string_with operation k ns) (numbers_of_fields more) (string_made operation k))
+
+bytes_call_made : (operation : Operation) (more : List (List ℕ)) → IsOf bytes_operation operation (bytes_call operation more)
+bytes_call_made operation [] = free_made bytes_operation operation bytes.Free refl
+bytes_call_made operation (key ∷ more) =
+    then_made bytes_operation operation (λ k. option_and_then (λ ns. bytes_with operation k ns) (numbers_of_fields more)) (key_of key)
+    (λ k. then_made bytes_operation operation (λ ns. bytes_with operation k ns) (numbers_of_fields more) (bytes_made operation k))
+
+in_call : {C : Type 0} (operation_of : C → Operation) (kind : Kind) (operation : Operation) (f : C → Call) (o : Option C) (call : Call)
+    → ((c : C) → command_of (f c) ≡ Some (to kind (operation_of c))) → IsOf operation_of operation o → option_map f o ≡ Some call
+    → command_of call ≡ Some (to kind operation)
+in_call operation_of kind operation f None call same is e = cc
+in_call operation_of kind operation f (Some c) call same is e =
+    let call_is : f c ≡ call = cc in
+    ap command_of (sym call_is) ∙ same c ∙ ap (λ x. Some (to kind x)) is
+
+pub made_call : (kind : Kind) (operation : Operation) (name : List ℕ) (more : List (List ℕ)) (call : Call)
+    → call_by kind operation name more ≡ Some call → command_of call ≡ Some (to kind operation)
+made_call kind.One operation name more call = in_call one_operation kind.One operation (λ c. One name c) (one_call operation more) call (λ c. refl)
+    (then_made one_operation operation (λ ns. one_with operation ns) (numbers_of_fields more) (one_made operation))
+made_call kind.Long operation name more call = in_call long_operation kind.Long operation (λ c. Long name c) (long_call operation more) call (λ c. refl)
+    (then_made long_operation operation (λ ns. long_with operation ns) (numbers_of_fields more) (long_made operation))
+made_call kind.Str operation name more call = in_call string_operation kind.Str operation (λ c. Str name c) (string_call operation more) call (λ c. refl)
+    (string_call_made operation more)
+made_call kind.Bytes operation name more call = in_call bytes_operation kind.Bytes operation (λ c. Bytes name c) (bytes_call operation more) call (λ c. refl)
+    (bytes_call_made operation more)
