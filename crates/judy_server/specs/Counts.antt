@@ -16,6 +16,7 @@ use Rattle.judy_server.specs.Present.{speaks_for}
 use Rattle.judy_server.specs.Reloads.{rows_with}
 use Rattle.judy_server.specs.Tally.{call_place, refused_name, reply_place}
 use Rattle.judy_server.specs.declared.tally.Tally.{Tally}
+use Rattle.judy_server.specs.declared.tally.TheConstants.{CALLS}
 
 abbrev pub asks : ℕ → Turn → Bool
 asks place t = call_place t.line == place
@@ -85,7 +86,7 @@ unknown_over rows story = counted_over (λ rows. refuses rows None) (λ rows cou
 -- whatever the table, refused log-ins by the table in force. A line counts for the tenant that speaks after it:
 -- a log-in that succeeds counts for its tenant, and one that is refused for none.
 pub record AreCounted (tenants : List Tenant) (story : Story) (tally : Tally) : Type 0 where
-  pub lines : (place : ℕ) → place < 49 → slice_index tally.lines place ≡ risen 0 (count_by (asks place) (turns_in story))
+  pub lines : (place : ℕ) → place < CALLS → slice_index tally.lines place ≡ risen 0 (count_by (asks place) (turns_in story))
   pub replies : (place : ℕ) → place < 10 → slice_index tally.replies place ≡ risen 0 (count_by (answers place) (turns_in story))
   pub logins : (place : ℕ) → place < 128 → slice_index tally.refused place ≡ refused_over place tenants story
   pub unknown : tally.unknown ≡ unknown_over tenants story

@@ -8,120 +8,54 @@
 --     is_among names name              whether this name is among these
 --     with_absent, without_absent      a name was noted as absent; names are noted no more
 --     Tallied                          a service with its counts
-use Rattle.std.specs.Prelude.{◌||◌, ℕ, Bool, not, List, [], ◌∷◌, ◌++◌, filter, length, nat_lt, Option, Some, None, codes, if◌then◌else◌}
+use Rattle.std.specs.Prelude.{◌||◌, ◌+◌, ℕ, Bool, not, List, [], ◌∷◌, ◌++◌, filter, length, nat_lt, Option, Some, None, codes, if◌then◌else◌}
 use Rattle.std.specs.Prelude.{option_map, replicate, slice_index, slice_set, unwrap_or, ◌==◌}
 use Rattle.std.specs.List.{list_any}
 use Rattle.std.specs.Str.{bytes_eq}
 use Rattle.judy_arena.specs.Blocks.{count_up}
+use Rattle.judy_model.specs.Commands.{command_of, command_place, command_words}
 use Rattle.judy_model.specs.Grammar.{at_command}
 use Rattle.judy_model.specs.Replies.{line}
 use Rattle.judy_model.specs.Speakers.{Speaker}
 use Rattle.judy_model.specs.Stream.{Heard}
 use Rattle.judy_model.specs.Stream.Heard.{Asked, TooLong, Unclear}
-use Rattle.judy_model.specs.declared.calls.BytesCall.{BytesCall}
-use Rattle.judy_model.specs.declared.calls.BytesCall.TheVariants as bytes
 use Rattle.judy_model.specs.declared.calls.Call.{Call}
-use Rattle.judy_model.specs.declared.calls.Call.TheVariants.{One, Long, Str, Bytes, Used}
-use Rattle.judy_model.specs.declared.calls.Given.TheVariants.{Nothing, Value, Plus}
-use Rattle.judy_model.specs.declared.calls.LongCall.{LongCall}
-use Rattle.judy_model.specs.declared.calls.LongCall.TheVariants as long
-use Rattle.judy_model.specs.declared.calls.OneCall.{OneCall}
-use Rattle.judy_model.specs.declared.calls.OneCall.TheVariants as one
-use Rattle.judy_model.specs.declared.calls.StrCall.{StrCall}
-use Rattle.judy_model.specs.declared.calls.StrCall.TheVariants as str
+use Rattle.judy_model.specs.declared.commands.Command.{Command}
 use Rattle.judy_model.specs.declared.requests.Line.TheVariants as request
 use Rattle.judy_table.specs.declared.tenant.Tenant.{Tenant}
 use Rattle.judy_table.specs.Tenants.{place_of}
 use Rattle.judy_tenants.specs.Held.{Held}
 use Rattle.judy_server.specs.declared.absent.TheConstants.{ABSENT_LIMIT}
+use Rattle.judy_server.specs.declared.calls.TheConstants.{HELLO, NO_REQUEST, PING}
 use Rattle.judy_server.specs.declared.tally.Tally.{Tally}
+use Rattle.judy_server.specs.declared.tally.TheConstants.{CALLS}
 
 -- ---- what a line asks for
 
 -- the command that each request begins with, and `none` for a line that is no request
 unfoldable pub call_names : List (List ℕ)
 call_names =
-    codes "AUTH" ∷ codes "QUIT" ∷ codes "USED"
-    ∷ codes "J1S" ∷ codes "J1U" ∷ codes "J1T" ∷ codes "J1C" ∷ codes "J1BC" ∷ codes "J1F" ∷ codes "J1N" ∷ codes "J1L"
-    ∷ codes "J1P" ∷ codes "J1FE" ∷ codes "J1NE" ∷ codes "J1LE" ∷ codes "J1PE" ∷ codes "J1FA"
-    ∷ codes "JLI" ∷ codes "JLA" ∷ codes "JLD" ∷ codes "JLG" ∷ codes "JLC" ∷ codes "JLBC" ∷ codes "JLF" ∷ codes "JLN"
-    ∷ codes "JLL" ∷ codes "JLP" ∷ codes "JLFE" ∷ codes "JLNE" ∷ codes "JLLE" ∷ codes "JLPE" ∷ codes "JLFA"
-    ∷ codes "JSLI" ∷ codes "JSLA" ∷ codes "JSLD" ∷ codes "JSLG" ∷ codes "JSLF" ∷ codes "JSLN" ∷ codes "JSLL" ∷ codes "JSLP"
-    ∷ codes "JSLFA" ∷ codes "JHSI" ∷ codes "JHSA" ∷ codes "JHSD" ∷ codes "JHSG" ∷ codes "JHSFA"
-    ∷ codes "PING" ∷ codes "HELLO" ∷ codes "none" ∷ []
+    codes "AUTH" ∷ codes "QUIT" ∷ codes "USED" ∷ (command_words ++ codes "PING" ∷ codes "HELLO" ∷ codes "none" ∷ [])
 
--- The place of a call's command there. An insertion is counted by its command, whatever value it gives; an addition by its own.
-abbrev pub one_place : OneCall → ℕ
-one_place (one.Set i) = 3
-one_place (one.Unset i) = 4
-one_place (one.Test i) = 5
-one_place (one.Count i j) = 6
-one_place (one.ByCount n) = 7
-one_place (one.First i) = 8
-one_place (one.Next i) = 9
-one_place (one.Last i) = 10
-one_place (one.Prev i) = 11
-one_place (one.FirstEmpty i) = 12
-one_place (one.NextEmpty i) = 13
-one_place (one.LastEmpty i) = 14
-one_place (one.PrevEmpty i) = 15
-one_place one.Free = 16
+-- the place there of a command; that of `USED` for none
+abbrev pub place_by : Option Command → ℕ
+place_by (Some command) = 3 + command_place command
+place_by None = 2
 
-abbrev pub long_place : LongCall → ℕ
-long_place (long.Insert i Nothing) = 17
-long_place (long.Insert i (Value v)) = 17
-long_place (long.Insert i (Plus n)) = 18
-long_place (long.Delete i) = 19
-long_place (long.Get i) = 20
-long_place (long.Count i j) = 21
-long_place (long.ByCount n) = 22
-long_place (long.First i) = 23
-long_place (long.Next i) = 24
-long_place (long.Last i) = 25
-long_place (long.Prev i) = 26
-long_place (long.FirstEmpty i) = 27
-long_place (long.NextEmpty i) = 28
-long_place (long.LastEmpty i) = 29
-long_place (long.PrevEmpty i) = 30
-long_place long.Free = 31
-
-abbrev pub string_place : StrCall → ℕ
-string_place (str.Insert key Nothing) = 32
-string_place (str.Insert key (Value v)) = 32
-string_place (str.Insert key (Plus n)) = 33
-string_place (str.Delete key) = 34
-string_place (str.Get key) = 35
-string_place (str.First key) = 36
-string_place (str.Next key) = 37
-string_place (str.Last key) = 38
-string_place (str.Prev key) = 39
-string_place str.Free = 40
-
-abbrev pub bytes_place : BytesCall → ℕ
-bytes_place (bytes.Insert key Nothing) = 41
-bytes_place (bytes.Insert key (Value v)) = 41
-bytes_place (bytes.Insert key (Plus n)) = 42
-bytes_place (bytes.Delete key) = 43
-bytes_place (bytes.Get key) = 44
-bytes_place bytes.Free = 45
-
+-- The place of the command that makes a call. An insertion is counted by its command, whatever value it gives; an addition by its own.
 abbrev pub place_of_call : Call → ℕ
-place_of_call (One name c) = one_place c
-place_of_call (Long name c) = long_place c
-place_of_call (Str name c) = string_place c
-place_of_call (Bytes name c) = bytes_place c
-place_of_call Used = 2
+place_of_call call = place_by (command_of call)
 
 -- The place of what a line asks for. `proofs/lemmas/Commands.antt` proves that a request's name there is
 -- its own command.
 abbrev pub call_place : Heard → ℕ
 call_place (Asked (request.Auth name token)) = 0
 call_place (Asked request.Quit) = 1
-call_place (Asked request.Ping) = 46
-call_place (Asked request.Hello) = 47
+call_place (Asked request.Ping) = PING
+call_place (Asked request.Hello) = HELLO
 call_place (Asked (request.Call call)) = place_of_call call
-call_place Unclear = 48
-call_place TooLong = 48
+call_place Unclear = NO_REQUEST
+call_place TooLong = NO_REQUEST
 
 -- ---- replies
 
@@ -160,7 +94,7 @@ refused_name TooLong answer = None
 -- nothing was counted yet; there is a counter for each call, for each kind of reply, and for each place of a tenant
 unfoldable pub no_counts : Tally
 no_counts = record {
-  lines = replicate 49 0;
+  lines = replicate CALLS 0;
   replies = replicate 10 0;
   refused = replicate 128 0;
   unknown = 0;

@@ -9,13 +9,13 @@ ghost use Rattle.judy_server.specs.Tally.{bumped, call_place, cleared, no_counts
 ghost use Rattle.judy_server.specs.Tally.{with_share};
 
 use crate::absent::Absent;
-use crate::calls::place_of_call;
+use crate::calls::{HELLO, NO_REQUEST, PING, place_of_call};
+use judy_model::COMMANDS;
 use judy_protocol::{Line, Refusal};
 use judy_table::TenantId;
 
-/// How many things a line can ask for: `AUTH`, `QUIT`, `USED`, 43 calls of arrays, `PING`, `HELLO`, and
-/// nothing.
-pub const CALLS: usize = 49;
+/// How many things a line can ask for: `AUTH`, `QUIT`, `USED`, the commands, `PING`, `HELLO`, and nothing.
+pub const CALLS: usize = COMMANDS + 6;
 
 /// How many kinds of replies there are.
 pub const KINDS: usize = 10;
@@ -94,11 +94,11 @@ fn call_place(asked: &Result<Line<'_>, Refusal>) -> usize
     match asked {
         Ok(Line::Auth(_, _)) => 0,
         Ok(Line::Quit) => 1,
-        Ok(Line::Ping) => 46,
-        Ok(Line::Hello) => 47,
+        Ok(Line::Ping) => PING,
+        Ok(Line::Hello) => HELLO,
         Ok(Line::Call(call)) => place_of_call(call),
-        Err(Refusal::Syntax) => 48,
-        Err(Refusal::Long) => 48,
+        Err(Refusal::Syntax) => NO_REQUEST,
+        Err(Refusal::Long) => NO_REQUEST,
     }
 }
 

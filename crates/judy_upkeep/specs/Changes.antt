@@ -16,8 +16,8 @@ use Rattle.judy_model.specs.declared.calls.StrCall.TheVariants as string
 use Rattle.judy_upkeep.specs.declared.kinds.Change.{Change}
 use Rattle.judy_upkeep.specs.declared.kinds.Does.{Does}
 use Rattle.judy_upkeep.specs.declared.kinds.Does.TheVariants as does
-use Rattle.judy_upkeep.specs.declared.kinds.Kind.{Kind}
-use Rattle.judy_upkeep.specs.declared.kinds.Kind.TheVariants as kind
+use Rattle.judy_model.specs.declared.commands.Kind.{Kind}
+use Rattle.judy_model.specs.declared.commands.Kind.TheVariants as kind
 
 abbrev pub one_does : OneCall → Option Does
 one_does (one.Set i) = Some does.Makes

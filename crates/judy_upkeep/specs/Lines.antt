@@ -4,8 +4,8 @@
 --     insertion_text array key value    the line that makes an entry with this value
 use Rattle.std.specs.Prelude.{ℕ, List, [], ◌∷◌, ◌++◌, codes, decimal}
 use Rattle.judy_upkeep.specs.declared.kinds.Array.{Array}
-use Rattle.judy_upkeep.specs.declared.kinds.Kind.{Kind}
-use Rattle.judy_upkeep.specs.declared.kinds.Kind.TheVariants as kind
+use Rattle.judy_model.specs.declared.commands.Kind.{Kind}
+use Rattle.judy_model.specs.declared.commands.Kind.TheVariants as kind
 
 -- the letters that the commands of a kind begin with
 abbrev pub letters_of : Kind → List ℕ

@@ -2,10 +2,10 @@
 ghost use Rattle.std.specs.Prelude.{◌≤◌, length};
 
 use crate::asking::{Asking, Came};
-use crate::kinds::{Array, Change, Does, Kind};
+use crate::kinds::{Array, Change, Does, kind_of, letter};
 use crate::lines::{KeyText, Text, write_key, write_look};
 use arrayvec::ArrayVec;
-use judy_model::{NAME_LIMIT, Name};
+use judy_model::{Kind, NAME_LIMIT, Name};
 use judy_programs::Opens;
 use judy_protocol::Served;
 use judy_recovery::Reason;
@@ -44,7 +44,7 @@ pub struct Arrays<S: Served> {
 
 /// The place of an array among the recent ones.
 fn slot_of(tenant: usize, array: &Array) -> usize {
-    let mut sum = array.kind.letter() as u64;
+    let mut sum = letter(array.kind) as u64;
     for byte in array.name.as_bytes() {
         sum = sum.wrapping_mul(31).wrapping_add(*byte as u64);
     }
@@ -64,9 +64,9 @@ fn empty_slots(alloc: Global) -> Result<Vec<Option<Noted>>, Reason> {
 
 /// The array that a key of a map names.
 fn array_of(key: &[u8]) -> Option<Array> {
-    let (letter, name) = key.split_first()?;
+    let (first, name) = key.split_first()?;
     Some(Array {
-        kind: Kind::of(*letter)?,
+        kind: kind_of(*first)?,
         name: Name::read(name)?,
     })
 }
@@ -118,7 +118,7 @@ impl<S: Served> Arrays<S> {
         requires { length does.now ≤ 2 }
     {
         let mut key: ArrayVec<u8, ARRAY_KEY> = ArrayVec::new();
-        let _fits = key.try_push(array.kind.letter());
+        let _fits = key.try_push(letter(array.kind));
         let _fits = key.try_extend_from_slice(array.name.as_bytes());
         write_key(key.as_slice(), &mut self.key);
         write_look(&self.map, does, self.key.as_slice(), &mut self.line);

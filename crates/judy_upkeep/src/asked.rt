@@ -1,9 +1,9 @@
 //! The array and the key of an insertion into a map from byte keys.
 ghost use Rattle.std.specs.Prelude.{◌≤◌, length, IfSome};
 
-use crate::kinds::{Array, Kind};
+use crate::kinds::Array;
 use crate::lines::KEY_ROOM;
-use judy_model::Name;
+use judy_model::{Kind, Name};
 
 /// The bytes before the first space, and those from it on.
 fn cut_field(line: &[u8]) -> (&[u8], &[u8]) {

@@ -2,45 +2,30 @@
 ghost use Rattle.std.specs.Prelude.{◌≡◌, IfSome, option_map};
 ghost use Rattle.judy_upkeep.specs.Changes.{bytes_does, change, change_of, letter_of, long_does, one_does, string_does};
 
-use judy_model::{BytesCall, Call, LongCall, Name, OneCall, StrCall};
+use judy_model::{BytesCall, Call, Kind, LongCall, Name, OneCall, StrCall};
 
-/// The kind of an array.
-#[derive(Clone, Copy, Debug, PartialEq, Eq)]
-pub enum Kind {
-    /// A set of words.
-    One,
-    /// A map from words.
-    Long,
-    /// A map from strings.
-    Str,
-    /// A map from byte keys.
-    Bytes,
+/// The letter that stands for a kind of array.
+pub fn letter(kind: Kind) -> u8
+    ensures { result ≡ letter_of kind }
+{
+    match kind {
+        Kind::One => b'1',
+        Kind::Long => b'L',
+        Kind::Str => b'S',
+        Kind::Bytes => b'H',
+    }
 }
 
-impl Kind {
-    /// The letter that stands for it.
-    pub fn letter(self) -> u8
-        ensures { result ≡ letter_of self }
-    {
-        match self {
-            Kind::One => b'1',
-            Kind::Long => b'L',
-            Kind::Str => b'S',
-            Kind::Bytes => b'H',
-        }
-    }
-
-    /// The kind that a letter stands for.
-    pub fn of(letter: u8) -> Option<Kind>
-        ensures { IfSome result (λ kind. letter ≡ letter_of kind) }
-    {
-        match letter {
-            b'1' => Some(Kind::One),
-            b'L' => Some(Kind::Long),
-            b'S' => Some(Kind::Str),
-            b'H' => Some(Kind::Bytes),
-            _ => None,
-        }
+/// The kind that a letter stands for.
+pub fn kind_of(letter: u8) -> Option<Kind>
+    ensures { IfSome result (λ kind. letter ≡ letter_of kind) }
+{
+    match letter {
+        b'1' => Some(Kind::One),
+        b'L' => Some(Kind::Long),
+        b'S' => Some(Kind::Str),
+        b'H' => Some(Kind::Bytes),
+        _ => None,
     }
 }
 

@@ -3,10 +3,10 @@ ghost use Rattle.std.specs.Prelude.{◌≡◌, ◌≤◌, ◌+◌, ◌++◌, cod
 ghost use Rattle.hex.specs.Hex.{encode_lower};
 ghost use Rattle.judy_upkeep.specs.Lines.{call_text, insertion_text, least_key as least_key_lem, letters_of, look_text};
 
-use crate::kinds::{Array, Kind};
+use crate::kinds::Array;
 use arrayvec::ArrayVec;
 use itoa::Buffer;
-use judy_model::{KEY_LIMIT, LINE_LIMIT};
+use judy_model::{KEY_LIMIT, Kind, LINE_LIMIT};
 
 /// The most letters of a key, as a line has it: an `x`, and two digits for each byte.
 pub const KEY_ROOM: usize = 2 * KEY_LIMIT + 1;

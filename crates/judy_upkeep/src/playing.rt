@@ -1,13 +1,13 @@
 //! Plays the records of a journal to a service of made-up tenants, and notes which arrays they make.
 use crate::arrays::Arrays;
 use crate::asking::{Asking, Came};
-use crate::kinds::{Array, Kind};
+use crate::kinds::Array;
 use crate::leaving::{cut_name, others_gone};
 use crate::lines::{Text, least_key, write_call, write_look};
 use crate::tenants::Tenants;
 use arrayvec::ArrayVec;
 use judy_journal::read_record;
-use judy_model::name_ok;
+use judy_model::{Kind, name_ok};
 use judy_programs::Opens;
 use judy_protocol::{Served, cut_line};
 use judy_recovery::{Halt, Player, Reason};

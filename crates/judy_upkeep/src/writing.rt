@@ -2,12 +2,12 @@
 ghost use Rattle.std.specs.Prelude.{◌≤◌, length};
 
 use crate::asking::Came;
-use crate::kinds::{Array, Kind};
+use crate::kinds::Array;
 use crate::lines::{KeyText, Text, least_key, write_index, write_insertion, write_key, write_look};
 use crate::output::Output;
 use crate::playing::Playing;
 use arrayvec::ArrayVec;
-use judy_model::Name;
+use judy_model::{Kind, Name};
 use judy_protocol::Served;
 use judy_recovery::Reason;
 use std::fs::Files;

@@ -33,6 +33,7 @@ use Rattle.judy_server.specs.Served.{IsServedStep}
 use Rattle.judy_server.specs.Starts.{HasServedAny}
 use Rattle.judy_server.specs.Tally.{Tallied, bumped, call_place, counted, no_counts, refused_at, refused_name, refused_to, reply_place, tenant_of, with_line, with_share}
 use Rattle.judy_server.specs.declared.tally.Tally.{Tally}
+use Rattle.judy_server.specs.declared.tally.TheConstants.{CALLS}
 use Rattle.judy_server.proofs.lemmas.Space.{rows-of}
 use Rattle.judy_server.proofs.lemmas.Starting.{started-keeps}
 
@@ -302,9 +303,9 @@ none-yet : ((place : ℕ) → slice_index no_counts.lines place ≡ 0) × ((plac
     × ((place : ℕ) → slice_index no_counts.refused place ≡ 0) × (no_counts.unknown ≡ 0)
     × ((place : ℕ) → slice_index no_counts.spoken place ≡ 0) × ((place : ℕ) → slice_index no_counts.full place ≡ 0)
 unfolding no_counts
-none-yet = (zeros 49, zeros 10, zeros 128, refl, zeros 128, zeros 128)
+none-yet = (zeros CALLS, zeros 10, zeros 128, refl, zeros 128, zeros 128)
 
-counters : (length no_counts.lines ≡ 49) × (length no_counts.replies ≡ 10) × (length no_counts.refused ≡ 128)
+counters : (length no_counts.lines ≡ CALLS) × (length no_counts.replies ≡ 10) × (length no_counts.refused ≡ 128)
     × (length no_counts.spoken ≡ 128) × (length no_counts.full ≡ 128)
 unfolding no_counts
 counters = (refl, refl, refl, refl, refl)

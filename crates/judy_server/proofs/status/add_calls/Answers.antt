@@ -1,6 +1,7 @@
 use Rattle.std.proofs.Common.{◌≡◌, ◌∙◌, Some, ap, arith, codes, length, refl, sym}
 use Rattle.std.specs.Prelude.{slice_index}
 use Rattle.judy_server.specs.Tally.{call_names}
+use Rattle.judy_server.specs.declared.tally.TheConstants.{CALLS}
 use Rattle.judy_server.specs.declared.metrics.Metric.TheVariants.{Lines}
 use Rattle.judy_server.proofs.Texting.{samples_all, samples_on}
 use Rattle.judy_server.proofs.status.add_calls.Goals as goal
@@ -12,7 +13,7 @@ loop-place-preserved c = record {
       c.in_ok-add_if.ensures c.loop-place.invariant.text;
 }
 
-count : length call_names ≡ 49
+count : length call_names ≡ CALLS
 unfolding call_names
 count = refl
 
