@@ -29,7 +29,13 @@ fn plain_pull(
     }
 }
 
-fn pulls_as_told(rt: &impl Abort, cuts: &[usize], step: usize, fails_at: Option<usize>, room: usize) {
+fn pulls_as_told(
+    rt: &impl Abort,
+    cuts: &[usize],
+    step: usize,
+    fails_at: Option<usize>,
+    room: usize,
+) {
     let mut tape = Tape::new(TEXT, cuts, step, fails_at);
     let mut at = 0usize;
     let mut fails_at = fails_at;
