@@ -42,7 +42,8 @@ abbrev pub place_by : Option Command → ℕ
 place_by (Some command) = 3 + command_place command
 place_by None = 2
 
--- The place of the command that makes a call. An insertion is counted by its command, whatever value it gives; an addition by its own.
+-- The place of the command that makes a call. An insertion is counted by its command, whatever value it gives;
+-- an addition by its own.
 abbrev pub place_of_call : Call → ℕ
 place_of_call call = place_by (command_of call)
 
