@@ -1,8 +1,8 @@
 //! The arrays that records make, and what their calls do to them.
 ghost use Rattle.std.specs.Prelude.{◌≡◌, IfSome, option_map};
-ghost use Rattle.judy_upkeep.specs.Changes.{bytes_does, change, change_of, letter_of, long_does, one_does, string_does};
+ghost use Rattle.judy_upkeep.specs.Changes.{change, change_of, does_of, letter_of};
 
-use judy_model::{BytesCall, Call, Kind, LongCall, Name, OneCall, StrCall};
+use judy_model::{Call, Kind, Name, Operation};
 
 /// The letter that stands for a kind of array.
 pub fn letter(kind: Kind) -> u8
@@ -58,51 +58,15 @@ pub struct Change {
     pub does: Does,
 }
 
-/// What a call does to a set, if it may change it.
-fn one_does(call: &OneCall) -> Option<Does>
-    ensures { result ≡ one_does call.now }
+/// What an operation does to an array, if it may change it.
+fn does_of(operation: Operation) -> Option<Does>
+    ensures { result ≡ does_of operation }
 {
-    match call {
-        OneCall::Set(_) => Some(Does::Makes),
-        OneCall::Unset(_) => Some(Does::Removes),
-        OneCall::Free => Some(Does::Frees),
+    match operation {
+        Operation::Insert | Operation::Add => Some(Does::Makes),
+        Operation::Remove => Some(Does::Removes),
+        Operation::Free => Some(Does::Frees),
         _ => None,
-    }
-}
-
-/// What a call does to a map from words, if it may change it.
-fn long_does(call: &LongCall) -> Option<Does>
-    ensures { result ≡ long_does call.now }
-{
-    match call {
-        LongCall::Insert(_, _) => Some(Does::Makes),
-        LongCall::Delete(_) => Some(Does::Removes),
-        LongCall::Free => Some(Does::Frees),
-        _ => None,
-    }
-}
-
-/// What a call does to a map from strings, if it may change it.
-fn string_does(call: &StrCall<'_>) -> Option<Does>
-    ensures { result ≡ string_does call.now }
-{
-    match call {
-        StrCall::Insert(_, _) => Some(Does::Makes),
-        StrCall::Delete(_) => Some(Does::Removes),
-        StrCall::Free => Some(Does::Frees),
-        _ => None,
-    }
-}
-
-/// What a call does to a map from byte keys, if it may change it.
-fn bytes_does(call: &BytesCall<'_>) -> Option<Does>
-    ensures { result ≡ bytes_does call.now }
-{
-    match call {
-        BytesCall::Insert(_, _) => Some(Does::Makes),
-        BytesCall::Delete(_) => Some(Does::Removes),
-        BytesCall::Free => Some(Does::Frees),
-        BytesCall::Get(_) => None,
     }
 }
 
@@ -123,10 +87,10 @@ impl Change {
         ensures { result ≡ change_of call.now }
     {
         match call {
-            Call::One(name, call) => change_of(Kind::One, name, one_does(call)),
-            Call::Long(name, call) => change_of(Kind::Long, name, long_does(call)),
-            Call::Str(name, call) => change_of(Kind::Str, name, string_does(call)),
-            Call::Bytes(name, call) => change_of(Kind::Bytes, name, bytes_does(call)),
+            Call::One(name, call) => change_of(Kind::One, name, does_of(call.operation())),
+            Call::Long(name, call) => change_of(Kind::Long, name, does_of(call.operation())),
+            Call::Str(name, call) => change_of(Kind::Str, name, does_of(call.operation())),
+            Call::Bytes(name, call) => change_of(Kind::Bytes, name, does_of(call.operation())),
             Call::Used => None,
         }
     }
