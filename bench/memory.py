@@ -84,10 +84,10 @@ class Keys:
         return keys if self.kind == "1" else [field for pair in zip(keys, range(at, at + PART)) for field in pair]
 
 
-def pages(process, sort="Anonymous:"):
-    """The bytes of a process's resident pages: by default of those that are in no file, and of all by `Rss:`."""
-    with open("/proc/%d/smaps_rollup" % process.pid, encoding="ascii") as file:
-        return sum(1024 * int(line.split()[1]) for line in file if line.startswith(sort))
+def pages(process, row="Anonymous:", source="smaps_rollup"):
+    """The bytes of a process's resident pages, as the system tells them: by default of those that are in no file."""
+    with open("/proc/%d/%s" % (process.pid, source), encoding="ascii") as file:
+        return sum(1024 * int(line.split()[1]) for line in file if line.startswith(row))
 
 
 @contextmanager
@@ -199,7 +199,7 @@ def rest_table(rows):
 
 @contextmanager
 def judyd(more=(), tenants=("bench",)):
-    """A judyd that serves many clients, a connection on which the first tenant is logged in, and the server's folder."""
+    """A judyd with one entry that serves many clients, a connection of its first tenant, and the server's folder."""
     with tempfile.TemporaryDirectory(prefix="bench-memory-") as folder:
         if "--journal" in more:
             more = [*more, os.path.join(folder, "journal"), "--new-journal"]
@@ -208,7 +208,7 @@ def judyd(more=(), tenants=("bench",)):
             more = [*more, os.path.join(folder, "status")]
         words, path = words_of("judyd", folder, ("--clients", "1024", "--login", "600", *more), tenants)
         with running(words, path) as (process, client):
-            ask(client, b"AUTH %b bench\n" % tenants[0].encode(), b"OK\n")
+            ask(client, b"AUTH %b bench\nJ1S first 1\n" % tenants[0].encode(), b"OK\n1\n")
             yield process, client, folder
 
 
@@ -220,7 +220,9 @@ def names(kind, line, new):
             for at in range(done, count, 256):
                 ask(client, b"".join(line % it for it in range(at, at + 256)), new * 256)
             done = count
-            yield "%s names, each of a %s with one entry" % (format(count, ","), kind), count, pages(process) - empty
+            yield "%s names of %ss with one entry" % (format(count, ","), kind), count, pages(process) - empty
+        of_files = pages(process, "Rss:") - pages(process)
+        yield "the most that these took at once", done, pages(process, "VmHWM:", "status") - of_files - empty
 
 
 def clients():
@@ -275,7 +277,7 @@ def statuses():
                     asker.sendall(b"STATUS\n")
                     while asker.recv(65536):
                         pass
-            yield "a status of %d tenant%s, asked for twice" % (len(tenants), "s"[: len(tenants) > 1]), 1, pages(process) - told[-1]
+            yield "a status of %d tenant%s, asked for" % (len(tenants), "s"[: len(tenants) > 1]), 1, pages(process) - told[-1]
     yield "63 tenants more in the table", 63, told[1] - told[0]
 
 
@@ -285,8 +287,8 @@ def rest():
     resource.setrlimit(resource.RLIMIT_NOFILE, (min(max(soft, 4096), hard), hard))
     with judyd() as (process, _, _):
         empty = pages(process)
-        yield "an empty server with one client, and the pages of its files", 1, pages(process, "Rss:")
-        yield "an empty server with one client", 1, empty
+        yield "a server with one client and one entry, its program's pages among them", 1, pages(process, "Rss:")
+        yield "the same without the pages of files", 1, empty
     yield from names("Judy1", b"J1S n%d 1\n", b"1\n")
     yield from names("JudySL", b"JSLI n%d x61 1\n", b"V 0\n")
     yield from clients()
