@@ -84,9 +84,9 @@ class Keys:
         return keys if self.kind == "1" else [field for pair in zip(keys, range(at, at + PART)) for field in pair]
 
 
-def pages(process, row="Anonymous:", source="smaps_rollup"):
-    """The bytes of a process's resident pages, as the system tells them: by default of those that are in no file."""
-    with open("/proc/%d/%s" % (process.pid, source), encoding="ascii") as file:
+def pages(process, row="Anonymous:"):
+    """The bytes of a process's resident pages: by default of those that are in no file, and of all by `Rss:`."""
+    with open("/proc/%d/smaps_rollup" % process.pid, encoding="ascii") as file:
         return sum(1024 * int(line.split()[1]) for line in file if line.startswith(row))
 
 
@@ -221,8 +221,6 @@ def names(kind, line, new):
                 ask(client, b"".join(line % it for it in range(at, at + 256)), new * 256)
             done = count
             yield "%s names of %ss with one entry" % (format(count, ","), kind), count, pages(process) - empty
-        of_files = pages(process, "Rss:") - pages(process)
-        yield "the most that these took at once", done, pages(process, "VmHWM:", "status") - of_files - empty
 
 
 def clients():
