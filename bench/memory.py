@@ -2,13 +2,19 @@
 """Measures the resident memory of judyd, redis-server and libjudy with 10,000 to 10,000,000 entries in one array.
 
 usage: bench/memory.py [--most N] [--out FILE] [--only SUBJECT] [LOAD ..]
-       bench/memory.py --rest
+       bench/memory.py --rest [--out FILE]
+       bench/memory.py --show [--out FILE]
 
 Each load fills an array of a process of its own, and at each number of entries tells by how many bytes the
-process has grown since it had none. redis has a set for a Judy1 and a hash for each map, and no file. libjudy's arrays
+process has grown since it had none. Counted are resident pages that are in no file: those of the program's own
+files come as it runs, whatever it holds. redis has a set for a Judy1 and a hash for each map, and no file; before each
+look its tables are made whole, by as many look-ups as it has entries, and it gives free pages back. libjudy's arrays
 (memory.c needs libjudy-dev and a C compiler) are in a program without lines. Strings and keys have 12 bytes. Values
-are the number of entries before. FILE, by default bench/out/memory.json, keeps what was measured before of other
-loads and subjects; the table of all of it is printed. --rest measures what names, clients and a journal take.
+are the number of entries before. Each entry must be a new one: another reply, as `FULL` or `ERR MEMORY`, ends it.
+
+--rest measures what an empty judyd, names, clients, a journal, a status and a reserve take. FILE, by default
+bench/out/memory.json, keeps what was measured before of other loads and subjects; --show only prints its tables, which
+the pages have of bench/memory.json.
 
 The program is the path in the environment's JUDYD, otherwise ./judyd, which builds it if necessary.
 """
@@ -18,6 +24,7 @@ import hashlib
 import json
 import os
 import random
+import resource
 import shutil
 import socket
 import subprocess
@@ -26,13 +33,14 @@ import tempfile
 import time
 from array import array
 from binascii import hexlify
-from contextlib import contextmanager
+from contextlib import contextmanager, suppress
 
 from run import wait_for
 
 HERE = os.path.dirname(os.path.abspath(__file__))
 PROGRAM = os.environ.get("JUDYD") or os.path.join(HERE, "..", "judyd")
-TABLE = '[bench]\nsha256 = "%s"\nquota = 16777216\n' % hashlib.sha256(b"bench").hexdigest()
+DIGEST = hashlib.sha256(b"bench").hexdigest()
+ROW = '[%s]\nsha256 = "%s"\nquota = 16777216\n'
 COUNTS = (10000, 100000, 1000000, 10000000)
 PART = 1000  # entries that are sent together
 LETTERS = bytes(97 + at % 26 for at in range(256))
@@ -46,6 +54,11 @@ LOADS = {  # the kind of the array, whether its words are dense, the form of a l
     "JudyHS, 12 bytes": ("H", False, b"JHSI a x%b %d\n", b'HSET a "%b" %d\r\n'),
 }
 SUBJECTS = ("judyd", "redis", "libjudy")
+
+NAMES = (256, 4096, 65536, 1048576)  # arrays of one entry each
+CLIENTS = 1000
+RESERVE = 64  # MiB
+ASKED, TOLD = b"J1T n1 5\n", b"0\n"  # a query, and its reply
 
 
 class Keys:
@@ -71,10 +84,10 @@ class Keys:
         return keys if self.kind == "1" else [field for pair in zip(keys, range(at, at + PART)) for field in pair]
 
 
-def resident(process):
-    """The resident memory of a process in bytes."""
-    with open("/proc/%d/statm" % process.pid, encoding="ascii") as file:
-        return int(file.read().split()[1]) * os.sysconf("SC_PAGE_SIZE")
+def pages(process, row="Anonymous:"):
+    """The bytes of a process's resident pages: by default of those that are in no file, and of all by `Rss:`."""
+    with open("/proc/%d/smaps_rollup" % process.pid, encoding="ascii") as file:
+        return sum(1024 * int(line.split()[1]) for line in file if line.startswith(row))
 
 
 @contextmanager
@@ -88,39 +101,52 @@ def running(words, path):
             process.kill()
 
 
-def words_of(subject, folder, more=()):
+def words_of(subject, folder, more=(), tenants=("bench",)):
     """The command of a server, and the path of its socket."""
     path = os.path.join(folder, "socket")
     if subject == "redis":
         return ["redis-server", "--port", "0", "--unixsocket", path, "--save", "", "--appendonly", "no", "--dir", folder], path
     config = os.path.join(folder, "tenants.toml")
-    if not os.path.exists(config):
-        with open(config, "w", encoding="ascii") as file:
-            file.write(TABLE)
+    with open(config, "w", encoding="ascii") as file:
+        file.write("".join(ROW % (name, DIGEST) for name in tenants))
     return [PROGRAM, "serve", "--config", config, "--socket", path, *more], path
 
 
-def ask(client, lines, count):
-    """Sends lines, and reads as many replies."""
+def ask(client, lines, replies):
+    """Sends lines, and reads their replies. Others than these end the program."""
     client.sendall(lines)
-    while count > 0:
-        count -= client.recv(65536).count(b"\n")
+    got = b""
+    while got != replies:
+        part = client.recv(65536)
+        got += part
+        if not part or not replies.startswith(got):
+            wrong = next((it for it, right in zip(got.split(b"\n"), replies.split(b"\n")) if not right.startswith(it)), b"no reply")
+            sys.exit("memory.py: %s replied to one of the lines from %s on" % (wrong, lines.split(b"\n")[0]))
+
+
+def settle(client, kind, count):
+    """Lets redis make its tables whole, which each call does a step of, and give free pages back."""
+    look = b"SISMEMBER a no\r\n" if kind == "1" else b"HEXISTS a no\r\n"
+    for _ in range(0, count, PART):
+        ask(client, look * PART, b":0\r\n" * PART)
+    ask(client, b"MEMORY PURGE\r\n", b"+OK\r\n")
 
 
 def filled(subject, load, counts):
     """By how many bytes a server has grown, at each number of entries."""
     kind, is_dense, line, command = LOADS[load]
-    keys, grown = Keys(kind, is_dense), []
-    form = (command if subject == "redis" else line) * PART
-    shown = escaped if subject == "redis" and kind == "H" else bytes if subject == "redis" else hexlify
+    keys, grown, is_redis = Keys(kind, is_dense), [], subject == "redis"
+    form, new = (command, b":1\r\n") if is_redis else (line, b"1\n" if kind == "1" else b"V 0\n")
+    shown = escaped if is_redis and kind == "H" else bytes if is_redis else hexlify
     with tempfile.TemporaryDirectory(prefix="bench-memory-") as folder, running(*words_of(subject, folder)) as (process, client):
-        ask(client, b"PING\r\n" if subject == "redis" else b"AUTH bench bench\n", 1)
-        empty = resident(process)
+        ask(client, *((b"PING\r\n", b"+PONG\r\n") if is_redis else (b"AUTH bench bench\n", b"OK\n")))
+        empty = pages(process)
         for at in range(0, counts[-1], PART):
-            ask(client, form % tuple(keys.fields(at, shown)), PART)
+            ask(client, form * PART % tuple(keys.fields(at, shown)), new * PART)
             if at + PART in counts:
-                time.sleep(1)  # redis makes its tables larger bit by bit
-                grown.append(resident(process) - empty)
+                if is_redis:
+                    settle(client, kind, at + PART)
+                grown.append(pages(process) - empty)
     return grown
 
 
@@ -140,7 +166,10 @@ def filled_libjudy(load, counts):
             for at in range(0, counts[-1], PART):
                 process.stdin.write(keys.part(at))
             process.stdin.close()
-            return list(map(int, process.stdout.read().split()))
+            grown = list(map(int, process.stdout.read().split()))
+        if process.returncode:
+            sys.exit("memory.py: libjudy's program ended with status %d" % process.returncode)
+    return grown
 
 
 def shown(number):
@@ -148,44 +177,138 @@ def shown(number):
     return "%.2f" % number if number < 1 else "%.1f" % number if number < 100 else "%d" % round(number)
 
 
-def table(found, counts):
-    """The rows of all that was measured."""
-    rows = ["| resident bytes an entry | | %s |" % " | ".join(format(count, ",") for count in counts), "|---" * (2 + len(counts)) + "|"]
+def table(found):
+    """The rows of all loads that were measured."""
+    rows = ["| resident bytes an entry | | %s |" % " | ".join(format(count, ",") for count in COUNTS), "|---" * (2 + len(COUNTS)) + "|"]
     for load in LOADS:
         for subject in SUBJECTS:
             grown = found.get(load, {}).get(subject, {})
-            cells = [shown(grown[str(count)] / count) if str(count) in grown else "-" for count in counts]
+            cells = [shown(grown[str(count)] / count) if str(count) in grown else "-" for count in COUNTS]
             name = "redis, %s" % ("set" if load.startswith("Judy1") else "hash") if subject == "redis" else subject
             rows.append("| %s | %s | %s |" % (load, name, " | ".join(cells)))
     return "\n".join(rows)
 
 
-def rest(clients):
-    """What an empty server has, and what names, so many clients and a journal take."""
+def rest_table(rows):
+    """The rows of all else: what it is, how many of them, and the bytes that they take."""
+    lines = ["| what | bytes | each |", "|---|---|---|"]
+    for what, count, size in rows:
+        lines.append("| %s | %s | %s |" % (what, format(size, ","), format(round(size / count), ",") if count > 1 else ""))
+    return "\n".join(lines)
+
+
+@contextmanager
+def judyd(more=(), tenants=("bench",)):
+    """A judyd with one entry that serves many clients, a connection of its first tenant, and the server's folder."""
     with tempfile.TemporaryDirectory(prefix="bench-memory-") as folder:
-        for journal in ((), ("--journal", os.path.join(folder, "journal"))):
-            if journal:
-                os.mkdir(journal[1])
-                subprocess.run([PROGRAM, "journal", journal[1], "--new"], check=True, stdout=subprocess.DEVNULL)
-            words, path = words_of("judyd", folder, ("--clients", str(clients), "--tenant-clients", str(clients), *journal))
-            with running(words, path) as (process, client):
-                told = [resident(process)]
-                ask(client, b"AUTH bench bench\n", 1)
-                told.append(resident(process))
-                for kind in (b"J1S n%d 1\n", b"JLI n%d 1 1\n", b"JSLI n%d x61 1\n", b"JHSI n%d x61 1\n"):
-                    ask(client, b"".join(kind % at for at in range(64)), 64)
-                told.append(resident(process))
-                others = [socket.socket(socket.AF_UNIX) for _ in range(clients - 1)]
-                for other in others:
-                    other.connect(path)
-                    ask(other, b"AUTH bench bench\n", 1)
-                told.append(resident(process))
-                for other in others:
-                    ask(other, b"J1T n1 5\n" * 400, 400)
-                told.append(resident(process))
-                for other in others:
-                    other.close()
-                print("journal" if journal else "no journal", ["%.2f MB" % (it / 1e6) for it in told], "started, logged in, 256 names, %d clients, all served" % clients)
+        if "--journal" in more:
+            more = [*more, os.path.join(folder, "journal"), "--new-journal"]
+            os.mkdir(os.path.join(folder, "journal"))
+        if "--status" in more:
+            more = [*more, os.path.join(folder, "status")]
+        words, path = words_of("judyd", folder, ("--clients", "1024", "--login", "600", *more), tenants)
+        with running(words, path) as (process, client):
+            ask(client, b"AUTH %b bench\nJ1S first 1\n" % tenants[0].encode(), b"OK\n1\n")
+            yield process, client, folder
+
+
+def names(kind, line, new):
+    """What names take: arrays of one entry each."""
+    with judyd() as (process, client, _):
+        empty, done = pages(process), 0
+        for count in NAMES:
+            for at in range(done, count, 256):
+                ask(client, b"".join(line % it for it in range(at, at + 256)), new * 256)
+            done = count
+            yield "%s names of %ss with one entry" % (format(count, ","), kind), count, pages(process) - empty
+
+
+def clients():
+    """What clients take."""
+    with judyd() as (process, _, folder):
+        empty = pages(process)
+
+        def row(what):
+            time.sleep(1)  # until the server has closed or read all
+            return "%s clients: %s" % (format(CLIENTS, ","), what), CLIENTS, pages(process) - empty
+
+        others = [socket.socket(socket.AF_UNIX) for _ in range(CLIENTS)]
+        for other in others:
+            other.connect(os.path.join(folder, "socket"))
+        yield row("connected")
+        for other in others:
+            ask(other, b"AUTH bench bench\n" + ASKED * 100, b"OK\n" + TOLD * 100)
+        yield row("logged in, and 100 lines answered")
+        for other in others:
+            other.setblocking(False)
+            with suppress(BlockingIOError):
+                for _ in range(100):
+                    other.send(b"HELLO\n" * 1000)
+        yield row("lines wait, since no reply is read")
+        for other in others:
+            other.close()
+        yield row("gone")
+
+
+def journal():
+    """What a journal takes: a judyd with one beside a judyd without."""
+    told = []
+    for more in ((), ("--journal",)):
+        with judyd(more) as (process, client, _):
+            told.append([pages(process)])
+            for at in range(0, 100000, PART):
+                ask(client, b"".join(b"J1S a %d\n" % it for it in range(at, at + PART)), b"1\n" * PART)
+            told[-1].append(pages(process))
+    yield "a journal, at the start", 1, told[1][0] - told[0][0]
+    yield "a journal, after 100,000 stores", 1, told[1][1] - told[0][1]
+
+
+def statuses():
+    """What the text of a status takes, and a table of the most tenants."""
+    told = []
+    for tenants in (["bench"], ["tenant-%d" % at for at in range(64)]):
+        with judyd(("--status",), tenants) as (process, _, folder):
+            told.append(pages(process))
+            for _ in range(2):
+                with socket.socket(socket.AF_UNIX) as asker:
+                    asker.connect(os.path.join(folder, "status"))
+                    asker.sendall(b"STATUS\n")
+                    while asker.recv(65536):
+                        pass
+            yield "a status of %d tenant%s, asked for" % (len(tenants), "s"[: len(tenants) > 1]), 1, pages(process) - told[-1]
+    yield "63 tenants more in the table", 63, told[1] - told[0]
+
+
+def rest():
+    """The rows of all that is no entry."""
+    soft, hard = resource.getrlimit(resource.RLIMIT_NOFILE)
+    resource.setrlimit(resource.RLIMIT_NOFILE, (min(max(soft, 4096), hard), hard))
+    with judyd() as (process, _, _):
+        empty = pages(process)
+        yield "a server with one client and one entry, its program's pages among them", 1, pages(process, "Rss:")
+        yield "the same without the pages of files", 1, empty
+    yield from names("Judy1", b"J1S n%d 1\n", b"1\n")
+    yield from names("JudySL", b"JSLI n%d x61 1\n", b"V 0\n")
+    yield from clients()
+    yield from journal()
+    yield from statuses()
+    with judyd(("--reserve", str(RESERVE))) as (process, _, _):
+        yield "`--reserve %d`" % RESERVE, 1, pages(process) - empty
+
+
+def measure(options, found):
+    """Measures what the command line asks for, and lets the caller keep it, load by load."""
+    if options.rest:
+        found["rest"] = list(rest())
+        yield
+        return
+    counts = [count for count in COUNTS if count <= options.most]
+    for load in options.loads or LOADS:
+        for subject in [options.only] if options.only else SUBJECTS:
+            if subject != "redis" or shutil.which("redis-server"):
+                grown = filled_libjudy(load, counts) if subject == "libjudy" else filled(subject, load, counts)
+                found["loads"].setdefault(load, {}).setdefault(subject, {}).update(zip(map(str, counts), grown))
+                yield
 
 
 def main():
@@ -195,26 +318,22 @@ def main():
     parser.add_argument("--out", default=os.path.join(HERE, "out", "memory.json"))
     parser.add_argument("--only", choices=SUBJECTS)
     parser.add_argument("--rest", action="store_true")
+    parser.add_argument("--show", action="store_true")
     parser.add_argument("loads", nargs="*", metavar="LOAD", help=", ".join(LOADS))
     options = parser.parse_args()
-    if options.rest:
-        rest(1024)
-        return
-    counts = [count for count in COUNTS if count <= options.most]
-    found = {}
+    unknown = set(options.loads) - set(LOADS)
+    if unknown:
+        parser.error("no such load: %s" % ", ".join(sorted(unknown)))
+    found = {"loads": {}, "rest": []}
     if os.path.exists(options.out):
         with open(options.out, encoding="ascii") as file:
             found = json.load(file)
-    for load in options.loads or LOADS:
-        for subject in [options.only] if options.only else SUBJECTS:
-            if subject == "redis" and not shutil.which("redis-server"):
-                continue
-            grown = filled_libjudy(load, counts) if subject == "libjudy" else filled(subject, load, counts)
-            found.setdefault(load, {})[subject] = dict(zip(map(str, counts), grown))
-            os.makedirs(os.path.dirname(options.out), exist_ok=True)
-            with open(options.out, "w", encoding="ascii") as file:
-                json.dump(found, file, indent=1)
-    print(table(found, COUNTS))
+    for _ in () if options.show else measure(options, found):
+        found.update(date=time.strftime("%Y-%m-%d"), processors=os.cpu_count())
+        os.makedirs(os.path.dirname(os.path.abspath(options.out)), exist_ok=True)
+        with open(options.out, "w", encoding="ascii") as file:
+            json.dump(found, file, indent=1)
+    print(table(found["loads"]), *([rest_table(found["rest"])] if found["rest"] else []), sep="\n\n")
 
 
 if __name__ == "__main__":

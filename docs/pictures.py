@@ -1,7 +1,8 @@
 #!/usr/bin/env python3
 """Draws the pictures of the pages into a folder, by default docs: architecture.svg, the crates of crates.txt in their
 layers; line.svg, the way of a line; lost.svg, what is left of a machine that is lost; memory.svg, the bytes for each
-entry, from the table of bench/README.md; restart.svg, what a start with a journal does, with the times of docs/SPEED.md.
+entry, from the table of bench/README.md; memory_entries.svg, the memory of judyd, redis and libjudy, from
+bench/memory.json; restart.svg, what a start with a journal does, with the times of docs/SPEED.md.
 
 usage: docs/pictures.py [FOLDER]
 
@@ -9,6 +10,7 @@ The same sources give the same bytes. Each text stands in a light box, or is of 
 dark pages.
 """
 
+import json
 import math
 import os
 import re
@@ -17,6 +19,7 @@ from html import escape
 
 TOP = os.path.dirname(os.path.dirname(os.path.abspath(__file__)))
 INK, GREY, BLUE, ORANGE, PALE, SAND, GREEN = "#1f2328", "#737b84", "#3b78b8", "#d1722e", "#dbe8f5", "#f7e6d7", "#dff0dc"
+LEAF = "#2f8f5b"
 
 # The layers of the program from the top, with the crates of each and the colour of its boxes. A crate uses only crates of
 # its own layer and of those below. judy_model, which has the definitions, is used by nearly all.
@@ -66,6 +69,9 @@ LEFT = [
     ("a copy of the journal is left", ("B gets A's table and the copy", "the journal's files: user judyd", "start judyd: it plays the copy", "clients or haproxy: B's address"), ("There: all up to the copy.", "Lost: what was answered since"), SAND),
     ("the dumps are left", ("B gets A's table, a new journal", "start judyd: no arrays yet", "judy restore, tenant by tenant", "clients or haproxy: B's address"), ("There: the arrays of each dump.", "Lost: what was answered since"), SAND),
 ]  # fmt: skip
+
+# Whose memory is compared, with the colour and the dashes of each line.
+COMPARED = (("judyd", ORANGE, "none"), ("redis", LEAF, "2 3"), ("libjudy", BLUE, "7 4"))
 
 
 def read(path):
@@ -180,6 +186,54 @@ def memory():
     return picture(760, 390, "Bytes for each random key in judyd and libjudy, against the number of keys", parts)
 
 
+def powers(low, high):
+    """The powers of ten from one to another."""
+    return [10**power for power in range(low, high + 1)]
+
+
+def apart(places, gap):
+    """The places of labels, moved down so that each is at least so far from the one above."""
+    moved, above = list(places), -gap
+    for at in sorted(range(len(places)), key=places.__getitem__):
+        moved[at] = above = max(places[at], above + gap)
+    return moved
+
+
+def panel(left, top, load, found):
+    """A panel: the bytes of each subject against its entries. Both axes have powers of ten."""
+    width, height, entries, sizes = 225, 168, powers(4, 7), powers(3, 9)
+
+    def x(number):
+        return left + width * math.log10(number / entries[0]) / math.log10(entries[-1] / entries[0])
+
+    def y(number):
+        return top + height - height * math.log10(number / sizes[0]) / math.log10(sizes[-1] / sizes[0])
+
+    parts = [text(left, top - 10, load, 13, GREY, weight="bold")]
+    for number, name in zip(sizes, ("1 KB", "10 KB", "100 KB", "1 MB", "10 MB", "100 MB", "1 GB")):
+        parts += ['<path d="M%g %gH%g" stroke="%s" stroke-opacity="0.4"/>' % (left, y(number), left + width, GREY), text(left - 8, y(number) + 4, name, 11, GREY, "end")]
+    parts += [text(x(number), top + height + 18, format(number, ","), 11, GREY, "middle") for number in entries]
+    rows = [(name, colour, dash, sorted((int(count), size) for count, size in found[name].items())) for name, colour, dash in COMPARED if name in found]
+    ends = apart([y(points[-1][1]) for *_, points in rows], 15)
+    for (name, colour, dash, points), end in zip(rows, ends):
+        line = "M" + "L".join("%.1f %.1f" % (x(count), y(size)) for count, size in points)
+        parts.append('<path d="%s" stroke="%s" stroke-width="2.5" stroke-dasharray="%s"/>' % (line, colour, dash))
+        parts += ['<circle cx="%.1f" cy="%.1f" r="3" fill="%s"/>' % (x(count), y(size), colour) for count, size in points]
+        count, size = points[-1]
+        each = size / count
+        parts.append(text(left + width + 10, end + 4, "%s: %s" % (name, "%.2f" % each if each < 1 else "%.3g" % each), 12, colour, weight="bold"))
+    return parts
+
+
+def entries_memory():
+    """The memory that entries take, of each load in a panel of its own."""
+    parts = [text(12, 22, "Memory of one array against its entries; behind each line the bytes an entry at 10,000,000", 14, GREY)]
+    loads = json.loads(read("bench/memory.json"))["loads"]
+    for at, (load, found) in enumerate(loads.items()):
+        parts += panel(66 + at % 2 * 400, 66 + at // 2 * 236, load, found)
+    return picture(800, 26 + 236 * ((len(loads) + 1) // 2), "Resident memory of judyd, redis and libjudy against the number of entries, load by load", parts)
+
+
 def start_times():
     """The published seconds from a start to the first answer: the heads of the columns, and the rows."""
     head, rows = re.search(r"(?m)^\| from a start to the first answer, s \| (.*) \|\n\|[-|]+\n((?:\|.*\n)+)", read("docs/SPEED.md")).groups()
@@ -246,7 +300,7 @@ def main():
     if len(sys.argv) > 2 or any(word.startswith("-") for word in sys.argv[1:]):
         sys.exit(__doc__)
     folder = sys.argv[1] if len(sys.argv) == 2 else os.path.join(TOP, "docs")
-    for name, draw in (("architecture.svg", architecture), ("line.svg", way), ("lost.svg", lost), ("memory.svg", memory), ("restart.svg", restart)):
+    for name, draw in (("architecture.svg", architecture), ("line.svg", way), ("lost.svg", lost), ("memory.svg", memory), ("memory_entries.svg", entries_memory), ("restart.svg", restart)):
         with open(os.path.join(folder, name), "w", encoding="utf-8") as file:
             file.write(draw())
 
