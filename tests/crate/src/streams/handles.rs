@@ -144,14 +144,19 @@ impl Write for Counting {
     }
 }
 
-// Each pull is one read, each push is one write, and each flush is one flush.
-#[test]
-fn one_call_for_one_call(rt: HostRuntime) {
-    let mut counting = Counting {
+// Nothing was called yet.
+fn uncounted() -> Counting {
+    Counting {
         reads: 0,
         writes: 0,
         flushes: 0,
-    };
+    }
+}
+
+// Each pull is one read, each push is one write, and each flush is one flush.
+#[test]
+fn one_call_for_one_call(rt: HostRuntime) {
+    let mut counting = uncounted();
     let mut reads = Reads::new(&mut counting);
     same(&rt, reads.pull(&mut [0u8; 2]), Pull::Bytes(2));
     same(&rt, reads.pull(&mut [0u8; 1]), Pull::Bytes(1));
@@ -224,11 +229,7 @@ fn one_call_for_a_late_call(rt: HostRuntime) {
 // A pull offers its whole buffer to the reader, and a push its whole slice to the writer.
 #[test]
 fn all_is_offered(rt: HostRuntime) {
-    let mut counting = Counting {
-        reads: 0,
-        writes: 0,
-        flushes: 0,
-    };
+    let mut counting = uncounted();
     let mut buf = [0u8; 4096];
     let mut reads = Reads::new(&mut counting);
     same(&rt, reads.pull(&mut buf), Pull::Bytes(4096));
