@@ -11,7 +11,7 @@ use Rattle.judy_many.specs.Crowds.{Past, at_stage}
 use Rattle.judy_many.specs.Endings.{lost_by, lost_in, waits_in}
 use Rattle.judy_many.specs.Journaling.{AreKeeping, AreSettled, Carries, IsKeeping}
 use Rattle.judy_many.specs.Nets.{Act}
-use Rattle.judy_many.specs.Nets.Act.{Came, Refused, Read, Dry, Ended, Broke, Wrote, Failed, Closed, Waited, Lost, Asked, Questioned, Reported, Warned, Tabled, Untabled, Named, Replied, Began, Kept, Unkept, Synced, Unsynced, Took}
+use Rattle.judy_many.specs.Nets.Act.{Began, Kept, Synced}
 use Rattle.judy_many.specs.Questions.{AreAsked, Stage, stage_since}
 use Rattle.judy_many.specs.Rules.{Rules}
 use Rattle.judy_many.specs.Statuses.{Lasts, Passes, Tells}

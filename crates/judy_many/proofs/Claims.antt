@@ -4,7 +4,7 @@
 --     no_record          a log-in has no record, whoever speaks after it
 --     same_speaker       only a log-in changes who speaks
 --     known_unless       who speaks after a line may speak
-use Rattle.std.proofs.Common.{◌≡◌, ℕ, Bool, true, false, List, [], Option, None, Some, sym, ◌∙◌, ap, refl, subst}
+use Rattle.std.proofs.Common.{◌≡◌, ℕ, Bool, true, false, List, Option, None, Some, sym, ◌∙◌, ap, refl, subst}
 use Rattle.std.specs.Prelude.{◌&&◌, if◌then◌else◌, is_some}
 use Rattle.judy_model.specs.Speakers.{Speaker}
 use Rattle.judy_model.specs.Stream.{Heard, Login, event_of, speaker_after}

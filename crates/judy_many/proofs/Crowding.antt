@@ -46,6 +46,8 @@ use Rattle.judy_many.proofs.Recording.{noted_none}
 use Rattle.judy_many.proofs.Living.{cut_log, then_log}
 use Rattle.judy_many.proofs.Sharing.{AreFresh, Counts, Fills, SharesOn, counted_quiet, counts_none, fills_of, group_now, of_waited, shares-append, shares_quiet, shares_wait, turn_shared}
 use Rattle.judy_many.proofs.Watching.{alert_anew, alert_beside, alert_comes, alert_keep, alert_looks, alert_read, alert_swept, alert_told, alert_turned, alert_waits, awake-append, each-append, no_looks}
+use Rattle.judy_many.specs.declared.warnings.Warnings.{Warnings}
+use Rattle.judy_many.proofs.Warned.{begins_requests}
 use Rattle.judy_many.proofs.Telling.{AreWithin-append, IsPhased-append, acts_in-append, acts_in-told, came-append, closed-append, lives_served, split, writes_since-append}
 
 -- ---- the whole story
@@ -492,11 +494,11 @@ module _ {B S : Type 0} (view : B → View) (rules : Rules S) (limits : Limits) 
       (record { foreign = λ n. refl; came = refl; closed = refl; within = (is, tt); phases = λ wrote. ((tt, tt), refl); silent = λ share. refl; unlost = refl; waited = refl; reads = λ last. tt; quiet = refl }) refl k (λ h. (tt, refl)) refl h
   has_warned phase had past log log' slots count now false line is k h = idle phase had past log log' slots count now k h
 
-  pub warned : (phase : Phase) (had : Queued) (past : Past) (log log' : Acts) (slots : List (Option B)) (count : ℕ) (now : S) → HasWarned log log'
-      → Now phase had past log slots count now → Now phase had past log' slots count now
+  pub warned : (phase : Phase) (had : Queued) (past : Past) (log log' : Acts) (slots : List (Option B)) (count : ℕ) (now : S) {told told' : Warnings} {name : List ℕ} {refused short : ℕ}
+      → HasWarned told name refused short log log' told' → Now phase had past log slots count now → Now phase had past log' slots count now
   warned phase had past log log' slots count now w h =
-      has_warned phase had past w.mid log' slots count now w.due_requests w.requests (inr (inl w.of_requests)) w.then_requests
-      (has_warned phase had past log w.mid slots count now w.due_logins w.logins (inl w.of_logins) w.first h)
+      has_warned phase had past w.mid log' slots count now _ _ (inr (inl (begins_requests _))) w.then_requests
+      (has_warned phase had past log w.mid slots count now _ _ (inl w.tells.head) w.first h)
 
   -- the server goes on after it asked
   pub answered : (phase : Phase) (had : Queued) (waits : ℕ) (began journal : Option Journal) (log log' : Acts) (slots : List (Option B)) (count : ℕ) (now : S) (watches : Bool) → limits.status ≡ watches

@@ -2,7 +2,7 @@
 --     inquired_quiet     where no line is run none is refused
 --     late_unasked       in a phase in which no line is run the journal is asked for none
 --     piece_turn ..      a turn: at most one read, the question whether the journal takes records, and the lines
-use Rattle.std.proofs.Common.{◌≡◌, ◌≤◌, ◌+◌, ◌&&◌, ℕ, Bool, true, false, not, List, [], ◌∷◌, ◌++◌, Option, None, Some, arith, sym, ◌∙◌, ap, refl, subst, append-nil, append_assoc, length}
+use Rattle.std.proofs.Common.{◌≡◌, ◌≤◌, ◌&&◌, ℕ, Bool, true, false, not, List, [], ◌∷◌, ◌++◌, Option, None, Some, arith, sym, ◌∙◌, ap, refl, subst, append-nil, append_assoc, length}
 use Rattle.std.specs.Prelude.{◌==◌, if◌then◌else◌, is_some}
 use Rattle.judy_model.specs.Speakers.{Speaker}
 use Rattle.judy_many.specs.Barred.{AreBarred, AreFree, AreInquired, IsInquired, asks_change, inquiry}
@@ -14,7 +14,7 @@ use Rattle.judy_many.specs.Present.{speaker_since}
 use Rattle.judy_many.specs.Rules.{Rules}
 use Rattle.judy_many.specs.Sessions.{AreTurns, Turn}
 use Rattle.judy_many.specs.Statuses.{Passes, Tells}
-use Rattle.judy_many.specs.Stories.{AreReads, AreSingle, IsLate, IsOnce, IsPiece, IsRead, Moment, Phase, Share, Story, acts_in, asking, belongs, own, reading, running, times, told, turns_in}
+use Rattle.judy_many.specs.Stories.{AreReads, AreSingle, IsLate, IsOnce, IsPiece, IsRead, Moment, Phase, Share, Story, acts_in, asking, belongs, own, times, told, turns_in}
 use Rattle.judy_many.specs.Stories.Moment.{Changed, Did, Ran}
 use Rattle.judy_many.specs.Watches.{HasHalf, IsHeard, IsKept, Listens, Watch, watch_since}
 use Rattle.judy_many.proofs.Limiting.{first_none}

@@ -12,7 +12,7 @@ use Rattle.judy_journal.specs.declared.format.TheConstants.{BODY_LIMIT, RECORD_L
 use Rattle.judy_many.specs.Books.{Journal, has_room, noted_by, noted}
 use Rattle.judy_many.specs.Journaling.{AreSettled, IsJournaled, IsSettled, Carries, MayHappen, MayKeep, journal_after, journal_since}
 use Rattle.judy_many.specs.Nets.{Act}
-use Rattle.judy_many.specs.Nets.Act.{Came, Refused, Read, Dry, Ended, Broke, Wrote, Failed, Closed, Waited, Lost, Asked, Questioned, Reported, Warned, Tabled, Untabled, Named, Replied, Began, Kept, Unkept, Synced, Unsynced, Took}
+use Rattle.judy_many.specs.Nets.Act.{Wrote, Failed, Tabled, Replied, Began, Kept, Unkept, Synced, Unsynced}
 use Rattle.judy_many.specs.Sessions.{records_in}
 use Rattle.judy_many.specs.Stories.{IsOnce, Mine, Phase, Share, Story, is_of, share_of, times, turns_in}
 use Rattle.judy_many.specs.Stories.Moment.{Changed, Did, Ran}

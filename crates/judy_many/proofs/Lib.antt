@@ -34,3 +34,4 @@ mod Turning
 mod Watching
 pub mod Unchanged
 mod Written
+mod Warned

@@ -2,7 +2,7 @@
 --     limited_quiet      where no line is run there is nothing to refuse
 --     limited_turn       the lines of one client, while the others stay in their slots
 --     own_let_in         without a limit and without a journal no line is refused for them
-use Rattle.std.proofs.Common.{◌≡◌, ◌≢◌, ◌⊎◌, inl, inr, ◌<◌, ◌≤◌, ◌+◌, ℕ, zero, suc, Bool, true, false, List, [], ◌∷◌, ◌++◌, Option, None, Some, arith, sym, ◌∙◌, ap, refl, subst, cond, append-nil, append_assoc, length, slice_set}
+use Rattle.std.proofs.Common.{◌≡◌, ◌⊎◌, inl, inr, ◌<◌, ◌≤◌, ◌+◌, ℕ, zero, suc, Bool, true, false, List, [], ◌∷◌, ◌++◌, Option, None, Some, arith, sym, ◌∙◌, ap, refl, subst, cond, append-nil, append_assoc, slice_set}
 use Rattle.std.specs.Prelude.{◌==◌, count_by, if◌then◌else◌, nat_le}
 use Rattle.std.proofs.lemmas.Bool.{eqb-true}
 use Rattle.std.proofs.lemmas.Bool.Decides.{eqb_tells}
@@ -13,7 +13,7 @@ use Rattle.judy_many.specs.Crowds.{At, Crowd, Past}
 use Rattle.judy_many.specs.Lives.{View}
 use Rattle.judy_many.specs.Nets.{Acts}
 use Rattle.judy_many.specs.Others.{AreLimited, IsLimited, is_crowded, others_below, others_in, speaks_for}
-use Rattle.judy_many.specs.Present.{speaker_at, speaker_of, speakers_at, speakers_below, speakers_in}
+use Rattle.judy_many.specs.Present.{speaker_at, speaker_of, speakers_at, speakers_below}
 use Rattle.judy_many.specs.Sessions.{AreLetIn, Turn}
 use Rattle.judy_many.specs.Rules.{Rules}
 use Rattle.judy_many.specs.Stories.{Mine, Moment, Phase, Story, acts_in, belongs, came_in, own, turns_in}

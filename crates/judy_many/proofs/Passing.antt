@@ -1,10 +1,9 @@
 -- What is told on the status socket.
 use Rattle.std.proofs.Common.{append-nil, append_assoc, ◌≡◌, ℕ, Bool, true, false, List, [], ◌∷◌, ◌++◌, Option, None, arith, refl, subst, sym, ◌∙◌}
-use Rattle.judy_model.specs.Speakers.{Speaker}
 use Rattle.judy_many.specs.Endings.{reports_by, reports_in}
 use Rattle.judy_many.specs.Questions.{gone_how, gones_by, gones_in}
 use Rattle.judy_many.specs.Nets.{Act}
-use Rattle.judy_many.specs.Nets.Act.{Came, Refused, Read, Dry, Ended, Broke, Wrote, Failed, Closed, Waited, Lost, Asked, Questioned, Reported, Warned, Tabled, Untabled, Named, Replied, Began, Kept, Unkept, Synced, Unsynced, Took}
+use Rattle.judy_many.specs.Nets.Act.{Closed, Reported, Took}
 use Rattle.judy_many.specs.Rules.{Rules}
 use Rattle.judy_many.specs.Sessions.{AreTurns, Turn}
 use Rattle.judy_many.specs.Statuses.{IsClosedFor, Lasts, Passes, Tells}

@@ -10,7 +10,7 @@ use Rattle.judy_many.specs.Journaling.{AreKeeping, IsKeeping}
 use Rattle.judy_many.specs.Kicks.{kick_act}
 use Rattle.judy_many.specs.Lives.{SlotDid, View}
 use Rattle.judy_many.specs.Nets.{Act}
-use Rattle.judy_many.specs.Nets.Act.{Came, Refused, Read, Dry, Ended, Broke, Wrote, Failed, Closed, Waited, Lost, Asked, Questioned, Reported, Warned, Tabled, Untabled, Named, Replied, Began, Kept, Unkept, Synced, Unsynced, Took}
+use Rattle.judy_many.specs.Nets.Act.{Closed, Waited, Lost, Questioned, Reported, Tabled, Untabled, Named, Replied, Began, Kept, Synced}
 use Rattle.judy_many.specs.Questions.{AreAsked, MayClose, MayDo, MayReply, Stage, gone_how, gones_by, gones_in, read_stage, stage_after, stage_by, stage_since}
 use Rattle.judy_many.specs.Stories.{AreWithin, IsAllowed, IsWithin, Mine, Phase, Story, acts_in, is_of, told}
 use Rattle.judy_many.specs.Stories.Moment.{Changed, Did, Ran}

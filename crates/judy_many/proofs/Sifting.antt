@@ -1,12 +1,12 @@
 -- The end of a round: slots that were passed over stay, and those that had a turn come behind them.
 --     sift_passed        the slot at a place was passed over, and stays
 --     awake_*            slots that are awake stay so, or are among those that come back later
-use Rattle.std.proofs.Common.{◌≡◌, ◌≢◌, ◌⊎◌, inl, inr, ◌<◌, ◌≤◌, ◌+◌, ℕ, zero, suc, Bool, true, false, List, [], ◌∷◌, ◌++◌, length, arith, ap, refl, sym, subst, ◌∙◌, slice_index_or, slice_set, take}
+use Rattle.std.proofs.Common.{◌≡◌, ◌⊎◌, inl, inr, ◌<◌, ◌≤◌, ◌+◌, ℕ, zero, suc, Bool, true, false, List, [], ◌∷◌, ◌++◌, length, arith, ap, refl, sym, subst, ◌∙◌, slice_index_or, slice_set, take}
 use Rattle.std.proofs.lemmas.Bool.Decides.{eqb_tells, leb_tells}
 use Rattle.std.proofs.lemmas.List.{get_or-set_other, get_or-set_same, get_or-take, length-append, length-take}
 use Rattle.judy_many.specs.declared.queue.Mark.{Mark}
 use Rattle.judy_many.specs.declared.queue.Mark.TheVariants as mark
-use Rattle.judy_many.specs.Queues.{AreAhead, ArePassed, AreTurned, IsIn, IsLonger, IsOpen, IsSifted, is_awake, is_passed, mark_in, slot_in, stands}
+use Rattle.judy_many.specs.Queues.{AreAhead, ArePassed, AreTurned, IsIn, IsLonger, IsSifted, is_awake, is_passed, mark_in, slot_in, stands}
 use Rattle.judy_many.proofs.Queueing.{sift_in, standing_below}
 use Rattle.judy_many.proofs.Seats.{index_or_same}
 

@@ -12,7 +12,7 @@ use Rattle.judy_many.specs.declared.serve.Limits.{Limits}
 use Rattle.judy_many.specs.Fates.{Ends, IsLeft, Leaves, Stays}
 use Rattle.judy_many.specs.Lives.{HasReason, HearsWhenReady, IsLive, IsOrdered, IsReady, IsReason, IsPart, IsServed, IsWhole, Lives, View, end_well, ends_well, is_orderly, read_in, wrote_in}
 use Rattle.judy_many.specs.Nets.{Act}
-use Rattle.judy_many.specs.Nets.Act.{Came, Refused, Read, Dry, Ended, Broke, Wrote, Failed, Closed, Waited, Lost, Asked, Questioned, Reported, Warned, Tabled, Untabled, Named, Replied, Began, Kept, Unkept, Synced, Unsynced, Took}
+use Rattle.judy_many.specs.Nets.Act.{Read, Dry, Ended, Broke, Wrote, Failed, Closed, Took}
 use Rattle.judy_many.specs.Sessions.{Speaks, Turn}
 use Rattle.judy_many.specs.Stories.{AreReads, AreWell, AreWithin, AreWrites, Phase, InPhase, IsOnce, IsPhased, IsPiece, IsRead, IsWrite, Mine, Moment, Share, Story, acts_by, acts_in, came_by, came_in, closed_by, closed_in, hears, is_end, is_fault, is_read, reading, running, share_of, times, told, turns_by, turns_in, writes_after, writes_since}
 use Rattle.judy_many.specs.Stories.Moment.{Did, Ran}

@@ -6,7 +6,7 @@
 --     asks_for_time limits l           whether the clock is asked
 --     wait_of busy asked               for how long the loop waits
 --     over limits since came now       why the time of a client is over, if it is
-use Rattle.std.specs.Prelude.{◌≡◌, ◌&&◌, ◌||◌, ℕ, Bool, true, false, not, Option, Some, None, is_some, if◌then◌else◌}
+use Rattle.std.specs.Prelude.{◌&&◌, ◌||◌, ℕ, Bool, true, false, not, Option, Some, None, is_some, if◌then◌else◌}
 use Rattle.judy_many.specs.Books.{Journal}
 use Rattle.judy_many.specs.Times.{is_past}
 use Rattle.judy_many.specs.declared.arrivals.Arrival.{Arrival}

@@ -7,7 +7,7 @@ use Rattle.judy_many.specs.declared.network.Question.TheVariants as question
 use Rattle.judy_many.specs.declared.serve.Ending.{Ending}
 use Rattle.judy_many.specs.declared.serve.Ending.TheVariants as ending
 use Rattle.judy_many.specs.Nets.{Act}
-use Rattle.judy_many.specs.Nets.Act.{Came, Refused, Read, Dry, Ended, Broke, Wrote, Failed, Closed, Waited, Lost, Asked, Questioned, Reported, Warned, Tabled, Untabled, Named, Replied, Began, Kept, Unkept, Synced, Unsynced, Took}
+use Rattle.judy_many.specs.Nets.Act.{Waited, Lost, Questioned, Reported, Unkept, Unsynced}
 use Rattle.judy_many.specs.Journaling.{IsFailure}
 use Rattle.judy_many.specs.Stories.{Story, acts_in, is_wait}
 use Rattle.judy_many.specs.Stories.Moment.{Did}

@@ -15,7 +15,7 @@ use Rattle.judy_many.specs.declared.serve.Limits.{Limits}
 use Rattle.judy_many.specs.declared.network.Sync.{Sync}
 use Rattle.judy_many.specs.declared.network.Sync.TheVariants as sync
 use Rattle.judy_many.specs.Nets.{Act, Acts, DidLog}
-use Rattle.judy_many.specs.Nets.Act.{Came, Refused, Read, Dry, Ended, Broke, Wrote, Failed, Closed, Waited, Lost, Asked, Questioned, Reported, Warned, Tabled, Untabled, Named, Replied, Began, Kept, Unkept, Synced, Unsynced, Took}
+use Rattle.judy_many.specs.Nets.Act.{Wrote, Failed, Replied, Began, Kept, Unkept, Synced, Unsynced}
 use Rattle.judy_journal.specs.Leaving.{gone_records}
 use Rattle.judy_many.specs.Sessions.{records_in}
 use Rattle.judy_many.specs.Stories.{Moment, Story, acts_in, recorded_in, told}

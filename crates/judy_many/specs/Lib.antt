@@ -29,3 +29,5 @@ pub mod Times
 pub mod Warnings
 pub mod Watches
 pub mod Woken
+pub mod Meanings
+pub mod Passing

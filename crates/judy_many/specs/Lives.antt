@@ -17,7 +17,7 @@ use Rattle.judy_many.specs.declared.network.How.{How}
 use Rattle.judy_many.specs.declared.network.How.TheVariants as how
 use Rattle.judy_many.specs.declared.serve.Limits.{Limits}
 use Rattle.judy_many.specs.Nets.{Act}
-use Rattle.judy_many.specs.Nets.Act.{Came, Refused, Read, Dry, Ended, Broke, Wrote, Failed, Closed, Waited, Lost, Asked, Questioned, Reported, Warned, Tabled, Untabled, Named, Replied, Began, Kept, Unkept, Synced, Unsynced, Took}
+use Rattle.judy_many.specs.Nets.Act.{Read, Wrote, Closed}
 use Rattle.judy_many.specs.Sessions.{Turn, lines_in, texts, Speaks}
 use Rattle.judy_many.specs.Stories.{AreWithin, Moment, Phase, InPhase, IsOnce, Mine, Story, acts_in, came_in, closed_in, hears, is_end, is_fault, is_read, turns_in}
 use Rattle.judy_many.specs.Stories.Moment.{Did}

@@ -3,6 +3,7 @@
 use crate::limits::{ASKERS_LIMIT, QUESTION_LIMIT};
 use crate::network::Question;
 use crate::orders::is_order;
+use crate::questions::{Meaning, Purpose, kicked, read_question, without_return};
 use crate::times::is_past;
 use arrayvec::ArrayVec;
 use itoa::Buffer;
@@ -37,30 +38,6 @@ const WAITING_LIMIT: usize = 4096;
 
 /// The system's numbers for an accept that lacks a descriptor.
 const NO_DESCRIPTOR: [i32; 2] = [23, 24];
-
-/// What a socket of the operator is for.
-#[derive(Clone, Copy, Debug, PartialEq, Eq)]
-pub enum Purpose {
-    /// The numbers.
-    Status,
-    /// Commands.
-    Control,
-}
-
-/// What the bytes of a question mean.
-#[derive(Clone, Copy, Debug, PartialEq, Eq)]
-enum Meaning {
-    /// The question is not whole yet.
-    Part,
-    /// This.
-    Asks(Question),
-    /// The status, by HTTP.
-    Page,
-    /// Nothing that is known.
-    Other,
-    /// Nothing more: it sends no more, or a read failed.
-    Gone,
-}
 
 /// What became of a connection that asks.
 #[derive(Clone, Copy, Debug, PartialEq, Eq)]
@@ -99,72 +76,6 @@ pub struct Desk {
     current: Option<Asker>,
     /// Whether it asks by HTTP.
     page: bool,
-}
-
-/// A line without the carriage return at its end.
-fn without_return(line: &[u8]) -> &[u8] {
-    line.strip_suffix(b"\r".as_slice()).unwrap_or(line)
-}
-
-/// Whether the lines of an HTTP request end here: an empty line follows them.
-fn has_end(text: &[u8]) -> bool {
-    let mut rest = text;
-    for _line in 0..QUESTION_LIMIT {
-        let Some((line, after)) = cut_line(rest) else {
-            return false;
-        };
-        if without_return(line).is_empty() {
-            return true;
-        }
-        rest = after;
-    }
-    false
-}
-
-/// The tenant that a line of a command names, if it asks to close connections of one.
-fn kicked(line: &[u8]) -> Option<Name> {
-    Name::read(line.strip_prefix(b"KICK ".as_slice())?)
-}
-
-/// What the line of a command asks.
-fn read_command(line: &[u8]) -> Meaning {
-    if line == b"STOP".as_slice() {
-        return Meaning::Asks(Question::Stop);
-    }
-    if line == b"RELOAD".as_slice() || is_order(line) {
-        return Meaning::Asks(Question::Reload);
-    }
-    if kicked(line).is_some() {
-        return Meaning::Asks(Question::Kick);
-    }
-    Meaning::Other
-}
-
-/// What a question for the status asks: its first line, and what follows.
-fn read_status(line: &[u8], rest: &[u8]) -> Meaning {
-    if line == b"STATUS".as_slice() {
-        return Meaning::Asks(Question::Status);
-    }
-    if !line.starts_with(b"GET /metrics ") {
-        return Meaning::Other;
-    }
-    if has_end(rest) {
-        Meaning::Page
-    } else {
-        Meaning::Part
-    }
-}
-
-/// What these bytes ask.
-fn read_question(purpose: Purpose, asked: &[u8]) -> Meaning {
-    let Some((line, rest)) = cut_line(asked) else {
-        return Meaning::Part;
-    };
-    let line = without_return(line);
-    match purpose {
-        Purpose::Status => read_status(line, rest),
-        Purpose::Control => read_command(line),
-    }
 }
 
 /// Writes bytes once. Whether all were taken.

@@ -17,6 +17,7 @@ mod lines;
 mod network;
 mod orders;
 mod others;
+mod questions;
 mod queue;
 mod record;
 mod reloads;

@@ -1,8 +1,8 @@
 //! The loop over all connections.
-ghost use Rattle.std.specs.Prelude.{◌≡◌, ℕ, List, Bool, [], false, true, Option, option_map};
+ghost use Rattle.std.specs.Prelude.{◌≡◌, ◌||◌, ℕ, List, Bool, [], false, true, Option, option_map};
 ghost use Rattle.judy_many.specs.Books.{Journal};
 ghost use Rattle.judy_many.specs.Crowds.{Crowd, HasFailed, HasServedMany, past_of};
-ghost use Rattle.judy_many.specs.Deciding.{asks_for_time as asks_for_time_lem, wait_of};
+ghost use Rattle.judy_many.specs.Deciding.{asks_for_time as asks_for_time_lem, is_owed as is_owed_lem, wait_of};
 ghost use Rattle.judy_many.specs.Endings.{waited_if};
 ghost use Rattle.judy_many.specs.Journaling.{AreSettled};
 ghost use Rattle.judy_many.specs.Lives.{view_of};
@@ -13,6 +13,7 @@ ghost use Rattle.judy_many.specs.Rules.{rules_of};
 ghost use Rattle.judy_many.specs.Slots.{AreKnown};
 ghost use Rattle.judy_many.specs.Statuses.{HasAnswered};
 ghost use Rattle.judy_many.specs.Stories.Phase.{Reads, Sweeps};
+ghost use Rattle.judy_many.specs.Warnings.{are_owed};
 ghost use Rattle.judy_many.specs.Watches.{nobody};
 
 use crate::arrivals::accept;
@@ -85,7 +86,9 @@ fn asks_for_time<S: Served, N: Network>(clients: &Clients<S, N>, limits: Limits)
 }
 
 /// Whether something is left to do after a second: to tell the operator, or to sync the journal.
-fn is_owed<S: Shows>(warnings: &Warnings, service: &S, keeper: &Keeper) -> bool {
+fn is_owed<S: Shows>(warnings: &Warnings, service: &S, keeper: &Keeper) -> bool
+    ensures { result ≡ (are_owed warnings.now (S.refused service.now) (S.short service.now) || is_owed_lem keeper.now) }
+{
     warnings.are_owed(service) || keeper.is_owed()
 }
 

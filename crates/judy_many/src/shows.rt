@@ -53,14 +53,26 @@ pub trait Shows: Served {
         ensures { noted self.old (option_map Self.who speaker) (as_heard asked.now) answer.now self.new };
 
     /// How many log-ins were refused.
-    fn refused_logins(&self) -> u64;
+    ghost refused: { Self → ℕ };
+
+    /// The tenant's name of the log-in that was refused last. Empty if no tenant has the name that was given.
+    ghost last: { Self → List ℕ };
+
+    /// How many requests were refused for memory.
+    ghost short: { Self → ℕ };
+
+    /// How many log-ins were refused.
+    fn refused_logins(&self) -> u64
+        ensures { result ≡ refused self.now };
 
     /// The tenant's name of the log-in that was refused last. Empty if no tenant has the name that was
     /// given.
-    fn last_refused(&self) -> &[u8];
+    fn last_refused(&self) -> &[u8]
+        ensures { result.now ≡ last self.now };
 
     /// How many requests were refused for memory.
-    fn refused_requests(&self) -> u64;
+    fn refused_requests(&self) -> u64
+        ensures { result ≡ short self.now };
 
     /// Puts the table of this text in force, or carries out the order that it is: `FREEZE TENANT DIGEST` or
     /// `THAW TENANT`. False if it does not, and then nothing has changed. Appends to `told` what is said of

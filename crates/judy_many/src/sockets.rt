@@ -1,14 +1,17 @@
 //! Unix sockets, by `epoll`. Two more may be for the operator.
+ghost use Rattle.std.specs.IoError.{raw_os_error};
 ghost use Rattle.std.specs.Prelude.{◌≡◌, ◌<◌, length};
 ghost use Rattle.judy_many.specs.Comes.{HasNumber};
 ghost use Rattle.judy_many.specs.Nets.{Fits, Takes};
+ghost use Rattle.judy_many.specs.Passing.{may_pass};
 ghost use Rattle.judy_many.specs.Queues.{AreAwake, StayAwake};
 
 use crate::counts::{Counts, JournalCounts, TenantBytes};
-use crate::desk::{CONTROL, Desk, Purpose, STATUS};
+use crate::desk::{CONTROL, Desk, STATUS};
 use crate::limits::{CLIENTS_LIMIT, EVENTS_LIMIT};
 use crate::lines::tell_line;
 use crate::network::{Accept, Got, How, Put, Question};
+use crate::questions::Purpose;
 use crate::queue::Queue;
 use judy_model::Name;
 use mio::net::{UnixListener, UnixStream};
@@ -25,7 +28,7 @@ use std::time::{Duration, Instant};
 const LISTENER: Token = Token(usize::MAX);
 
 /// The system's numbers for errors after which a later accept may succeed.
-const LATER: [i32; 7] = [4, 12, 23, 24, 103, 105, 71];
+const LATER: [i32; 7] = [4, 12, 23, 24, 71, 103, 105];
 
 /// A Unix socket that connections come to.
 #[derive(Drop)]
@@ -195,7 +198,9 @@ fn tell_slots(events: &Events<Global>, queue: &mut Queue, told: &mut Vec<u64>) -
 }
 
 /// Whether a later accept may succeed.
-fn is_passing(e: &io::Error) -> bool {
+fn is_passing(e: &io::Error) -> bool
+    ensures { result ≡ may_pass (raw_os_error e.now) }
+{
     let Some(number) = e.raw_os_error() else {
         return false;
     };

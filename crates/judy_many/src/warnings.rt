@@ -1,8 +1,8 @@
 //! What an operator is warned of: refused log-ins, and requests that were refused for memory.
-ghost use Rattle.std.specs.Prelude.{◌≡◌, ◌≤◌, ℕ, List, codes, length};
+ghost use Rattle.std.specs.Prelude.{◌≡◌, ◌≤◌, ◌+◌, ◌++◌, ℕ, List, decimal, length};
 ghost use Rattle.judy_many.specs.Nets.{DidLog};
 ghost use Rattle.judy_many.specs.Stories.{BeginsWith};
-ghost use Rattle.judy_many.specs.Warnings.{HasWarned, is_due, is_later, told_after, warning_acts};
+ghost use Rattle.judy_many.specs.Warnings.{HasWarned, TellsLogins, are_owed, is_due, is_later, named_login, others_text, requests_text, told_after, warning_acts};
 
 use crate::limits::TOLD_LIMIT;
 use crate::network::Network;
@@ -56,14 +56,20 @@ pub fn begin(text: &'static [u8]) -> ArrayVec<u8, TOLD_LIMIT>
 
 /// Appends a text, or nothing if there is no room for it.
 pub fn add(line: &mut ArrayVec<u8, TOLD_LIMIT>, text: &[u8])
-    ensures { (head : List ℕ) → BeginsWith head line.old.items → BeginsWith head line.new.items }
+    ensures head { (head : List ℕ) → BeginsWith head line.old.items → BeginsWith head line.new.items }
+    ensures fits { length line.old.items + length text.now ≤ TOLD_LIMIT
+        → line.new.items ≡ line.old.items ++ text.now }
+    ensures most { length line.new.items ≤ length line.old.items + length text.now }
 {
     let _fits = line.try_extend_from_slice(text);
 }
 
 /// Appends a number.
 fn add_number(line: &mut ArrayVec<u8, TOLD_LIMIT>, n: u64)
-    ensures { (head : List ℕ) → BeginsWith head line.old.items → BeginsWith head line.new.items }
+    ensures head { (head : List ℕ) → BeginsWith head line.old.items → BeginsWith head line.new.items }
+    ensures fits { length line.old.items + 20 ≤ TOLD_LIMIT
+        → line.new.items ≡ line.old.items ++ decimal n }
+    ensures most { length line.new.items ≤ length line.old.items + 20 }
 {
     let mut buffer = Buffer::new();
     add(line, buffer.format(n).as_bytes());
@@ -71,7 +77,10 @@ fn add_number(line: &mut ArrayVec<u8, TOLD_LIMIT>, n: u64)
 
 /// Appends a tenant's name.
 fn add_name(line: &mut ArrayVec<u8, TOLD_LIMIT>, name: &[u8])
-    ensures { (head : List ℕ) → BeginsWith head line.old.items → BeginsWith head line.new.items }
+    ensures head { (head : List ℕ) → BeginsWith head line.old.items → BeginsWith head line.new.items }
+    ensures fits { length name.now ≤ 32 → length line.old.items ≤ 16
+        → line.new.items ≡ line.old.items ++ named_login name.now }
+    ensures most { length name.now ≤ 32 → length line.new.items ≤ length line.old.items + 32 }
 {
     if name.is_empty() {
         add(line, b"no such tenant");
@@ -82,7 +91,8 @@ fn add_name(line: &mut ArrayVec<u8, TOLD_LIMIT>, name: &[u8])
 
 /// Appends how many others there are, if there are some.
 fn add_others(line: &mut ArrayVec<u8, TOLD_LIMIT>, others: u64)
-    ensures { (head : List ℕ) → BeginsWith head line.old.items → BeginsWith head line.new.items }
+    ensures head { (head : List ℕ) → BeginsWith head line.old.items → BeginsWith head line.new.items }
+    ensures fits { length line.old.items ≤ 48 → line.new.items ≡ line.old.items ++ others_text others }
 {
     if others == 0 {
         return;
@@ -94,7 +104,7 @@ fn add_others(line: &mut ArrayVec<u8, TOLD_LIMIT>, others: u64)
 
 /// The line of this number of refused log-ins, the last of them with this tenant's name, if it has one.
 fn logins_line(name: &[u8], count: u64) -> ArrayVec<u8, TOLD_LIMIT>
-    ensures { BeginsWith (codes "log-in refused: ") result.items }
+    ensures { TellsLogins name.now count result.items }
 {
     let mut line = begin(b"log-in refused: ");
     add_name(&mut line, name);
@@ -104,7 +114,7 @@ fn logins_line(name: &[u8], count: u64) -> ArrayVec<u8, TOLD_LIMIT>
 
 /// The line of this number of requests that were refused for memory.
 fn requests_line(count: u64) -> ArrayVec<u8, TOLD_LIMIT>
-    ensures { BeginsWith (codes "out of memory: ") result.items }
+    ensures { result.items ≡ requests_text count }
 {
     let mut line = begin(b"out of memory: ");
     add_number(&mut line, count);
@@ -141,7 +151,9 @@ impl Warnings {
     }
 
     /// Whether something is left to tell.
-    pub fn are_owed<S: Shows>(&self, service: &S) -> bool {
+    pub fn are_owed<S: Shows>(&self, service: &S) -> bool
+        ensures { result ≡ are_owed self.now (S.refused service.now) (S.short service.now) }
+    {
         self.logins.count < service.refused_logins()
             || self.requests.count < service.refused_requests()
     }
@@ -149,7 +161,8 @@ impl Warnings {
     /// Tells how many log-ins and requests were refused since they were told last, each at most once a
     /// second. The clock is asked only if something is left to tell.
     pub fn tell<S: Shows, N: Network>(&mut self, network: &mut N, service: &S)
-        ensures { HasWarned (N.log network.old) (N.log network.new) }
+        ensures { HasWarned self.old (S.last service.now) (S.refused service.now) (S.short service.now)
+            (N.log network.old) (N.log network.new) self.new }
     {
         if !self.are_owed(service) {
             return;

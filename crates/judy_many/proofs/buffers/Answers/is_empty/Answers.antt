@@ -1,4 +1,4 @@
-use Rattle.std.proofs.Common.{arith, ◌∙◌, ap, sym, drop, length}
+use Rattle.std.proofs.Common.{arith, ◌∙◌, ap, sym, length}
 use Rattle.std.proofs.lemmas.List.{length-drop}
 use Rattle.judy_many.proofs.Looking.{some_beyond}
 use Rattle.judy_many.proofs.buffers.Answers.is_empty.Goals as goal

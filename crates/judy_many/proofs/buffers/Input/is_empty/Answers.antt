@@ -1,4 +1,4 @@
-use Rattle.std.proofs.Common.{arith, ◌∙◌, ap, sym, drop, length, take}
+use Rattle.std.proofs.Common.{arith, ◌∙◌, ap, sym, length, take}
 use Rattle.std.proofs.lemmas.List.{length-drop, length-take-le}
 use Rattle.judy_many.proofs.Looking.{some_between}
 use Rattle.judy_many.proofs.buffers.Input.is_empty.Goals as goal
