@@ -7,3 +7,4 @@ pub mod Program
 pub mod Scanning
 pub mod TableEnds
 pub mod Tables
+pub mod Leaving

@@ -1,5 +1,6 @@
 //! The random bytes, the files and the Unix sockets of the system.
-ghost use Rattle.std.specs.Prelude.{◌≡◌, Some, []};
+ghost use Rattle.std.specs.Prelude.{◌≡◌, ◌≤◌, length, Some, []};
+ghost use Rattle.judy_programs.specs.Leaving.{HasLeft, first_of};
 
 use crate::config::{FileRead, read_file};
 use crate::directory::Directory;
@@ -153,7 +154,9 @@ impl<'a, F: Locks + Net + Clock + Eprint + Clone + Drop> System<'a, F> {
     }
 
     /// Removes the sockets at these paths, those that were made and are still there, and closes them.
-    pub fn leave(&mut self, socket: &str, status: Option<&str>, control: Option<&str>) {
+    pub fn leave(&mut self, socket: &str, status: Option<&str>, control: Option<&str>)
+        ensures { HasLeft self.new }
+    {
         remove_marked(self.rt, socket, self.made.socket);
         remove_given(self.rt, status, self.made.status);
         remove_given(self.rt, control, self.made.control);
@@ -168,6 +171,16 @@ impl<'a, F: Locks + Net + Clock + Eprint + Clone + Drop> System<'a, F> {
             && let Some(e) = sockets.fault()
         {
             self.failed = Some(Failed::Socket(e));
+        }
+    }
+
+    /// Keeps the path of a file that was opened, if it is the first: that is the file of the table.
+    fn keep_path(&mut self, path: &str)
+        ensures log { self.new.notes ≡ self.old.notes }
+        ensures path { length path.now ≤ PATH_LIMIT → self.new.path.items ≡ first_of self.old.path.items path.now }
+    {
+        if self.path.is_empty() {
+            let _fits = self.path.try_extend_from_slice(path.as_bytes());
         }
     }
 
@@ -444,10 +457,7 @@ impl<'a, F: Locks + Net + Clock + Eprint + Clone + Drop> Hosts for System<'a, F>
         self.notes.opened(opened.is_ok(), path.as_bytes());
         match opened {
             Ok(file) => {
-                // The first file is that of the table.
-                if self.path.is_empty() {
-                    let _ = self.path.try_extend_from_slice(path.as_bytes());
-                }
+                self.keep_path(path);
                 Some(TableFile::new(file))
             }
             Err(e) => {

@@ -15,3 +15,4 @@ pub mod Space
 pub mod Starts
 pub mod Status
 pub mod Tally
+pub mod Told

@@ -3,6 +3,7 @@
 --     call_names, call_place line      what a line can ask for, and the place of its name there
 --     reply_kinds, reply_place answer  the kinds of replies, and the place of an answer's kind there
 --     refused_name line answer         the name of a log-in, if the line is one that was refused
+--     last_name t                      the name that the last refused log-in had, if a tenant has it
 --     no_counts                        nothing was counted yet
 --     counted tenants who line answer t   the counts after one more line; this tenant speaks after it
 --     is_among names name              whether this name is among these
@@ -23,6 +24,7 @@ use Rattle.judy_model.specs.declared.calls.Call.{Call}
 use Rattle.judy_model.specs.declared.commands.Command.{Command}
 use Rattle.judy_model.specs.declared.requests.Line.TheVariants as request
 use Rattle.judy_table.specs.declared.tenant.Tenant.{Tenant}
+use Rattle.judy_table.specs.Seats.{name_at}
 use Rattle.judy_table.specs.Tenants.{place_of}
 use Rattle.judy_tenants.specs.Held.{Held}
 use Rattle.judy_server.specs.declared.absent.TheConstants.{ABSENT_LIMIT}
@@ -99,6 +101,8 @@ no_counts = record {
   replies = replicate 10 0;
   refused = replicate 128 0;
   unknown = 0;
+  logins = 0;
+  last = None;
   spoken = replicate 128 0;
   full = replicate 128 0;
   absent = [];
@@ -114,8 +118,8 @@ cleared vacant place counts = if vacant then slice_set counts place 0 else count
 
 -- after a refused log-in with the name of the tenant at this place, or with a name that no tenant has
 abbrev pub refused_at : Option ℕ → Tally → Tally
-refused_at (Some place) tally = record tally { refused = bumped tally.refused place }
-refused_at None tally = record tally { unknown = count_up tally.unknown }
+refused_at (Some place) tally = record tally { refused = bumped tally.refused place; logins = count_up tally.logins; last = Some place }
+refused_at None tally = record tally { unknown = count_up tally.unknown; logins = count_up tally.logins; last = None }
 
 -- after a log-in with this name was refused, if one was
 abbrev pub refused_to : List Tenant → Option (List ℕ) → Tally → Tally
@@ -178,3 +182,11 @@ pub record Tallied : Type 0 where
 
 abbrev pub tallied : Held → Tally → Tallied
 tallied held tally = record { held = held; tally = tally }
+
+-- the name that the last refused log-in had, if a tenant has it
+abbrev pub last_in : List Tenant → Option ℕ → List ℕ
+last_in tenants None = []
+last_in tenants (Some place) = name_at tenants place
+
+abbrev pub last_name : Tallied → List ℕ
+last_name t = last_in t.held.tenants t.tally.last

@@ -2,29 +2,37 @@
 ghost use Rattle.std.specs.Prelude.{◌≡◌, MatchBool};
 ghost use Rattle.judy_server.specs.Reloads.{IsReload, IsSeated, forgotten, without_gone};
 ghost use Rattle.judy_server.specs.Tally.{tallied};
+ghost use Rattle.judy_server.specs.Told.{Tells, TellsAll, fault_parts, reason_parts, tenants_parts};
+ghost use Rattle.judy_table.specs.Seats.{name_at};
 
 use crate::orders::{carry_out, read_order};
 use crate::tally::{Tally, clear_if};
 use itoa::Buffer;
 use judy_programs::fault_name;
-use judy_table::{Blame, Table, TableFault};
+use judy_table::{Blame, Table, TableFault, TenantId};
 use judy_tenants::{KeyHash, Service, Unchanged};
 use std::alloc::Global;
 
 /// Appends bytes. Without memory for them nothing is told.
-pub fn tell(told: &mut Vec<u8>, part: &[u8]) {
+pub fn tell(told: &mut Vec<u8>, part: &[u8])
+    ensures { Tells part.now told.old.items told.new.items }
+{
     let _ = told.extend_from_slice(part);
 }
 
 /// Tells how many tenants a table has.
-fn tell_tenants(told: &mut Vec<u8>, count: usize) {
+fn tell_tenants(told: &mut Vec<u8>, count: usize)
+    ensures { TellsAll (tenants_parts count) told.old.items told.new.items }
+{
     let mut buffer = Buffer::new();
     tell(told, buffer.format(count as u64).as_bytes());
     tell(told, if count == 1 { b" tenant" } else { b" tenants" });
 }
 
 /// Tells the fault of a table.
-fn tell_fault(told: &mut Vec<u8>, fault: TableFault) {
+fn tell_fault(told: &mut Vec<u8>, fault: TableFault)
+    ensures { TellsAll (fault_parts fault) told.old.items told.new.items }
+{
     if matches!(fault, TableFault::Memory) {
         tell(told, b"out of memory");
     } else {
@@ -46,15 +54,26 @@ fn tell_blame(alloc: Global, told: &mut Vec<u8>, text: &[u8], fault: TableFault)
     }
 }
 
+/// The name of a tenant. Empty if there is none.
+pub fn name_of<H: KeyHash>(service: &Service<H>, tenant: TenantId) -> &[u8]
+    ensures { result.now ≡ name_at service.now.tenants tenant }
+{
+    if service.has(tenant) {
+        service.name(tenant)
+    } else {
+        b""
+    }
+}
+
 /// Tells why a table was not put in force.
-fn tell_reason<H: KeyHash>(told: &mut Vec<u8>, service: &Service<H>, why: Unchanged) {
+fn tell_reason<H: KeyHash>(told: &mut Vec<u8>, service: &Service<H>, why: Unchanged)
+    ensures { TellsAll (reason_parts service.now.tenants why) told.old.items told.new.items }
+{
     match why {
         Unchanged::Memory => tell_fault(told, TableFault::Memory),
         Unchanged::Quota(tenant) => {
             tell(told, b"the quota of ");
-            if service.has(tenant) {
-                tell(told, service.name(tenant));
-            }
+            tell(told, name_of(service, tenant));
             tell(told, b" is less than what it holds");
         }
     }

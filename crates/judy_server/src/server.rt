@@ -1,5 +1,5 @@
 //! The tenants of a table, as a connection and a program see them.
-ghost use Rattle.std.specs.Prelude.{◌≡◌, None, option_map, true};
+ghost use Rattle.std.specs.Prelude.{◌≡◌, None, option_map, slice_index, true};
 ghost use Rattle.std.proofs.Common.{ap, refl};
 ghost use Rattle.judy_table.specs.Seats.{goes_on, journal_at};
 ghost use Rattle.judy_table.specs.Shown.{seen};
@@ -14,13 +14,13 @@ ghost use Rattle.judy_model.specs.Stream.{lines_of};
 ghost use Rattle.judy_programs.specs.Tables.{MayPullTable};
 ghost use Rattle.judy_server.specs.Replays.{AreReplayed, AreReplayed-append, Plays, PlaysAll};
 ghost use Rattle.judy_server.specs.Status.{status_of};
-ghost use Rattle.judy_server.specs.Tally.{Tallied};
+ghost use Rattle.judy_server.specs.Tally.{Tallied, last_name};
 
 use crate::leavers::find_leavers;
 use crate::limits::{lift, limit};
 use crate::present::tenant_of;
 use crate::records::{Halt, replay, replay_all};
-use crate::reload::change;
+use crate::reload::{change, name_of};
 use crate::status::add_status;
 use crate::tally::{Tally, refused_name};
 use arrayvec::ArrayVec;
@@ -31,7 +31,7 @@ use judy_programs::{Opens, Ran, Replays, Unopened, run_with};
 use judy_protocol::{Batch, Line, Refusal, Served};
 use judy_recovery::{Halt as Stopped, JournalFault, Reason};
 use judy_stream::{Sink, Source};
-use judy_table::{Speaker, Table, TenantId};
+use judy_table::{Speaker, Table};
 use judy_tenants::{KeyHash, Service, Sha256Hash};
 use std::alloc::{AllocError, Global};
 use std::marker::Model;
@@ -55,38 +55,12 @@ impl Chosen for Sha256Hash {
     }
 }
 
-/// The refused log-ins, as the operator is told of them.
-#[derive(Clone, Copy, Debug)]
-struct Logins {
-    /// How many were refused. The count saturates.
-    refused: u64,
-    /// The tenant whose name the last of them had, if it had one.
-    last: Option<TenantId>,
-}
-
-impl Logins {
-    /// None yet.
-    fn new() -> Logins {
-        Logins {
-            refused: 0,
-            last: None,
-        }
-    }
-
-    /// One was refused.
-    fn refuse(&mut self, tenant: Option<TenantId>) {
-        self.refused = self.refused.saturating_add(1);
-        self.last = tenant;
-    }
-}
-
 /// The tenants of a table, each with its own arrays, in one arena, and the counts of their lines.
 /// JudyHS hashes keys by H.
 #[derive(Drop)]
 pub struct Server<H: Chosen> {
     service: Service<H>,
     tally: Tally,
-    logins: Logins,
 }
 
 impl<H: Chosen> Model for Server<H> {
@@ -141,6 +115,12 @@ impl<H: Chosen> Shows for Server<H> {
 
     ghost admits = { λ t speaker. goes_on t.held.tenants (seen speaker) speaker.digest };
 
+    ghost refused = { λ t. t.tally.logins };
+
+    ghost last = { last_name };
+
+    ghost short = { λ t. slice_index t.tally.replies 2 };
+
     fn show(&self, speakers: &[Option<Speaker>], text: &mut Vec<u8>) -> Result<(), AllocError> {
         add_status(text, &self.service, &self.tally, speakers)
     }
@@ -152,23 +132,18 @@ impl<H: Chosen> Shows for Server<H> {
         self.tally.count_for(tenant_of(speaker), answer);
         if let Some(name) = refused_name(asked, answer) {
             self.tally.refuse(self.service.find(name));
-            self.logins.refuse(self.service.find(name));
         }
     }
 
     fn refused_logins(&self) -> u64 {
-        self.logins.refused
+        self.tally.logins
     }
 
     fn last_refused(&self) -> &[u8] {
-        let Some(tenant) = self.logins.last else {
+        let Some(tenant) = self.tally.last else {
             return b"";
         };
-        if self.service.has(tenant) {
-            self.service.name(tenant)
-        } else {
-            b""
-        }
+        name_of(&self.service, tenant)
     }
 
     fn refused_requests(&self) -> u64 {
@@ -225,7 +200,6 @@ impl<H: Chosen> Opens for Server<H> {
                 Ok(Server {
                     service,
                     tally: Tally::new(),
-                    logins: Logins::new(),
                 })
             }
             Err(_) => Err(Unopened::Memory),

@@ -34,6 +34,10 @@ pub struct Tally {
     pub refused: [u64; PLACES],
     /// Refused log-ins with a name that no tenant has.
     pub unknown: u64,
+    /// All refused log-ins.
+    pub logins: u64,
+    /// The tenant whose name the last of them had, if it had one.
+    pub last: Option<TenantId>,
     /// Lines of connections on which a tenant is logged in after them, by the tenant's place.
     pub spoken: [u64; PLACES],
     /// Those that were answered `FULL`, by the tenant's place.
@@ -182,6 +186,8 @@ impl Tally {
             replies: [0; KINDS],
             refused: [0; PLACES],
             unknown: 0,
+            logins: 0,
+            last: None,
             spoken: [0; PLACES],
             full: [0; PLACES],
             absent: Absent::new(),
@@ -220,9 +226,11 @@ impl Tally {
     pub fn refuse(&mut self, tenant: Option<TenantId>)
         ensures { self.new ≡ refused_at tenant self.old }
     {
-        match tenant {
+        self.logins = up(self.logins);
+        match &tenant {
             Some(tenant) => bump(&mut self.refused, tenant.place() as usize),
             None => self.unknown = up(self.unknown),
         }
+        self.last = tenant;
     }
 }

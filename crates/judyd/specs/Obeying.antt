@@ -1,5 +1,5 @@
 -- The status that the program ends with, by what its command line asks for.
-use Rattle.std.specs.Prelude.{◌≡◌, ◌⊎◌, ℕ, Bool, false, List, [], codes, Option, Some, None, Result, Ok, Err}
+use Rattle.std.specs.Prelude.{◌≡◌, ◌⊎◌, ℕ, Bool, true, false, List, [], codes, Option, Some, None, Result, Ok, Err}
 use Rattle.judy_command.specs.declared.words.Job.{Job}
 use Rattle.judy_command.specs.declared.words.Job.TheVariants as job
 use Rattle.judy_command.specs.declared.words.Refusal.{Refusal}
@@ -12,6 +12,11 @@ use Rattle.judy_programs.specs.declared.socket.Hosted.TheVariants as hosted
 use Rattle.judy_protocol.specs.Serving.{Wire}
 use Rattle.judy_recovery.specs.Whole.{Kept}
 use Rattle.judy_server.specs.Runs.{KeepsPromises}
+use Rattle.judy_upkeep.specs.declared.compacting.Compacted.{Compacted}
+use Rattle.judy_upkeep.specs.declared.compacting.Uncompacted.{Uncompacted}
+use Rattle.judy_upkeep.specs.declared.compacting.Uncompacted.TheVariants as uncompacted
+use Rattle.judy_upkeep.specs.declared.printing.Unprinted.{Unprinted}
+use Rattle.judy_upkeep.specs.declared.printing.Unprinted.TheVariants as unprinted
 
 -- 0 for help and the version, 2 for a command line that the program does not understand, and 4 if
 -- memory runs out
@@ -24,6 +29,31 @@ refusal_status refusal.Memory = 4
 -- more
 abbrev pub IsUpkept : ℕ → Type 0
 IsUpkept status = (status ≡ 0) ⊎ (status ≡ 3) ⊎ (status ≡ 4)
+
+-- why a journal was not compacted, by the status
+abbrev pub fault_status : Uncompacted → ℕ
+fault_status (uncompacted.Journal fault) = 3
+fault_status (uncompacted.Disk fault) = 3
+fault_status uncompacted.Memory = 4
+fault_status uncompacted.Left = 3
+
+abbrev pub compaction_status : Result Compacted Uncompacted → ℕ
+compaction_status (Ok done) = 0
+compaction_status (Err why) = fault_status why
+
+-- why a journal was not printed whole, by the status
+abbrev pub print_status : Result (Unit {0}) Unprinted → ℕ
+print_status (Ok done) = 0
+print_status (Err unprinted.Write) = 4
+print_status (Err (unprinted.Journal fault)) = 3
+
+-- whether the job serves a socket
+abbrev pub serves_socket : Job → Bool
+serves_socket (job.Serve config socket watch control clients tenant_clients share connections login idle turn reserve journal sync segment new_journal check) = true
+serves_socket (job.Run words batch) = false
+serves_socket (job.Compact directory) = false
+serves_socket (job.Repair directory sure drop_later) = false
+serves_socket (job.Journal directory tenant new check) = false
 
 -- the same, and 1 if a repair would cut something off, and did not
 abbrev pub IsRepaired : Bool → ℕ → Type 0

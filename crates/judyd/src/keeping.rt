@@ -1,6 +1,6 @@
 //! Prints, begins, examines and compacts a journal that is not served.
 ghost use Rattle.std.specs.Prelude.{◌≡◌};
-ghost use Rattle.judyd.specs.Obeying.{IsUpkept};
+ghost use Rattle.judyd.specs.Obeying.{IsUpkept, compaction_status, fault_status, print_status};
 
 use judy_command::Word;
 use judy_disk::{DiskFault, Folder};
@@ -8,7 +8,9 @@ use judy_programs::read_secret;
 use judy_recovery::JournalFault;
 use judy_server::Server;
 use judy_tenants::Sha256Hash;
-use judy_upkeep::{Examined, Uncompacted, Unprinted, begin_journal, compact, examine, print};
+use judy_upkeep::{
+    Compacted, Examined, Uncompacted, Unprinted, begin_journal, compact, examine, print,
+};
 
 /// The directory of a journal.
 pub fn folder_at<'a>(rt: &'a HostRuntime, path: &str) -> Option<Folder<'a, HostRuntime>> {
@@ -37,7 +39,7 @@ fn tell_disk(rt: &HostRuntime, path: &str, fault: &DiskFault) {
 
 /// Prints why a journal is not compacted. Returns the status of the program.
 fn tell_uncompacted(rt: &HostRuntime, path: &str, why: &Uncompacted) -> u8
-    ensures { IsUpkept result }
+    ensures { result ≡ fault_status why.now }
 {
     match why {
         Uncompacted::Journal(fault) => {
@@ -56,6 +58,16 @@ fn tell_uncompacted(rt: &HostRuntime, path: &str, why: &Uncompacted) -> u8
     }
 }
 
+/// Prints why a journal is not compacted, if it is not. Returns the status of the program.
+fn tell_compacted(rt: &HostRuntime, path: &str, done: &Result<Compacted, Uncompacted>) -> u8
+    ensures { result ≡ compaction_status done.now }
+{
+    match done {
+        Ok(_) => 0,
+        Err(why) => tell_uncompacted(rt, path, why),
+    }
+}
+
 /// Makes the files of a journal smaller. Returns the status of the program.
 pub fn compact_at(rt: &HostRuntime, path: &str) -> u8
     ensures { IsUpkept result }
@@ -67,9 +79,24 @@ pub fn compact_at(rt: &HostRuntime, path: &str) -> u8
         let _ = eprintln!(rt; "judyd: random fault");
         return 4;
     };
-    match compact::<Server<Sha256Hash>, HostRuntime>(rt.alloc(), &secret, folder) {
-        Ok(_) => 0,
-        Err(why) => tell_uncompacted(rt, path, &why),
+    let done = compact::<Server<Sha256Hash>, HostRuntime>(rt.alloc(), &secret, folder);
+    tell_compacted(rt, path, &done)
+}
+
+/// Prints why a journal is not printed whole, if it is not. Returns the status of the program.
+fn tell_printed(rt: &HostRuntime, path: &str, done: &Result<(), Unprinted>) -> u8
+    ensures { result ≡ print_status done.now }
+{
+    match done {
+        Ok(()) => 0,
+        Err(Unprinted::Write) => {
+            let _ = eprintln!(rt; "judyd: write fault");
+            4
+        }
+        Err(Unprinted::Journal(fault)) => {
+            tell_fault(rt, path, fault);
+            3
+        }
     }
 }
 
@@ -81,17 +108,8 @@ fn print_at(rt: &HostRuntime, path: &str, tenant: &Option<Word>) -> u8
         return refuse_memory(rt);
     };
     let name = tenant.as_ref().map(|word| word.0.as_bytes());
-    match print(rt.alloc(), &mut folder, rt.stdout(), name) {
-        Ok(()) => 0,
-        Err(Unprinted::Write) => {
-            let _ = eprintln!(rt; "judyd: write fault");
-            4
-        }
-        Err(Unprinted::Journal(fault)) => {
-            tell_fault(rt, path, &fault);
-            3
-        }
-    }
+    let done = print(rt.alloc(), &mut folder, rt.stdout(), name);
+    tell_printed(rt, path, &done)
 }
 
 /// Makes the manifest of a journal that has none. Returns the status of the program.

@@ -2,11 +2,12 @@
 //! socket.
 #![tactic(auto)]
 
-ghost use Rattle.std.specs.Prelude.{◌≡◌, ℕ, List, Option, Ok, option_map};
+ghost use Rattle.std.specs.Prelude.{◌≡◌, ℕ, List, Option, Ok, option_map, true};
+ghost use Rattle.judy_programs.specs.Leaving.{HasLeft};
 ghost use Rattle.judy_protocol.specs.Serving.{Wire};
 ghost use Rattle.judy_server.specs.Jobs.{Does, IsProgram};
 ghost use Rattle.judy_server.specs.Runs.{KeepsPromises};
-ghost use Rattle.judyd.specs.Obeying.{HasDoneAll, IsFinished, IsObeyed, IsSecured, IsUpkept, KeepsAll, refusal_status};
+ghost use Rattle.judyd.specs.Obeying.{HasDoneAll, IsFinished, IsObeyed, IsSecured, IsUpkept, KeepsAll, refusal_status, serves_socket};
 
 mod built;
 mod keeping;
@@ -18,6 +19,7 @@ use built::BUILT;
 use judy_command::{Job, Refusal, Sync, VERSION, Word, parse_words};
 use judy_many::Network;
 use judy_programs::{Failed, Hosted, Journals, System, Unserved, finish_hosted, tell_line};
+use judy_recovery::JournalFault;
 use judy_server::{do_job_on, every_run_keeps_promises};
 use judy_stream::{Reads, Writes};
 use judy_tenants::Sha256Hash;
@@ -85,8 +87,8 @@ fn do_job<'a>(
 }
 
 /// Prints what the disk of the journal refused, if it refused something.
-fn tell_journal(rt: &HostRuntime, job: &Job, system: &mut System<'_, HostRuntime>) {
-    let Some(fault) = system.take_journal_fault() else {
+fn tell_journal(rt: &HostRuntime, job: &Job, fault: &Option<JournalFault>) {
+    let Some(fault) = fault else {
         return;
     };
     if let Job::Serve {
@@ -144,7 +146,9 @@ fn tell_reason(rt: &HostRuntime, job: &Job, failed: Failed) {
 }
 
 /// Removes the sockets that were made.
-fn leave(job: &Job, system: &mut System<'_, HostRuntime>) {
+fn leave(job: &Job, system: &mut System<'_, HostRuntime>)
+    ensures { serves_socket job.now ≡ true → HasLeft system.new }
+{
     let Job::Serve {
         socket,
         status,
@@ -316,6 +320,34 @@ fn secure(
     finish_hosted(Hosted::Journal)
 }
 
+/// Removes the sockets that were made, and then prints how the program ended.
+fn end(
+    rt: &HostRuntime,
+    job: &Job,
+    system: &mut System<'_, HostRuntime>,
+    kept: &mut Vec<u8>,
+    status: u8,
+    text: Option<&'static str>,
+)
+    ensures { serves_socket job.now ≡ true → HasLeft system.new }
+{
+    tell_stop(rt, status, &*system);
+    let line = match text {
+        Some(text) => explain(rt, job, system, kept, text),
+        None => None,
+    };
+    let fault = system.take_journal_fault();
+    leave(job, system);
+    if let Some(text) = text {
+        tell_end(rt, job, line.as_ref().map_or(text, |line| line.as_str()));
+    }
+    if let Some(failed) = system.failed() {
+        tell_reason(rt, job, failed);
+    }
+    tell_journal(rt, job, &fault);
+    tell_unserved(rt, system.unserved());
+}
+
 /// Runs or serves, and prints how it ended. Returns the status of the program.
 fn obey_program<'a>(rt: &'a HostRuntime, job: &Job) -> u8
     requires { IsProgram job.now }
@@ -329,17 +361,7 @@ fn obey_program<'a>(rt: &'a HostRuntime, job: &Job) -> u8
     let mut kept = Vec::new(rt.alloc());
     let ended = do_job(rt, job, &mut system, &mut kept);
     let (status, text) = secure(job, &mut system, ended);
-    tell_stop(rt, status, &system);
-    leave(job, &mut system);
-    if let Some(text) = text {
-        let line = explain(rt, job, &mut system, &mut kept, text);
-        tell_end(rt, job, line.as_ref().map_or(text, |line| line.as_str()));
-    }
-    if let Some(failed) = system.failed() {
-        tell_reason(rt, job, failed);
-    }
-    tell_journal(rt, job, &mut system);
-    tell_unserved(rt, system.unserved());
+    end(rt, job, &mut system, &mut kept, status, text);
     status
 }
 
