@@ -1,3 +1,4 @@
 mod Chaining
+mod Lines
 mod Playing
 pub mod Standing

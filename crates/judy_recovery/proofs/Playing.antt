@@ -1,10 +1,10 @@
 -- How the commits of a file are played.
-use Rattle.std.proofs.Common.{◌≡◌, ◌-◌, ℕ, suc, true, List, [], ◌∷◌, ◌++◌, length, take, drop}
+use Rattle.std.proofs.Common.{◌≡◌, ◌-◌, ℕ, suc, List, [], ◌∷◌, ◌++◌, length, take, drop}
 use Rattle.std.proofs.Common.{refl, sym, ◌∙◌, ap, subst, arith, append_assoc, append-nil, length-append, take-append-drop, Option, Some, None, Ok, Err}
 use Rattle.std.proofs.KnownBytes.{Consumes-trans}
 use Rattle.std.specs.Io.KnownBytes.{Consumes, Keeps}
 use Rattle.judy_journal.specs.Acts.{Left}
-use Rattle.judy_journal.specs.Journals.{Commit, sum_at}
+use Rattle.judy_journal.specs.Journals.{Commit}
 use Rattle.judy_journal.specs.Notes.{changes_in}
 use Rattle.judy_journal.specs.Noting.{HasSeen, Noting}
 use Rattle.judy_journal.specs.Recovered.{HasHalted, HasRecovered, HasUnpacked, IsRecovered, IsUnpacked, Recovering}
@@ -12,7 +12,7 @@ use Rattle.judy_journal.specs.Writes.{all_records}
 use Rattle.judy_journal.specs.declared.reader.Read.{Read}
 use Rattle.judy_journal.specs.declared.reader.Read.TheVariants.{More, Whole}
 use Rattle.judy_journal.specs.declared.damage.Damage.{Damage}
-use Rattle.judy_recovery.specs.Played.{Breaks, HasBroken, HasPlayed, IsDamagedFile, MayBreak, ReadsNext, ReadsOn, ReadsUpTo}
+use Rattle.judy_recovery.specs.Played.{Breaks, HasPlayed, IsDamagedFile, MayBreak, ReadsNext, ReadsOn, ReadsUpTo}
 use Rattle.judy_recovery.specs.declared.pieces.Damaged.{Damaged}
 use Rattle.judy_recovery.specs.declared.pieces.Stop.{Stop}
 use Rattle.judy_recovery.specs.declared.pieces.Stop.TheVariants as stop

@@ -4,7 +4,9 @@
 --     ReadsAll plays left left' r old r' new                a source was read to its end
 --     Breaks plays damage r bytes old r' new                the commits before this damage were played
 --     HasReadLast plays left left' found ..                 a source was read to its end, with its notes, up to its first damage
-use Rattle.std.specs.Prelude.{◌≡◌, ℕ, ◌+◌, List, ◌++◌, length, Option, Some, None}
+--     len_of_lines n bytes                                  where the line after the first n begins
+--     IsUnplayed whole records at                           the reading stops at a record that was not played
+use Rattle.std.specs.Prelude.{◌≡◌, ℕ, zero, suc, ◌+◌, ◌-◌, ◌^◌, ◌==◌, List, [], ◌∷◌, ◌++◌, length, min, if◌then◌else◌, Option, Some, None}
 use Rattle.std.specs.Io.KnownBytes.{Consumes, IsAtEnd}
 use Rattle.judy_journal.specs.Acts.{Left}
 use Rattle.judy_journal.specs.Journals.{Commit}
@@ -14,6 +16,9 @@ use Rattle.judy_journal.specs.Recovered.{IsRecovered, IsUnpacked, Recovering}
 use Rattle.judy_journal.specs.Recoveries.{IsDamaged}
 use Rattle.judy_journal.specs.Writes.{all_records}
 use Rattle.judy_journal.specs.declared.damage.Damage.{Damage}
+use Rattle.judy_model.specs.Stream.{lines_of}
+use Rattle.judy_recovery.specs.declared.faults.Flaw.TheVariants as flaws
+use Rattle.judy_recovery.specs.declared.player.Halt.{Halt}
 use Rattle.judy_recovery.specs.declared.pieces.Damaged.{Damaged}
 use Rattle.judy_recovery.specs.declared.pieces.Stop.{Stop}
 use Rattle.judy_recovery.specs.declared.pieces.Stop.TheVariants as stop
@@ -56,6 +61,24 @@ abbrev pub IsNoDamage : Stop → Type 0
 IsNoDamage (stop.Damaged found) = ⊥
 IsNoDamage (stop.Flaw byte flaw) = Unit {0}
 IsNoDamage stop.Fault = Unit {0}
+
+-- ---- a record that was not played
+
+-- How many bytes the first n lines have, with their line feeds. If there are fewer, all bytes.
+abbrev pub len_of_lines : ℕ → List ℕ → ℕ
+len_of_lines zero bytes = 0
+len_of_lines (suc n) [] = 0
+len_of_lines (suc n) (b ∷ bytes) = suc (len_of_lines (if b == 10 then n else suc n) bytes)
+
+-- A front of these records was played. The stop is a flaw at the byte where the next one begins, behind the bytes
+-- that were whole; and it has the player's reason.
+pub record IsUnplayed (whole : ℕ) (records : List (List ℕ)) (at : Stop) : Type 0 where
+  pub halt : Halt
+  pub text : List ℕ
+  pub text_is : lines_of text ≡ records
+  pub is : at ≡ stop.Flaw (min (whole + len_of_lines halt.played text) (2 ^ 64 - 1)) (flaws.Unplayed halt.why)
+
+-- ---- damage behind what was read
 
 -- the file after these whole files has this text, and it is damaged; these are the commits up to there
 abbrev pub IsDamagedFile : Damage → ℕ → List ℕ → List Left → List Commit → List ℕ → Type 0

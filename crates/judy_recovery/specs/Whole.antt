@@ -171,7 +171,7 @@ Recovers plays remaining snapshot last old None new = ((number : ℕ) → last �
 Recovers plays remaining snapshot last old (Some end) new = (number : ℕ) × (last ≡ Some number) × HasRecoveredAll plays remaining snapshot number old end new
 
 -- A writer goes on with the journal's checksum. It does so in the last file, behind the end's size. If that is
--- 0, the last file was removed, and the writer begins it anew; and it begins the first one if there is none.
+-- 0, the last file has no byte, and the writer begins it anew; and it begins the first one if there is none.
 abbrev pub GoesOn : Option End → Resumed → Type 0
 GoesOn None at = (at.segment ≡ 0) × (at.sum ≡ FIRST_SUM) × (at.begins ≡ true)
 GoesOn (Some end) at = (at.sum ≡ end.sum)

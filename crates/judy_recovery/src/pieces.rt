@@ -1,8 +1,8 @@
 //! Reads a file of a journal in pieces, and gives its records to a player.
-ghost use Rattle.std.specs.Prelude.{IfErr, OnOk};
+ghost use Rattle.std.specs.Prelude.{◌≡◌, IfErr, OnOk};
 ghost use Rattle.judy_stream.specs.Streams.{MayAlwaysPull};
 ghost use Rattle.judy_journal.specs.Notes.{changes_in};
-ghost use Rattle.judy_recovery.specs.Played.{IsNoDamage, IsStopAt, MayBreak, ReadsAll, ReadsOn};
+ghost use Rattle.judy_recovery.specs.Played.{IsNoDamage, IsStopAt, IsUnplayed, MayBreak, ReadsAll, ReadsOn, len_of_lines};
 
 use crate::faults::Flaw;
 use crate::player::{Halt, Player};
@@ -46,9 +46,11 @@ pub struct Progress {
 }
 
 /// Where the record begins that was not played.
-fn start_of(records: &[u8], halt: Halt) -> usize {
+fn start_of(records: &[u8], halt: Halt) -> usize
+    ensures { result ≡ len_of_lines halt.played records.now }
+{
     let mut rest = records;
-    for _ in 0..halt.played {
+    for _line in 0..halt.played {
         match cut_line(rest) {
             Some((_, after)) => rest = after,
             None => return records.len(),
@@ -78,6 +80,8 @@ fn play<P: Player>(recovery: &Recovery, player: &mut P, progress: &mut Progress)
     ensures played { OnOk result
         (P.plays player.old (changes_in recovery.now.reading.records) player.new) }
     ensures flaw { IfErr result (λ stop. IsNoDamage stop) }
+    ensures unplayed { IfErr result (λ stop. IsUnplayed progress.old.whole
+        (changes_in recovery.now.reading.records) stop) }
 {
     let records = recovery.changes();
     if let Err(halt) = player.play(records) {

@@ -1,6 +1,7 @@
 //! Reads the files of a journal's directory in order.
-ghost use Rattle.std.specs.Prelude.{◌≡◌, ◌≢◌, ◌≤◌, ◌<◌, ◌+◌, ◌-◌, ◌^◌, ℕ, List, IfOk, IfSome, OnOk, IsTrue, Option, Some, option_map};
+ghost use Rattle.std.specs.Prelude.{◌≡◌, ◌≢◌, ◌≤◌, ◌<◌, ◌+◌, ◌-◌, ◌^◌, ℕ, List, length, decimal, IfOk, IfSome, OnOk, IsTrue, Option, Some, option_map};
 ghost use Rattle.judy_journal.specs.Journals.{is_line};
+ghost use Rattle.judy_journal.specs.Notes.{first_len};
 ghost use Rattle.judy_recovery.specs.Played.{HasReadLast, ReadsAll};
 ghost use Rattle.judy_recovery.specs.Whole.{HasStarted, ReadsFiles, ReadsLast, ReadsSegment};
 ghost use Rattle.judy_recovery.specs.Whole.{Recovers, segment_before};
@@ -91,14 +92,17 @@ fn boxed(alloc: Global, place: Place, recovery: Recovery) -> Result<Box<Recovery
 
 /// How many digits a number has.
 fn digits_of(number: u64) -> usize
-    ensures { result ≤ 20 }
+    ensures value { result ≡ length (decimal number) }
+    ensures few { result ≤ 20 }
 {
     let mut digits = Buffer::new();
     digits.format(number).len()
 }
 
 /// How many bytes the first line of this segment has, with its line feed.
-pub(crate) fn first_line_len(segment: u64) -> u64 {
+pub(crate) fn first_line_len(segment: u64) -> u64
+    ensures { result ≡ first_len segment }
+{
     (HEADER.len() + digits_of(segment) + 1 + SUM_LEN + 1) as u64
 }
 
@@ -353,6 +357,7 @@ pub fn recover_closed<F: Files, P: Player>(
     ensures played { IfOk result (λ end. Recovers P.plays F.File.remaining found.now.snapshot
         (option_map (λ last. last - 1) found.now.last) player.old end player.new) }
     ensures whole { IfOk result (λ end. IfSome end (λ e. 0 < e.size)) }
+    ensures closed { IfOk result (λ end. IfSome end (λ e. found.now.last ≡ Some (e.segment + 1))) }
 {
     let last = match found.last {
         Some(last) => last.saturating_sub(1),

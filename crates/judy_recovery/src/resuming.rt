@@ -1,5 +1,7 @@
 //! Makes a directory ready for a writer that goes on where a journal ends.
-ghost use Rattle.std.specs.Prelude.{IfOk};
+ghost use Rattle.std.specs.Prelude.{◌≡◌, IfOk};
+ghost use Rattle.judy_disk.specs.Folders.{asked_of};
+ghost use Rattle.judy_recovery.specs.Resuming.{IsFileOf, ResumesEnd, is_bare_at};
 ghost use Rattle.judy_recovery.specs.Whole.{GoesOn};
 
 use crate::ends::{End, FIRST_SUM};
@@ -29,7 +31,10 @@ pub fn resume<F: Locks>(
     folder: &mut Folder<'_, F>,
     end: Option<End>,
 ) -> Result<(Resumed, Option<Growing<F>>), DiskFault>
-    ensures { IfOk result (λ r. GoesOn end r.0) }
+    ensures at { IfOk result (λ r. GoesOn end r.0) }
+    ensures bare { IfOk result (λ r. r.0.is_bare ≡ is_bare_at end) }
+    ensures file { IfOk result (λ r. IsFileOf end r.1) }
+    ensures acts { ResumesEnd end result (asked_of folder.old) (asked_of folder.new) }
 {
     let Some(end) = end else {
         let sum = FIRST_SUM;
@@ -43,8 +48,8 @@ pub fn resume<F: Locks>(
         return Ok((first, None));
     };
     let sum = end.sum;
+    let growing = folder.resume(end.segment, end.size)?;
     if end.size == 0 {
-        let _empty = folder.resume(end.segment, 0)?;
         let before = Resumed {
             segment: end.segment.saturating_sub(1),
             sum,
@@ -54,7 +59,6 @@ pub fn resume<F: Locks>(
         };
         return Ok((before, None));
     }
-    let growing = folder.resume(end.segment, end.size)?;
     let here = Resumed {
         segment: end.segment,
         sum,

@@ -8,6 +8,6 @@ returns g c = (
   c.recover.new.player,
   journal_resumed g.P.Player.plays g.F.File.Read.remaining c.args.found.now.snapshot c.args.found.now.last
       c.args.player.now c.in_ok-end.end c.in-Ok.ready.0 c.recover.new.player
-      c.in_ok-end.ensures c.in-Ok.ensures,
+      c.in_ok-end.ensures c.in-Ok.ensures.at,
   c.in_ok-ready.ensures,
 )
