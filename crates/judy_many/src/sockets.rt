@@ -3,7 +3,7 @@ ghost use Rattle.std.specs.IoError.{raw_os_error};
 ghost use Rattle.std.specs.Prelude.{◌≡◌, ◌<◌, length};
 ghost use Rattle.judy_many.specs.Comes.{HasNumber};
 ghost use Rattle.judy_many.specs.Nets.{Fits, Takes};
-ghost use Rattle.judy_many.specs.Passing.{may_pass};
+ghost use Rattle.judy_many.specs.Passing.{got_by, may_pass, put_by};
 ghost use Rattle.judy_many.specs.Queues.{AreAwake, StayAwake};
 
 use crate::counts::{Counts, JournalCounts, TenantBytes};
@@ -197,6 +197,33 @@ fn tell_slots(events: &Events<Global>, queue: &mut Queue, told: &mut Vec<u64>) -
     ready
 }
 
+/// What a read gave, by the answer of the system.
+fn got_of(read: &io::Result<usize>) -> Got
+    ensures { result ≡ got_by read.now }
+{
+    match read {
+        Ok(0) => Got::End,
+        Ok(n) => Got::Bytes(*n),
+        Err(e) => match e.kind() {
+            ErrorKind::WouldBlock => Got::Nothing,
+            _ => Got::Fault,
+        },
+    }
+}
+
+/// How much a write took, by the answer of the system.
+fn put_of(wrote: &io::Result<usize>) -> Put
+    ensures { result ≡ put_by wrote.now }
+{
+    match wrote {
+        Ok(n) => Put::Took(*n),
+        Err(e) => match e.kind() {
+            ErrorKind::WouldBlock => Put::Took(0),
+            _ => Put::Fault,
+        },
+    }
+}
+
 /// Whether a later accept may succeed.
 fn is_passing(e: &io::Error) -> bool
     ensures { result ≡ may_pass (raw_os_error e.now) }
@@ -279,19 +306,11 @@ impl<'a, F: Files + Net + Clock + Eprint> Sockets<'a, F> {
         ensures fits { Fits result (length buf.new) }
         ensures same { connection.new.id ≡ connection.old.id }
     {
-        match connection.stream.read(buf) {
-            Ok(0) => Got::End,
-            Ok(n) => {
-                self.counts.receive(n);
-                Got::Bytes(n)
-            }
-            Err(e) => {
-                if e.kind() == ErrorKind::WouldBlock {
-                    return Got::Nothing;
-                }
-                Got::Fault
-            }
+        let got = got_of(&connection.stream.read(buf));
+        if let Got::Bytes(n) = got {
+            self.counts.receive(n);
         }
+        got
     }
 
     /// Writes bytes from the front of the slice. Where it does not take all of them, `wait` tells
@@ -301,17 +320,11 @@ impl<'a, F: Files + Net + Clock + Eprint> Sockets<'a, F> {
         ensures takes { Takes result (length bytes.now) }
         ensures same { connection.new.id ≡ connection.old.id }
     {
-        let put = match connection.stream.write(bytes) {
-            Ok(n) => n,
-            Err(e) => {
-                if e.kind() != ErrorKind::WouldBlock {
-                    return Put::Fault;
-                }
-                0
-            }
+        let Put::Took(taken) = put_of(&connection.stream.write(bytes)) else {
+            return Put::Fault;
         };
-        self.counts.send(put);
-        let blocked = put < bytes.len();
+        self.counts.send(taken);
+        let blocked = taken < bytes.len();
         if blocked != connection.blocked {
             let interest = if blocked {
                 Interest::WRITABLE
@@ -328,7 +341,7 @@ impl<'a, F: Files + Net + Clock + Eprint> Sockets<'a, F> {
             }
             connection.blocked = blocked;
         }
-        Put::Took(put)
+        Put::Took(taken)
     }
 
     /// Counts a connection that is closed.

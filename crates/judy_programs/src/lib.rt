@@ -29,4 +29,4 @@ pub use opens::{Opens, Unopened};
 pub use program::{Ran, run_on, run_with};
 pub use socket::{Hosted, begin_on, check_on, host_on};
 pub use statuses::{fault_name, finish, finish_hosted};
-pub use system::{Failed, System, Unserved, read_secret};
+pub use system::{Failed, System, Unserved, random_file, read_secret};

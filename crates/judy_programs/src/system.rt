@@ -1,5 +1,5 @@
 //! The random bytes, the files and the Unix sockets of the system.
-ghost use Rattle.std.specs.Prelude.{◌≡◌, ◌≤◌, length, Some, []};
+ghost use Rattle.std.specs.Prelude.{◌≡◌, ◌≤◌, codes, length, Some, []};
 ghost use Rattle.judy_programs.specs.Leaving.{HasLeft, first_of};
 
 use crate::config::{FileRead, read_file};
@@ -92,6 +92,13 @@ pub struct System<'a, F: Locks> {
     path: ArrayVec<u8, PATH_LIMIT>,
     directory: Directory<'a, F>,
     notes: Record,
+}
+
+/// The file of the system's random bytes.
+pub fn random_file() -> &'static str
+    ensures { result.now ≡ codes "/dev/urandom" }
+{
+    "/dev/urandom"
 }
 
 /// Random bytes that nobody can guess, read from this file of the system. None if it gives too few.
@@ -444,7 +451,7 @@ impl<'a, F: Locks + Net + Clock + Eprint + Clone + Drop> Hosts for System<'a, F>
     type File = TableFile<F::File>;
 
     fn secret(&mut self) -> Option<[u8; 16]> {
-        let secret = read_secret(self.rt, "/dev/urandom");
+        let secret = read_secret(self.rt, random_file());
         match &secret {
             Some(secret) => self.notes.drawn(secret),
             None => self.notes.undrawn(),

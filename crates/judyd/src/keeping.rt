@@ -4,7 +4,7 @@ ghost use Rattle.judyd.specs.Obeying.{IsUpkept, compaction_status, fault_status,
 
 use judy_command::Word;
 use judy_disk::{DiskFault, Folder};
-use judy_programs::read_secret;
+use judy_programs::{random_file, read_secret};
 use judy_recovery::JournalFault;
 use judy_server::Server;
 use judy_tenants::Sha256Hash;
@@ -75,7 +75,7 @@ pub fn compact_at(rt: &HostRuntime, path: &str) -> u8
     let Some(folder) = folder_at(rt, path) else {
         return refuse_memory(rt);
     };
-    let Some(secret) = read_secret(rt, "/dev/urandom") else {
+    let Some(secret) = read_secret(rt, random_file()) else {
         let _ = eprintln!(rt; "judyd: random fault");
         return 4;
     };
