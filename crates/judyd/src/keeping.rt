@@ -8,7 +8,9 @@ use judy_programs::read_secret;
 use judy_recovery::JournalFault;
 use judy_server::Server;
 use judy_tenants::Sha256Hash;
-use judy_upkeep::{Examined, Uncompacted, Unprinted, begin_journal, compact, examine, print};
+use judy_upkeep::{
+    Examined, Replacing, Uncompacted, Unprinted, begin_journal, compact, examine, print,
+};
 
 /// The directory of a journal.
 pub fn folder_at<'a>(rt: &'a HostRuntime, path: &str) -> Option<Folder<'a, HostRuntime>> {
@@ -67,7 +69,8 @@ pub fn compact_at(rt: &HostRuntime, path: &str) -> u8
         let _ = eprintln!(rt; "judyd: random fault");
         return 4;
     };
-    match compact::<Server<Sha256Hash>, HostRuntime>(rt.alloc(), &secret, folder) {
+    let mut directory = Replacing::new(folder);
+    match compact::<Server<Sha256Hash>, HostRuntime>(rt.alloc(), &secret, &mut directory) {
         Ok(_) => 0,
         Err(why) => tell_uncompacted(rt, path, &why),
     }
