@@ -5,9 +5,10 @@ use Rattle.std.specs.Prelude.{IsTrue}
 use Rattle.std.specs.List.{list_all}
 use Rattle.judy_disk.specs.declared.faults.DiskFault.{DiskFault}
 use Rattle.judy_disk.specs.declared.names.Place.{Place}
-use Rattle.judy_upkeep.specs.Replacing.{Act, Acts, AreStale, HasRemoved, HasRemovedLeft, HasReplaced, Logs, Step, act_of, is_stale, noted, placed, removals}
-use Rattle.judy_upkeep.specs.Replacing.Act.{Did, Failed}
-use Rattle.judy_upkeep.specs.Replacing.Step.{Note, Remove, Rename, Secure, Sync}
+use Rattle.judy_upkeep.specs.Replacing.{AreStale, HasRemoved, HasRemovedLeft, HasReplaced, is_stale, noted, placed, removals}
+use Rattle.judy_upkeep.specs.Steps.{Act, Acts, Logs, act_of}
+use Rattle.judy_upkeep.specs.Steps.Act.{Did, Failed}
+use Rattle.judy_upkeep.specs.declared.record.Step.TheVariants.{Note, Remove, Rename, Secure, Sync}
 
 pub logs_none : (log : Acts) → Logs log [] log
 logs_none None = tt

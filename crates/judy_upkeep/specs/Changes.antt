@@ -2,10 +2,14 @@
 --     does_of operation    what an operation does to an array, if it may change it
 --     change_of call       what a call may change
 --     letter_of kind       the letter that stands for a kind
-use Rattle.std.specs.Prelude.{ℕ, List, Option, Some, None, option_map}
+--     kind_at letter       the kind that a letter stands for
+--     array_at key         the array that a key names
+use Rattle.std.specs.Prelude.{ℕ, List, [], ◌∷◌, ◌==◌, if◌then◌else◌, Option, Some, None, option_map}
 use Rattle.judy_model.specs.Commands.{bytes_operation, long_operation, one_operation, string_operation}
+use Rattle.judy_model.specs.Grammar.{is_name}
 use Rattle.judy_model.specs.declared.calls.Call.{Call}
 use Rattle.judy_model.specs.declared.calls.Call.TheVariants as calls
+use Rattle.judy_upkeep.specs.declared.kinds.Array.{Array}
 use Rattle.judy_upkeep.specs.declared.kinds.Change.{Change}
 use Rattle.judy_upkeep.specs.declared.kinds.Does.{Does}
 use Rattle.judy_upkeep.specs.declared.kinds.Does.TheVariants as does
@@ -40,3 +44,22 @@ letter_of kind.One = 49
 letter_of kind.Long = 76
 letter_of kind.Str = 83
 letter_of kind.Bytes = 72
+
+-- the kind that a letter stands for
+abbrev pub kind_at : ℕ → Option Kind
+kind_at letter =
+    if letter == 49 then Some kind.One
+    else if letter == 76 then Some kind.Long
+    else if letter == 83 then Some kind.Str
+    else if letter == 72 then Some kind.Bytes
+    else None
+
+-- the array of a kind, if there is one, and of a name
+abbrev pub array_by : Option Kind → List ℕ → Option Array
+array_by None name = None
+array_by (Some kind) name = if is_name name then Some (record { kind = kind; name = name }) else None
+
+-- the array that a key names: its first byte is the letter of a kind, and the others are a name
+abbrev pub array_at : List ℕ → Option Array
+array_at [] = None
+array_at (letter ∷ name) = array_by (kind_at letter) name

@@ -1,6 +1,16 @@
+pub mod Asking
 pub mod Changes
+pub mod Compacting
+pub mod Directories
 pub mod Leaving
 pub mod Lines
+pub mod Notes
+pub mod Output
+pub mod Printing
 pub mod Repairing
 pub mod Replacing
+pub mod Rewriting
 pub mod Scanning
+pub mod Steps
+pub mod Tenants
+pub mod Walking

@@ -1,46 +1,15 @@
 -- How a new snapshot takes the place of the files that it stands for.
---     Step                             what is asked of the directory
---     Logs log acts log'               these steps were asked for and no others, where they are known
 --     is_stale upto place              a snapshot with this number stands for the file
 --     HasRemoved result upto log log'  only such files were removed
 --     HasRemovedLeft result upto log log' the same, and not before the manifest names the snapshot
 --     HasReplaced result upto log log' the same, and not before the snapshot is there for good
-use Rattle.std.specs.Prelude.{◌≡◌, ◌⊎◌, ◌++◌, ℕ, Bool, false, List, [], ◌∷◌, map, Option, Some, None, Result, Ok, Err, IsTrue, nat_le, nat_lt}
+use Rattle.std.specs.Prelude.{◌⊎◌, ◌++◌, ℕ, Bool, false, List, [], ◌∷◌, map, Result, Ok, Err, IsTrue, nat_le, nat_lt}
 use Rattle.std.specs.List.{list_all}
 use Rattle.judy_disk.specs.declared.names.Place.{Place}
 use Rattle.judy_disk.specs.declared.names.Place.TheVariants as place
-
--- what is asked of the directory
-pub data Step : Type 0 where
-  -- the bytes of the new snapshot are secured
-  Secure : Step
-  -- the new snapshot gets the name of the one with this number
-  Rename : ℕ → Step
-  -- which files the directory has is secured
-  Sync : Step
-  -- the manifest names the snapshot with this number
-  Note : ℕ → Step
-  -- this file is removed
-  Remove : Place → Step
-
--- a step came about, or it failed
-pub data Act : Type 0 where
-  Did : Step → Act
-  Failed : Step → Act
-
--- the steps so far, where they are known
-abbrev pub Acts : Type 0
-Acts = Option (List Act)
-
--- these were the steps, one after another, and no others
-abbrev pub Logs : Acts → List Act → Acts → Type 0
-Logs None acts log' = Unit {0}
-Logs (Some log) acts log' = log' ≡ Some (log ++ acts)
-
--- what a step is told as, by its result
-abbrev pub act_of : {T E : Type 0} → Step → Result T E → Act
-act_of step (Ok done) = Did step
-act_of step (Err fault) = Failed step
+use Rattle.judy_upkeep.specs.Steps.{Act, Acts, Logs}
+use Rattle.judy_upkeep.specs.Steps.Act.{Did, Failed}
+use Rattle.judy_upkeep.specs.declared.record.Step.TheVariants.{Note, Remove, Rename, Secure, Sync}
 
 -- the snapshot with this number stands for the file: it is a segment up to this number, or torn bytes of one, or
 -- an older snapshot

@@ -1,5 +1,6 @@
 //! Which arrays each tenant has, in the order of their kinds and names.
-ghost use Rattle.std.specs.Prelude.{◌≤◌, length};
+ghost use Rattle.std.specs.Prelude.{◌≡◌, ◌≤◌, length};
+ghost use Rattle.judy_upkeep.specs.Changes.{array_at};
 
 use crate::asking::{Asking, Came};
 use crate::kinds::{Array, Change, Does, kind_of, letter};
@@ -63,7 +64,9 @@ fn empty_slots(alloc: Global) -> Result<Vec<Option<Noted>>, Reason> {
 }
 
 /// The array that a key of a map names.
-fn array_of(key: &[u8]) -> Option<Array> {
+fn array_of(key: &[u8]) -> Option<Array>
+    ensures { result ≡ array_at key.now }
+{
     let (first, name) = key.split_first()?;
     Some(Array {
         kind: kind_of(*first)?,

@@ -2,8 +2,10 @@
 ghost use Rattle.std.specs.Prelude.{◌≡◌, ◌≤◌, length, IfOk};
 ghost use Rattle.std.specs.List.{All};
 ghost use Rattle.judy_protocol.specs.Services.{IsAsked, IsKnown};
+ghost use Rattle.judy_upkeep.specs.Asking.{HasAsked, HasChanged, came_at, key_in};
 
 use crate::kinds::Change;
+use crate::lines::put;
 use arrayvec::ArrayVec;
 use itoa::Buffer;
 use judy_model::{Call, KEY_LIMIT, Reply};
@@ -44,12 +46,17 @@ pub struct Asking<S: Served> {
     service: S,
     speakers: Vec<S::Speaker>,
     key: [u8; KEY_LIMIT],
+    /// The room for the key of a reply.
     found: ArrayVec<u8, KEY_LIMIT>,
+    /// The key that was found last.
+    last: ArrayVec<u8, KEY_LIMIT>,
     ghost known: { All (λ s. IsKnown (S.seen service).speakers (S.who s)) speakers.items },
 }
 
 /// What came of a call, by its reply.
-fn came_of(reply: &Reply<'_>) -> Result<Came, Reason> {
+fn came_of(reply: &Reply<'_>) -> Result<Came, Reason>
+    ensures { result ≡ came_at reply.now }
+{
     match reply {
         Reply::Int(true) => Ok(Came::Value(0)),
         Reply::Int(false) => Ok(Came::Nothing),
@@ -63,6 +70,16 @@ fn came_of(reply: &Reply<'_>) -> Result<Came, Reason> {
         Reply::Full => Err(Reason::Full),
         Reply::ReadOnly | Reply::Frozen => Err(Reason::Full),
         Reply::Memory => Err(Reason::Memory),
+    }
+}
+
+/// Keeps the key that a reply tells, if it tells one.
+fn keep_key(reply: &Reply<'_>, last: &mut ArrayVec<u8, KEY_LIMIT>)
+    ensures { last.new.items ≡ key_in reply.now last.old.items }
+{
+    if let Reply::ValueKey(_, key) = reply {
+        last.clear();
+        put(last, key.as_bytes());
     }
 }
 
@@ -133,6 +150,7 @@ impl<S: Opens + Drop> Asking<S> {
             speakers,
             key: [0; KEY_LIMIT],
             found: ArrayVec::new(),
+            last: ArrayVec::new(),
         })
     }
 
@@ -144,7 +162,11 @@ impl<S: Opens + Drop> Asking<S> {
 
 impl<S: Served> Asking<S> {
     /// Makes the call that a line of this tenant asks for.
-    pub fn ask(&mut self, tenant: usize, line: &[u8]) -> Result<Came, Reason> {
+    pub fn ask(&mut self, tenant: usize, line: &[u8]) -> Result<Came, Reason>
+        ensures asked { HasAsked S.who S.made self.old.speakers.items tenant line.now result
+            self.old.last.items self.new.last.items self.old.service self.new.service }
+        ensures speakers { self.new.speakers.items ≡ self.old.speakers.items }
+    {
         let Ok(Line::Call(call)) = read_line(line, &mut self.key) else {
             return Err(Reason::Record);
         };
@@ -154,12 +176,18 @@ impl<S: Served> Asking<S> {
         let reply = self
             .service
             .call(self.alloc, *speaker, &call, &mut self.found);
+        keep_key(&reply, &mut self.last);
         came_of(&reply)
     }
 
     /// Makes the call that a line of this tenant asks for, which must be one that may change an array.
     /// Returns what it may change.
-    pub fn change(&mut self, tenant: usize, line: &[u8]) -> Result<Change, Reason> {
+    pub fn change(&mut self, tenant: usize, line: &[u8]) -> Result<Change, Reason>
+        ensures changed { HasChanged S.who S.made self.old.speakers.items tenant line.now result
+            self.old.service self.new.service }
+        ensures speakers { self.new.speakers.items ≡ self.old.speakers.items }
+        ensures last { self.new.last.items ≡ self.old.last.items }
+    {
         let Ok(Line::Call(call)) = read_line(line, &mut self.key) else {
             return Err(Reason::Record);
         };
@@ -180,8 +208,9 @@ impl<S: Served> Asking<S> {
 
     /// The key that was found last.
     pub fn key_found(&self) -> &[u8]
-        ensures { length result.now ≤ KEY_LIMIT }
+        ensures key { result.now ≡ self.now.last.items }
+        ensures short { length result.now ≤ KEY_LIMIT }
     {
-        self.found.as_slice()
+        self.last.as_slice()
     }
 }

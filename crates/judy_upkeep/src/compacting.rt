@@ -1,4 +1,7 @@
 //! Makes one snapshot of the closed segments of a journal.
+ghost use Rattle.std.specs.Prelude.{◌≡◌, ◌<◌, ℕ, Some, IfOk, OnErr, is_some};
+ghost use Rattle.judy_upkeep.specs.Compacting.{HasCompacted, HasFinished, HasLooked, IsUpto, seen};
+
 use crate::closing::close_last;
 use crate::output::Output;
 use crate::playing::Playing;
@@ -150,21 +153,35 @@ struct Ready<F: Files> {
     upto: u64,
 }
 
-/// Writes one snapshot of the snapshot before and of the closed segments, which this program has taken. It
-/// has no name yet.
-fn prepare<S: Opens + Drop, F: Locks + Clone + Drop>(
+/// The number up to which files may go that an earlier compaction has left: that of the snapshot, and less than
+/// that of the last segment.
+fn left_upto(snapshot: Option<u64>, last: Option<u64>) -> u64
+    ensures { (number : ℕ) → last ≡ Some number → 0 < number → result < number }
+{
+    let upto = snapshot.unwrap_or(0);
+    match last {
+        Some(last) => u64::min(upto, last.saturating_sub(1)),
+        None => upto,
+    }
+}
+
+/// Writes one snapshot of the snapshot before and of the closed segments that were found. It has no name yet.
+fn prepare_found<S: Opens + Drop, F: Locks + Clone + Drop>(
     alloc: Global,
     secret: &[u8],
     folder: &mut Folder<'_, F>,
-) -> Result<Ready<F>, Uncompacted> {
-    close_if_free(alloc, folder)?;
-    let found = folder.scan()?;
+    found: Found,
+) -> Result<Ready<F>, Uncompacted>
+    requires { (number : ℕ) → found.last ≡ Some number → 0 < number }
+    ensures found { IfOk result (λ ready. ready.found.last ≡ found.last) }
+    ensures upto { IfOk result (λ ready. IsUpto (is_some ready.file) ready.upto found.last) }
+{
     let mut playing: Playing<S> = match Playing::open(alloc, secret) {
         Ok(playing) => playing,
         Err(why) => return Err(of_reason(why, None)),
     };
     let Some(end) = recover_closed(folder, alloc, &found, &mut playing)? else {
-        let upto = found.snapshot.unwrap_or(0);
+        let upto = left_upto(found.snapshot, found.last);
         return Ok(Ready {
             found,
             file: None,
@@ -179,46 +196,68 @@ fn prepare<S: Opens + Drop, F: Locks + Clone + Drop>(
     })
 }
 
+/// Writes one snapshot of the snapshot before and of the closed segments, which this program has taken. It
+/// has no name yet.
+fn prepare<S: Opens + Drop, F: Locks + Clone + Drop>(
+    alloc: Global,
+    secret: &[u8],
+    directory: &mut Replacing<'_, F>,
+) -> Result<Ready<F>, Uncompacted>
+    ensures looked { IfOk result (λ ready. directory.new.log.acts ≡ seen directory.old.log.acts ready.found.last) }
+    ensures upto { IfOk result (λ ready. IsUpto (is_some ready.file) ready.upto ready.found.last) }
+    ensures failed { OnErr result (HasLooked directory.old.log.acts directory.new.log.acts) }
+{
+    close_if_free(alloc, &mut directory.folder)?;
+    let found = directory.scan()?;
+    prepare_found::<S, F>(alloc, secret, &mut directory.folder, found)
+}
+
 /// Puts a new snapshot, if there is one, in the place of the files that it stands for. Otherwise removes what a
 /// compaction before has left that did not come to its end.
 fn finish<F: Locks>(
-    replacing: &mut Replacing<'_, F>,
+    directory: &mut Replacing<'_, F>,
     found: &Found,
     upto: u64,
-) -> Result<Compacted, DiskFault> {
-    if !replacing.has_snapshot() {
-        remove_left(replacing, found, upto)?;
+) -> Result<Compacted, DiskFault>
+    ensures { HasFinished (is_some directory.old.file) upto result (Some directory.old.log.acts)
+        (Some directory.new.log.acts) }
+{
+    if directory.file.is_none() {
+        remove_left(directory, found, upto)?;
         return Ok(Compacted::Nothing);
     }
-    replace(replacing, found, upto)?;
+    replace(directory, found, upto)?;
     Ok(Compacted::Snapshot(upto))
 }
 
 /// Makes one snapshot of the snapshot before and of the closed segments. In it each entry is written
 /// once. Then the files that it stands for are removed. All segments but the last are closed; if no
-/// server has the directory, the last is closed first.
+/// server has the directory, the last is closed first. The last segment that is found stays.
 ///
 /// If the program ends at any moment, the directory has a journal of the same entries. If the snapshot
 /// cannot be written, what was written of it is removed, so that it takes no room.
 pub fn compact<S: Opens + Drop, F: Locks + Clone + Drop>(
     alloc: Global,
     secret: &[u8],
-    folder: Folder<'_, F>,
-) -> Result<Compacted, Uncompacted> {
-    let mut folder = folder;
-    let _closed = folder.take_closed()?;
-    let ready = match prepare::<S, F>(alloc, secret, &mut folder) {
+    directory: &mut Replacing<'_, F>,
+) -> Result<Compacted, Uncompacted>
+    ensures { HasCompacted result directory.old.log.acts directory.new.log.acts }
+{
+    let _closed = directory.folder.take_closed()?;
+    let ready = match prepare::<S, F>(alloc, secret, directory) {
         Ok(ready) => ready,
         Err(why) => {
-            let _removed = folder.remove(Place::NewSnapshot);
+            let _removed = directory.folder.remove(Place::NewSnapshot);
             return Err(why);
         }
     };
     let Ready { found, file, upto } = ready;
-    let mut replacing = Replacing::new(folder, file);
-    let done = finish(&mut replacing, &found, upto);
-    if done.is_err() {
-        replacing.discard();
+    directory.file = file;
+    match finish(directory, &found, upto) {
+        Ok(done) => Ok(done),
+        Err(fault) => {
+            directory.discard();
+            Err(Uncompacted::Disk(fault))
+        }
     }
-    Ok(done?)
 }

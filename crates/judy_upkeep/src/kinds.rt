@@ -1,6 +1,6 @@
 //! The arrays that records make, and what their calls do to them.
-ghost use Rattle.std.specs.Prelude.{◌≡◌, IfSome, option_map};
-ghost use Rattle.judy_upkeep.specs.Changes.{change, change_of, does_of, letter_of};
+ghost use Rattle.std.specs.Prelude.{◌≡◌, option_map};
+ghost use Rattle.judy_upkeep.specs.Changes.{change, change_of, does_of, kind_at, letter_of};
 
 use judy_model::{Call, Kind, Name, Operation};
 
@@ -18,7 +18,7 @@ pub fn letter(kind: Kind) -> u8
 
 /// The kind that a letter stands for.
 pub fn kind_of(letter: u8) -> Option<Kind>
-    ensures { IfSome result (λ kind. letter ≡ letter_of kind) }
+    ensures { result ≡ kind_at letter }
 {
     match letter {
         b'1' => Some(Kind::One),

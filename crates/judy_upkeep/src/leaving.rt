@@ -30,23 +30,3 @@ pub fn cut_name(names: &[u8]) -> Option<(&[u8], &[u8])>
         None => Some((rest, b"")),
     }
 }
-
-/// Whether a name is among these, with a space before each.
-fn is_among(names: &[u8], name: &[u8]) -> bool {
-    let mut rest = names;
-    while let Some((other, after)) = cut_name(rest) {
-        if other == name {
-            return true;
-        }
-        rest = after;
-    }
-    false
-}
-
-/// Whether a record says that this tenant left: the first name of the record, and its request.
-pub fn has_left(first: &[u8], request: &[u8], tenant: &[u8]) -> bool {
-    match others_gone(request) {
-        Some(others) => first == tenant || is_among(others, tenant),
-        None => false,
-    }
-}

@@ -3,7 +3,6 @@
 #![tactic(auto)]
 
 mod arrays;
-mod asked;
 mod asking;
 mod beginning;
 mod closing;
@@ -14,6 +13,7 @@ mod lines;
 mod output;
 mod playing;
 mod printing;
+mod record;
 mod repairing;
 mod replacing;
 mod rewriting;
@@ -24,3 +24,4 @@ pub use beginning::{Examined, begin_journal, examine};
 pub use compacting::{Compacted, Uncompacted, compact};
 pub use printing::{Unprinted, print};
 pub use repairing::{Part, Unrepaired, Wound, look_for_wound, repair};
+pub use replacing::Replacing;

@@ -18,7 +18,7 @@ pub type Text = ArrayVec<u8, LINE_LIMIT>;
 pub type KeyText = ArrayVec<u8, KEY_ROOM>;
 
 /// Puts bytes behind others.
-fn put<const N: usize>(line: &mut ArrayVec<u8, N>, bytes: &[u8])
+pub fn put<const N: usize>(line: &mut ArrayVec<u8, N>, bytes: &[u8])
     requires { length line.old.items + length bytes.now ≤ N }
     ensures { line.new.items ≡ line.old.items ++ bytes.now }
 {

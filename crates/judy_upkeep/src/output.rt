@@ -1,6 +1,7 @@
 //! A snapshot as it is written.
-ghost use Rattle.std.specs.Prelude.{◌≡◌, true};
+ghost use Rattle.std.specs.Prelude.{◌≡◌, true, OnOk};
 ghost use Rattle.judy_journal.specs.Writes.{IsShortRecord};
+ghost use Rattle.judy_upkeep.specs.Output.{Adds, Appends, Closes, Flushes};
 
 use judy_disk::{DiskFault, NewSnapshot};
 use judy_journal::Writer;
@@ -51,15 +52,20 @@ impl<F: Files> Output<F> {
     }
 
     /// Appends the text that the writer made.
-    fn append(&mut self) -> Result<(), Reason> {
-        self.file.append(self.writer.text()).map_err(|fault| {
+    fn append(&mut self) -> Result<(), Reason>
+        ensures { OnOk result (Appends self.old self.new) }
+    {
+        if let Err(fault) = self.file.append(self.writer.text()) {
             self.fault = Some(fault);
-            Reason::Write
-        })
+            return Err(Reason::Write);
+        }
+        Ok(())
     }
 
     /// Ends the commit that is open, if it has a record.
-    fn flush(&mut self) -> Result<(), Reason> {
+    fn flush(&mut self) -> Result<(), Reason>
+        ensures { OnOk result (Flushes self.old self.new) }
+    {
         if self.writer.is_empty() {
             return Ok(());
         }
@@ -67,14 +73,24 @@ impl<F: Files> Output<F> {
         self.append()
     }
 
-    /// Adds a record.
-    pub fn add(&mut self, tenant: &[u8], request: &[u8]) -> Result<(), Reason> {
+    /// Ends the commit that is open, if it has no room for another record.
+    fn make_room(&mut self) -> Result<(), Reason>
+        ensures { OnOk result (Flushes self.old self.new) }
+    {
+        if self.writer.has_room() {
+            return Ok(());
+        }
+        self.flush()
+    }
+
+    /// Adds a record, and no other.
+    pub fn add(&mut self, tenant: &[u8], request: &[u8]) -> Result<(), Reason>
+        ensures { OnOk result (Adds tenant.now request.now self.old self.new) }
+    {
         if !is_short(tenant, request) {
             return Err(Reason::Record);
         }
-        if !self.writer.has_room() {
-            self.flush()?;
-        }
+        self.make_room()?;
         if !self.writer.has_room() {
             return Err(Reason::Write);
         }
@@ -83,7 +99,9 @@ impl<F: Files> Output<F> {
     }
 
     /// Ends the snapshot: the last commit, and the mark of one without records.
-    pub fn end(&mut self) -> Result<(), Option<DiskFault>> {
+    pub fn end(&mut self) -> Result<(), Option<DiskFault>>
+        ensures { OnOk result (Closes self.old self.new) }
+    {
         if self.flush().is_err() {
             return Err(self.fault.take());
         }

@@ -1,4 +1,8 @@
 //! Plays the records of a journal to a service of made-up tenants, and notes which arrays they make.
+ghost use Rattle.std.specs.Prelude.{Ok, codes, IfOk};
+ghost use Rattle.judy_upkeep.specs.Asking.{Gives};
+ghost use Rattle.judy_upkeep.specs.Lines.{call_text};
+
 use crate::arrays::Arrays;
 use crate::asking::{Asking, Came};
 use crate::kinds::Array;
@@ -41,7 +45,11 @@ impl<S: Opens + Drop> Playing<S> {
 
 impl<S: Served> Playing<S> {
     /// Removes all entries of an array. Returns how many there were.
-    pub fn free(&mut self, tenant: usize, array: &Array) -> Result<u64, Reason> {
+    pub fn free(&mut self, tenant: usize, array: &Array) -> Result<u64, Reason>
+        ensures { IfOk result (λ count. Gives S.who S.made self.old.entries.speakers.items tenant
+            (call_text array.now (codes "FA")) (Ok (Came.Count count)) self.old.entries.service
+            self.new.entries.service) }
+    {
         write_call(array, b"FA", &mut self.line);
         match self.entries.ask(tenant, self.line.as_slice())? {
             Came::Count(count) => Ok(count),

@@ -1,9 +1,17 @@
 //! Prints the requests of a journal.
-use crate::leaving::{GONE, has_left, others_gone};
+ghost use Rattle.std.specs.Prelude.{◌≡◌, ◌++◌, [], ◌∷◌, IfSome, IsTrue, Some, option_map, refl};
+ghost use Rattle.std.specs.Io.KnownBytes.{Appends};
+ghost use Rattle.std.proofs.KnownBytes.{Appends-nil};
+ghost use Rattle.judy_journal.specs.Leaving.{gone_in};
+ghost use Rattle.judy_model.specs.Grammar.{fields_of};
+ghost use Rattle.judy_model.specs.Stream.{lines_of};
+ghost use Rattle.judy_upkeep.specs.Printing.{is_among, name_of, printed, printed-append, printed_lines};
+
+use crate::leaving::GONE;
 use arrayvec::ArrayVec;
 use judy_disk::{Folder, Locks};
-use judy_journal::{COMMIT_LIMIT, read_record};
-use judy_protocol::cut_line;
+use judy_journal::{COMMIT_LIMIT, read_gone, read_record};
+use judy_protocol::{cut_line, next_field};
 use judy_recovery::{Halt, JournalFault, Player, Reason, recover};
 use std::alloc::Global;
 use std::io::Write;
@@ -24,57 +32,117 @@ struct Printing<'a, W> {
     tenant: Option<&'a [u8]>,
 }
 
-impl<'a, W: Write> Printing<'a, W> {
-    /// Writes all of these bytes. False if the output refuses.
-    fn write(&mut self, bytes: &[u8]) -> bool {
-        self.output.write_all(bytes).is_ok()
-    }
-}
-
-/// Puts a line behind others. It fits: all lines come of one commit.
-fn put_line(text: &mut ArrayVec<u8, COMMIT_LIMIT>, line: &[u8]) {
-    let _fits = text.try_extend_from_slice(line);
-    let _fits = text.try_extend_from_slice(b"\n");
-}
-
-/// Puts the request of a record behind others, if it is one of this tenant.
-fn put_request(text: &mut ArrayVec<u8, COMMIT_LIMIT>, record: &[u8], tenant: &[u8]) {
-    let Some((name, request)) = read_record(record) else {
-        return;
-    };
-    if has_left(name, request, tenant) {
-        put_line(text, GONE);
-        return;
-    }
-    if name == tenant && others_gone(request).is_none() {
-        put_line(text, request);
-    }
-}
-
-/// The requests of one tenant.
-fn requests_of(records: &[u8], tenant: &[u8]) -> ArrayVec<u8, COMMIT_LIMIT> {
-    let mut text = ArrayVec::new();
-    let mut rest = records;
-    while let Some((record, after)) = cut_line(rest) {
-        put_request(&mut text, record, tenant);
+/// Whether a name is among these fields.
+fn is_among(fields: &[u8], name: &[u8]) -> bool
+    ensures { result ≡ is_among (fields_of fields.now) name.now }
+{
+    let mut rest = fields;
+    while let Some((field, after)) = next_field(rest) {
+        if field == name {
+            return true;
+        }
         rest = after;
     }
-    text
+    false
+}
+
+/// Whether a record says that this tenant left. None if it is another record.
+fn has_left(text: &[u8], tenant: &[u8]) -> Option<bool>
+    ensures { result ≡ option_map (λ names. is_among names tenant.now) (gone_in text.now) }
+{
+    let (first, others) = read_gone(text)?;
+    Some(first == tenant || is_among(others, tenant))
+}
+
+/// Puts a line behind others. False: it does not fit.
+fn put_line(lines: &mut ArrayVec<u8, COMMIT_LIMIT>, line: &[u8]) -> bool
+    ensures { IsTrue result → lines.new.items ≡ lines.old.items ++ (line.now ++ 10 ∷ []) }
+{
+    if lines.try_extend_from_slice(line).is_err() {
+        return false;
+    }
+    lines.try_push(b'\n').is_ok()
+}
+
+/// Puts the line of a record for a tenant behind others, if it has one. False: it does not fit.
+fn put_request(lines: &mut ArrayVec<u8, COMMIT_LIMIT>, text: &[u8], tenant: &[u8]) -> bool
+    ensures { IsTrue result → lines.new.items ≡ lines.old.items ++ printed (Some tenant.now) text.now }
+{
+    if let Some(left) = has_left(text, tenant) {
+        if left {
+            return put_line(lines, GONE.as_slice());
+        }
+        return true;
+    }
+    let Some((name, request)) = read_record(text) else {
+        return true;
+    };
+    if name == tenant {
+        return put_line(lines, request);
+    }
+    true
+}
+
+/// Puts the line of a record behind others. False: it does not fit.
+fn put_printed(lines: &mut ArrayVec<u8, COMMIT_LIMIT>, text: &[u8], tenant: Option<&[u8]>) -> bool
+    ensures { IsTrue result → lines.new.items
+        ≡ lines.old.items ++ printed (name_of tenant.entry) text.now }
+{
+    match tenant {
+        Some(tenant) => put_request(lines, text, tenant),
+        None => put_line(lines, text),
+    }
+}
+
+/// The lines of the records of a commit. None if they do not fit, which no commit's do.
+fn lines_for(records: &[u8], tenant: Option<&[u8]>) -> Option<ArrayVec<u8, COMMIT_LIMIT>>
+    ensures { IfSome result (λ lines. lines.items
+        ≡ printed_lines (name_of tenant.entry) (lines_of records.now)) }
+{
+    let mut lines = ArrayVec::new();
+    let mut rest = records;
+    while let Some((text, after)) = cut_line(rest) {
+        if !put_printed(&mut lines, text, tenant) {
+            return None;
+        }
+        rest = after;
+    }
+    Some(lines)
+}
+
+impl<'a, W: Write> Printing<'a, W> {
+    /// Writes all of these bytes. False if the output refuses.
+    fn write(&mut self, bytes: &[u8]) -> bool
+        ensures written { IsTrue result → Appends (W.contents self.old.output) (W.contents self.new.output) bytes.now }
+        ensures tenant { self.new.tenant ≡ self.old.tenant }
+    {
+        if bytes.is_empty() {
+            return true;
+        }
+        self.output.write_all(bytes).is_ok()
+    }
+
+    /// Writes the lines of records. False if the output refuses.
+    fn print(&mut self, records: &[u8]) -> bool
+        ensures written { IsTrue result → Appends (W.contents self.old.output) (W.contents self.new.output)
+            (printed_lines (name_of self.old.tenant) (lines_of records.now)) }
+        ensures tenant { self.new.tenant ≡ self.old.tenant }
+    {
+        match lines_for(records, self.tenant) {
+            Some(lines) => self.write(lines.as_slice()),
+            None => false,
+        }
+    }
 }
 
 impl<'a, W: Write> Player for Printing<'a, W> {
-    /// Nothing is said of the records.
-    ghost plays = { λ _ _ _. Unit {0} };
+    /// The lines of the records were written, and nothing else.
+    ghost plays = { λ before records after. (after.tenant ≡ before.tenant)
+        × Appends (W.contents before.output) (W.contents after.output)
+        (printed_lines (name_of before.tenant) records) };
 
     fn play(&mut self, records: &[u8]) -> Result<(), Halt> {
-        let written = match self.tenant {
-            Some(tenant) => {
-                let text = requests_of(records, tenant);
-                text.is_empty() || self.write(text.as_slice())
-            }
-            None => records.is_empty() || self.write(records),
-        };
-        if written {
+        if self.print(records) {
             return Ok(());
         }
         Err(Halt {
@@ -83,9 +151,11 @@ impl<'a, W: Write> Player for Printing<'a, W> {
         })
     }
 
-    ghost rests = { λ _. tt };
+    ghost rests = { λ player. (refl, Appends-nil (W.contents player.output)) };
 
-    ghost joins = { λ _ _ _ _ _ _ _. tt };
+    ghost joins = { λ before middle after records more first then. printed-append before.tenant middle.tenant
+        after.tenant (W.contents before.output) (W.contents middle.output) (W.contents after.output) records more
+        first.0 first.1 then.0 then.1 };
 }
 
 /// Prints the requests of a journal: the snapshot's, and then those of each segment, of each whole

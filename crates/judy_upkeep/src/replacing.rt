@@ -1,9 +1,17 @@
 //! The last step of a compaction: the new snapshot takes the place of the files that it stands for.
-ghost use Rattle.std.specs.Prelude.{◌≡◌, [], ◌∷◌, None};
-ghost use Rattle.judy_upkeep.specs.Replacing.{Acts, HasRemoved, HasRemovedLeft, HasReplaced, Logs, act_of, is_stale};
-ghost use Rattle.judy_upkeep.specs.Replacing.Step.{Note, Remove, Rename, Secure, Sync};
+ghost use Rattle.std.specs.Prelude.{◌≡◌, ◌++◌, [], ◌∷◌, Some, IfOk, OnErr, OnOk, is_some, true};
+ghost use Rattle.judy_disk.specs.Acts.{Asks};
+ghost use Rattle.judy_disk.specs.Folders.{RaisesManifest, asked_of};
+ghost use Rattle.judy_disk.specs.Listings.{Scans};
+ghost use Rattle.judy_upkeep.specs.Directories.{HasRemovedLast, Secures, folder_secured, named_as, to_snapshot};
+ghost use Rattle.judy_upkeep.specs.Replacing.{HasRemoved, HasRemovedLeft, HasReplaced, is_stale};
+ghost use Rattle.judy_upkeep.specs.Steps.{Acts, Logs, act_of};
+ghost use Rattle.judy_upkeep.specs.Steps.Act.{Saw};
 
+use crate::record::{Record, Step};
 use judy_disk::{DiskFault, Folder, Found, Locks, Manifest, NewSnapshot, Place};
+use std::fs::Files;
+use std::io;
 
 /// A directory with a new snapshot, which has no name yet.
 pub trait Replaces {
@@ -12,86 +20,166 @@ pub trait Replaces {
 
     /// Secures the bytes of the new snapshot.
     fn secure(&mut self) -> Result<(), DiskFault>
-        ensures { Logs (log self.old) (act_of Secure result ∷ []) (log self.new) };
+        ensures { Logs (log self.old) (act_of Step.Secure result ∷ []) (log self.new) };
 
     /// Gives the new snapshot the name of the one that stands for the segments up to this number.
     fn rename(&mut self, number: u64) -> Result<(), DiskFault>
-        ensures { Logs (log self.old) (act_of (Rename number) result ∷ []) (log self.new) };
+        ensures { Logs (log self.old) (act_of (Step.Rename number) result ∷ []) (log self.new) };
 
     /// Secures which files the directory has.
     fn sync(&mut self) -> Result<(), DiskFault>
-        ensures { Logs (log self.old) (act_of Sync result ∷ []) (log self.new) };
+        ensures { Logs (log self.old) (act_of Step.Sync result ∷ []) (log self.new) };
 
     /// Has the manifest name the snapshot with this number, for good.
     fn note(&mut self, number: u64) -> Result<(), DiskFault>
-        ensures { Logs (log self.old) (act_of (Note number) result ∷ []) (log self.new) };
+        ensures { Logs (log self.old) (act_of (Step.Note number) result ∷ []) (log self.new) };
 
     /// Removes a file.
     fn remove(&mut self, place: Place) -> Result<(), DiskFault>
-        ensures { Logs (log self.old) (act_of (Remove place) result ∷ []) (log self.new) };
+        ensures { Logs (log self.old) (act_of (Step.Remove place) result ∷ []) (log self.new) };
 }
 
-/// The directory of a journal, with a new snapshot if one was written. Before the first file is removed
-/// it waits until nobody reads. Nothing is known of what the system does.
+/// The directory of a journal, with a new snapshot once one was written. Before the first file is removed
+/// it waits until nobody reads. It keeps a log of the steps of a compaction, which only clauses read. Each
+/// step says what it asks of the files.
 #[derive(Drop)]
 pub struct Replacing<'a, F: Locks> {
-    folder: Folder<'a, F>,
-    file: Option<NewSnapshot<F>>,
+    pub(crate) folder: Folder<'a, F>,
+    /// The new snapshot, which has no name yet.
+    pub(crate) file: Option<NewSnapshot<F>>,
     /// The lock of readers, once a file is removed.
     alone: Option<F::File>,
+    pub(crate) log: Record,
+}
+
+/// Secures a new snapshot. One that is not there is a fault.
+fn secure_file<F: Files>(file: &mut Option<NewSnapshot<F>>) -> Result<(), DiskFault>
+    ensures { Secures file.old result file.new }
+{
+    match file {
+        Some(file) => file.secure(),
+        None => {
+            let reason = io::Error::from(io::ErrorKind::NotFound);
+            Err(DiskFault::at(Place::NewSnapshot, reason))
+        }
+    }
 }
 
 impl<'a, F: Locks> Replacing<'a, F> {
-    /// The directory with this snapshot.
-    pub fn new(folder: Folder<'a, F>, file: Option<NewSnapshot<F>>) -> Self {
+    /// The directory. No step was made yet.
+    pub fn new(folder: Folder<'a, F>) -> Self
+        ensures { result.log.acts ≡ [] }
+    {
         Replacing {
             folder,
-            file,
+            file: None,
             alone: None,
+            log: Record::new(),
         }
     }
 
-    /// Whether there is a new snapshot.
-    pub fn has_snapshot(&self) -> bool {
-        self.file.is_some()
+    /// Removes the new snapshot, if it has no name yet.
+    pub fn discard(&mut self)
+        ensures { self.new.log.acts ≡ self.old.log.acts }
+    {
+        let _removed = self.folder.remove(Place::NewSnapshot);
     }
 
-    /// Removes the new snapshot, if it has no name yet.
-    pub fn discard(&mut self) {
-        let _removed = self.folder.remove(Place::NewSnapshot);
+    /// Lets nobody read from now on.
+    fn stop_readers(&mut self) -> Result<(), DiskFault>
+        ensures alone { OnOk result (is_some self.new.alone ≡ true) }
+        ensures log { self.new.log.acts ≡ self.old.log.acts }
+    {
+        if self.alone.is_some() {
+            return Ok(());
+        }
+        let lock = self.folder.take_from_readers()?;
+        self.alone = Some(lock);
+        Ok(())
+    }
+
+    /// Removes a file, once nobody reads.
+    fn remove_alone(&mut self, place: Place) -> Result<(), DiskFault>
+        ensures alone { OnOk result (is_some self.new.alone ≡ true) }
+        ensures removed { OnOk result (HasRemovedLast place (asked_of self.new.folder)) }
+        ensures log { self.new.log.acts ≡ self.old.log.acts }
+    {
+        self.stop_readers()?;
+        self.folder.remove(place)
+    }
+}
+
+impl<'a, F: Locks + Clone + Drop> Replacing<'a, F> {
+    /// Which files the directory has.
+    pub fn scan(&mut self) -> Result<Found, DiskFault>
+        ensures scanned { Scans result (asked_of self.old.folder) (asked_of self.new.folder) }
+        ensures seen { IfOk result (λ found. self.new.log.acts ≡ self.old.log.acts ++ Saw found.last ∷ []) }
+        ensures unseen { OnErr result (self.new.log.acts ≡ self.old.log.acts) }
+    {
+        match self.folder.scan() {
+            Ok(found) => {
+                self.log.saw(found.last);
+                Ok(found)
+            }
+            Err(fault) => Err(fault),
+        }
     }
 }
 
 impl<'a, F: Locks> Replaces for Replacing<'a, F> {
-    ghost log = { λ _. None };
+    ghost log = { λ r. Some r.log.acts };
 
-    fn secure(&mut self) -> Result<(), DiskFault> {
-        match &mut self.file {
-            Some(file) => file.secure(),
-            None => Ok(()),
-        }
+    fn secure(&mut self) -> Result<(), DiskFault>
+        ensures noted { Logs (Some self.old.log.acts) (act_of Step.Secure result ∷ []) (Some self.new.log.acts) }
+        ensures secured { Secures self.old.file result self.new.file }
+    {
+        let done = secure_file(&mut self.file);
+        self.log.told(Step::Secure, &done);
+        done
     }
 
-    fn rename(&mut self, number: u64) -> Result<(), DiskFault> {
-        self.folder.name_snapshot(number)
+    fn rename(&mut self, number: u64) -> Result<(), DiskFault>
+        ensures noted { Logs (Some self.old.log.acts) (act_of (Step.Rename number) result ∷ [])
+            (Some self.new.log.acts) }
+        ensures named { Asks (named_as number) result (asked_of self.old.folder) (asked_of self.new.folder) }
+    {
+        let done = self.folder.name_snapshot(number);
+        self.log.told(Step::Rename(number), &done);
+        done
     }
 
-    fn sync(&mut self) -> Result<(), DiskFault> {
-        self.folder.sync()
+    fn sync(&mut self) -> Result<(), DiskFault>
+        ensures noted { Logs (Some self.old.log.acts) (act_of Step.Sync result ∷ []) (Some self.new.log.acts) }
+        ensures synced { Asks folder_secured result (asked_of self.old.folder) (asked_of self.new.folder) }
+    {
+        let done = self.folder.sync();
+        self.log.told(Step::Sync, &done);
+        done
     }
 
-    fn note(&mut self, number: u64) -> Result<(), DiskFault> {
-        self.folder.raise_manifest(Manifest {
+    fn note(&mut self, number: u64) -> Result<(), DiskFault>
+        ensures noted { Logs (Some self.old.log.acts) (act_of (Step.Note number) result ∷ [])
+            (Some self.new.log.acts) }
+        ensures raised { RaisesManifest (to_snapshot number) result (asked_of self.old.folder)
+            (asked_of self.new.folder) }
+    {
+        let done = self.folder.raise_manifest(Manifest {
             snapshot: number,
             last: 0,
-        })
+        });
+        self.log.told(Step::Note(number), &done);
+        done
     }
 
-    fn remove(&mut self, place: Place) -> Result<(), DiskFault> {
-        if self.alone.is_none() {
-            self.alone = Some(self.folder.take_from_readers()?);
-        }
-        self.folder.remove(place)
+    fn remove(&mut self, place: Place) -> Result<(), DiskFault>
+        ensures noted { Logs (Some self.old.log.acts) (act_of (Step.Remove place) result ∷ [])
+            (Some self.new.log.acts) }
+        ensures alone { OnOk result (is_some self.new.alone ≡ true) }
+        ensures removed { OnOk result (HasRemovedLast place (asked_of self.new.folder)) }
+    {
+        let done = self.remove_alone(place);
+        self.log.told(Step::Remove(place), &done);
+        done
     }
 }
 

@@ -1,18 +1,65 @@
 //! Writes the entries of maps from byte keys, which have no order, while the records are read once more.
-ghost use Rattle.std.specs.Prelude.{◌≤◌, length};
+ghost use Rattle.std.specs.Prelude.{Some, OnOk};
+ghost use Rattle.judy_upkeep.specs.Rewriting.{IsInsertion, MovesAs, Rewrites, insertion_by, insertion_in, insertion_of};
 
-use crate::asked::insertion_of;
 use crate::asking::Came;
 use crate::kinds::Array;
-use crate::lines::{KEY_ROOM, Text, write_insertion, write_look};
+use crate::lines::{KeyText, Text, write_insertion, write_key, write_look};
 use crate::output::Output;
 use crate::playing::Playing;
 use arrayvec::ArrayVec;
 use judy_disk::DiskFault;
 use judy_journal::read_record;
-use judy_protocol::{Served, cut_line};
+use judy_model::{BytesCall, Call, KEY_LIMIT, Kind};
+use judy_protocol::{Line, Served, cut_line, read_line};
 use judy_recovery::{Halt, Player, Reason};
 use std::fs::Files;
+
+/// The map of a call that makes an entry of one from byte keys. Then the text is that of the key. None for other
+/// calls.
+fn insertion_by(call: &Call<'_>, text: &mut KeyText) -> Option<Array>
+    ensures { IsInsertion (insertion_by call.now) result text.new.items }
+{
+    match call {
+        Call::Bytes(name, BytesCall::Insert(key, _)) => {
+            write_key(key.as_bytes(), text);
+            Some(Array {
+                kind: Kind::Bytes,
+                name: name.copied(),
+            })
+        }
+        Call::Bytes(_, BytesCall::Delete(_)) => None,
+        Call::Bytes(_, BytesCall::Get(_)) => None,
+        Call::Bytes(_, BytesCall::Free) => None,
+        Call::One(_, _) => None,
+        Call::Long(_, _) => None,
+        Call::Str(_, _) => None,
+        Call::Used => None,
+    }
+}
+
+/// The same of a line.
+fn insertion_in(line: &Line<'_>, text: &mut KeyText) -> Option<Array>
+    ensures { IsInsertion (insertion_in (Some line.now)) result text.new.items }
+{
+    match line {
+        Line::Call(call) => insertion_by(call, text),
+        Line::Auth(_, _) => None,
+        Line::Quit => None,
+        Line::Ping => None,
+        Line::Hello => None,
+    }
+}
+
+/// The same of a request. None if it is no request.
+fn insertion_of(request: &[u8], room: &mut [u8; KEY_LIMIT], text: &mut KeyText) -> Option<Array>
+    ensures { IsInsertion (insertion_of request.now) result text.new.items }
+{
+    match read_line(request, room) {
+        Ok(line) => insertion_in(&line, text),
+        Err(_) => None,
+    }
+}
 
 /// Writes the entries of maps from byte keys that there are at the end of a journal, while its records are read
 /// once more. Each entry is written at the first record that asks for it, and removed.
@@ -20,6 +67,8 @@ use std::fs::Files;
 pub struct Rewriting<S: Served, F: Files> {
     playing: Playing<S>,
     output: Output<F>,
+    room: [u8; KEY_LIMIT],
+    key: KeyText,
     line: Text,
 }
 
@@ -29,6 +78,8 @@ impl<S: Served + Drop, F: Files> Rewriting<S, F> {
         Rewriting {
             playing,
             output,
+            room: [0; KEY_LIMIT],
+            key: ArrayVec::new(),
             line: ArrayVec::new(),
         }
     }
@@ -43,36 +94,37 @@ impl<S: Served + Drop, F: Files> Rewriting<S, F> {
         (self.playing, self.output)
     }
 
-    /// Writes an entry of a tenant with this value, and removes it.
-    fn write(
-        &mut self,
-        tenant: usize,
-        name: &[u8],
-        array: &Array,
-        key: &[u8],
-        value: u64,
-    ) -> Result<(), Reason>
-        requires { length key.now ≤ KEY_ROOM }
+    /// Writes an entry of a tenant with this value, and removes it. Its key's text is made already.
+    fn write(&mut self, tenant: usize, name: &[u8], array: &Array, value: u64) -> Result<(), Reason>
+        ensures { OnOk result (MovesAs S.who S.made self.old.playing.entries.speakers.items tenant name.now
+            (record { array = array.now; key = self.old.key.items }) value self.old.playing.entries.service
+            self.old.output self.new.playing.entries.service self.new.output) }
     {
-        write_insertion(array, key, value, &mut self.line);
+        write_insertion(array, self.key.as_slice(), value, &mut self.line);
         self.output.add(name, self.line.as_slice())?;
-        write_look(array, b"D", key, &mut self.line);
+        write_look(array, b"D", self.key.as_slice(), &mut self.line);
         self.playing.entries.ask(tenant, self.line.as_slice())?;
         Ok(())
     }
 
-    /// Writes the entry that a record asks for, if it is there still, and removes it.
-    fn rewrite(&mut self, record: &[u8]) -> Result<(), Reason> {
-        let (name, request) = read_record(record).ok_or(Reason::Record)?;
-        let Some((array, key)) = insertion_of(request) else {
+    /// Writes the entry that a record asks for with its value, if it is there still, and removes it.
+    fn rewrite(&mut self, text: &[u8]) -> Result<(), Reason>
+        ensures { OnOk result (Rewrites S.who S.made self.old.playing.entries.speakers.items
+            self.old.playing.tenants.names.items text.now self.old.playing.entries.service self.old.output
+            self.new.playing.entries.service self.new.output) }
+    {
+        let Some((name, request)) = read_record(text) else {
+            return Err(Reason::Record);
+        };
+        let Some(array) = insertion_of(request, &mut self.room, &mut self.key) else {
             return Ok(());
         };
         let Some(tenant) = self.playing.tenants.find(name) else {
             return Ok(());
         };
-        write_look(&array, b"G", key, &mut self.line);
+        write_look(&array, b"G", self.key.as_slice(), &mut self.line);
         match self.playing.entries.ask(tenant, self.line.as_slice())? {
-            Came::Value(value) => self.write(tenant, name, &array, key, value),
+            Came::Value(value) => self.write(tenant, name, &array, value),
             Came::Nothing => Ok(()),
             _ => Err(Reason::Record),
         }

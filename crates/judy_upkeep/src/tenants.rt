@@ -1,4 +1,7 @@
 //! Which made-up tenant stands for which tenant of a journal.
+ghost use Rattle.std.specs.Prelude.{◌≡◌, ◌↔◌, Some, IfSome, IsTrue};
+ghost use Rattle.judy_upkeep.specs.Tenants.{IsAt, Stands};
+
 use crate::asking::TENANTS;
 use judy_model::Name;
 use judy_recovery::Reason;
@@ -13,7 +16,9 @@ pub struct Tenants {
 }
 
 /// Whether this is the name at a number.
-fn is_name(at: &Option<Name>, name: &[u8]) -> bool {
+fn is_name(at: &Option<Name>, name: &[u8]) -> bool
+    ensures { IsTrue result ↔ (at.now ≡ Some name.now) }
+{
     match at {
         Some(other) => other.as_bytes() == name,
         None => false,
@@ -30,7 +35,9 @@ impl Tenants {
     }
 
     /// Whether this tenant has this number.
-    fn has(&self, number: usize, name: &[u8]) -> bool {
+    fn has(&self, number: usize, name: &[u8]) -> bool
+        ensures { IsTrue result ↔ IsAt self.now.names.items number name.now }
+    {
         match self.names.get(number) {
             Some(at) => is_name(at, name),
             None => false,
@@ -38,7 +45,9 @@ impl Tenants {
     }
 
     /// The number of the tenant with this name.
-    pub fn find(&self, name: &[u8]) -> Option<usize> {
+    pub fn find(&self, name: &[u8]) -> Option<usize>
+        ensures { Stands self.now.names.items name.now result }
+    {
         if self.has(self.last, name) {
             return Some(self.last);
         }
@@ -107,7 +116,9 @@ impl Tenants {
     }
 
     /// The name of the tenant with this number.
-    pub fn name(&self, number: usize) -> Option<Name> {
+    pub fn name(&self, number: usize) -> Option<Name>
+        ensures { IfSome result (λ name. IsAt self.now.names.items number name) }
+    {
         match self.names.get(number) {
             Some(Some(name)) => Some(name.copied()),
             _ => None,

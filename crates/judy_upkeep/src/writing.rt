@@ -1,9 +1,14 @@
 //! Writes the entries of arrays that are walked in order to a snapshot.
-ghost use Rattle.std.specs.Prelude.{◌≤◌, length};
+ghost use Rattle.std.specs.Prelude.{◌≤◌, codes, length, IfOk, OnOk};
+ghost use Rattle.judy_upkeep.specs.Lines.{insertion_text, least_key as least_key_lem, look_text};
+ghost use Rattle.judy_upkeep.specs.Output.{Adds};
+ghost use Rattle.judy_upkeep.specs.Walking.{Walks};
 
 use crate::asking::Came;
 use crate::kinds::Array;
-use crate::lines::{KeyText, Text, least_key, write_index, write_insertion, write_key, write_look};
+use crate::lines::{
+    KeyText, Text, least_key, put, write_index, write_insertion, write_key, write_look,
+};
 use crate::output::Output;
 use crate::playing::Playing;
 use arrayvec::ArrayVec;
@@ -38,6 +43,10 @@ impl Walk {
         does: &[u8],
     ) -> Result<Option<u64>, Reason>
         requires { length does.now ≤ 2 }
+        ensures { IfOk result (λ found. Walks S.who S.made playing.old.entries.speakers.items tenant
+            (look_text array.now does.now self.old.key.items) playing.old.entries.last.items
+            playing.new.entries.last.items self.old.key.items found self.new.key.items playing.old.entries.service
+            playing.new.entries.service) }
     {
         write_look(array, does, self.key.as_slice(), &mut self.line);
         match playing.entries.ask(tenant, self.line.as_slice())? {
@@ -60,9 +69,14 @@ impl Walk {
         playing: &mut Playing<S>,
         tenant: usize,
         array: &Array,
-    ) -> Result<Option<u64>, Reason> {
+    ) -> Result<Option<u64>, Reason>
+        ensures { IfOk result (λ found. Walks S.who S.made playing.old.entries.speakers.items tenant
+            (look_text array.now (codes "F") (least_key_lem array.now.kind)) playing.old.entries.last.items
+            playing.new.entries.last.items (least_key_lem array.now.kind) found self.new.key.items
+            playing.old.entries.service playing.new.entries.service) }
+    {
         self.key.clear();
-        let _fits = self.key.try_extend_from_slice(least_key(array.kind));
+        put(&mut self.key, least_key(array.kind));
         self.step(playing, tenant, array, b"F")
     }
 
@@ -75,7 +89,14 @@ impl Walk {
         name: &Name,
         array: &Array,
         value: u64,
-    ) -> Result<Option<u64>, Reason> {
+    ) -> Result<Option<u64>, Reason>
+        ensures added { OnOk result (Adds name.now (insertion_text array.now self.old.key.items value)
+            output.old output.new) }
+        ensures next { IfOk result (λ found. Walks S.who S.made playing.old.entries.speakers.items tenant
+            (look_text array.now (codes "N") self.old.key.items) playing.old.entries.last.items
+            playing.new.entries.last.items self.old.key.items found self.new.key.items playing.old.entries.service
+            playing.new.entries.service) }
+    {
         write_insertion(array, self.key.as_slice(), value, &mut self.line);
         output.add(name.as_bytes(), self.line.as_slice())?;
         self.step(playing, tenant, array, b"N")

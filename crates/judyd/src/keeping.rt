@@ -9,7 +9,7 @@ use judy_recovery::JournalFault;
 use judy_server::Server;
 use judy_tenants::Sha256Hash;
 use judy_upkeep::{
-    Compacted, Examined, Uncompacted, Unprinted, begin_journal, compact, examine, print,
+    Compacted, Examined, Replacing, Uncompacted, Unprinted, begin_journal, compact, examine, print,
 };
 
 /// The directory of a journal.
@@ -79,7 +79,8 @@ pub fn compact_at(rt: &HostRuntime, path: &str) -> u8
         let _ = eprintln!(rt; "judyd: random fault");
         return 4;
     };
-    let done = compact::<Server<Sha256Hash>, HostRuntime>(rt.alloc(), &secret, folder);
+    let mut directory = Replacing::new(folder);
+    let done = compact::<Server<Sha256Hash>, HostRuntime>(rt.alloc(), &secret, &mut directory);
     tell_compacted(rt, path, &done)
 }
 

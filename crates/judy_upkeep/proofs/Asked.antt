@@ -1,0 +1,34 @@
+-- What came of a line.
+--     spoken     the speaker of a tenant
+--     gives      a speaker made its call
+--     asked      the same, by what came of it
+--     changed    the same of a call that may change an array
+use Rattle.std.proofs.Common.{◌≡◌, ◌<◌, ◌⊎◌, ℕ, List, Option, Some, Result, Ok, Err, sym, ◌∙◌, ap, subst, inl, inr, length, get_or, slice_get}
+use Rattle.std.proofs.lemmas.Option.{slice_get-get_or}
+use Rattle.judy_model.specs.Reading.{request_of}
+use Rattle.judy_model.specs.Speakers.{Speaker}
+use Rattle.judy_model.specs.declared.calls.Call.{Call}
+use Rattle.judy_model.specs.declared.replies.Reply.{Reply}
+use Rattle.judy_model.specs.declared.requests.Line.TheVariants as request
+use Rattle.judy_protocol.specs.Services.{Made}
+use Rattle.judy_recovery.specs.declared.faults.Reason.{Reason}
+use Rattle.judy_upkeep.specs.Asking.{Alters, Finds, Gives, HasAsked, HasChanged, came_at, key_in}
+use Rattle.judy_upkeep.specs.Changes.{change_of}
+use Rattle.judy_upkeep.specs.declared.asking.Came.{Came}
+use Rattle.judy_upkeep.specs.declared.kinds.Change.{Change}
+
+pub spoken : {K : Type 0} (items xs : List K) (i : ℕ) (x : K) → xs ≡ items → i < length xs → x ≡ get_or xs i x → slice_get items i ≡ Some x
+spoken items xs i x same within is = subst (λ v. slice_get v i ≡ Some x) same (slice_get-get_or xs i x within ∙ ap Some (sym is))
+
+abbrev pub gives : {S K : Type 0} (who : K → Speaker) (made : Made S) (speakers : List K) (tenant : ℕ) (line : List ℕ) (result : Result Came Reason)
+    (old new : S) (speaker : K) (call : Call) (reply : Reply) → slice_get speakers tenant ≡ Some speaker
+    → request_of line ≡ Some (request.Call call) → made old (record { speaker = who speaker; call = call }) reply new
+    → result ≡ came_at reply → Gives who made speakers tenant line result old new
+gives who made speakers tenant line result old new speaker call reply speaks asks makes comes =
+    record { speaker = speaker; speaks = speaks; call = call; asks = asks; reply = reply; makes = makes; comes = sym comes }
+
+pub asked : {S K : Type 0} (who : K → Speaker) (made : Made S) (speakers : List K) (tenant : ℕ) (line : List ℕ) (result : Result Came Reason)
+    (last last' : List ℕ) (old new : S) → (given : Gives who made speakers tenant line result old new) → last' ≡ key_in given.reply last
+    → HasAsked who made speakers tenant line result last last' old new
+asked who made speakers tenant line (Ok came) last last' old new given key = record { given = given; key = key }
+asked who made speakers tenant line (Err why) last last' old new given key = inl (record { given = given; key = key })

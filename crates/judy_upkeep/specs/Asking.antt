@@ -1,0 +1,77 @@
+-- What a service is asked by a line, and what comes of it.
+--     came_at reply                      what comes of a call, by its reply
+--     key_in reply last                  the key that was found last, after this reply
+--     Gives .. line result old new       a tenant's speaker made the call of this line, and this came of it
+--     HasAsked .. result last .. new     the same, or the call was not made
+--     HasChanged .. result old new       the same of a call that may change an array
+use Rattle.std.specs.Prelude.{◌≡◌, ◌⊎◌, ℕ, true, false, List, Option, Some, Result, Ok, Err, slice_get}
+use Rattle.judy_model.specs.Reading.{request_of}
+use Rattle.judy_model.specs.Speakers.{Speaker}
+use Rattle.judy_model.specs.declared.calls.Call.{Call}
+use Rattle.judy_model.specs.declared.replies.Reply.{Reply}
+use Rattle.judy_model.specs.declared.replies.Reply.TheVariants as reply
+use Rattle.judy_model.specs.declared.requests.Line.TheVariants as request
+use Rattle.judy_protocol.specs.Services.{Made}
+use Rattle.judy_recovery.specs.declared.faults.Reason.{Reason}
+use Rattle.judy_recovery.specs.declared.faults.Reason.TheVariants as reason
+use Rattle.judy_upkeep.specs.Changes.{change_of}
+use Rattle.judy_upkeep.specs.declared.asking.Came.{Came}
+use Rattle.judy_upkeep.specs.declared.asking.Came.TheVariants as what
+use Rattle.judy_upkeep.specs.declared.kinds.Change.{Change}
+
+-- what comes of a call, by its reply
+abbrev pub came_at : Reply → Result Came Reason
+came_at (reply.Int true) = Ok (what.Value 0)
+came_at (reply.Int false) = Ok what.Nothing
+came_at (reply.Value value) = Ok (what.Value value)
+came_at reply.Null = Ok what.Nothing
+came_at (reply.Index index) = Ok (what.At index 0)
+came_at (reply.Count count) = Ok (what.Count count)
+came_at (reply.ValueAt value index) = Ok (what.At index value)
+came_at (reply.ValueKey value key) = Ok (what.AtKey value)
+came_at (reply.Used entries quota pieces most) = Err reason.Record
+came_at reply.Full = Err reason.Full
+came_at reply.ReadOnly = Err reason.Full
+came_at reply.Frozen = Err reason.Full
+came_at reply.Memory = Err reason.Memory
+
+-- the key that was found last: that of this reply, if it tells one, and else the one before
+abbrev pub key_in : Reply → List ℕ → List ℕ
+key_in (reply.ValueKey value key) last = key
+key_in other last = last
+
+-- A speaker of this tenant made the call that a line asks for, and this came of it.
+pub record Gives {S K : Type 0} (who : K → Speaker) (made : Made S) (speakers : List K) (tenant : ℕ) (line : List ℕ)
+    (result : Result Came Reason) (old new : S) : Type 0 where
+  pub speaker : K
+  pub speaks : slice_get speakers tenant ≡ Some speaker
+  pub call : Call
+  pub asks : request_of line ≡ Some (request.Call call)
+  pub reply : Reply
+  pub makes : made old (record { speaker = who speaker; call = call }) reply new
+  pub comes : came_at reply ≡ result
+
+-- the same, and this is the key that was found last afterwards
+pub record Finds {S K : Type 0} (who : K → Speaker) (made : Made S) (speakers : List K) (tenant : ℕ) (line : List ℕ)
+    (result : Result Came Reason) (last last' : List ℕ) (old new : S) : Type 0 where
+  pub given : Gives who made speakers tenant line result old new
+  pub key : last' ≡ key_in given.reply last
+
+-- The call of a line was made. If it fails, it may not have been made.
+abbrev pub HasAsked : {S K : Type 0} → (K → Speaker) → Made S → List K → ℕ → List ℕ
+    → Result Came Reason → List ℕ → List ℕ → S → S → Type 0
+HasAsked who made speakers tenant line (Ok came) last last' old new = Finds who made speakers tenant line (Ok came) last last' old new
+HasAsked who made speakers tenant line (Err why) last last' old new =
+    Finds who made speakers tenant line (Err why) last last' old new ⊎ ((last' ≡ last) × (new ≡ old))
+
+-- The call of a line was made, and it is one that may change this.
+pub record Alters {S K : Type 0} (who : K → Speaker) (made : Made S) (speakers : List K) (tenant : ℕ) (line : List ℕ)
+    (change : Change) (old new : S) : Type 0 where
+  pub came : Came
+  pub given : Gives who made speakers tenant line (Ok came) old new
+  pub changes : change_of given.call ≡ Some change
+
+-- The same. If it fails, it may not have been made.
+abbrev pub HasChanged : {S K : Type 0} → (K → Speaker) → Made S → List K → ℕ → List ℕ → Result Change Reason → S → S → Type 0
+HasChanged who made speakers tenant line (Ok change) old new = Alters who made speakers tenant line change old new
+HasChanged who made speakers tenant line (Err why) old new = Gives who made speakers tenant line (Err why) old new ⊎ (new ≡ old)
