@@ -2,15 +2,17 @@
 --     inserts, inserts-none    the entry that a request makes, if it makes one
 --     given_at                 what was asked and what came of it, by other names
 --     rewrites                 a record was read once more
+--     rewritten-first, -none   one more record, before others, and no more
 --     map_ok, if_ok            what follows from what holds if a call did not fail, or of itself
-use Rattle.std.proofs.Common.{◌≡◌, ◌⊎◌, ℕ, List, Option, Some, None, Result, Ok, Err, refl, sym, ◌∙◌, ap, subst}
+use Rattle.std.proofs.Common.{◌≡◌, ◌⊎◌, ℕ, List, ◌∷◌, ◌++◌, Option, Some, None, Result, Ok, Err, refl, sym, ◌∙◌, ap, subst}
 use Rattle.std.specs.Prelude.{OnOk}
 use Rattle.judy_journal.specs.Journals.{HasNoSpace, record_of}
 use Rattle.judy_model.specs.Speakers.{Speaker}
+use Rattle.judy_model.specs.Stream.{lines_of}
+use Rattle.judy_model.proofs.lemmas.LineLemmas.{IsOneLine, lines_of-bytes, lines_of-line}
 use Rattle.judy_protocol.specs.Services.{Made}
-use Rattle.judy_recovery.specs.declared.faults.Reason.{Reason}
 use Rattle.judy_upkeep.specs.Asking.{Gives}
-use Rattle.judy_upkeep.specs.Rewriting.{Insertion, IsInsertion, Lacks, Moves, MovesBy, Rewrites, insertion_of}
+use Rattle.judy_upkeep.specs.Rewriting.{AreRewritten, Insertion, IsInsertion, Lacks, Moves, MovesBy, Rewrites, insertion_of}
 use Rattle.judy_upkeep.specs.Tenants.{IsAt, Names}
 use Rattle.judy_upkeep.specs.declared.asking.Came.{Came}
 use Rattle.judy_upkeep.specs.declared.kinds.Array.{Array}
@@ -62,3 +64,23 @@ map_ok (Err why) f p = tt
 pub if_ok : {T E P : Type 0} (r : Result T E) → P → OnOk r P
 if_ok (Ok done) p = p
 if_ok (Err why) p = tt
+
+-- one more record, before others
+pub rewritten-first : {S K F A D : Type 0} (who : K → Speaker) (made : Made S) (speakers speakers' : List K) (names names' : Names)
+    (rest text after : List ℕ) (old : S) (output : Output F A D) (mid : S) (between : Output F A D) (new : S) (output' : Output F A D)
+    → speakers' ≡ speakers → names' ≡ names → IsOneLine text → rest ≡ text ++ 10 ∷ after
+    → Rewrites who made speakers' names' text old output mid between
+    → AreRewritten who made speakers names (lines_of after) mid between new output'
+    → AreRewritten who made speakers names (lines_of rest) old output new output'
+rewritten-first {K = K} who made speakers speakers' names names' rest text after old output mid between new output' s n one is first more =
+    let this : Rewrites who made speakers names text old output mid between =
+    subst (λ (v : Names). Rewrites who made speakers v text old output mid between) n
+    (subst (λ (v : List K). Rewrites who made v names' text old output mid between) s first) in
+    let all : AreRewritten who made speakers names (text ∷ lines_of after) old output new output' = (mid, between, this, more) in
+    subst (λ (v : List (List ℕ)). AreRewritten who made speakers names v old output new output') (sym (ap lines_of is ∙ lines_of-line text after one)) all
+
+-- no more
+pub rewritten-none : {S K F A D : Type 0} (who : K → Speaker) (made : Made S) (speakers : List K) (names : Names) (rest : List ℕ)
+    (old : S) (output : Output F A D) → IsOneLine rest → AreRewritten who made speakers names (lines_of rest) old output old output
+rewritten-none who made speakers names rest old output one =
+    subst (λ (v : List (List ℕ)). AreRewritten who made speakers names v old output old output) (sym (lines_of-bytes rest one)) (refl, refl)

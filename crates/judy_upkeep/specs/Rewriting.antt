@@ -3,7 +3,10 @@
 --     IsInsertion             what is told of it
 --     Moves                   an entry was written with the value that the service gave for it, and removed
 --     Rewrites                a record was read once more
-use Rattle.std.specs.Prelude.{◌≡◌, ◌⊎◌, ℕ, List, ◌++◌, Option, Some, None, Result, Ok, Err, codes}
+--     AreRewritten            records, one after another
+--     rewritten-then          records, and then more
+use Rattle.std.specs.Prelude.{◌≡◌, ◌⊎◌, ℕ, List, [], ◌∷◌, ◌++◌, Option, Some, None, Result, Ok, Err, codes}
+use Rattle.std.proofs.Common.{◌∙◌, subst}
 use Rattle.hex.specs.Hex.{encode_lower}
 use Rattle.judy_journal.specs.Journals.{HasNoSpace, record_of}
 use Rattle.judy_model.specs.Reading.{request_of}
@@ -103,3 +106,35 @@ pub record Rewrites {S K F A D : Type 0} (who : K → Speaker) (made : Made S) (
   pub no_space : HasNoSpace name
   pub cut : text ≡ record_of name request
   pub moves : MovesBy who made speakers names name (insertion_of request) old output new output'
+
+-- These records were read once more, one after another.
+abbrev pub AreRewritten : {S K F A D : Type 0} → (K → Speaker) → Made S → List K → Names → List (List ℕ)
+    → S → Output F A D → S → Output F A D → Type 0
+AreRewritten who made speakers names [] old output new output' = (new ≡ old) × (output' ≡ output)
+AreRewritten {S} {K} {F} {A} {D} who made speakers names (text ∷ texts) old output new output' = (mid : S) × (between : Output F A D)
+    × Rewrites who made speakers names text old output mid between × AreRewritten who made speakers names texts mid between new output'
+
+-- records, and then more, were read once more all together
+pub rewritten-append : {S K F A D : Type 0} (who : K → Speaker) (made : Made S) (speakers : List K) (names : Names) (texts more : List (List ℕ))
+    (old : S) (output : Output F A D) (mid : S) (between : Output F A D) (new : S) (output' : Output F A D)
+    → AreRewritten who made speakers names texts old output mid between → AreRewritten who made speakers names more mid between new output'
+    → AreRewritten who made speakers names (texts ++ more) old output new output'
+rewritten-append {F = F} {A = A} {D = D} who made speakers names [] more old output mid between new output' (one, two) next =
+    subst (λ (o : Output F A D). AreRewritten who made speakers names more old o new output') two
+    (subst (λ s. AreRewritten who made speakers names more s between new output') one next)
+rewritten-append who made speakers names (text ∷ texts) more old output mid between new output' (m, b, first, rest) next =
+    (m, b, first, rewritten-append who made speakers names texts more m b mid between new output' rest next)
+
+-- the same of players, whose speakers and names stay
+pub rewritten-then : {S K F A D : Type 0} (who : K → Speaker) (made : Made S) (speakers speakers' speakers'' : List K) (names names' names'' : Names)
+    (texts more : List (List ℕ)) (old : S) (output : Output F A D) (mid : S) (between : Output F A D) (new : S) (output' : Output F A D)
+    → speakers' ≡ speakers → names' ≡ names → AreRewritten who made speakers names texts old output mid between
+    → speakers'' ≡ speakers' → names'' ≡ names' → AreRewritten who made speakers' names' more mid between new output'
+    → (speakers'' ≡ speakers) × (names'' ≡ names) × AreRewritten who made speakers names (texts ++ more) old output new output'
+rewritten-then {K = K} who made speakers speakers' speakers'' names names' names'' texts more old output mid between new output' s n first s' n' second = (
+  s' ∙ s,
+  n' ∙ n,
+  rewritten-append who made speakers names texts more old output mid between new output' first
+      (subst (λ (v : Names). AreRewritten who made speakers v more mid between new output') n
+      (subst (λ (v : List K). AreRewritten who made v names' more mid between new output') s second)),
+)

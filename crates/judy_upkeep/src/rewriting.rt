@@ -1,6 +1,6 @@
 //! Writes the entries of maps from byte keys, which have no order, while the records are read once more.
-ghost use Rattle.std.specs.Prelude.{Some, OnOk};
-ghost use Rattle.judy_upkeep.specs.Rewriting.{IsInsertion, MovesAs, Rewrites, insertion_by, insertion_in, insertion_of};
+ghost use Rattle.std.specs.Prelude.{◌≡◌, Some, OnOk, refl};
+ghost use Rattle.judy_upkeep.specs.Rewriting.{AreRewritten, IsInsertion, MovesAs, Rewrites, insertion_by, insertion_in, insertion_of, rewritten-then};
 
 use crate::asking::Came;
 use crate::kinds::Array;
@@ -96,7 +96,9 @@ impl<S: Served + Drop, F: Files> Rewriting<S, F> {
 
     /// Writes an entry of a tenant with this value, and removes it. Its key's text is made already.
     fn write(&mut self, tenant: usize, name: &[u8], array: &Array, value: u64) -> Result<(), Reason>
-        ensures { OnOk result (MovesAs S.who S.made self.old.playing.entries.speakers.items tenant name.now
+        ensures speakers { self.new.playing.entries.speakers.items ≡ self.old.playing.entries.speakers.items }
+        ensures names { self.new.playing.tenants.names.items ≡ self.old.playing.tenants.names.items }
+        ensures moved { OnOk result (MovesAs S.who S.made self.old.playing.entries.speakers.items tenant name.now
             (record { array = array.now; key = self.old.key.items }) value self.old.playing.entries.service
             self.old.output self.new.playing.entries.service self.new.output) }
     {
@@ -109,7 +111,9 @@ impl<S: Served + Drop, F: Files> Rewriting<S, F> {
 
     /// Writes the entry that a record asks for with its value, if it is there still, and removes it.
     fn rewrite(&mut self, text: &[u8]) -> Result<(), Reason>
-        ensures { OnOk result (Rewrites S.who S.made self.old.playing.entries.speakers.items
+        ensures speakers { self.new.playing.entries.speakers.items ≡ self.old.playing.entries.speakers.items }
+        ensures names { self.new.playing.tenants.names.items ≡ self.old.playing.tenants.names.items }
+        ensures rewritten { OnOk result (Rewrites S.who S.made self.old.playing.entries.speakers.items
             self.old.playing.tenants.names.items text.now self.old.playing.entries.service self.old.output
             self.new.playing.entries.service self.new.output) }
     {
@@ -132,21 +136,33 @@ impl<S: Served + Drop, F: Files> Rewriting<S, F> {
 }
 
 impl<S: Served + Drop, F: Files> Player for Rewriting<S, F> {
-    /// Nothing is said of the records.
-    ghost plays = { λ _ _ _. Unit {0} };
+    /// The records were read once more, one after another.
+    ghost plays = { λ before records after.
+        (after.playing.entries.speakers.items ≡ before.playing.entries.speakers.items)
+        × (after.playing.tenants.names.items ≡ before.playing.tenants.names.items)
+        × AreRewritten S.who S.made before.playing.entries.speakers.items before.playing.tenants.names.items records
+        before.playing.entries.service before.output after.playing.entries.service after.output };
 
     fn play(&mut self, records: &[u8]) -> Result<(), Halt> {
         let mut rest = records;
         let mut played = 0;
-        while let Some((record, after)) = cut_line(rest) {
-            self.rewrite(record).map_err(|why| Halt { played, why })?;
+        while let Some((text, after)) = cut_line(rest) {
+            match self.rewrite(text) {
+                Ok(()) => {}
+                Err(why) => return Err(Halt { played, why }),
+            }
             played = usize::saturating_add(played, 1);
             rest = after;
         }
         Ok(())
     }
 
-    ghost rests = { λ _. tt };
+    ghost rests = { λ _. (refl, refl, (refl, refl)) };
 
-    ghost joins = { λ _ _ _ _ _ _ _. tt };
+    ghost joins = { λ before middle after records more first next. rewritten-then S.who S.made
+        before.playing.entries.speakers.items middle.playing.entries.speakers.items
+        after.playing.entries.speakers.items before.playing.tenants.names.items
+        middle.playing.tenants.names.items after.playing.tenants.names.items records more
+        before.playing.entries.service before.output middle.playing.entries.service middle.output
+        after.playing.entries.service after.output first.0 first.1 first.2 next.0 next.1 next.2 };
 }

@@ -6,8 +6,8 @@ use Rattle.judy_upkeep.specs.declared.asking.Came.TheVariants as what
 use Rattle.judy_upkeep.proofs.Moved.{entry, given_at, inserts, map_ok, rewrites}
 use Rattle.judy_upkeep.proofs.rewriting.Rewriting.rewrite.Goals as goal
 
-pub returns-in-Value : goal.returns-in-Value
-returns-in-Value g c =
+pub returns-in-Value-clause-rewritten : goal.returns-in-Value-clause-rewritten
+returns-in-Value-clause-rewritten g c =
     let made : insertion_of c.in-Some.request.now ≡ Some (entry c.in-Some-insertion_of.array c.insertion_of.new.text.items) =
     inserts (insertion_of c.in-Some.request.now) c.in-Some-insertion_of.array c.insertion_of.new.text.items c.in-Some-insertion_of.ensures in
     map_ok c.write.result (λ moved. rewrites g.S.Served.who g.S.Served.made c.args.self.now.playing.entries.speakers.items
@@ -26,10 +26,10 @@ returns-in-Value g c =
           (entry c.in-Some-insertion_of.array c.insertion_of.new.text.items) c.in-Value.value c.ask.new.self.service
           c.args.self.now.output c.write.new.self.playing.entries.service c.write.new.self.output)
           c.in_ok-value.ensures.speakers moved;
-    }))) c.write.ensures
+    }))) c.write.ensures.moved
 
-pub returns-in-Nothing : goal.returns-in-Nothing
-returns-in-Nothing g c =
+pub returns-in-Nothing-clause-rewritten : goal.returns-in-Nothing-clause-rewritten
+returns-in-Nothing-clause-rewritten g c =
     let made : insertion_of c.in-Some.request.now ≡ Some (entry c.in-Some-insertion_of.array c.insertion_of.new.text.items) =
     inserts (insertion_of c.in-Some.request.now) c.in-Some-insertion_of.array c.insertion_of.new.text.items c.in-Some-insertion_of.ensures in
     rewrites g.S.Served.who g.S.Served.made c.args.self.now.playing.entries.speakers.items

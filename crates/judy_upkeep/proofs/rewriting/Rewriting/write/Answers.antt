@@ -4,8 +4,8 @@ use Rattle.judy_upkeep.specs.Output.{Adds}
 use Rattle.judy_upkeep.proofs.Moved.{given_at}
 use Rattle.judy_upkeep.proofs.rewriting.Rewriting.write.Goals as goal
 
-pub returns : goal.returns
-returns g c = record {
+pub returns-clause-moved : goal.returns-clause-moved
+returns-clause-moved g c = record {
   added = subst (λ v. Adds c.args.name.now v c.args.self.now.output c.add.new.self)
       (c.as_slice-2.ensures.value ∙ c.write_insertion.ensures ∙ ap (λ k. insertion_text c.args.array.now k c.args.value) c.as_slice.ensures.value)
       c.in_ok-add.ensures;
