@@ -1,10 +1,13 @@
 pub mod Asking
+pub mod Beginning
 pub mod Finish
 pub mod Hosting
 pub mod Journaled
+pub mod Keeping
+pub mod Leaving
 pub mod Opening
 pub mod Program
 pub mod Scanning
 pub mod TableEnds
 pub mod Tables
-pub mod Leaving
+pub mod Taking

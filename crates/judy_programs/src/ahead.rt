@@ -1,4 +1,7 @@
 //! The next segment of a journal, which is made before the current one is full.
+ghost use Rattle.std.specs.Prelude.{◌≡◌};
+ghost use Rattle.judy_disk.specs.Growth.{place_of};
+
 use judy_disk::{DiskFault, Folder, Growing, Locks, PIECE, Room, Spares};
 
 /// The most bytes of a segment, unless another number is set: from there on it is full.
@@ -9,7 +12,9 @@ const NO_ROOM: Room = Room { end: 0, made: 0 };
 
 /// Fills a segment's file with zeros up to its size, as far as there is room. `limit` says how many bytes a
 /// full segment has.
-pub fn fill<F: Locks>(current: &mut Growing<F>, limit: u64) -> Result<(), DiskFault> {
+pub fn fill<F: Locks>(current: &mut Growing<F>, limit: u64) -> Result<(), DiskFault>
+    ensures { place_of current.new ≡ place_of current.old }
+{
     let size = current.room().whole(limit);
     for _ in 0..size / PIECE + 1 {
         if current.room().made >= size {

@@ -1,7 +1,10 @@
 //! The journal of a server on the system's disk.
-ghost use Rattle.std.specs.Prelude.{IfOk, IfSome, IsTrue, OnOk};
+ghost use Rattle.std.specs.Prelude.{◌≡◌, [], IfErr, IfOk, IfSome, IsTrue, OnOk, is_ok};
 ghost use Rattle.judy_disk.specs.Folders.{asked_of};
+ghost use Rattle.judy_programs.specs.Beginning.{BeginsAt, BeginsClosed, BeginsFile, ClosesBefore, IsAtSegment, IsBegun, IsClosedIf, IsSameFile};
+ghost use Rattle.judy_programs.specs.Keeping.{Appends, IsHeld, Secures, Syncs, current_of, fault_of, folder_of};
 ghost use Rattle.judy_programs.specs.Scanning.{ScansAs};
+ghost use Rattle.judy_programs.specs.Taking.{HasTaken, Shares, Starts, TakesDirectory};
 ghost use Rattle.judy_recovery.specs.Whole.{HasPlayedJournal, HasResumed, Kept};
 
 use crate::ahead::{Ahead, SEGMENT_LIMIT, fill};
@@ -46,7 +49,9 @@ fn folder_at<'a, F: Locks>(
     rt: &'a F,
     alloc: Global,
     path: &str,
-) -> Result<Folder<'a, F>, JournalFault> {
+) -> Result<Folder<'a, F>, JournalFault>
+    ensures { IfOk result (λ folder. asked_of folder ≡ []) }
+{
     match String::from_str(alloc, path) {
         Ok(path) => Ok(Folder::new(rt, alloc, path)),
         Err(e) => Err(of_disk(DiskFault::at(Place::Folder, io::Error::from(e)))),
@@ -54,7 +59,9 @@ fn folder_at<'a, F: Locks>(
 }
 
 /// A fault of the directory.
-fn of_disk(fault: DiskFault) -> JournalFault {
+fn of_disk(fault: DiskFault) -> JournalFault
+    ensures { result ≡ JournalFault.Disk fault }
+{
     JournalFault::Disk(fault)
 }
 
@@ -118,7 +125,9 @@ fn hold_to_read<F: Locks + Eprint>(
     rt: &F,
     folder: &mut Folder<'_, F>,
     lock: &F::File,
-) -> Result<(), DiskFault> {
+) -> Result<(), DiskFault>
+    ensures { Shares result (asked_of folder.old) (asked_of folder.new) }
+{
     if folder.may_read(lock)? {
         return Ok(());
     }
@@ -126,15 +135,54 @@ fn hold_to_read<F: Locks + Eprint>(
     folder.wait_to_read(lock)
 }
 
-/// Takes the directory for a server, until what is returned is dropped. If another program has it in place of a
+/// Lets nobody else take the directory, until what is returned is dropped. If another program has it in place of a
 /// server, it tells that it waits, and waits.
-fn take<F: Locks + Eprint>(rt: &F, folder: &mut Folder<'_, F>) -> Result<F::File, DiskFault> {
+fn start<F: Locks + Eprint>(rt: &F, folder: &mut Folder<'_, F>) -> Result<F::File, DiskFault>
+    ensures { Starts result (asked_of folder.old) (asked_of folder.new) }
+{
     let start = folder.start_lock()?;
-    if !folder.may_start(&start)? {
-        tell_wait(rt, folder, Place::StartLock);
-        folder.wait_to_start(&start)?;
+    if folder.may_start(&start)? {
+        return Ok(start);
     }
-    folder.take()
+    tell_wait(rt, folder, Place::StartLock);
+    folder.wait_to_start(&start)?;
+    Ok(start)
+}
+
+/// Takes the directory for a server, until what is returned is dropped.
+fn take<F: Locks + Eprint>(rt: &F, folder: &mut Folder<'_, F>) -> Result<F::File, DiskFault>
+    ensures { TakesDirectory result (asked_of folder.old) (asked_of folder.new) }
+{
+    match start(rt, folder) {
+        Ok(_start) => folder.take(),
+        Err(fault) => Err(fault),
+    }
+}
+
+/// A directory that was taken for a server, until its locks are dropped.
+struct Taken<'a, F: Locks> {
+    folder: Folder<'a, F>,
+    reading: F::File,
+    lock: F::File,
+}
+
+/// Takes the directory at a path for a server. Meanwhile nobody removes files.
+fn take_at<'a, F: Locks + Eprint>(
+    rt: &'a F,
+    alloc: Global,
+    path: &str,
+) -> Result<Taken<'a, F>, JournalFault>
+    ensures { IfOk result (λ taken. HasTaken [] (asked_of taken.folder)) }
+{
+    let mut folder = folder_at(rt, alloc, path)?;
+    let reading = folder.read_lock().map_err(|e| of_disk(e))?;
+    hold_to_read(rt, &mut folder, &reading).map_err(|e| of_disk(e))?;
+    let lock = take(rt, &mut folder).map_err(|e| of_disk(e))?;
+    Ok(Taken {
+        folder,
+        reading,
+        lock,
+    })
 }
 
 /// Which files a directory has. Those that its manifest names are all there, or it is that of a new journal, if
@@ -151,20 +199,44 @@ fn scan<F: Locks + Clone + Drop>(
     folder.scan()
 }
 
-/// Makes the file of a segment, which takes the place of the current one, and raises the manifest to it. The
-/// zeros behind the end of the one before are cut off first, which leaves room for the manifest.
-fn begin_at<F: Locks>(
+/// Cuts off the zeros behind the end of the current file, if there is one, and secures it.
+fn close_before<F: Locks>(current: &mut Option<Growing<F>>) -> Result<(), DiskFault>
+    ensures { ClosesBefore current.old result current.new }
+{
+    match current {
+        Some(before) => before.close(),
+        None => Ok(()),
+    }
+}
+
+/// Makes the file of a segment, or gives its name to the one that was made ahead.
+fn begin_file<F: Locks>(
+    folder: &mut Folder<'_, F>,
+    segment: u64,
+    made: Option<Growing<F>>,
+) -> Result<Growing<F>, DiskFault>
+    ensures acts { BeginsFile made segment result (asked_of folder.old) (asked_of folder.new) }
+    ensures file { IfOk result (λ file. IsBegun made segment file) }
+{
+    match made {
+        Some(made) => folder.begin_made(made, segment),
+        None => folder.begin(segment),
+    }
+}
+
+/// The same. It takes the place of the current file, which is closed, and the manifest is raised to it.
+fn begin_closed<F: Locks>(
     folder: &mut Folder<'_, F>,
     segment: u64,
     current: &mut Option<Growing<F>>,
     made: Option<Growing<F>>,
-) -> Result<(), DiskFault> {
-    if let Some(before) = current {
-        before.close()?;
-    }
-    let begun = match made {
-        Some(made) => folder.begin_made(made, segment)?,
-        None => folder.begin(segment)?,
+) -> Result<(), DiskFault>
+    requires { IsClosedIf current.old }
+    ensures { BeginsClosed made segment current.old result current.new (asked_of folder.old) (asked_of folder.new) }
+{
+    let begun = match begin_file(folder, segment, made) {
+        Ok(begun) => begun,
+        Err(fault) => return Err(fault),
     };
     // This closes the file before, and so leaves a descriptor for the manifest.
     *current = Some(begun);
@@ -174,8 +246,24 @@ fn begin_at<F: Locks>(
     })
 }
 
+/// Makes the file of a segment, which takes the place of the current one, and raises the manifest to it. The
+/// zeros behind the end of the one before are cut off first, which leaves room for the manifest.
+fn begin_at<F: Locks>(
+    folder: &mut Folder<'_, F>,
+    segment: u64,
+    current: &mut Option<Growing<F>>,
+    made: Option<Growing<F>>,
+) -> Result<(), DiskFault>
+    ensures { BeginsAt made segment current.old result current.new (asked_of folder.old) (asked_of folder.new) }
+{
+    close_before(current)?;
+    begin_closed(folder, segment, current, made)
+}
+
 /// Fills a segment that was begun with zeros up to its size, as far as there is room.
-fn fill_begun<F: Locks>(current: &mut Option<Growing<F>>, limit: u64) {
+fn fill_begun<F: Locks>(current: &mut Option<Growing<F>>, limit: u64)
+    ensures { IsSameFile current.old current.new }
+{
     if let Some(current) = current {
         let _filled = fill(current, limit);
     }
@@ -288,13 +376,15 @@ impl<'a, F: Locks + Clock + Eprint + Clone + Drop> Directory<'a, F> {
         path: &str,
         player: &mut P,
     ) -> Result<Resumed, JournalFault>
-        ensures { IfOk result (λ at. (kept : Kept) × (played : P)
+        ensures resumed { IfOk result (λ at. (kept : Kept) × (played : P)
             × HasResumed P.plays kept player.old at played × P.readied played player.new) }
+        ensures held { OnOk result (IsHeld self.new) }
     {
-        let mut folder = folder_at(self.rt, alloc, path)?;
-        let reading = folder.read_lock().map_err(|e| of_disk(e))?;
-        hold_to_read(self.rt, &mut folder, &reading).map_err(|e| of_disk(e))?;
-        let lock = take(self.rt, &mut folder).map_err(|e| of_disk(e))?;
+        let Taken {
+            mut folder,
+            reading: _reading,
+            lock,
+        } = take_at(self.rt, alloc, path)?;
         let found = scan(&mut folder, self.is_new).map_err(|e| of_disk(e))?;
         let resumed = self.resume_in(alloc, &mut folder, &found, player)?;
         self.folder = Some(folder);
@@ -311,8 +401,9 @@ impl<'a, F: Locks + Clock + Eprint + Clone + Drop> Directory<'a, F> {
         path: &str,
         player: &mut P,
     ) -> Option<Resumed>
-        ensures { IfSome result (λ at. (kept : Kept) × (played : P)
+        ensures resumed { IfSome result (λ at. (kept : Kept) × (played : P)
             × HasResumed P.plays kept player.old at played × P.readied played player.new) }
+        ensures held { IfSome result (λ at. IsHeld self.new) }
     {
         match self.try_resume(alloc, path, player) {
             Ok(resumed) => Some(resumed),
@@ -374,7 +465,11 @@ impl<'a, F: Locks + Clock + Eprint + Clone + Drop> Directory<'a, F> {
     }
 
     /// Whether the disk did what was asked. If it did not, it notes why.
-    fn did(&mut self, done: Result<(), DiskFault>) -> bool {
+    fn did(&mut self, done: Result<(), DiskFault>) -> bool
+        ensures did { result ≡ is_ok done }
+        ensures noted { IfErr done (λ why. fault_of self.new ≡ Some (JournalFault.Disk why)) }
+        ensures stays { self.new ≡ record self.old { fault = fault_of self.new } }
+    {
         match done {
             Ok(()) => true,
             Err(fault) => {
@@ -386,7 +481,9 @@ impl<'a, F: Locks + Clock + Eprint + Clone + Drop> Directory<'a, F> {
 
     /// Makes the file of a segment, or takes the one that was made ahead. The spare descriptors are given up
     /// for it, and taken again once the file before is closed.
-    pub fn begin(&mut self, segment: u64) -> bool {
+    pub fn begin(&mut self, segment: u64) -> bool
+        ensures { IsTrue result → IsAtSegment segment (current_of self.new) }
+    {
         let Some(folder) = &mut self.folder else {
             return false;
         };
@@ -394,22 +491,21 @@ impl<'a, F: Locks + Clock + Eprint + Clone + Drop> Directory<'a, F> {
         let _made = self.ahead.make(folder, &mut self.spares, segment, true);
         self.spares.give_up();
         let begun = begin_at(folder, segment, &mut self.current, self.ahead.take());
-        if begun.is_ok() {
-            fill_begun(&mut self.current, self.ahead.limit());
-            self.spares.take(folder);
-            self.counts.begin(segment);
-            self.at_first = true;
-            self.is_plain = false;
+        if let Err(fault) = begun {
+            return self.did(Err(fault));
         }
-        self.did(begun)
+        fill_begun(&mut self.current, self.ahead.limit());
+        self.spares.take(folder);
+        self.counts.begin(segment);
+        self.at_first = true;
+        self.is_plain = false;
+        true
     }
 
-    /// Appends bytes to the current file: its first line, or a commit.
-    pub fn keep(&mut self, bytes: &[u8]) -> bool {
-        let Some(current) = &mut self.current else {
-            return false;
-        };
-        let done = current.append(bytes);
+    /// Counts bytes that were appended. A first line is nobody's.
+    fn count(&mut self, bytes: &[u8])
+        ensures { current_of self.new ≡ current_of self.old }
+    {
         self.counts.keep(bytes.len());
         if !self.at_first
             && let Some(spent) = &mut self.spent
@@ -418,13 +514,29 @@ impl<'a, F: Locks + Clock + Eprint + Clone + Drop> Directory<'a, F> {
             let _counted = spent.count(self.counts.segment(), bytes);
         }
         self.at_first = false;
+    }
+
+    /// Appends bytes to the current file: its first line, or a commit.
+    pub fn keep(&mut self, bytes: &[u8]) -> bool
+        ensures { Appends bytes.now (current_of self.old) result (current_of self.new) }
+    {
+        let Some(current) = &mut self.current else {
+            return false;
+        };
+        let done = current.append(bytes);
+        self.count(bytes);
         self.did(done)
     }
 
     /// Secures the current file, if there is one, and cuts off the zeros behind its end. The one that was
     /// made ahead is removed. False if that fails.
-    pub fn secure(&mut self) -> bool {
-        let (Some(folder), Some(current)) = (&mut self.folder, &mut self.current) else {
+    pub fn secure(&mut self) -> bool
+        ensures { Secures (folder_of self.old) (current_of self.old) result (current_of self.new) }
+    {
+        let Some(folder) = &mut self.folder else {
+            return true;
+        };
+        let Some(current) = &mut self.current else {
             return true;
         };
         self.ahead
@@ -435,7 +547,9 @@ impl<'a, F: Locks + Clock + Eprint + Clone + Drop> Directory<'a, F> {
     }
 
     /// Secures the current file. Its commits since the start have notes.
-    pub fn sync(&mut self) -> bool {
+    pub fn sync(&mut self) -> bool
+        ensures { Syncs (current_of self.old) result (current_of self.new) }
+    {
         let Some(current) = &mut self.current else {
             return false;
         };
