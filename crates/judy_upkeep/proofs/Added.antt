@@ -2,7 +2,7 @@
 --     added       a record, behind a commit that was ended or not
 --     ends        a commit was ended and appended
 --     on_ok       what holds if a call did not fail
-use Rattle.std.proofs.Common.{◌≡◌, ◌⊎◌, ℕ, Bool, true, false, List, Result, Ok, Err, ◌∙◌, ap, subst, inl, inr}
+use Rattle.std.proofs.Common.{◌≡◌, ℕ, true, false, List, Result, Ok, Err, ◌∙◌, ap, subst, inl, inr}
 use Rattle.std.specs.Prelude.{OnOk, is_err}
 use Rattle.judy_disk.specs.Growth.{place_of}
 use Rattle.judy_journal.specs.Writes.{Writing, ended}

@@ -3,7 +3,7 @@
 --     gives      a speaker made its call
 --     asked      the same, by what came of it
 --     changed    the same of a call that may change an array
-use Rattle.std.proofs.Common.{◌≡◌, ◌<◌, ◌⊎◌, ℕ, List, Option, Some, Result, Ok, Err, sym, ◌∙◌, ap, subst, inl, inr, length, get_or, slice_get}
+use Rattle.std.proofs.Common.{◌≡◌, ◌<◌, ℕ, List, Some, Result, Ok, Err, sym, ◌∙◌, ap, subst, inl, length, get_or, slice_get}
 use Rattle.std.proofs.lemmas.Option.{slice_get-get_or}
 use Rattle.judy_model.specs.Reading.{request_of}
 use Rattle.judy_model.specs.Speakers.{Speaker}
@@ -12,10 +12,8 @@ use Rattle.judy_model.specs.declared.replies.Reply.{Reply}
 use Rattle.judy_model.specs.declared.requests.Line.TheVariants as request
 use Rattle.judy_protocol.specs.Services.{Made}
 use Rattle.judy_recovery.specs.declared.faults.Reason.{Reason}
-use Rattle.judy_upkeep.specs.Asking.{Alters, Finds, Gives, HasAsked, HasChanged, came_at, key_in}
-use Rattle.judy_upkeep.specs.Changes.{change_of}
+use Rattle.judy_upkeep.specs.Asking.{Gives, HasAsked, came_at, key_in}
 use Rattle.judy_upkeep.specs.declared.asking.Came.{Came}
-use Rattle.judy_upkeep.specs.declared.kinds.Change.{Change}
 
 pub spoken : {K : Type 0} (items xs : List K) (i : ℕ) (x : K) → xs ≡ items → i < length xs → x ≡ get_or xs i x → slice_get items i ≡ Some x
 spoken items xs i x same within is = subst (λ v. slice_get v i ≡ Some x) same (slice_get-get_or xs i x within ∙ ap Some (sym is))

@@ -2,18 +2,17 @@
 --     last-above-0       the last segment that is found has a number above 0
 --     compacted_ok       the files were replaced, or those of an earlier compaction removed
 --     compacted_err      a step of that failed
-use Rattle.std.proofs.Common.{◌≡◌, ◌≤◌, ◌<◌, ◌+◌, ◌-◌, ◌^◌, ℕ, Bool, true, false, List, Option, Some, None, Result, Ok, Err, refl, sym, ◌∙◌, ap, subst, inl, inr, arith}
-use Rattle.std.specs.Prelude.{nat_lt, if◌then◌else◌}
+use Rattle.std.proofs.Common.{◌≡◌, ◌≤◌, ◌<◌, ◌+◌, ◌-◌, ℕ, Bool, List, Option, Some, None, Ok, Err, sym, ◌∙◌, ap, subst, inl, inr, arith}
 use Rattle.std.proofs.lemmas.Bool.Decides.{nat_tests}
 use Rattle.judy_disk.specs.Acts.{Act as DiskAct}
 use Rattle.judy_disk.specs.Listings.{Scans, segments_in, snapshots_in, torn_among}
-use Rattle.judy_disk.specs.Scans.{ArrangesFrom, IsArranged, IsFound, IsRun, first_after, lack_in}
+use Rattle.judy_disk.specs.Scans.{ArrangesFrom, IsArranged, IsRun, first_after}
 use Rattle.judy_disk.specs.Manifests.{lack_of}
 use Rattle.judy_disk.specs.declared.faults.DiskFault.{DiskFault}
 use Rattle.judy_disk.specs.declared.manifest.Lack.{Lack}
 use Rattle.judy_disk.specs.declared.manifest.Manifest.{Manifest}
 use Rattle.judy_disk.specs.declared.scan.Found.{Found}
-use Rattle.judy_upkeep.specs.Compacting.{FailsToFinish, FailsToReplace, HasCompacted, HasFinished, IsBelow, IsUpto, seen}
+use Rattle.judy_upkeep.specs.Compacting.{FailsToFinish, FailsToReplace, HasCompacted, HasFinished, IsUpto, seen}
 use Rattle.judy_upkeep.specs.Replacing.{HasRemovedLeft, HasReplaced}
 use Rattle.judy_upkeep.specs.Steps.{Act}
 use Rattle.judy_upkeep.specs.declared.compacting.Compacted.{Compacted}

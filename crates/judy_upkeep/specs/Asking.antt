@@ -4,7 +4,7 @@
 --     Gives .. line result old new       a tenant's speaker made the call of this line, and this came of it
 --     HasAsked .. result last .. new     the same, or the call was not made
 --     HasChanged .. result old new       the same of a call that may change an array
-use Rattle.std.specs.Prelude.{◌≡◌, ◌⊎◌, ℕ, true, false, List, Option, Some, Result, Ok, Err, slice_get}
+use Rattle.std.specs.Prelude.{◌≡◌, ◌⊎◌, ℕ, true, false, List, Some, Result, Ok, Err, slice_get}
 use Rattle.judy_model.specs.Reading.{request_of}
 use Rattle.judy_model.specs.Speakers.{Speaker}
 use Rattle.judy_model.specs.declared.calls.Call.{Call}

@@ -5,13 +5,12 @@
 --     Rewrites                a record was read once more
 --     AreRewritten            records, one after another
 --     rewritten-then          records, and then more
-use Rattle.std.specs.Prelude.{◌≡◌, ◌⊎◌, ℕ, List, [], ◌∷◌, ◌++◌, Option, Some, None, Result, Ok, Err, codes}
+use Rattle.std.specs.Prelude.{◌≡◌, ◌⊎◌, ℕ, List, [], ◌∷◌, ◌++◌, Option, Some, None, Ok, codes}
 use Rattle.std.proofs.Common.{◌∙◌, subst}
 use Rattle.hex.specs.Hex.{encode_lower}
 use Rattle.judy_journal.specs.Journals.{HasNoSpace, record_of}
 use Rattle.judy_model.specs.Reading.{request_of}
 use Rattle.judy_model.specs.Speakers.{Speaker}
-use Rattle.judy_model.specs.declared.calls.BytesCall.{BytesCall}
 use Rattle.judy_model.specs.declared.calls.BytesCall.TheVariants as bytes
 use Rattle.judy_model.specs.declared.calls.Call.{Call}
 use Rattle.judy_model.specs.declared.calls.Call.TheVariants as calls
@@ -22,7 +21,7 @@ use Rattle.judy_protocol.specs.Services.{Made}
 use Rattle.judy_upkeep.specs.Asking.{Gives}
 use Rattle.judy_upkeep.specs.Lines.{insertion_text, look_text}
 use Rattle.judy_upkeep.specs.Output.{Adds}
-use Rattle.judy_upkeep.specs.Tenants.{IsAt, Names, Stands}
+use Rattle.judy_upkeep.specs.Tenants.{Names, Stands}
 use Rattle.judy_upkeep.specs.declared.asking.Came.{Came}
 use Rattle.judy_upkeep.specs.declared.asking.Came.TheVariants as what
 use Rattle.judy_upkeep.specs.declared.kinds.Array.{Array}

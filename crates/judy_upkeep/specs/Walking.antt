@@ -1,7 +1,7 @@
 -- A walk over the entries of an array in order.
 --     Takes came last key found key'    what a walk takes of what came
 --     Walks .. line .. found ..         the next entry was looked for by this line, and this was found
-use Rattle.std.specs.Prelude.{◌≡◌, ℕ, List, Option, Some, None, Result, Ok, decimal}
+use Rattle.std.specs.Prelude.{◌≡◌, ℕ, List, Option, Some, None, Ok, decimal}
 use Rattle.judy_model.specs.Speakers.{Speaker}
 use Rattle.judy_protocol.specs.Services.{Made}
 use Rattle.judy_upkeep.specs.Asking.{Finds}

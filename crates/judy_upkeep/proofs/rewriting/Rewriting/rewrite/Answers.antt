@@ -1,7 +1,6 @@
-use Rattle.std.proofs.Common.{◌≡◌, ◌∙◌, ap, codes, inl, inr, refl, subst, Some, Ok}
-use Rattle.judy_upkeep.specs.Asking.{Gives}
+use Rattle.std.proofs.Common.{◌≡◌, ◌∙◌, ap, codes, inl, inr, refl, subst, Some}
 use Rattle.judy_upkeep.specs.Lines.{look_text}
-use Rattle.judy_upkeep.specs.Rewriting.{Insertion, MovesAs, insertion_of}
+use Rattle.judy_upkeep.specs.Rewriting.{MovesAs, insertion_of}
 use Rattle.judy_upkeep.specs.declared.asking.Came.TheVariants as what
 use Rattle.judy_upkeep.proofs.Moved.{entry, given_at, inserts, map_ok, rewrites}
 use Rattle.judy_upkeep.proofs.rewriting.Rewriting.rewrite.Goals as goal
