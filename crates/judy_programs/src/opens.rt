@@ -1,5 +1,5 @@
 //! What the program needs of a service besides the serving of connections.
-ghost use Rattle.std.specs.Prelude.{◌≡◌, ◌⊎◌, ℕ, List, Option, Some, None, IfOk, IfErr, IsTrue, Ok, Err};
+ghost use Rattle.std.specs.Prelude.{◌≡◌, ◌⊎◌, ℕ, List, Option, Some, None, IfOk, IfErr, IsFalse, IsTrue, Ok, Err};
 ghost use Rattle.judy_table.specs.Tenants.{read_table};
 ghost use Rattle.judy_table.specs.declared.tenant.Tenant.{Tenant};
 ghost use Rattle.judy_programs.specs.Opening.{IsUnopened};
@@ -33,12 +33,17 @@ pub trait Opens: Served {
             × (read_table text.now ≡ Ok tenants) × is_new secret.now None tenants s) }
         ensures refused { IfErr result (λ why. IsUnopened why text.now) };
 
+    /// This many megabytes could not be taken for the arrays of this service: the machine had not that
+    /// much. It became that one.
+    ghost unreserved: { Self → ℕ → Self → Type 0 };
+
     /// Takes this many megabytes of 1,048,576 bytes for the arrays of a new service. False: out of
     /// memory.
     fn reserve(&mut self, alloc: Global, megabytes: u32) -> bool
-        ensures { IsTrue result → (secret : List ℕ) (tenants : List Tenant)
+        ensures taken { IsTrue result → (secret : List ℕ) (tenants : List Tenant)
             → is_new secret None tenants self.old
-            → is_new secret (Some megabytes) tenants self.new };
+            → is_new secret (Some megabytes) tenants self.new }
+        ensures refused { IsFalse result → unreserved self.old megabytes self.new };
 
     /// The words of all blocks of all arrays.
     fn live_words(&self) -> u64

@@ -71,6 +71,8 @@ fn take_reserve<S: Opens>(alloc: Global, service: &mut S, reserve: Option<u32>) 
     ensures taken { IsTrue result → (secret : List ℕ) (tenants : List Tenant)
         → S.is_new secret None tenants service.old → S.is_new secret reserve tenants service.new }
     ensures wanted { IsFalse result → IsSome reserve }
+    ensures refused { IsFalse result → (megabytes : ℕ) × (reserve ≡ Some megabytes)
+        × S.unreserved service.old megabytes service.new }
 {
     match reserve {
         Some(megabytes) => service.reserve(alloc, megabytes),

@@ -6,6 +6,7 @@
 --                                        few words
 --     IsNoted old who line answer new    a line and its answer were counted, and nothing else changed
 --     IsTaken reserve region room        so many megabytes were taken for the arrays, if any were
+--     IsUnreserved old megabytes new      the machine had not so many megabytes
 --     IsNewService secret reserve tenants tallied   a service of these tenants, none of whom has an
 --                                        entry, that has counted nothing
 use Rattle.std.specs.Prelude.{◌≡◌, ◌≤◌, ◌*◌, ℕ, List, Option, Some, None}
@@ -18,7 +19,7 @@ use Rattle.judy_table.specs.declared.tenant.Tenant.{Tenant}
 use Rattle.judy_table.specs.Seats.{AreRows, knows, name_at}
 use Rattle.judy_table.specs.Tenants.{login_of}
 use Rattle.judy_directory.specs.Secrets.{start_of}
-use Rattle.judy_tenants.specs.Held.{HasCause, IsSoundService, Keeps, quotas_of, states_of, words_for}
+use Rattle.judy_tenants.specs.Held.{HasCause, HasNoReserve, IsReserved, IsSoundService, Keeps, quotas_of, states_of, words_for}
 use Rattle.judy_server.specs.Tally.{Tallied, counted, no_counts}
 
 -- the visible state of the service: names and tokens are those of the table in force
@@ -61,6 +62,13 @@ IsNoted old who line answer new = new ≡ record old { tally = counted old.held.
 abbrev pub IsTaken : Option ℕ → ℕ → ℕ → Type 0
 IsTaken None region room = (region ≡ 0) × (room ≡ 256)
 IsTaken (Some megabytes) region room = (131072 * megabytes ≤ region) × (64 * megabytes ≤ room)
+
+-- The machine had no memory for so many megabytes, or for the names of so many. What was taken until then stays, and
+-- nothing else changed.
+pub record IsUnreserved (old : Tallied) (megabytes : ℕ) (new : Tallied) : Type 0 where
+  pub asked : HasNoReserve (megabytes * 131072) old.held new.held
+  pub same : IsReserved old.held new.held
+  pub counts : new.tally ≡ old.tally
 
 -- no tenant has an entry, and nothing was refused or counted
 pub record IsNewService (secret : List ℕ) (reserve : Option ℕ) (table : List Tenant) (t : Tallied) : Type 0 where

@@ -9,7 +9,7 @@ ghost use Rattle.judy_protocol.specs.Talks.{as_heard};
 ghost use Rattle.judy_programs.specs.Program.{HasRun, IsSent, MayPullScript, is_refused};
 ghost use Rattle.judy_server.specs.Limits.{IsLifted, IsLimited};
 ghost use Rattle.judy_server.specs.Reloads.{IsReload, leavers};
-ghost use Rattle.judy_server.specs.Served.{IsServedStep, IsNewService, IsNoted, seen_of, held_words};
+ghost use Rattle.judy_server.specs.Served.{IsServedStep, IsNewService, IsNoted, IsUnreserved, seen_of, held_words};
 ghost use Rattle.judy_model.specs.Stream.{lines_of};
 ghost use Rattle.judy_programs.specs.Tables.{MayPullTable};
 ghost use Rattle.judy_server.specs.Replays.{AreReplayed, AreReplayed-append, Plays, PlaysAll};
@@ -211,6 +211,8 @@ impl<H: Chosen> Shows for Server<H> {
 
 impl<H: Chosen> Opens for Server<H> {
     ghost is_new = { IsNewService };
+
+    ghost unreserved = { IsUnreserved };
 
     ghost words_in = { held_words };
 

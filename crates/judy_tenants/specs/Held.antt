@@ -262,15 +262,15 @@ pub record Keeps (event : Event) (old : Held) (reply : Reply) (new : Held) : Typ
 abbrev pub IsReserved : Held → Held → Type 0
 IsReserved old new = new ≡ record old { refusals = new.refusals; region = new.region; reserved = new.reserved; room = new.room }
 
--- the machine had no memory for a chunk, before this many words were taken; or it had none for the
--- room
+-- the machine had no memory for a chunk, before this many words were taken
 pub record HasNoChunk (words : ℕ) (old new : Held) : Type 0 where
   pub refusals : new.refusals ≡ count_up old.refusals
   pub whole : new.region % 65536 ≡ 0
   pub short : new.region < words
 
+-- it had none for a chunk; or the words were taken, and it had none for the room
 abbrev pub HasNoReserve : ℕ → Held → Held → Type 0
-HasNoReserve words old new = (HasNoChunk words old new ⊎ (new.refusals ≡ old.refusals)) × (new.room ≡ old.room)
+HasNoReserve words old new = (HasNoChunk words old new ⊎ ((new.refusals ≡ old.refusals) × (words ≤ new.region))) × (new.room ≡ old.room)
 
 -- how one call changes a service
 pub record IsCallOf (old : Held) (event : Event) (reply : Reply) (new : Held) : Type 0 where

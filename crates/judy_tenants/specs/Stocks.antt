@@ -84,13 +84,14 @@ pub record IsRefusedIn (key : List ℕ) (call : Call) (old new : Stock) : Type 0
   pub asked : IsTrue (asks_at old.arena.blocks (at old.directory.0 key).root call)
   pub cause : IsShortIn old new ⊎ IsUnplacedIn key old new
 
--- the machine had no memory for a chunk, before this many words were taken; or it had none for the
--- room
+-- the machine had no memory for a chunk, before this many words were taken
 pub record HasNoChunkIn (words : ℕ) (old new : Stock) : Type 0 where
   pub refusals : new.arena.refusals ≡ count_up old.arena.refusals
   pub whole : new.arena.region % 65536 ≡ 0
   pub short : new.arena.region < words
 
+-- it had none for a chunk; or the words were taken, and it had none for the room
 abbrev pub HasNoReserveIn : ℕ → Stock → Stock → Type 0
 HasNoReserveIn words old new =
-    (HasNoChunkIn words old new ⊎ (new.arena.refusals ≡ old.arena.refusals)) × (new.directory.1.room ≡ old.directory.1.room)
+    (HasNoChunkIn words old new ⊎ ((new.arena.refusals ≡ old.arena.refusals) × (words ≤ new.arena.region)))
+    × (new.directory.1.room ≡ old.directory.1.room)
