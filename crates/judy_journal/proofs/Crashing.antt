@@ -9,11 +9,11 @@ use Rattle.judy_journal.specs.Acts.{DiskAct, Began, Kept, Synced, File, Left, Ph
 use Rattle.judy_journal.specs.Crashes.{FoundAll, IsHeadless, JournalIsExact}
 use Rattle.judy_journal.specs.Disks.{MayLeave}
 use Rattle.judy_journal.specs.Journals.{Commit, AreCommits, commits_lines, header, is_commit, is_line, joined, journal_text, sum_after, sum_at}
-use Rattle.judy_journal.specs.Recoveries.{Found}
+use Rattle.judy_journal.specs.Recoveries.{Found, IsTold}
 use Rattle.judy_journal.specs.Writes.{commit_text, header_text}
 use Rattle.judy_journal.proofs.Fronts.{sum_at-append}
 use Rattle.judy_journal.proofs.Lines.{both, sum-line}
-use Rattle.judy_journal.proofs.Recovering.{recovery, text-append}
+use Rattle.judy_journal.proofs.Recovering.{IsFrontWith, front-recovery, recovery, text-append}
 
 -- ---- lists
 
@@ -47,8 +47,13 @@ text_and number sum commits tail = append_assoc (header number sum) (10 ∷ join
 
 -- ---- what a crash leaves of a file that is synced
 
-all_of : (f : File) (bytes : List ℕ) → f.unsynced ≡ [] → MayLeave f.synced (written f) bytes → bytes ≡ written f
-all_of f bytes none (after, gone, file_is, whole) =
+-- it is whole, and nothing but what was written is found in it
+all_of : (f : File) (sum bytes : List ℕ) (here : List Commit) → IsTrue (is_line sum) → f.unsynced ≡ [] → MayLeave f.synced bytes
+    → IsTold f.number (written f) bytes → Found f.number sum bytes here [] → bytes ≡ written f
+all_of f sum bytes here line none (after, file_is) told found =
+    let (gone, begins) = told sum here [] line found in
+    let whole : bytes ++ gone ≡ written f =
+    ap (λ v. v ++ gone) (found.text_is ∙ append-nil (journal_text f.number sum here)) ∙ begins in
     let left : after ++ gone ≡ f.unsynced = append_cancel_left f.synced (after ++ gone) f.unsynced
     (sym (append_assoc f.synced after gone) ∙ ap (λ v. v ++ gone) (sym file_is) ∙ whole) in
     file_is ∙ ap (λ v. f.synced ++ v) (no_front after gone (left ∙ none) ∙ sym none)
@@ -57,13 +62,13 @@ all_of f bytes none (after, gone, file_is, whole) =
 pub same_commits : (number : ℕ) (sum bytes : List ℕ) (there here : List Commit) → number < 2 ^ 64 → IsTrue (is_line sum) → AreCommits there
     → bytes ≡ journal_text number sum there → Found number sum bytes here [] → here ≡ there
 same_commits number sum bytes there here small line are is found =
-    let may : MayLeave (journal_text number sum there) (journal_text number sum (there ++ [])) bytes = (
+    let may : IsFrontWith (journal_text number sum there) (journal_text number sum (there ++ [])) bytes = (
       [],
       [],
       is ∙ sym (append-nil (journal_text number sum there)),
       append-nil bytes ∙ is ∙ ap (journal_text number sum) (sym (append-nil there)),
     ) in
-    let (taken, lost, all, found_is) = recovery number sum there [] bytes small line (subst AreCommits (sym (append-nil there)) are) may here [] found in
+    let (taken, lost, all, found_is) = front-recovery number sum there [] bytes small line (subst AreCommits (sym (append-nil there)) are) may here [] found in
     found_is ∙ ap (λ v. there ++ v) (no_front taken lost all) ∙ append-nil there
 
 -- ---- the current file
@@ -84,11 +89,15 @@ pub record IsCurrent (first : List ℕ) (there : List Commit) (f : File) (j : Jo
 
 -- what is found at the end
 at_end : (first : List ℕ) (there : List Commit) (f : File) (j : Journal) (bytes : List ℕ) (found : List Commit) (tail : List ℕ)
-    → j.segment < 2 ^ 64 → IsTrue (is_line first) → IsCurrent first there f j → MayLeave f.synced (written f) bytes
-    → Found j.segment first bytes found tail ⊎ IsHeadless bytes found tail
+    → j.segment < 2 ^ 64 → IsTrue (is_line first) → IsCurrent first there f j → MayLeave f.synced bytes
+    → IsTold f.number (written f) bytes → Found j.segment first bytes found tail ⊎ IsHeadless bytes found tail
     → (taken : List Commit) × (lost : List Commit) × (taken ++ lost ≡ j.more) × (found ≡ there ++ taken)
-at_end first there f j bytes found tail small line h (after, gone, file_is, whole) is = by j.phase h.text is
+at_end first there f j bytes found tail small line h (after, file_is) told is = by j.phase h.text is
   where
+    -- what is found in it was written to it
+    told_of : (text : List ℕ) → written f ≡ text → IsTold j.segment text bytes
+    told_of text t = subst (λ v. IsTold v text bytes) h.number_is (subst (λ v. IsTold f.number v bytes) t told)
+
     none : there ≡ [] → found ≡ [] → (taken : List Commit) × (lost : List Commit) × (taken ++ lost ≡ j.more) × (found ≡ there ++ taken)
     none e none_found = ([], j.more, refl, none_found ∙ sym e ∙ sym (append-nil there))
 
@@ -96,10 +105,11 @@ at_end first there f j bytes found tail small line h (after, gone, file_is, whol
         → (taken : List Commit) × (lost : List Commit) × (taken ++ lost ≡ j.more) × (found ≡ there ++ taken)
     by Absent t k = absurd t
     by Bare t (inr k) = none t.1 k.none
-    by Bare t (inl k) = never_empty (header j.segment first) 10 (joined (commits_lines first found) ++ tail)
-        (sym (k.text_is ∙ text_and j.segment first found tail) ∙ no_front bytes gone (whole ∙ t.0))
+    by Bare t (inl k) =
+        let (lost, whole) = told_of [] t.0 first found tail line k in
+        never_empty (header j.segment first) 10 (joined (commits_lines first found) ++ lost) (sym (text_and j.segment first found lost) ∙ whole)
     by Headed (t, inl s) (inl k) = recovery j.segment first there j.more bytes small line h.commits_are
-        (after, gone, file_is ∙ ap (λ v. v ++ after) s, whole ∙ t) found tail k
+        (after, file_is ∙ ap (λ v. v ++ after) s) (told_of (journal_text j.segment first (there ++ j.more)) t) found tail k
     by Headed (t, inl s) (inr k) = no_line (header j.segment first) (joined (commits_lines first there) ++ after)
         (subst (λ v. IsTrue (is_line v)) (file_is ∙ ap (λ v. v ++ after) s ∙ text_and j.segment first there after) k.line)
     by Headed (t, inr s) (inr k) = none s.1 k.none
@@ -109,7 +119,8 @@ at_end first there f j bytes found tail small line h (after, gone, file_is, whol
         k.text_is ∙ ap (λ v. v ++ tail) (text-append j.segment first [] found)
         ∙ append_assoc (journal_text j.segment first []) (joined (commits_lines first found)) tail
         ∙ ap (λ cs. journal_text j.segment first cs ++ more) (sym s.1) in
-        recovery j.segment first there j.more bytes small line h.commits_are (more, gone, begins, whole ∙ t) found tail k
+        recovery j.segment first there j.more bytes small line h.commits_are (more, begins)
+        (told_of (journal_text j.segment first (there ++ j.more)) t) found tail k
 
 -- ---- after more acts
 
@@ -232,10 +243,10 @@ pub from_file : (k : ℕ) (first : List ℕ) (prior there : List Commit) (f : Fi
     (found : List Commit) (tail : List ℕ) → j.segment ≡ k + 1 → last.segment < 2 ^ 64 → IsTrue (is_line first) → IsCurrent first there f j
     → j.kept ≡ prior ++ there → IsWriting j acts last → MayLeaveAll (files_after f acts) left → FoundAll k first left found tail → Exact prior last found
 from_file k first prior there f j [] last [] found tail n small line h kept w may is = absurd may
-from_file k first prior there f j [] last (l ∷ m ∷ left) found tail n small line h kept w may is = absurd may.2
+from_file k first prior there f j [] last (l ∷ m ∷ left) found tail n small line h kept w may is = absurd may.3
 from_file k first prior there f j [] last (l ∷ []) found tail n small line h kept w may is =
     let here = subst (λ v. Found v first l.bytes found tail ⊎ IsHeadless l.bytes found tail) (sym n) is.1 in
-    let (taken, lost, all, found_is) = at_end first there f j l.bytes found tail (subst (λ v. v < 2 ^ 64) (ap (λ v. v.segment) w) small) line h may.1 here in
+    let (taken, lost, all, found_is) = at_end first there f j l.bytes found tail (subst (λ v. v < 2 ^ 64) (ap (λ v. v.segment) w) small) line h may.1 may.2 here in
     record {
       since = there;
       taken = taken;
@@ -245,21 +256,22 @@ from_file k first prior there f j [] last (l ∷ []) found tail n small line h k
       found_is = found_is;
     }
 from_file k first prior there f j (Began number ∷ acts) last [] found tail n small line h kept w may is = absurd may
-from_file k first prior there f j (Began number ∷ acts) last (l ∷ []) found tail n small line h kept w may is = some_left (empty_file number) acts may.2
+from_file k first prior there f j (Began number ∷ acts) last (l ∷ []) found tail n small line h kept w may is = some_left (empty_file number) acts may.3
 from_file k first prior there f j (Began number ∷ acts) last (l ∷ m ∷ left) found tail n small line h kept (after, b, rest) may (here, later, joins, at, whole, others) =
     let (synced, none) = h.clean b.clean in
     let no_more : there ++ j.more ≡ there = ap (λ v. there ++ v) none ∙ append-nil there in
     let text : written f ≡ journal_text j.segment first (there ++ j.more) = by j.phase b.done h.text in
     let same : here ≡ there = same_commits j.segment first l.bytes there here
     (omega (arith, small, rises after acts last rest, ap (λ v. v.segment) b.now, b.number_is)) line (subst AreCommits no_more h.commits_are)
-    (all_of f l.bytes synced may.1 ∙ text ∙ ap (journal_text j.segment first) no_more)
+    (all_of f first l.bytes here line synced may.1 may.2 (subst (λ v. Found v first l.bytes here []) (sym (h.number_is ∙ n)) whole)
+    ∙ text ∙ ap (journal_text j.segment first) no_more)
     (subst (λ v. Found v first l.bytes here []) (sym n) whole) in
     before prior there here last found later same joins
     (from_file (k + 1) (sum_at first there) (prior ++ there) [] (empty_file number) (record j { segment = number; phase = Bare }) acts last (m ∷ left) later tail
     (b.number_is ∙ ap (λ v. v + 1) n) small (sum_at-line first there line)
     (fresh (sum_at first there) number j (h.sum_is ∙ ap (sum_at first) no_more) none)
     (kept ∙ sym (append-nil (prior ++ there)))
-    (subst (λ v. IsWriting v acts last) b.now rest) may.2
+    (subst (λ v. IsWriting v acts last) b.now rest) may.3
     (subst (λ v. FoundAll (k + 1) (sum_at first v) (m ∷ left) later tail) same others))
   where
     by : (p : Phase) → (p ≡ Absent) ⊎ (p ≡ Headed) → IsText p first there f j → written f ≡ journal_text j.segment first (there ++ j.more)
@@ -361,11 +373,12 @@ from_disk k sum prior (f ∷ []) commits j acts last left found tail small line 
     })
     (s.kept_is ∙ ap (λ v. prior ++ v) all) w may is
 from_disk k sum prior (f ∷ g ∷ files) commits j acts last [] found tail small line whole s w may is = absurd may
-from_disk k sum prior (f ∷ g ∷ files) commits j acts last (l ∷ []) found tail small line whole s w may is = some_disk g files acts may.2
+from_disk k sum prior (f ∷ g ∷ files) commits j acts last (l ∷ []) found tail small line whole s w may is = some_disk g files acts may.3
 from_disk k sum prior (f ∷ g ∷ files) commits j acts last (l ∷ m ∷ left) found tail small line (there, after, all, one, others) s w may (here, later, joins, at, whole, rest) =
     let same : here ≡ there = same_commits (k + 1) sum l.bytes there here
     (omega (arith, small, rises j acts last w, s.segment_is)) line one.commits_are
-    (all_of f l.bytes one.unsynced_is may.1 ∙ ap (λ v. f.synced ++ v) one.unsynced_is ∙ append-nil f.synced ∙ one.synced_is) whole in
+    (all_of f sum l.bytes here line one.unsynced_is may.1 may.2 (subst (λ v. Found v sum l.bytes here []) (sym one.number_is) whole)
+    ∙ ap (λ v. f.synced ++ v) one.unsynced_is ∙ append-nil f.synced ∙ one.synced_is) whole in
     before prior there here last found later same joins
     (from_disk (k + 1) (sum_at sum there) (prior ++ there) (g ∷ files) after j acts last (m ∷ left) later tail small (sum_at-line sum there line) others
     (record {
@@ -376,7 +389,7 @@ from_disk k sum prior (f ∷ g ∷ files) commits j acts last (l ∷ m ∷ left)
       kept_is = s.kept_is ∙ ap (λ v. prior ++ v) all ∙ sym (append_assoc prior there after);
       none = s.none;
     })
-    w may.2 (subst (λ v. FoundAll (k + 1) (sum_at sum v) (m ∷ left) later tail) same rest))
+    w may.3 (subst (λ v. FoundAll (k + 1) (sum_at sum v) (m ∷ left) later tail) same rest))
 
 pub journal_exact : JournalIsExact
 journal_exact segment sum files commits acts last left small line whole w may found tail is =

@@ -1,13 +1,19 @@
--- After a crash exactly the front of the commits is found, and no damage.
-use Rattle.std.proofs.Common.{◌≡◌, ℕ, ◌<◌, ◌^◌, List, [], ◌∷◌, ◌++◌, sym, ◌∙◌, ap, subst, refl, append_assoc, append-nil}
-use Rattle.std.specs.Prelude.{IsTrue}
+-- After a crash exactly the front of the commits is found.
+--     front-may-be-left   a front of what was written, which has all that was synced, may be left
+--     front-recovery      what is found in such a front
+--     unended-is-told     bytes without an end of a commit are told without their checksums
+--     recovery            what is found in any file that a crash may leave
+use Rattle.std.proofs.Common.{◌≡◌, ◌⊎◌, inl, inr, ℕ, ◌<◌, ◌^◌, List, [], ◌∷◌, ◌++◌, sym, ◌∙◌, ap, subst, refl, append_assoc, append-nil}
+use Rattle.std.specs.Prelude.{IsTrue, codes, decimal}
 use Rattle.std.specs.List.{list_all}
-use Rattle.std.proofs.lemmas.List.{append_cancel_left, length-append}
+use Rattle.std.proofs.lemmas.List.{append_cancel_left}
+use Rattle.std.proofs.lemmas.List.Folds.{list_all-append}
 use Rattle.judy_model.specs.Stream.{lines_of, rest_of}
 use Rattle.judy_model.proofs.lemmas.LineLemmas.{lines_of-append}
 use Rattle.judy_model.proofs.lemmas.TestLemmas.{and_left, and_right}
-use Rattle.judy_journal.specs.Journals.{Commit, AreCommits, joined, is_line, is_commit, header, commits_lines, journal_text, sum_at}
-use Rattle.judy_journal.specs.Recoveries.{RecoveryIsExact}
+use Rattle.judy_journal.specs.Disks.{MayLeave}
+use Rattle.judy_journal.specs.Journals.{Commit, AreCommits, joined, is_line, is_commit, is_record, header, numbered, commits_lines, journal_text, sum_at}
+use Rattle.judy_journal.specs.Recoveries.{Found, IsTold, IsUnended, RecoveryIsExact}
 use Rattle.judy_journal.proofs.Lines.{both, joined-append, lines_of-joined, header-line}
 use Rattle.judy_journal.proofs.Fronts.{cut, commits_are_lines, commits_lines-append, one_reading}
 
@@ -37,8 +43,28 @@ are_last (c ∷ a) b h = are_last a b (and_right (is_commit c) (list_all is_comm
 tail_of : {A : Type 0} (x y : A) (xs ys : List A) → x ∷ xs ≡ y ∷ ys → xs ≡ ys
 tail_of x y xs ys e = cc
 
-pub recovery : RecoveryIsExact
-recovery segment sum kept more file h s are (after, gone, file_is, whole) found tail f =
+-- ---- of a front of what was written
+
+-- the file is a front of what was written, and has all that was synced
+abbrev pub IsFrontWith : List ℕ → List ℕ → List ℕ → Type 0
+IsFrontWith synced written file = (more : List ℕ) × (lost : List ℕ) × (file ≡ synced ++ more) × (file ++ lost ≡ written)
+
+-- Such a file may be left. So what is proved of all files holds of a disk that keeps the order of what was written.
+pub front-may-be-left : (segment : ℕ) (synced written file : List ℕ) → IsFrontWith synced written file → MayLeave synced file × IsTold segment written file
+front-may-be-left segment synced written file (more, lost, file_is, whole) = (
+  (more, file_is),
+  λ sum commits tail line found. (
+    tail ++ lost,
+    sym (append_assoc (journal_text segment sum commits) tail lost) ∙ ap (λ v. v ++ lost) (sym found.text_is) ∙ whole,
+  ),
+)
+
+pub front-recovery : (segment : ℕ) (sum : List ℕ) (kept more : List Commit) (file : List ℕ)
+    → segment < 2 ^ 64 → IsTrue (is_line sum) → AreCommits (kept ++ more)
+    → IsFrontWith (journal_text segment sum kept) (journal_text segment sum (kept ++ more)) file
+    → (found : List Commit) (tail : List ℕ) → Found segment sum file found tail
+    → (taken : List Commit) × (lost : List Commit) × (taken ++ lost ≡ more) × (found ≡ kept ++ taken)
+front-recovery segment sum kept more file h s are (after, gone, file_is, whole) found tail f =
     let first = are_first kept more are in
     let last = are_last kept more are in
     let left : after ++ gone ≡ joined (commits_lines (sum_at sum kept) more) =
@@ -62,4 +88,96 @@ recovery segment sum kept more file h s are (after, gone, file_is, whole) found 
     (k.taken, k.lost, k.all, one_reading sum found (kept ++ k.taken) (lines_of tail) k.records f.commits_are some f.unended k.records_are both_ways)
   where
     lines-append-commits : (a b : List Commit) → AreCommits a → AreCommits b → AreCommits (a ++ b)
-    lines-append-commits a b x y = subst IsTrue (sym (Rattle.std.proofs.lemmas.List.Folds.list_all-append is_commit a b)) (both (list_all is_commit a) (list_all is_commit b) x y)
+    lines-append-commits a b x y = subst IsTrue (sym (list_all-append is_commit a b)) (both (list_all is_commit a) (list_all is_commit b) x y)
+
+-- ---- of any file that a crash may leave
+
+-- two first lines of one segment are equal only with the same checksum
+same_sum : (segment : ℕ) (a b : List ℕ) → header segment a ≡ header segment b → a ≡ b
+unfolding numbered
+same_sum segment a b e =
+    let rest : decimal segment ++ 32 ∷ a ≡ decimal segment ++ 32 ∷ b =
+    append_cancel_left (codes "judyd journal 1 ") (decimal segment ++ 32 ∷ a) (decimal segment ++ 32 ∷ b) e in
+    tail_of 32 32 a b (append_cancel_left (decimal segment) (32 ∷ a) (32 ∷ b) rest)
+
+head_of : {A : Type 0} (x y : A) (xs ys : List A) → x ∷ xs ≡ y ∷ ys → x ≡ y
+head_of x y xs ys e = cc
+
+-- Behind what was synced any bytes of which no line ends a commit are told, whatever the checksums are.
+pub unended-is-told : (segment : ℕ) (sum : List ℕ) (kept more : List Commit) (junk : List ℕ)
+    → segment < 2 ^ 64 → IsTrue (is_line sum) → AreCommits kept → IsUnended junk
+    → IsTold segment (journal_text segment sum (kept ++ more)) (journal_text segment sum kept ++ junk)
+unended-is-told segment sum kept more junk h s are none first found tail line f =
+    let lines : header segment first ∷ (commits_lines first found ++ lines_of tail) ≡ header segment sum ∷ (commits_lines sum kept ++ lines_of junk) =
+    sym (text_lines segment first found tail h line f.commits_are) ∙ ap lines_of (sym f.text_is) ∙ text_lines segment sum kept junk h s are in
+    let same : first ≡ sum =
+    same_sum segment first sum
+    (head_of (header segment first) (header segment sum) (commits_lines first found ++ lines_of tail) (commits_lines sum kept ++ lines_of junk) lines) in
+    let rest : commits_lines sum found ++ lines_of tail ≡ commits_lines sum kept ++ lines_of junk =
+    ap (λ v. commits_lines v found ++ lines_of tail) (sym same)
+    ∙ tail_of (header segment first) (header segment sum) (commits_lines first found ++ lines_of tail) (commits_lines sum kept ++ lines_of junk) lines in
+    let all : found ≡ kept = one_reading sum found kept (lines_of tail) (lines_of junk) f.commits_are are f.unended none rest in
+    let others : List ℕ = joined (commits_lines (sum_at sum kept) more) in (
+      others,
+      ap (λ v. journal_text segment v found ++ others) same ∙ ap (λ v. journal_text segment sum v ++ others) all ∙ sym (text-append segment sum kept more),
+    )
+
+-- of two fronts of a text one is a front of the other
+fronts : (a b x y : List ℕ) → a ++ x ≡ b ++ y → ((more : List ℕ) × (a ≡ b ++ more)) ⊎ ((more : List ℕ) × (b ≡ a ++ more))
+fronts a [] x y e = inl (a, refl)
+fronts [] (c ∷ b) x y e = inr (c ∷ b, refl)
+fronts (d ∷ a) (c ∷ b) x y e =
+    let same : d ≡ c = cc in
+    let rest : a ++ x ≡ b ++ y = cc in
+    by same (fronts a b x y rest)
+  where
+    by : d ≡ c → ((more : List ℕ) × (a ≡ b ++ more)) ⊎ ((more : List ℕ) × (b ≡ a ++ more))
+        → ((more : List ℕ) × (d ∷ a ≡ c ∷ b ++ more)) ⊎ ((more : List ℕ) × (c ∷ b ≡ d ∷ a ++ more))
+    by same (inl (more, is)) = inl (more, ap (λ v. d ∷ v) is ∙ ap (λ v. v ∷ b ++ more) same)
+    by same (inr (more, is)) = inr (more, ap (λ v. c ∷ v) is ∙ ap (λ v. v ∷ a ++ more) (sym same))
+
+-- no line of a front ends a commit, if none of all bytes does
+unended-front : (bytes more : List ℕ) → IsUnended (bytes ++ more) → IsUnended bytes
+unended-front bytes more h =
+    let later : List (List ℕ) = lines_of (rest_of bytes ++ more) in
+    let both_of : IsTrue (list_all is_record (lines_of bytes ++ later)) = subst (λ v. IsTrue (list_all is_record v)) (lines_of-append bytes more) h in
+    and_left (list_all is_record (lines_of bytes)) (list_all is_record later)
+    (subst IsTrue (list_all-append is_record (lines_of bytes) later) both_of)
+
+-- The commits that are found are also found in a front of what was written: in their own text, or in all that was synced.
+pub recovery : RecoveryIsExact
+recovery segment sum kept more file h s are (after, file_is) told found tail f = by (told sum found tail s f)
+  where
+    synced : List ℕ
+    synced = journal_text segment sum kept
+
+    text : List ℕ
+    text = journal_text segment sum found
+
+    others : List ℕ
+    others = joined (commits_lines (sum_at sum kept) more)
+
+    written_is : journal_text segment sum (kept ++ more) ≡ synced ++ others
+    written_is = text-append segment sum kept more
+
+    Goal : Type 0
+    Goal = (taken : List Commit) × (lost : List Commit) × (taken ++ lost ≡ more) × (found ≡ kept ++ taken)
+
+    in_text : (lost x : List ℕ) → text ++ lost ≡ journal_text segment sum (kept ++ more) → text ≡ synced ++ x → Goal
+    in_text lost x whole is =
+        front-recovery segment sum kept more text h s are (x, lost, is, whole) found []
+        (record { text_is = sym (append-nil text); commits_are = f.commits_are; unended = refl })
+
+    in_synced : (x : List ℕ) → synced ≡ text ++ x → Goal
+    in_synced x is =
+        let tail_is : tail ≡ x ++ after =
+        append_cancel_left text tail (x ++ after) (sym f.text_is ∙ file_is ∙ ap (λ v. v ++ after) is ∙ append_assoc text x after) in
+        front-recovery segment sum kept more synced h s are ([], others, sym (append-nil synced), sym written_is) found x
+        (record { text_is = is; commits_are = f.commits_are; unended = unended-front x after (subst IsUnended tail_is f.unended) })
+
+    by : (lost : List ℕ) × (text ++ lost ≡ journal_text segment sum (kept ++ more)) → Goal
+    by (lost, whole) = which (fronts text synced lost others (whole ∙ written_is))
+      where
+        which : ((x : List ℕ) × (text ≡ synced ++ x)) ⊎ ((x : List ℕ) × (synced ≡ text ++ x)) → Goal
+        which (inl (x, is)) = in_text lost x whole is
+        which (inr (x, is)) = in_synced x is

@@ -6,6 +6,7 @@
 use Rattle.std.specs.Prelude.{◌≡◌, ◌⊎◌, ℕ, Bool, true, false, List, [], ◌∷◌, ◌++◌, ◌+◌, length, IsTrue}
 use Rattle.judy_journal.specs.Disks.{MayLeave}
 use Rattle.judy_journal.specs.Journals.{Commit, is_commit, journal_text, sum_after, sum_at}
+use Rattle.judy_journal.specs.Recoveries.{IsTold}
 use Rattle.judy_journal.specs.Writes.{commit_text, header_text}
 
 -- the file of this segment was made, empty, and its directory synced; these bytes were put at the end
@@ -46,12 +47,13 @@ pub record Left : Type 0 where
   pub number : ℕ
   pub bytes : List ℕ
 
--- a crash leaves each file, with any front of it that has at least what was synced
+-- A crash leaves each file, with all of its synced bytes and any behind them. What is found in it was written to it.
 abbrev pub MayLeaveAll : List File → List Left → Type 0
 MayLeaveAll [] [] = Unit {0}
 MayLeaveAll [] (l ∷ left) = ⊥
 MayLeaveAll (f ∷ files) [] = ⊥
-MayLeaveAll (f ∷ files) (l ∷ left) = (l.number ≡ f.number) × MayLeave f.synced (written f) l.bytes × MayLeaveAll files left
+MayLeaveAll (f ∷ files) (l ∷ left) =
+    (l.number ≡ f.number) × MayLeave f.synced l.bytes × IsTold f.number (written f) l.bytes × MayLeaveAll files left
 
 -- the current file: there is none yet, it is empty, or it has its first line
 pub data Phase : Type 0 where

@@ -1,7 +1,7 @@
 -- What a disk keeps of a file.
---     MayLeave synced written file   a crash at this moment may leave this file
+--     MayLeave synced file   a crash may leave this file, where so much was synced
 use Rattle.std.specs.Prelude.{◌≡◌, ℕ, List, ◌++◌}
 
--- a crash may leave any front of what was written that has at least what was synced
-abbrev pub MayLeave : List ℕ → List ℕ → List ℕ → Type 0
-MayLeave synced written file = (more : List ℕ) × (lost : List ℕ) × (file ≡ synced ++ more) × (file ++ lost ≡ written)
+-- A crash leaves all that was synced, and any bytes behind it: what was written since, a part of it, zeros, others.
+abbrev pub MayLeave : List ℕ → List ℕ → Type 0
+MayLeave synced file = (more : List ℕ) × (file ≡ synced ++ more)

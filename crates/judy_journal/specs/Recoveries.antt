@@ -1,8 +1,9 @@
 -- What is read of a journal's text.
 --     Found segment sum text commits tail     these commits are whole, and this comes after them
+--     IsTold segment written file             whatever is found in the file was written to it
 --     IsDamaged damage segment sum text       the text is damaged
 --     RecoveryIsExact                         after a crash: the synced commits and the first of the others
---     CrashesKeepMarks                        a crash alone leaves no other header and no other mark
+--     CrashesKeepMarks                        a front of what was written has no other header and no other mark
 use Rattle.std.specs.Prelude.{◌≡◌, ◌≢◌, ◌⊎◌, ℕ, ◌<◌, ◌≤◌, ◌^◌, true, List, [], ◌∷◌, ◌++◌, length, IsTrue}
 use Rattle.std.specs.List.{list_all}
 use Rattle.judy_model.specs.Stream.{lines_of}
@@ -22,6 +23,12 @@ pub record Found (segment : ℕ) (sum text : List ℕ) (commits : List Commit) (
   pub text_is : text ≡ journal_text segment sum commits ++ tail
   pub commits_are : AreCommits commits
   pub unended : IsUnended tail
+
+-- Whatever is found in this file was written to it: its text begins all that was written. Checksums tell all other
+-- bytes.
+abbrev pub IsTold : ℕ → List ℕ → List ℕ → Type 0
+IsTold segment written file = (sum : List ℕ) (commits : List Commit) (tail : List ℕ) → IsTrue (is_line sum)
+    → Found segment sum file commits tail → (lost : List ℕ) × (journal_text segment sum commits ++ lost ≡ written)
 
 -- the first line is not the header
 pub record HasOtherHeader (segment : ℕ) (sum text : List ℕ) : Type 0 where
@@ -84,11 +91,11 @@ IsDamaged damage.Size segment sum text = 2 ^ 64 ≤ length text
 abbrev pub RecoveryIsExact : Type 0
 RecoveryIsExact = (segment : ℕ) (sum : List ℕ) (kept more : List Commit) (file : List ℕ)
     → segment < 2 ^ 64 → IsTrue (is_line sum) → AreCommits (kept ++ more)
-    → MayLeave (journal_text segment sum kept) (journal_text segment sum (kept ++ more)) file
+    → MayLeave (journal_text segment sum kept) file → IsTold segment (journal_text segment sum (kept ++ more)) file
     → (found : List Commit) (tail : List ℕ) → Found segment sum file found tail
     → (taken : List Commit) × (lost : List Commit) × (taken ++ lost ≡ more) × (found ≡ kept ++ taken)
 
--- after a crash no header and no mark is told as another one
+-- in a front of what was written no header and no mark is told as another one
 abbrev pub CrashesKeepMarks : Type 0
 CrashesKeepMarks = (segment : ℕ) (sum : List ℕ) (commits : List Commit) (file lost : List ℕ)
     → segment < 2 ^ 64 → IsTrue (is_line sum) → AreCommits commits → file ++ lost ≡ journal_text segment sum commits

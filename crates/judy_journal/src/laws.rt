@@ -5,7 +5,8 @@ ghost use Rattle.judy_journal.specs.Recovered.{RecoveredIsWhole, RecoveryIsFound
 ghost use Rattle.judy_journal.specs.Recoveries.{CrashesKeepMarks, RecoveryIsExact};
 
 /// After a crash, recovery finds the commits that were synced and the first of those that were
-/// written after them, with all their records, in their order. Nothing else is found.
+/// written after them, with all their records, in their order. Nothing else is found, whatever bytes
+/// are behind what was synced, if the checksums tell what was not written.
 pub fn recovery_is_exact()
     ensures { RecoveryIsExact }
 {}
@@ -16,14 +17,14 @@ pub fn what_is_read_is_found()
     ensures { ReadingIsFound }
 {}
 
-/// A crash alone is never told as another header or another mark.
+/// A front of what was written is never told as another header or another mark.
 pub fn crashes_keep_marks()
     ensures { CrashesKeepMarks }
 {}
 
 /// Over all segments: after a crash, recovery finds the commits that were there when the writer
 /// began, those that were synced since, and the first of the others, with all their records, in
-/// their order. Nothing else is found.
+/// their order. Nothing else is found, under the same premise.
 pub fn journal_is_exact()
     ensures { JournalIsExact }
 {}

@@ -90,8 +90,8 @@ pub record HasResumed (s : Stock) (w : Writing) (service : Tallied) : Type 0 whe
   pub none : w.records ≡ []
   pub started : HasBegunWith (records_with s s.commits) service
 
--- The machine crashed after this story. These files are left, and these commits are found in them. This
--- service has begun with all records.
+-- The machine crashed after this story. These files are left, with all that was synced and any bytes behind it, and
+-- these commits are found in them: the checksums tell what was not written. This service has begun with all records.
 pub record HasCrashed (s : Stock) (j : Journal) (story : Story) (restored : Tallied) : Type 0 where
   pub few : (journal_since j story).segment < 2 ^ 64
   pub left : List Left
