@@ -1,5 +1,5 @@
 //! The clients in their slots.
-ghost use Rattle.std.specs.Prelude.{◌≡◌, ◌≢◌, ◌<◌, ◌≤◌, ℕ, true, false, None, IfOk, IfSome, length, slice_index_or, vec_len};
+ghost use Rattle.std.specs.Prelude.{◌≡◌, ◌≢◌, ◌<◌, ◌≤◌, ℕ, min, true, false, None, IfOk, IfSome, length, slice_index_or, vec_len};
 ghost use Rattle.judy_many.specs.Crowds.{AreFree};
 ghost use Rattle.judy_many.specs.Deciding.{freed, is_paused as is_paused_lem, may_accept as may_accept_lem, woken};
 ghost use Rattle.judy_many.specs.Queues.{awake_in};
@@ -91,6 +91,7 @@ impl<S: Served, N: Network> Clients<S, N> {
     /// This many free slots, at most `CLIENTS_LIMIT`.
     pub fn new(alloc: Global, clients: u32) -> Result<Clients<S, N>, AllocError>
         ensures free { IfOk result (λ c. AreFree c.slots.items) }
+        ensures all { IfOk result (λ c. length c.slots.items ≡ min clients CLIENTS_LIMIT) }
         ensures many { IfOk result (λ c. length c.slots.items ≤ clients) }
         ensures small { IfOk result (λ c. length c.slots.items ≤ CLIENTS_LIMIT) }
         ensures count { IfOk result (λ c. c.accepted ≡ 0) }

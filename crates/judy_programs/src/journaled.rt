@@ -140,7 +140,8 @@ pub fn host_journaled<S: Opens + Shows + Replays + Drop, H: Journals>(
     ensures { HostsJournaled (rules_of S.made S.seen S.noted S.status S.changed S.caps S.leavers)
         (replay_of S.lifted S.replayed S.limited)
         (H.may_have directory.now) (S.is_new secret.now) reserve result config.now socket.now
-        (desks_at (option_map (λ s. s.now) status.entry) (option_map (λ s. s.now) control.entry)) limits (H.log system.old) (H.log system.new) }
+        (desks_at (option_map (λ s. s.now) status.entry) (option_map (λ s. s.now) control.entry))
+        limits (H.log system.old) (H.log system.new) }
 {
     let begun: Result<S, Hosted> = begin_on(alloc, secret, system, config, reserve);
     let service = match begun {

@@ -33,8 +33,8 @@ pub trait Opens: Served {
             × (read_table text.now ≡ Ok tenants) × is_new secret.now None tenants s) }
         ensures refused { IfErr result (λ why. IsUnopened why text.now) };
 
-    /// This many megabytes could not be taken for the arrays of this service: the machine had not that
-    /// much. It became that one.
+    /// This many megabytes could not be taken for the arrays of this service: the machine did not have
+    /// that much. It became that one.
     ghost unreserved: { Self → ℕ → Self → Type 0 };
 
     /// Takes this many megabytes of 1,048,576 bytes for the arrays of a new service. False: out of

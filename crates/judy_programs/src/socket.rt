@@ -193,7 +193,8 @@ pub fn serve_on<S: Shows, H: Hosts>(
     writer: Option<Box<Writer>>,
 ) -> Hosted
     ensures { Serves (rules_of S.made S.seen S.noted S.status S.changed S.caps S.leavers) result socket.now
-        (desks_at (option_map (λ s. s.now) status.entry) (option_map (λ s. s.now) control.entry)) limits (option_map (λ w. w.value) writer)
+        (desks_at (option_map (λ s. s.now) status.entry) (option_map (λ s. s.now) control.entry))
+        limits (option_map (λ w. w.value) writer)
         (H.log system.old) (H.log system.new) service.old service.new }
 {
     // The system would make a socket without a path, which no client can find.

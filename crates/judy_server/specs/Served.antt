@@ -6,7 +6,7 @@
 --                                        few words
 --     IsNoted old who line answer new    a line and its answer were counted, and nothing else changed
 --     IsTaken reserve region room        so many megabytes were taken for the arrays, if any were
---     IsUnreserved old megabytes new      the machine had not so many megabytes
+--     IsUnreserved old megabytes new      the machine did not have so many megabytes
 --     IsNewService secret reserve tenants tallied   a service of these tenants, none of whom has an
 --                                        entry, that has counted nothing
 use Rattle.std.specs.Prelude.{◌≡◌, ◌≤◌, ◌*◌, ℕ, List, Option, Some, None}
