@@ -192,7 +192,7 @@ impl Answers {
             × LeavesLine result.quit rest × ((HasLine bytes.now × IsTrue (has_room keeper.old)) → 0 < length turns)
             × AreLimited limits.tenant_clients (speakers_at (λ b. view_of S.who N.number b.value) others.now) turns
             × (is_some limits.journal ≡ true → AreBarred session.old.barred
-                (option_map S.who session.old.speaker) turns)
+            (option_map S.who session.old.speaker) turns)
             × (session.old.barred ≡ false → AreFree turns)
             × (limits.clients ≡ 1 → length turns ≤ 1)
             × Steps (rules_of S.made S.seen S.noted S.status S.changed S.caps S.leavers) used turns result.quit

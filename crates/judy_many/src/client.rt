@@ -105,7 +105,7 @@ fn hear<S: Shows, N: Network>(
         (option_map S.who client.old.session.speaker) }
     ensures turns { (turns : List Turn) × (takes : Bool)
         × Inquires (S.seen service.old).names (S.caps service.old) (is_some limits.journal)
-                (N.number client.old.connection)
+        (N.number client.old.connection)
         (option_map S.who client.old.session.speaker) takes (N.log network.old) (N.log network.new)
         × (is_some limits.journal ≡ true → AreBarred (not takes) (option_map S.who client.old.session.speaker) turns)
         × (takes ≡ true → AreFree turns)
@@ -166,7 +166,7 @@ pub fn listen<S: Shows, N: Network>(
         (view_of S.who N.number client.new) more
         × (keeper.new ≡ noted_by (records_in (turns_in more)) keeper.old)
         × AreLimited limits.tenant_clients (speakers_at (λ b. view_of S.who N.number b.value) others.now)
-                (turns_in more)
+        (turns_in more)
         × (limits.clients ≡ 1 → AreSingle more)
         × ((past : Story) → IsInquired (is_some limits.journal) past more)
         × ((past : Story) → speaker_since None (turns_in (own (N.number client.old.connection) past))

@@ -55,7 +55,7 @@ fn listen_at<S: Shows, N: Network>(
         (option_map (λ b. view_of S.who N.number b.value) slot.new) more)
         × (keeper.new ≡ noted_by (records_in (turns_in more)) keeper.old)
         × AreLimited limits.tenant_clients (speakers_at (λ b. view_of S.who N.number b.value) others.now)
-                (turns_in more)
+        (turns_in more)
         × (limits.clients ≡ 1 → AreSingle more)
         × ((past : Story) → IsInquired (is_some limits.journal) past more)
         × ((past : Story) → SpeaksIn past (option_map (λ b. view_of S.who N.number b.value) slot.old)
