@@ -16,10 +16,11 @@ names the goals that are left. That is quick, and most wrong bodies fall there: 
 control has too is refused. The others are copied again with their tactics. Where an edit names the goal
 that refuses it, all other goals that were left are holes, so that this one alone is searched: by an answer
 that tries what the compiler tries of itself. So the compiler prints neither the goal nor a file to begin with,
-which takes as long as the search. The answer has `STEPS` of the 10,000,000 steps that the compiler allows: goals of
-the control are proved in less, and a search that finds nothing would use up all. If the control is not proved so,
-the compiler's own tactics are tried. A wrong body in the function's place has no control, so these are tried at
-once."""
+which takes as long as the search. For a copy the answer has `STEPS` of the 10,000,000 steps that the compiler
+allows: goals of the control are proved in less, and a search that finds nothing would use up all. If the control
+is not proved so, the compiler's own tactics are tried. A wrong body in the function's place has no control, so its
+answer finds all that the compiler's tactics find (`LIKE_THE_COMPILER`), and counts only if it says that its search
+failed."""
 
 import re
 
@@ -28,6 +29,7 @@ from functions import CYCLE, head_of, own_impl_around
 from holes import imports_of, with_the_hole
 
 UNREAD = re.compile(r"is not in scope|has no field|is no name|operand is missing|expected the end|cannot continue")
+FAILED = re.compile(r"`search`|`grind`|give the call less to do")
 GONE = re.compile(UNREAD.pattern + r"|module `[\w.+-]+\.Goals`(?:$| has no )")
 TACTIC = re.compile(r"^ *#!?\[tactic\([^\n]*\)\]\n", re.M)
 FN = re.compile(r"^( *)(?=(?:pub(?:\([a-z]+\))? )?(?:const |unsafe )*fn )", re.M)
@@ -38,6 +40,11 @@ STEPS = 500000
 SEARCH = (
     "pub %%s : %%s.%%s\n%%s c = first_of (search common_of_copy.rules steps %d, "
     "grind (common_of_copy.arith, grind_of_copy.common_steps) steps %d)\n" % (STEPS, STEPS)
+)
+LIKE_THE_COMPILER = (
+    "pub %s : %s.%s\n%s c = first_of (search common_of_copy.rules, "
+    "grind (common_of_copy.arith, grind_of_copy.elements) steps 2000000, "
+    "grind (common_of_copy.arith, grind_of_copy.common_steps) steps 4000000)\n"
 )
 WITH_LEMMAS = re.compile(r"#\[tactic\([^\]\n]*\b(?:using|unfolding)\(")
 NO_STUB = re.compile(r"\bconst fn\b|-> [^{]*\bimpl\b")
@@ -72,9 +79,8 @@ class Try:
         self.proves = [self.edit.goal] if self.edit.goal in of_function else [one for one in of_function if one not in goals]
 
     def searched(self):
-        """The goals that are searched by an answer in writing: that which refuses it, if all others are answered. One
-        that is put in its place has no control, which could tell that this search proves the real function."""
-        is_known = self.name and self.writes and self.holes is not None and self.chosen
+        """The goals that are searched by an answer in writing: that which refuses it, if all others are answered."""
+        is_known = self.writes and self.holes is not None and self.chosen
         return [self.edit.goal] if is_known and not WITH_LEMMAS.search(self.text) else []
 
 
@@ -174,7 +180,7 @@ class Batch:
     def __init__(self, crate, sources, holes=None):
         self.crate, self.sources, self.holes = crate, sources, holes
         self.texts, self.changes, self.imports = with_the_hole(holes.texts if holes else sources.texts), {}, {}
-        self.asked, self.spans, self.dug = [], [], {}
+        self.asked, self.spans, self.dug, self.alike = [], [], {}, set()
 
     def copy(self, function, text, name, tried=None, goals=None, kept=None, searched=()):
         """Adds a copy of a function, with this text, under this name. Without tactics if `goals` is None,
@@ -230,7 +236,7 @@ class Batch:
         if self.holes and path in self.texts:
             self.texts[path] = self.holes.answers(self.texts[path], kept)
 
-    def dig_goals(self, path, cited, goals, searched):
+    def dig_goals(self, path, cited, goals, searched, search=SEARCH):
         """Answers goals of a function by holes, and others by a search."""
         text = self.texts.get(path, "")
         found = re.search(r"^use %s\.Goals as (\S+)$" % re.escape(cited), text, re.M)
@@ -238,15 +244,18 @@ class Batch:
         head = "" if found else GOALS % (self.crate, cited.split(".proofs.")[1], alias)
         head += "" if imports_of(self.crate) in text else imports_of(self.crate) + "\n"
         head += TRIED if searched else ""
-        text += "".join("\n" + SEARCH % (it, alias, it, it) for it in searched)
+        text += "".join("\n" + search % (it, alias, it, it) for it in searched)
         self.dug[path] = (head + text).count("\n")
         self.texts[path] = head + text + "".join(ANSWER % (it, alias, it, it) for it in goals)
 
     def is_stale(self, function, name, errors):
         """Whether a hole of a function, or of a copy of it, has an error: it answers no goal of it, or one that
-        has an answer."""
+        has an answer. In a function's place, where no control is, a search counts only if it says that it failed."""
         path = "/".join(["proofs", *function.place(name), "Answers.antt"])
-        return path in self.dug and any(file == path and (line > self.dug[path] or GONE.search(said)) for file, line, _, said in errors)
+        found = [(line, said) for file, line, _, said in errors if file == path and path in self.dug]
+        if any(line > self.dug[path] or GONE.search(said) for line, said in found):
+            return True
+        return name is None and path in self.alike and found != [] and not any(FAILED.search(said) for _, said in found)
 
     def copy_all(self, tries):
         """Adds a copy of the function of each of these, under its name, or puts it in its place."""
@@ -260,7 +269,9 @@ class Batch:
             folder = "/".join(["proofs", *place]) + "/"
             self.keep_answers(folder, it.kept)
             if it.holes or it.searched():
-                self.dig_goals(folder + "Answers.antt", "Rattle.%s.proofs.%s" % (self.crate, ".".join(place)), it.holes, it.searched())
+                cited = "Rattle.%s.proofs.%s" % (self.crate, ".".join(place))
+                self.dig_goals(folder + "Answers.antt", cited, it.holes, it.searched(), LIKE_THE_COMPILER)
+                self.alike |= {folder + "Answers.antt"} if it.searched() else set()
 
     def place(self, tried, text=None):
         """Gives a function the text that is tried."""
