@@ -43,6 +43,7 @@ SEARCH = (
 )
 LIKE_THE_COMPILER = (
     "pub %s : %s.%s\n%s c = first_of (search common_of_copy.rules, "
+    "grind (common_of_copy.arith, grind_of_copy.common_steps) steps 2000000, "
     "grind (common_of_copy.arith, grind_of_copy.elements) steps 2000000, "
     "grind (common_of_copy.arith, grind_of_copy.common_steps) steps 4000000)\n"
 )
