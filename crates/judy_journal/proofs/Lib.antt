@@ -1,6 +1,7 @@
 pub mod lemmas
 mod Lines
 mod Fronts
+mod Reaching
 mod Recovering
 mod Pushing
 mod Writing
