@@ -6,7 +6,7 @@ use Rattle.judy_journal.specs.declared.reader.Read.TheVariants.{More, Whole}
 use Rattle.judy_journal.specs.Acts.{Left}
 use Rattle.judy_journal.specs.Crashes.{FoundAll}
 use Rattle.judy_journal.specs.Journals.{Commit, commits_lines, header, is_line, joined, journal_text, sum_at}
-use Rattle.judy_journal.specs.Readings.{HasRead, HasStopped, IsRead, Reading, front, tail_of}
+use Rattle.judy_journal.specs.Readings.{HasRead, HasShortHeader, HasStopped, IsRead, Reading, front, tail_of}
 use Rattle.judy_journal.specs.Recovered.{AreFound, EndsAt, HasHalted, HasRecovered, IsRecovered, RecoveryIsFound, Recovering, last_size, place_of, read_in}
 use Rattle.judy_journal.specs.Recoveries.{Found, FoundLast}
 use Rattle.judy_journal.specs.Writes.{header_text, size_with}
@@ -232,7 +232,7 @@ pub halts : (k : ℕ) (sum : List ℕ) (done : List Left) (text : List ℕ) (com
     → (h : IsRecovered k sum done text commits r) → HasStopped bytes (k + length done + 1) (sum_at sum h.before) text h.here now
     → r.taken + length bytes < 2 ^ 64 → taken ≡ read_in (record { reading = now; taken = r.taken; ended = r.ended; before = r.before })
     → HasHalted k sum done text commits bytes (record { reading = now; taken = taken; ended = r.ended; before = r.before })
-halts k sum done text commits bytes r now taken h (used, rest, cut, read) fits is =
+halts k sum done text commits bytes r now taken h (used, rest, cut, read, alone) fits is =
     let few : length (text ++ used) < 2 ^ 64 = omega (arith, fits, h.taken_is, ap length cut, length-append used rest, length-append text used) in (
       used,
       rest,
@@ -247,6 +247,12 @@ halts k sum done text commits bytes r now taken h (used, rest, cut, read) fits i
         before_is = h.before_is;
         ended_is = h.ended_is;
       },
+      λ short small more.
+          let l : Left = record { number = k + length done + 1; bytes = text ++ (bytes ++ more) } in
+          let here : HasShortHeader (k + length done + 1) (sum_at sum h.before) =
+          subst (HasShortHeader (k + length done + 1)) read.first_is (subst (λ n. HasShortHeader n now.first) read.segment_is short) in
+          subst (λ v. FoundAll k sum (done ++ l ∷ []) v (tail_of now ++ (rest ++ more))) (sym h.joins)
+          (all_found k sum done l h.before h.here (tail_of now ++ (rest ++ more)) h.found (refl, alone here more)),
     )
 
 pub bare_place : (number : ℕ) (sum text : List ℕ) (commits : List Commit) (r : Reading) → IsRead number sum text commits r → r.begun ≡ false

@@ -7,6 +7,7 @@ mod Pushing
 mod Writing
 pub mod Noticing
 mod Stepping
+mod Stopping
 mod Damaging
 mod Crashing
 mod Gathering

@@ -3,7 +3,7 @@
 --     torn-reaches       so is what was read of a text that was read to its end
 --     damage-reaches     and what comes before a line that should end a commit, and has another count or checksum
 --     long-reaches       and what comes before too many records, or a line that is too long
---     header-is-none     a text with another first line has no commit
+--     header-is-none     a text with another first line has none
 --     any-reaches        in any text with a first line something is reached
 --     any-is-found       in any last file something is found
 --     reaches-once       only one thing is reached
@@ -22,9 +22,10 @@ use Rattle.judy_model.specs.Stream.{lines_of, rest_of}
 use Rattle.judy_model.proofs.lemmas.LineLemmas.{lines_of-append, lines_of-bytes, lines_of-line, lines_of-more_bytes, lines_of-push, rest_of-IsOneLine}
 use Rattle.judy_model.proofs.lemmas.TestLemmas.{and_left, and_right}
 use Rattle.judy_journal.specs.Journals.{Commit, AreCommits, joined, is_line, is_mark, is_record, is_commit, number_after, numbered, sum_of, sum_after, mark, header, commits_lines, journal_text, sum_at}
-use Rattle.judy_journal.specs.Recoveries.{Found, FoundLast, HasNoHeader, HasNoMark, HasOtherHeader, HasOtherMark, IsHeadless, Reaches}
+use Rattle.judy_journal.specs.Readings.{HasShortHeader}
+use Rattle.judy_journal.specs.Recoveries.{Found, FoundLast, HasNoHeader, HasNoMark, HasOtherHeader, HasOtherMark, Reaches}
 use Rattle.judy_journal.specs.Writes.{commit_text, header_text}
-use Rattle.judy_journal.proofs.Lines.{both, few, joined-append, line-append, lines-append, lines_of-joined, mark-marks, records-lines, text_is}
+use Rattle.judy_journal.proofs.Lines.{both, few, header-line, joined-append, line-append, lines-append, lines_of-joined, mark-marks, records-lines, text_is}
 use Rattle.judy_journal.proofs.Fronts.{Line, Same, commits_are_lines, commits_lines-append, first_mark, later, neither, none_there, records_of}
 
 -- ---- the text of one more commit, as lines
@@ -210,27 +211,35 @@ no_feed_yet segment sum text rest one e =
     no [] ys h = false_true h
     no (x ∷ xs) ys h = no xs ys (and_right (not (x == 10)) (is_line (xs ++ 10 ∷ ys)) h)
 
-pub header-is-none : (segment : ℕ) (sum text : List ℕ) → segment < 2 ^ 64 → IsTrue (is_line sum) → HasOtherHeader segment sum text
-    → IsHeadless segment sum text [] text
-header-is-none segment sum text h s d = record {
-  other = λ rest e. d.other (first_line segment sum d.line d.more rest d.one (Rattle.judy_journal.proofs.Lines.header-line segment sum h s) (sym d.text_is ∙ e));
-  none = refl;
-  tail_is = refl;
-}
+pub header-is-none : (segment : ℕ) (sum text : List ℕ) → IsTrue (is_line (header segment sum)) → HasOtherHeader segment sum text
+    → (rest : List ℕ) → text ≢ header_text segment sum ++ rest
+header-is-none segment sum text head d rest e = d.other (first_line segment sum d.line d.more rest d.one head (sym d.text_is ∙ e))
 
 -- a first line that is too long is another one
-pub no-header-is-none : (segment : ℕ) (sum text : List ℕ) → segment < 2 ^ 64 → IsTrue (is_line sum) → length sum ≤ 16 → HasNoHeader text
-    → IsHeadless segment sum text [] text
+pub no-header-is-none : (segment : ℕ) (sum text : List ℕ) → HasShortHeader segment sum → HasNoHeader text
+    → (rest : List ℕ) → text ≢ header_text segment sum ++ rest
+no-header-is-none segment sum text (head, short) d rest e =
+    let long = first_long d.more d.front (header segment sum) (lines_of rest) d.one
+    (ap lines_of (sym d.text_is ∙ e ∙ append_assoc (header segment sum) (10 ∷ []) rest) ∙ lines_of-line (header segment sum) rest head) in
+    omega (arith, long, d.long, short)
+
+-- the first line of a segment is short if its number has 64 bits and its checksum is one
+pub short-header : (segment : ℕ) (sum : List ℕ) → segment < 2 ^ 64 → IsTrue (is_line sum) → length sum ≤ 16 → HasShortHeader segment sum
 unfolding numbered
-no-header-is-none segment sum text h s few d = record {
-  other = λ rest e.
-      let digits : length (decimal segment) ≤ 20 = length-decimal-le 20 segment (omega arith) (omega (arith, h)) h in
-      let head = Rattle.judy_journal.proofs.Lines.header-line segment sum h s in
-      let long = first_long d.more d.front (header segment sum) (lines_of rest) d.one
-      (ap lines_of (sym d.text_is ∙ e ∙ append_assoc (header segment sum) (10 ∷ []) rest) ∙ lines_of-line (header segment sum) rest head) in
-      omega (arith, long, d.long, few, digits, length-append (decimal segment) (32 ∷ sum), length-append (codes "judyd journal 1 ") (decimal segment ++ 32 ∷ sum));
-  none = refl;
-  tail_is = refl;
+short-header segment sum h s few =
+    let digits : length (decimal segment) ≤ 20 = length-decimal-le 20 segment (omega arith) (omega (arith, h)) h in (
+      header-line segment sum h s,
+      omega (arith, few, digits, length-append (decimal segment) (32 ∷ sum), length-append (codes "judyd journal 1 ") (decimal segment ++ 32 ∷ sum)),
+    )
+
+-- the same commits are reached with what comes after them
+pub reaches-with : (segment : ℕ) (sum text : List ℕ) (commits : List Commit) (t t' : List ℕ) → Reaches segment sum text commits t
+    → text ≡ journal_text segment sum commits ++ t' → Reaches segment sum text commits t'
+reaches-with segment sum text commits t t' f e = record {
+  text_is = e;
+  commits_are = f.commits_are;
+  no_next = subst (λ v. (next : Commit) (rest : List ℕ) → IsTrue (is_commit next) → v ≢ commit_text (sum_at sum commits) next ++ rest)
+      (append_cancel_left (journal_text segment sum commits) t t' (sym f.text_is ∙ e)) f.no_next;
 }
 
 -- ---- one reading
