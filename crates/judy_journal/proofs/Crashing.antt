@@ -109,7 +109,7 @@ at_end first there f j bytes found tail small line h (after, file_is) told is = 
     by Headed (t, inr s) (inl k) =
         let more : List ℕ = joined (commits_lines first found) ++ tail in
         let begins : bytes ≡ journal_text j.segment first there ++ more =
-        k.text_is ∙ ap (λ v. v ++ tail) (text-append j.segment first [] found)
+        k.begins ∙ ap (λ v. v ++ tail) (text-append j.segment first [] found)
         ∙ append_assoc (journal_text j.segment first []) (joined (commits_lines first found)) tail
         ∙ ap (λ cs. journal_text j.segment first cs ++ more) (sym s.1) in
         recovery j.segment first there j.more bytes small line h.commits_are (more, begins)

@@ -5,7 +5,7 @@ use Rattle.std.specs.List.{list_all}
 use Rattle.std.proofs.lemmas.Bool.{not-true}
 use Rattle.judy_model.proofs.lemmas.TestLemmas.{and_left, and_right}
 use Rattle.judy_journal.specs.Journals.{Commit, AreCommits, is_line, is_mark, is_record, is_commit, mark, commits_lines, sum_at, sum_after}
-use Rattle.judy_journal.proofs.Lines.{both, lines-append, records-lines, joined-append, lines_of-joined, few, mark-line, mark-marks, header-line}
+use Rattle.judy_journal.proofs.Lines.{both, lines-append, records-lines, few, mark-line}
 
 abbrev pub Line : Type 0
 Line = List ℕ

@@ -1,6 +1,6 @@
 -- The files of a journal that is being recovered, one after another.
 use Rattle.std.proofs.Common.{◌≡◌, ℕ, zero, suc, ◌<◌, ◌+◌, ◌^◌, Bool, true, false, List, [], ◌∷◌, ◌++◌, length, sym, ◌∙◌, ap, subst, refl, arith, append_assoc, append-nil, inl, inr}
-use Rattle.std.specs.Prelude.{IsTrue, Ok, ◌⊎◌, ◌==◌, if◌then◌else◌}
+use Rattle.std.specs.Prelude.{IsTrue, Ok, ◌==◌, if◌then◌else◌}
 use Rattle.std.proofs.lemmas.List.{length-append}
 use Rattle.judy_journal.specs.declared.reader.Read.TheVariants.{More, Whole}
 use Rattle.judy_journal.specs.Acts.{Left}

@@ -7,8 +7,7 @@
 --     any-reaches        in any text with a first line something is reached
 --     any-is-found       in any last file something is found
 --     reaches-once       only one thing is reached
---     told-alike         the premise on checksums says of a text without damage only what is found in it
-use Rattle.std.proofs.Common.{◌≡◌, ◌≢◌, ◌⊎◌, inl, inr, ℕ, zero, suc, ◌<◌, ◌≤◌, ◌+◌, ◌*◌, ◌/◌, ◌%◌, ◌^◌, Bool, true, false, not, List, [], ◌∷◌, ◌++◌, length, sym, ◌∙◌, ap, subst, refl, arith, append_assoc, append-nil}
+use Rattle.std.proofs.Common.{◌≡◌, ◌≢◌, ◌⊎◌, inl, inr, ℕ, zero, suc, ◌<◌, ◌≤◌, ◌+◌, ◌*◌, ◌^◌, Bool, true, false, not, List, [], ◌∷◌, ◌++◌, length, sym, ◌∙◌, ap, subst, refl, arith, append_assoc, append-nil}
 use Rattle.std.specs.Prelude.{IsTrue, ◌==◌, codes, decimal, nat_le}
 use Rattle.std.specs.Int.{w64, to_be_bytes}
 use Rattle.std.specs.List.{list_all}
@@ -19,7 +18,7 @@ use Rattle.std.proofs.lemmas.List.{append_cancel_left, length-append}
 use Rattle.std.proofs.lemmas.Slice.Eq.{bytes_eq-Decides}
 use Rattle.hex.specs.Hex.{encode_with, lower_digits}
 use Rattle.judy_model.specs.Stream.{lines_of, rest_of}
-use Rattle.judy_model.proofs.lemmas.LineLemmas.{lines_of-append, lines_of-bytes, lines_of-line, lines_of-more_bytes, lines_of-push, rest_of-IsOneLine}
+use Rattle.judy_model.proofs.lemmas.LineLemmas.{lines_of-bytes, lines_of-line, lines_of-more_bytes, lines_of-push, rest_of-IsOneLine}
 use Rattle.judy_model.proofs.lemmas.TestLemmas.{and_left, and_right}
 use Rattle.judy_journal.specs.Journals.{Commit, AreCommits, joined, is_line, is_mark, is_record, is_commit, number_after, numbered, sum_of, sum_after, mark, header, commits_lines, journal_text, sum_at}
 use Rattle.judy_journal.specs.Readings.{HasShortHeader}
@@ -74,7 +73,7 @@ no_next_record s records h next rest k e = none_there records next (mark s next)
 pub found-reaches : (segment : ℕ) (sum text : List ℕ) (commits : List Commit) (tail : List ℕ) → Found segment sum text commits tail
     → Reaches segment sum text commits tail
 found-reaches segment sum text commits tail f = record {
-  text_is = f.text_is;
+  begins = f.text_is;
   commits_are = f.commits_are;
   no_next = λ next rest h e. no_next_record (sum_at sum commits) (lines_of tail) f.unended next (lines_of rest) h
       (ap lines_of e ∙ next_lines (sum_at sum commits) next rest h);
@@ -83,7 +82,7 @@ found-reaches segment sum text commits tail f = record {
 pub damage-reaches : (segment : ℕ) (sum text : List ℕ) → (d : HasOtherMark segment sum text)
     → Reaches segment sum text d.commits (joined (d.records ++ d.line ∷ []) ++ d.more)
 damage-reaches segment sum text d = record {
-  text_is = d.text_is ∙ append_assoc (journal_text segment sum d.commits) (joined (d.records ++ d.line ∷ [])) d.more;
+  begins = d.text_is ∙ append_assoc (journal_text segment sum d.commits) (joined (d.records ++ d.line ∷ [])) d.more;
   commits_are = d.commits_are;
   no_next = λ next rest h e.
       let s : Same d.records next d.line (mark (sum_at sum d.commits) next) (lines_of d.more) (lines_of rest) =
@@ -142,7 +141,7 @@ unfolding encode_with
 encoded_len [] = refl
 encoded_len (b ∷ bytes) = omega (arith, encoded_len bytes)
 
-sum_len : (sum text : List ℕ) → length (sum_of sum text) ≡ 16
+pub sum_len : (sum text : List ℕ) → length (sum_of sum text) ≡ 16
 unfolding sum_of
 sum_len sum text = encoded_len (to_be_bytes w64 (number_after (number_after 0 sum) text))
 
@@ -150,8 +149,13 @@ mark_len : (sum : List ℕ) (commit : Commit) → length commit < 2 ^ 64 → len
 unfolding numbered
 mark_len sum commit few =
     let digits : length (decimal (length commit)) ≤ 20 = length-decimal-le 20 (length commit) (omega arith) (omega (arith, few)) few in
-    omega (arith, digits, sum_len sum (joined commit), length-append (decimal (length commit)) (32 ∷ sum_after sum commit),
-    length-append (codes "# ") (decimal (length commit) ++ 32 ∷ sum_after sum commit))
+    omega (
+      arith,
+      digits,
+      sum_len sum (joined commit),
+      length-append (decimal (length commit)) (32 ∷ sum_after sum commit),
+      length-append (codes "# ") (decimal (length commit) ++ 32 ∷ sum_after sum commit),
+    )
 
 -- no commit has a record that is so long, or so many of them
 no_long : (s : List ℕ) (records : Commit) (line more : List ℕ) (next : Commit) (rest : List ℕ) → IsTrue (list_all is_record records)
@@ -184,7 +188,7 @@ no_long s records line more next rest are one long h e = by long
 pub long-reaches : (segment : ℕ) (sum text : List ℕ) → (d : HasNoMark segment sum text)
     → Reaches segment sum text d.commits ((joined d.records ++ d.line) ++ d.more)
 long-reaches segment sum text d = record {
-  text_is = d.text_is ∙ append_assoc (journal_text segment sum d.commits) (joined d.records ++ d.line) d.more;
+  begins = d.text_is ∙ append_assoc (journal_text segment sum d.commits) (joined d.records ++ d.line) d.more;
   commits_are = d.commits_are;
   no_next = λ next rest h e. no_long (sum_at sum d.commits) d.records d.line d.more next rest d.records_are d.one d.long h e;
 }
@@ -236,10 +240,10 @@ short-header segment sum h s few =
 pub reaches-with : (segment : ℕ) (sum text : List ℕ) (commits : List Commit) (t t' : List ℕ) → Reaches segment sum text commits t
     → text ≡ journal_text segment sum commits ++ t' → Reaches segment sum text commits t'
 reaches-with segment sum text commits t t' f e = record {
-  text_is = e;
+  begins = e;
   commits_are = f.commits_are;
   no_next = subst (λ v. (next : Commit) (rest : List ℕ) → IsTrue (is_commit next) → v ≢ commit_text (sum_at sum commits) next ++ rest)
-      (append_cancel_left (journal_text segment sum commits) t t' (sym f.text_is ∙ e)) f.no_next;
+      (append_cancel_left (journal_text segment sum commits) t t' (sym f.begins ∙ e)) f.no_next;
 }
 
 -- ---- one reading
@@ -272,7 +276,7 @@ pub reaches-once : (segment : ℕ) (sum text : List ℕ) (a b : List Commit) (x 
 reaches-once segment sum text a b x y f g =
     let behind : joined (commits_lines sum a) ++ x ≡ joined (commits_lines sum b) ++ y =
     append_cancel_left (header_text segment sum) (joined (commits_lines sum a) ++ x) (joined (commits_lines sum b) ++ y)
-    (sym (cut a x) ∙ sym f.text_is ∙ g.text_is ∙ cut b y) in
+    (sym (cut a x) ∙ sym f.begins ∙ g.begins ∙ cut b y) in
     one_reach sum a b (lines_of x) (lines_of y) f.commits_are g.commits_are (no_next_line segment sum text a x f) (no_next_line segment sum text b y g)
     (sym (reached_lines segment sum text a x f.commits_are) ∙ ap lines_of behind ∙ reached_lines segment sum text b y g.commits_are)
   where
@@ -398,7 +402,7 @@ any-reaches segment sum more =
       k.commits,
       k.tail,
       record {
-        text_is = append_assoc (header segment sum) (10 ∷ []) more ∙ ap (λ v. header segment sum ++ 10 ∷ v) k.text
+        begins = append_assoc (header segment sum) (10 ∷ []) more ∙ ap (λ v. header segment sum ++ 10 ∷ v) k.text
             ∙ sym (append_assoc (header segment sum) (10 ∷ joined (commits_lines sum k.commits)) k.tail);
         commits_are = k.are;
         no_next = k.no_next;

@@ -4,6 +4,7 @@
 --     no-next-is-told     bytes behind what was synced are told without their checksums if no whole commit comes first in them
 --     unended-is-told     so are bytes without an end of a commit
 --     recovery            what is found in any file that a crash may leave
+--     undamaged-recovery  what is found in a file without damage, under a premise that speaks only of such files
 use Rattle.std.proofs.Common.{◌≡◌, ◌⊎◌, inl, inr, ℕ, ◌<◌, ◌^◌, List, [], ◌∷◌, ◌++◌, sym, ◌∙◌, ap, subst, refl, append_assoc, append-nil}
 use Rattle.std.specs.Prelude.{IsTrue, codes, decimal}
 use Rattle.std.specs.List.{list_all}
@@ -18,7 +19,7 @@ use Rattle.judy_journal.specs.Recoveries.{Found, IsTold, IsUnended, Reaches, Rec
 use Rattle.judy_journal.specs.Writes.{commit_text, header_text}
 use Rattle.judy_journal.proofs.Lines.{both, joined-append, lines_of-joined, header-line}
 use Rattle.judy_journal.proofs.Fronts.{cut, commits_are_lines, commits_lines-append}
-use Rattle.judy_journal.proofs.Reaching.{first_commits, found-reaches, next_text, no_next_line, no_next_record, one_reach, reached_lines, reaches-once}
+use Rattle.judy_journal.proofs.Reaching.{first_commits, found-reaches, next_text, no_next_line, no_next_record, one_reach, reaches-once}
 
 -- the lines of a segment's text, and of what comes after it
 pub text_lines : (segment : ℕ) (sum : List ℕ) (cs : List Commit) (tail : List ℕ) → segment < 2 ^ 64 → IsTrue (is_line sum) → AreCommits cs
@@ -58,7 +59,7 @@ front-may-be-left segment synced written file (more, lost, file_is, whole) = (
   (more, file_is),
   λ sum commits tail line found. (
     tail ++ lost,
-    sym (append_assoc (journal_text segment sum commits) tail lost) ∙ ap (λ v. v ++ lost) (sym found.text_is) ∙ whole,
+    sym (append_assoc (journal_text segment sum commits) tail lost) ∙ ap (λ v. v ++ lost) (sym found.begins) ∙ whole,
   ),
 )
 
@@ -82,14 +83,18 @@ front-recovery segment sum kept more file h s are (after, gone, file_is, whole) 
     let here : lines_of file ≡ header segment sum ∷ (commits_lines sum kept ++ lines_of after) =
     ap lines_of file_is ∙ text_lines segment sum kept after h s first in
     let there : lines_of file ≡ header segment sum ∷ (commits_lines sum found ++ lines_of tail) =
-    ap lines_of f.text_is ∙ text_lines segment sum found tail h s f.commits_are in
+    ap lines_of f.begins ∙ text_lines segment sum found tail h s f.commits_are in
     let both_ways : commits_lines sum found ++ lines_of tail ≡ commits_lines sum (kept ++ k.taken) ++ k.records =
     tail_of (header segment sum) (header segment sum) (commits_lines sum found ++ lines_of tail) (commits_lines sum kept ++ lines_of after) (sym there ∙ here)
     ∙ ap (λ v. commits_lines sum kept ++ v) k.front_is
     ∙ sym (append_assoc (commits_lines sum kept) (commits_lines (sum_at sum kept) k.taken) k.records)
-    ∙ ap (λ v. v ++ k.records) (sym (commits_lines-append sum kept k.taken)) in
-    (k.taken, k.lost, k.all, one_reach sum found (kept ++ k.taken) (lines_of tail) k.records f.commits_are some
-    (no_next_line segment sum file found tail f) (no_next_record (sum_at sum (kept ++ k.taken)) k.records k.records_are) both_ways)
+    ∙ ap (λ v. v ++ k.records) (sym (commits_lines-append sum kept k.taken)) in (
+      k.taken,
+      k.lost,
+      k.all,
+      one_reach sum found (kept ++ k.taken) (lines_of tail) k.records f.commits_are some
+          (no_next_line segment sum file found tail f) (no_next_record (sum_at sum (kept ++ k.taken)) k.records k.records_are) both_ways,
+    )
   where
     lines-append-commits : (a b : List Commit) → AreCommits a → AreCommits b → AreCommits (a ++ b)
     lines-append-commits a b x y = subst IsTrue (sym (list_all-append is_commit a b)) (both (list_all is_commit a) (list_all is_commit b) x y)
@@ -113,7 +118,7 @@ pub no-next-is-told : (segment : ℕ) (sum : List ℕ) (kept more : List Commit)
     → IsTold segment (journal_text segment sum (kept ++ more)) (journal_text segment sum kept ++ junk)
 no-next-is-told segment sum kept more junk h s all first found tail line f =
     let lines : header segment first ∷ (commits_lines first found ++ lines_of tail) ≡ header segment sum ∷ (commits_lines sum kept ++ lines_of junk) =
-    sym (text_lines segment first found tail h line f.commits_are) ∙ ap lines_of (sym f.text_is) ∙ text_lines segment sum kept junk h s all.commits_are in
+    sym (text_lines segment first found tail h line f.commits_are) ∙ ap lines_of (sym f.begins) ∙ text_lines segment sum kept junk h s all.commits_are in
     let same : first ≡ sum =
     same_sum segment first sum
     (head_of (header segment first) (header segment sum) (commits_lines first found ++ lines_of tail) (commits_lines sum kept ++ lines_of junk) lines) in
@@ -201,7 +206,7 @@ recovery segment sum kept more file h s all (after, file_is) told found tail f =
             append_cancel_left text x (commit_text s next ++ back)
             (sym is ∙ ap (journal_text segment sum) e ∙ text-append segment sum found (next ∷ c) ∙ ap (λ v. text ++ v) (next_text s next c)) in
             let tail_is : tail ≡ x ++ after =
-            append_cancel_left text tail (x ++ after) (sym f.text_is ∙ file_is ∙ ap (λ v. v ++ after) is ∙ append_assoc text x after) in
+            append_cancel_left text tail (x ++ after) (sym f.begins ∙ file_is ∙ ap (λ v. v ++ after) is ∙ append_assoc text x after) in
             absurd (f.no_next next (back ++ after)
             (and_left (is_commit next) (list_all is_commit c) (are_last found (next ∷ c) (subst AreCommits e are)))
             (tail_is ∙ ap (λ v. v ++ after) x_is ∙ append_assoc (commit_text s next) back after))
@@ -212,3 +217,35 @@ recovery segment sum kept more file h s all (after, file_is) told found tail f =
         which : ((x : List ℕ) × (text ≡ synced ++ x)) ⊎ ((x : List ℕ) × (synced ≡ text ++ x)) → Goal
         which (inl (x, is)) = in_text lost x whole is
         which (inr (x, is)) = in_synced x is
+
+-- ---- of a file without damage
+
+-- A premise on checksums that speaks only of files of which the rest has no line that ends a commit.
+abbrev pub IsToldOfFound : ℕ → List ℕ → List ℕ → Type 0
+IsToldOfFound segment written file = (sum : List ℕ) (commits : List Commit) (tail : List ℕ) → IsTrue (is_line sum)
+    → Found segment sum file commits tail → (lost : List ℕ) × (journal_text segment sum commits ++ lost ≡ written)
+
+-- Of such a file it says all that the premise of the law says.
+pub told-alike : (segment : ℕ) (sum written file : List ℕ) (commits : List Commit) (tail : List ℕ) → segment < 2 ^ 64 → IsTrue (is_line sum)
+    → Found segment sum file commits tail → IsToldOfFound segment written file → IsTold segment written file
+told-alike segment sum written file commits tail h s f told first found rest line g =
+    let lines : header segment first ∷ (commits_lines first found ++ lines_of rest) ≡ header segment sum ∷ (commits_lines sum commits ++ lines_of tail) =
+    sym (text_lines segment first found rest h line g.commits_are) ∙ ap lines_of (sym g.begins ∙ f.text_is) ∙ text_lines segment sum commits tail h s f.commits_are in
+    let same : first ≡ sum =
+    same_sum segment first sum
+    (head_of (header segment first) (header segment sum) (commits_lines first found ++ lines_of rest) (commits_lines sum commits ++ lines_of tail) lines) in
+    let found_is : found ≡ commits =
+    reaches-once segment sum file found commits rest tail
+    (subst (λ v. Reaches segment v file found rest) same g) (found-reaches segment sum file commits tail f) in
+    let (lost, whole) = told sum commits tail s f in
+    (lost, ap (λ v. journal_text segment v found ++ lost) same ∙ ap (λ v. journal_text segment sum v ++ lost) found_is ∙ whole)
+
+-- So it is enough for such a file.
+pub undamaged-recovery : (segment : ℕ) (sum : List ℕ) (kept more : List Commit) (file : List ℕ)
+    → segment < 2 ^ 64 → IsTrue (is_line sum) → AreCommits (kept ++ more)
+    → MayLeave (journal_text segment sum kept) file → IsToldOfFound segment (journal_text segment sum (kept ++ more)) file
+    → (found : List Commit) (tail : List ℕ) → Found segment sum file found tail
+    → (taken : List Commit) × (lost : List Commit) × (taken ++ lost ≡ more) × (found ≡ kept ++ taken)
+undamaged-recovery segment sum kept more file h s are may told found tail f =
+    recovery segment sum kept more file h s are may (told-alike segment sum (journal_text segment sum (kept ++ more)) file found tail h s f told) found tail
+    (found-reaches segment sum file found tail f)

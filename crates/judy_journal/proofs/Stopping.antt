@@ -1,6 +1,6 @@
 -- Whatever comes after damage, the commits before it are all the first whole ones.
 use Rattle.std.proofs.Common.{◌≡◌, ◌≢◌, inl, inr, ℕ, ◌<◌, ◌+◌, Bool, true, false, List, [], ◌∷◌, ◌++◌, length, sym, ◌∙◌, ap, subst, refl, append_assoc}
-use Rattle.std.specs.Prelude.{IsTrue, if◌then◌else◌}
+use Rattle.std.specs.Prelude.{IsTrue}
 use Rattle.judy_journal.specs.Journals.{Commit, header, is_line, is_mark, is_record, joined, journal_text, mark}
 use Rattle.judy_journal.specs.Readings.{AreAllFirst, HasStopped, IsRead, Reading, front, tail_of}
 use Rattle.judy_journal.specs.Recoveries.{FoundLast}

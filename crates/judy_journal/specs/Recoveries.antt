@@ -30,7 +30,7 @@ pub record Found (segment : ℕ) (sum text : List ℕ) (commits : List Commit) (
 -- The text begins with these commits, byte by byte and with their checksums, and no further whole commit comes next.
 -- Whatever else comes next is the tail: nothing, a part of a commit, damage, and anything behind that.
 pub record Reaches (segment : ℕ) (sum text : List ℕ) (commits : List Commit) (tail : List ℕ) : Type 0 where
-  pub text_is : text ≡ journal_text segment sum commits ++ tail
+  pub begins : text ≡ journal_text segment sum commits ++ tail
   pub commits_are : AreCommits commits
   pub no_next : (next : Commit) (rest : List ℕ) → IsTrue (is_commit next) → tail ≢ commit_text (sum_at sum commits) next ++ rest
 
