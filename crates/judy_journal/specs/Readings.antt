@@ -66,7 +66,7 @@ AreAllFirst segment first text bytes commits r rest = HasShortHeader segment fir
     → FoundLast segment first (text ++ (bytes ++ more)) commits (tail_of r ++ (rest ++ more))
 
 -- Damage was found while a line was read, and of these bytes a front was taken. The line, or a front of
--- it, is held behind the records of its commit. No whole commit comes after those that were read.
+-- it, is held behind the records of its commit. No further whole commit comes next.
 abbrev pub HasStopped : List ℕ → ℕ → List ℕ → List ℕ → List Commit → Reading → Type 0
 HasStopped bytes segment first text commits r = (used : List ℕ) × (rest : List ℕ) × (used ++ rest ≡ bytes)
     × IsRead segment first (text ++ used) commits r × AreAllFirst segment first text bytes commits r rest

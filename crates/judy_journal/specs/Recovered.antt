@@ -68,7 +68,7 @@ AreAllFound segment sum done text commits bytes r rest = HasShortHeader r.readin
     commits (tail_of r.reading ++ (rest ++ more))
 
 -- Damage was found in these bytes of the current file, and a front of them was taken: it is read, and what
--- follows it is not. No whole commit comes after those that were read.
+-- follows it is not. No further whole commit comes next.
 abbrev pub HasHalted : ℕ → List ℕ → List Left → List ℕ → List Commit → List ℕ → Recovering → Type 0
 HasHalted segment sum done text commits bytes r = (used : List ℕ) × (rest : List ℕ) × (used ++ rest ≡ bytes)
     × IsRecovered segment sum done (text ++ used) commits r × AreAllFound segment sum done text commits bytes r rest

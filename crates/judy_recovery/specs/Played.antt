@@ -86,7 +86,7 @@ IsDamagedFile damage segment sum done commits text = (before : List Commit) × (
     × IsDamaged damage (segment + length done + 1) (sum_at sum before) text
 
 -- Of these bytes behind a text a front was read, and its whole commits were played. With all of them the text is
--- damaged, and no whole commit comes after those that were read.
+-- damaged, and no further whole commit comes next.
 pub record HasBroken {P : Type 0} (plays : P → List (List ℕ) → P → Type 0) (damage : Damage) (segment : ℕ) (sum : List ℕ) (done : List Left)
     (text : List ℕ) (commits : List Commit) (bytes : List ℕ) (old : P) (r : Recovering) (new : P) : Type 0 where
   pub used : List ℕ

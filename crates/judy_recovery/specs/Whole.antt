@@ -129,7 +129,7 @@ abbrev pub AreAllIn : ℕ → List ℕ → List Left → List ℕ → List Commi
 AreAllIn segment sum done bytes commits tail = length bytes < 2 ^ 64 → FoundAll segment sum (with_last segment done bytes) commits tail
 
 -- The last file, which has these bytes, was read up to its first damage, and the records of its whole commits were
--- played. What follows was passed over: no whole commit comes first in it.
+-- played. What follows was passed over: no further whole commit comes next.
 pub record EndsIn {P : Type 0} (plays : P → List (List ℕ) → P → Type 0) (segment : ℕ) (sum : List ℕ) (done : List Left) (commits : List Commit)
     (bytes : List ℕ) (old : P) (end : End) (r : Recovering) (new : P) : Type 0 where
   pub text : List ℕ
