@@ -1,18 +1,18 @@
 -- After a crash, over all segments of a journal.
-use Rattle.std.proofs.Common.{◌≡◌, ℕ, ◌<◌, ◌≤◌, ◌+◌, ◌^◌, true, false, not, List, [], ◌∷◌, ◌++◌, length, sym, ◌∙◌, ap, subst, refl, arith, append_assoc, append-nil, inl, inr}
-use Rattle.std.specs.Prelude.{IsTrue, ◌⊎◌, ◌==◌}
+use Rattle.std.proofs.Common.{◌≡◌, ℕ, ◌<◌, ◌≤◌, ◌+◌, ◌^◌, true, false, List, [], ◌∷◌, ◌++◌, length, sym, ◌∙◌, ap, subst, refl, arith, append_assoc, append-nil, inl, inr}
+use Rattle.std.specs.Prelude.{IsTrue, ◌⊎◌}
 use Rattle.std.specs.List.{list_all}
 use Rattle.std.proofs.lemmas.List.{append_cancel_left}
 use Rattle.std.proofs.lemmas.List.Folds.{list_all-append}
-use Rattle.judy_model.proofs.lemmas.TestLemmas.{and_right}
 use Rattle.judy_journal.specs.Acts.{DiskAct, Began, Kept, Synced, File, Left, Phase, Absent, Bare, Headed, Journal, Commits, AreWhole, IsWriting, MayLeaveAll, disk_after, files_after, phase_with, standing, written}
-use Rattle.judy_journal.specs.Crashes.{FoundAll, IsHeadless, JournalIsExact}
+use Rattle.judy_journal.specs.Crashes.{FoundAll, JournalIsExact}
 use Rattle.judy_journal.specs.Disks.{MayLeave}
 use Rattle.judy_journal.specs.Journals.{Commit, AreCommits, commits_lines, header, is_commit, is_line, joined, journal_text, sum_after, sum_at}
-use Rattle.judy_journal.specs.Recoveries.{Found, IsTold}
+use Rattle.judy_journal.specs.Recoveries.{Found, FoundLast, IsTold}
 use Rattle.judy_journal.specs.Writes.{commit_text, header_text}
 use Rattle.judy_journal.proofs.Fronts.{sum_at-append}
 use Rattle.judy_journal.proofs.Lines.{both, sum-line}
+use Rattle.judy_journal.proofs.Reaching.{found-reaches}
 use Rattle.judy_journal.proofs.Recovering.{IsFrontWith, front-recovery, recovery, text-append}
 
 -- ---- lists
@@ -27,14 +27,6 @@ no_front (x ∷ xs) ys e = nothing x (xs ++ ys) e
 never_empty : {A : Type 0} (xs : List ℕ) (y : ℕ) (ys : List ℕ) → xs ++ y ∷ ys ≡ [] → A
 never_empty [] y ys e = nothing y ys e
 never_empty (x ∷ xs) y ys e = nothing x (xs ++ y ∷ ys) e
-
--- bytes with a line feed
-no_line : {A : Type 0} (xs ys : List ℕ) → IsTrue (is_line (xs ++ 10 ∷ ys)) → A
-no_line [] ys h = absurd (false_true h)
-  where
-    false_true : false ≡ true → ⊥
-    false_true e = cc
-no_line (x ∷ xs) ys h = no_line xs ys (and_right (not (x == 10)) (is_line (xs ++ 10 ∷ ys)) h)
 
 sum_at-line : (sum : List ℕ) (commits : List Commit) → IsTrue (is_line sum) → IsTrue (is_line (sum_at sum commits))
 sum_at-line sum [] h = h
@@ -51,7 +43,7 @@ text_and number sum commits tail = append_assoc (header number sum) (10 ∷ join
 all_of : (f : File) (sum bytes : List ℕ) (here : List Commit) → IsTrue (is_line sum) → f.unsynced ≡ [] → MayLeave f.synced bytes
     → IsTold f.number (written f) bytes → Found f.number sum bytes here [] → bytes ≡ written f
 all_of f sum bytes here line none (after, file_is) told found =
-    let (gone, begins) = told sum here [] line found in
+    let (gone, begins) = told sum here [] line (found-reaches f.number sum bytes here [] found) in
     let whole : bytes ++ gone ≡ written f =
     ap (λ v. v ++ gone) (found.text_is ∙ append-nil (journal_text f.number sum here)) ∙ begins in
     let left : after ++ gone ≡ f.unsynced = append_cancel_left f.synced (after ++ gone) f.unsynced
@@ -68,7 +60,7 @@ same_commits number sum bytes there here small line are is found =
       is ∙ sym (append-nil (journal_text number sum there)),
       append-nil bytes ∙ is ∙ ap (journal_text number sum) (sym (append-nil there)),
     ) in
-    let (taken, lost, all, found_is) = front-recovery number sum there [] bytes small line (subst AreCommits (sym (append-nil there)) are) may here [] found in
+    let (taken, lost, all, found_is) = front-recovery number sum there [] bytes small line (subst AreCommits (sym (append-nil there)) are) may here [] (found-reaches number sum bytes here [] found) in
     found_is ∙ ap (λ v. there ++ v) (no_front taken lost all) ∙ append-nil there
 
 -- ---- the current file
@@ -90,7 +82,7 @@ pub record IsCurrent (first : List ℕ) (there : List Commit) (f : File) (j : Jo
 -- what is found at the end
 at_end : (first : List ℕ) (there : List Commit) (f : File) (j : Journal) (bytes : List ℕ) (found : List Commit) (tail : List ℕ)
     → j.segment < 2 ^ 64 → IsTrue (is_line first) → IsCurrent first there f j → MayLeave f.synced bytes
-    → IsTold f.number (written f) bytes → Found j.segment first bytes found tail ⊎ IsHeadless bytes found tail
+    → IsTold f.number (written f) bytes → FoundLast j.segment first bytes found tail
     → (taken : List Commit) × (lost : List Commit) × (taken ++ lost ≡ j.more) × (found ≡ there ++ taken)
 at_end first there f j bytes found tail small line h (after, file_is) told is = by j.phase h.text is
   where
@@ -101,7 +93,7 @@ at_end first there f j bytes found tail small line h (after, file_is) told is = 
     none : there ≡ [] → found ≡ [] → (taken : List Commit) × (lost : List Commit) × (taken ++ lost ≡ j.more) × (found ≡ there ++ taken)
     none e none_found = ([], j.more, refl, none_found ∙ sym e ∙ sym (append-nil there))
 
-    by : (p : Phase) → IsText p first there f j → Found j.segment first bytes found tail ⊎ IsHeadless bytes found tail
+    by : (p : Phase) → IsText p first there f j → FoundLast j.segment first bytes found tail
         → (taken : List Commit) × (lost : List Commit) × (taken ++ lost ≡ j.more) × (found ≡ there ++ taken)
     by Absent t k = absurd t
     by Bare t (inr k) = none t.1 k.none
@@ -110,13 +102,14 @@ at_end first there f j bytes found tail small line h (after, file_is) told is = 
         never_empty (header j.segment first) 10 (joined (commits_lines first found) ++ lost) (sym (text_and j.segment first found lost) ∙ whole)
     by Headed (t, inl s) (inl k) = recovery j.segment first there j.more bytes small line h.commits_are
         (after, file_is ∙ ap (λ v. v ++ after) s) (told_of (journal_text j.segment first (there ++ j.more)) t) found tail k
-    by Headed (t, inl s) (inr k) = no_line (header j.segment first) (joined (commits_lines first there) ++ after)
-        (subst (λ v. IsTrue (is_line v)) (file_is ∙ ap (λ v. v ++ after) s ∙ text_and j.segment first there after) k.line)
+    by Headed (t, inl s) (inr k) = absurd (k.other (joined (commits_lines first there) ++ after)
+        (file_is ∙ ap (λ v. v ++ after) s ∙ text_and j.segment first there after
+        ∙ sym (append_assoc (header j.segment first) (10 ∷ []) (joined (commits_lines first there) ++ after))))
     by Headed (t, inr s) (inr k) = none s.1 k.none
     by Headed (t, inr s) (inl k) =
         let more : List ℕ = joined (commits_lines first found) ++ tail in
         let begins : bytes ≡ journal_text j.segment first there ++ more =
-        k.text_is ∙ ap (λ v. v ++ tail) (text-append j.segment first [] found)
+        k.begins ∙ ap (λ v. v ++ tail) (text-append j.segment first [] found)
         ∙ append_assoc (journal_text j.segment first []) (joined (commits_lines first found)) tail
         ∙ ap (λ cs. journal_text j.segment first cs ++ more) (sym s.1) in
         recovery j.segment first there j.more bytes small line h.commits_are (more, begins)
@@ -245,7 +238,7 @@ pub from_file : (k : ℕ) (first : List ℕ) (prior there : List Commit) (f : Fi
 from_file k first prior there f j [] last [] found tail n small line h kept w may is = absurd may
 from_file k first prior there f j [] last (l ∷ m ∷ left) found tail n small line h kept w may is = absurd may.3
 from_file k first prior there f j [] last (l ∷ []) found tail n small line h kept w may is =
-    let here = subst (λ v. Found v first l.bytes found tail ⊎ IsHeadless l.bytes found tail) (sym n) is.1 in
+    let here = subst (λ v. FoundLast v first l.bytes found tail) (sym n) is.1 in
     let (taken, lost, all, found_is) = at_end first there f j l.bytes found tail (subst (λ v. v < 2 ^ 64) (ap (λ v. v.segment) w) small) line h may.1 may.2 here in
     record {
       since = there;

@@ -5,7 +5,7 @@ use Rattle.std.specs.List.{list_all}
 use Rattle.std.proofs.lemmas.Bool.{not-true}
 use Rattle.judy_model.proofs.lemmas.TestLemmas.{and_left, and_right}
 use Rattle.judy_journal.specs.Journals.{Commit, AreCommits, is_line, is_mark, is_record, is_commit, mark, commits_lines, sum_at, sum_after}
-use Rattle.judy_journal.proofs.Lines.{both, lines-append, records-lines, joined-append, lines_of-joined, few, mark-line, mark-marks, header-line}
+use Rattle.judy_journal.proofs.Lines.{both, lines-append, records-lines, few, mark-line}
 
 abbrev pub Line : Type 0
 Line = List ℕ
@@ -15,7 +15,7 @@ pub no_mark : (line : Line) → IsTrue (is_record line) → is_mark line ≡ fal
 no_mark line h = not-true (is_mark line) (and_right (is_line line) (not (is_mark line)) h)
 
 -- a line is not both
-neither : {A : Type 0} (line : Line) → IsTrue (is_record line) → is_mark line ≡ true → A
+pub neither : {A : Type 0} (line : Line) → IsTrue (is_record line) → is_mark line ≡ true → A
 neither line h k = let e : false ≡ true = sym (no_mark line h) ∙ k in cc
 
 -- ---- up to the first mark, two lists of lines have the same records, the same mark and the same rest
@@ -126,22 +126,3 @@ cut sum (c ∷ cs) front back h e =
               ∙ sym (append_assoc c (mark sum c ∷ commits_lines (sum_after sum c) k.taken) k.records);
           records_are = k.records_are;
         }
-
--- ---- lines are read in one way
-
-pub one_reading : (sum : List ℕ) (a b : List Commit) (o p : List Line) → AreCommits a → AreCommits b
-    → IsTrue (list_all is_record o) → IsTrue (list_all is_record p) → commits_lines sum a ++ o ≡ commits_lines sum b ++ p → a ≡ b
-one_reading sum [] [] o p ha hb ho hp e = refl
-one_reading sum [] (c ∷ b) o p ha hb ho hp e =
-    none_there o c (mark sum c) (commits_lines (sum_after sum c) b ++ p) ho (mark-marks sum c)
-    (e ∙ append_assoc c (mark sum c ∷ commits_lines (sum_after sum c) b) p)
-one_reading sum (c ∷ a) [] o p ha hb ho hp e =
-    none_there p c (mark sum c) (commits_lines (sum_after sum c) a ++ o) hp (mark-marks sum c)
-    (sym e ∙ append_assoc c (mark sum c ∷ commits_lines (sum_after sum c) a) o)
-one_reading sum (c ∷ a) (d ∷ b) o p ha hb ho hp e =
-    let s = first_mark c d (mark sum c) (mark sum d) (commits_lines (sum_after sum c) a ++ o) (commits_lines (sum_after sum d) b ++ p)
-    (records_of c a ha) (records_of d b hb) (mark-marks sum c) (mark-marks sum d)
-    (sym (append_assoc c (mark sum c ∷ commits_lines (sum_after sum c) a) o) ∙ e ∙ append_assoc d (mark sum d ∷ commits_lines (sum_after sum d) b) p) in
-    let next : a ≡ b = one_reading (sum_after sum c) a b o p (later c a ha) (later d b hb) ho hp
-    (s.rest ∙ ap (λ v. commits_lines (sum_after sum v) b ++ p) (sym s.records)) in
-    ap (λ v. v ∷ a) s.records ∙ ap (λ v. d ∷ v) next

@@ -1,16 +1,17 @@
 -- The files of a journal that is being recovered, one after another.
 use Rattle.std.proofs.Common.{◌≡◌, ℕ, zero, suc, ◌<◌, ◌+◌, ◌^◌, Bool, true, false, List, [], ◌∷◌, ◌++◌, length, sym, ◌∙◌, ap, subst, refl, arith, append_assoc, append-nil, inl, inr}
-use Rattle.std.specs.Prelude.{IsTrue, Ok, ◌⊎◌, ◌==◌, if◌then◌else◌}
+use Rattle.std.specs.Prelude.{IsTrue, Ok, ◌==◌, if◌then◌else◌}
 use Rattle.std.proofs.lemmas.List.{length-append}
 use Rattle.judy_journal.specs.declared.reader.Read.TheVariants.{More, Whole}
 use Rattle.judy_journal.specs.Acts.{Left}
-use Rattle.judy_journal.specs.Crashes.{FoundAll, IsHeadless}
+use Rattle.judy_journal.specs.Crashes.{FoundAll}
 use Rattle.judy_journal.specs.Journals.{Commit, commits_lines, header, is_line, joined, journal_text, sum_at}
-use Rattle.judy_journal.specs.Readings.{HasRead, HasStopped, IsRead, Reading, front, tail_of}
+use Rattle.judy_journal.specs.Readings.{HasRead, HasShortHeader, HasStopped, IsRead, Reading, front, tail_of}
 use Rattle.judy_journal.specs.Recovered.{AreFound, EndsAt, HasHalted, HasRecovered, IsRecovered, RecoveryIsFound, Recovering, last_size, place_of, read_in}
-use Rattle.judy_journal.specs.Recoveries.{Found}
+use Rattle.judy_journal.specs.Recoveries.{Found, FoundLast}
 use Rattle.judy_journal.specs.Writes.{header_text, size_with}
 use Rattle.judy_journal.proofs.Fronts.{sum_at-append}
+use Rattle.judy_journal.proofs.Reaching.{found-reaches, no_feed_yet}
 use Rattle.judy_journal.proofs.Stepping.{reading_is_found}
 
 -- ---- one more file
@@ -44,7 +45,7 @@ found-append k sum (d ∷ done) l before here (first, later, joins, at, whole, r
 )
 
 abbrev IsLast : ℕ → List ℕ → Left → List Commit → List ℕ → Type 0
-IsLast number sum l here tail = (l.number ≡ number) × (Found number sum l.bytes here tail ⊎ IsHeadless l.bytes here tail)
+IsLast number sum l here tail = (l.number ≡ number) × FoundLast number sum l.bytes here tail
 
 all_found : (k : ℕ) (sum : List ℕ) (done : List Left) (l : Left) (before here : List Commit) (tail : List ℕ) → AreFound k sum done before
     → IsLast (k + length done + 1) (sum_at sum before) l here tail → FoundAll k sum (done ++ l ∷ []) (before ++ here) tail
@@ -74,16 +75,17 @@ all_found k sum (d ∷ e ∷ done) l before here tail (first, later, joins, at, 
 
 -- what was read is found, or is a front of the first line
 last_is : (number : ℕ) (sum text : List ℕ) (here : List Commit) (r : Reading) → IsRead number sum text here r
-    → Found number sum text here (tail_of r) ⊎ IsHeadless text here (tail_of r)
+    → FoundLast number sum text here (tail_of r)
 last_is number sum text here r h = by r.begun refl
   where
-    by : (b : Bool) → r.begun ≡ b → Found number sum text here (tail_of r) ⊎ IsHeadless text here (tail_of r)
-    by true has = inl (reading_is_found number sum text here r h has)
+    by : (b : Bool) → r.begun ≡ b → FoundLast number sum text here (tail_of r)
+    by true has = inl (found-reaches number sum text here (tail_of r) (reading_is_found number sum text here r h has))
     by false not =
         let (none, no_records, unended) = h.none not in
         let all : text ≡ tail_of r = h.text_is ∙ ap (λ b. front b number sum here ++ tail_of r) not in
         let tail : tail_of r ≡ r.line = ap (λ b. if b then [] else joined r.records ++ r.line) unended ∙ ap (λ v. joined v ++ r.line) no_records in
-        inr (record { line = subst (λ v. IsTrue (is_line v)) (sym (all ∙ tail)) h.line_is; none = none; tail_is = sym all })
+        let one : IsTrue (is_line text) = subst (λ v. IsTrue (is_line v)) (sym (all ∙ tail)) h.line_is in
+        inr (record { other = λ rest e. no_feed_yet number sum text rest one e; none = none; tail_is = sym all })
 
 pub recovered_is_found : RecoveryIsFound
 recovered_is_found k sum done text commits r h =
@@ -230,7 +232,7 @@ pub halts : (k : ℕ) (sum : List ℕ) (done : List Left) (text : List ℕ) (com
     → (h : IsRecovered k sum done text commits r) → HasStopped bytes (k + length done + 1) (sum_at sum h.before) text h.here now
     → r.taken + length bytes < 2 ^ 64 → taken ≡ read_in (record { reading = now; taken = r.taken; ended = r.ended; before = r.before })
     → HasHalted k sum done text commits bytes (record { reading = now; taken = taken; ended = r.ended; before = r.before })
-halts k sum done text commits bytes r now taken h (used, rest, cut, read) fits is =
+halts k sum done text commits bytes r now taken h (used, rest, cut, read, alone) fits is =
     let few : length (text ++ used) < 2 ^ 64 = omega (arith, fits, h.taken_is, ap length cut, length-append used rest, length-append text used) in (
       used,
       rest,
@@ -245,6 +247,12 @@ halts k sum done text commits bytes r now taken h (used, rest, cut, read) fits i
         before_is = h.before_is;
         ended_is = h.ended_is;
       },
+      λ short small more.
+          let l : Left = record { number = k + length done + 1; bytes = text ++ (bytes ++ more) } in
+          let here : HasShortHeader (k + length done + 1) (sum_at sum h.before) =
+          subst (HasShortHeader (k + length done + 1)) read.first_is (subst (λ n. HasShortHeader n now.first) read.segment_is short) in
+          subst (λ v. FoundAll k sum (done ++ l ∷ []) v (tail_of now ++ (rest ++ more))) (sym h.joins)
+          (all_found k sum done l h.before h.here (tail_of now ++ (rest ++ more)) h.found (refl, alone here more)),
     )
 
 pub bare_place : (number : ℕ) (sum text : List ℕ) (commits : List Commit) (r : Reading) → IsRead number sum text commits r → r.begun ≡ false

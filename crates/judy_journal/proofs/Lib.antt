@@ -1,11 +1,13 @@
 pub mod lemmas
 mod Lines
 mod Fronts
+mod Reaching
 mod Recovering
 mod Pushing
 mod Writing
 pub mod Noticing
 mod Stepping
+mod Stopping
 mod Damaging
 mod Crashing
 mod Gathering

@@ -1,8 +1,10 @@
 -- After a crash exactly the front of the commits is found.
 --     front-may-be-left   a front of what was written, which has all that was synced, may be left
 --     front-recovery      what is found in such a front
---     unended-is-told     bytes without an end of a commit are told without their checksums
+--     no-next-is-told     bytes behind what was synced are told without their checksums if no whole commit comes first in them
+--     unended-is-told     so are bytes without an end of a commit
 --     recovery            what is found in any file that a crash may leave
+--     undamaged-recovery  what is found in a file without damage, under a premise that speaks only of such files
 use Rattle.std.proofs.Common.{◌≡◌, ◌⊎◌, inl, inr, ℕ, ◌<◌, ◌^◌, List, [], ◌∷◌, ◌++◌, sym, ◌∙◌, ap, subst, refl, append_assoc, append-nil}
 use Rattle.std.specs.Prelude.{IsTrue, codes, decimal}
 use Rattle.std.specs.List.{list_all}
@@ -12,10 +14,12 @@ use Rattle.judy_model.specs.Stream.{lines_of, rest_of}
 use Rattle.judy_model.proofs.lemmas.LineLemmas.{lines_of-append}
 use Rattle.judy_model.proofs.lemmas.TestLemmas.{and_left, and_right}
 use Rattle.judy_journal.specs.Disks.{MayLeave}
-use Rattle.judy_journal.specs.Journals.{Commit, AreCommits, joined, is_line, is_commit, is_record, header, numbered, commits_lines, journal_text, sum_at}
-use Rattle.judy_journal.specs.Recoveries.{Found, IsTold, IsUnended, RecoveryIsExact}
+use Rattle.judy_journal.specs.Journals.{Commit, AreCommits, joined, is_line, is_commit, header, numbered, commits_lines, journal_text, sum_after, sum_at}
+use Rattle.judy_journal.specs.Recoveries.{Found, IsTold, IsUnended, Reaches, RecoveryIsExact}
+use Rattle.judy_journal.specs.Writes.{commit_text, header_text}
 use Rattle.judy_journal.proofs.Lines.{both, joined-append, lines_of-joined, header-line}
-use Rattle.judy_journal.proofs.Fronts.{cut, commits_are_lines, commits_lines-append, one_reading}
+use Rattle.judy_journal.proofs.Fronts.{cut, commits_are_lines, commits_lines-append}
+use Rattle.judy_journal.proofs.Reaching.{first_commits, found-reaches, next_text, no_next_line, no_next_record, one_reach, reaches-once}
 
 -- the lines of a segment's text, and of what comes after it
 pub text_lines : (segment : ℕ) (sum : List ℕ) (cs : List Commit) (tail : List ℕ) → segment < 2 ^ 64 → IsTrue (is_line sum) → AreCommits cs
@@ -55,14 +59,14 @@ front-may-be-left segment synced written file (more, lost, file_is, whole) = (
   (more, file_is),
   λ sum commits tail line found. (
     tail ++ lost,
-    sym (append_assoc (journal_text segment sum commits) tail lost) ∙ ap (λ v. v ++ lost) (sym found.text_is) ∙ whole,
+    sym (append_assoc (journal_text segment sum commits) tail lost) ∙ ap (λ v. v ++ lost) (sym found.begins) ∙ whole,
   ),
 )
 
 pub front-recovery : (segment : ℕ) (sum : List ℕ) (kept more : List Commit) (file : List ℕ)
     → segment < 2 ^ 64 → IsTrue (is_line sum) → AreCommits (kept ++ more)
     → IsFrontWith (journal_text segment sum kept) (journal_text segment sum (kept ++ more)) file
-    → (found : List Commit) (tail : List ℕ) → Found segment sum file found tail
+    → (found : List Commit) (tail : List ℕ) → Reaches segment sum file found tail
     → (taken : List Commit) × (lost : List Commit) × (taken ++ lost ≡ more) × (found ≡ kept ++ taken)
 front-recovery segment sum kept more file h s are (after, gone, file_is, whole) found tail f =
     let first = are_first kept more are in
@@ -79,13 +83,18 @@ front-recovery segment sum kept more file h s are (after, gone, file_is, whole) 
     let here : lines_of file ≡ header segment sum ∷ (commits_lines sum kept ++ lines_of after) =
     ap lines_of file_is ∙ text_lines segment sum kept after h s first in
     let there : lines_of file ≡ header segment sum ∷ (commits_lines sum found ++ lines_of tail) =
-    ap lines_of f.text_is ∙ text_lines segment sum found tail h s f.commits_are in
+    ap lines_of f.begins ∙ text_lines segment sum found tail h s f.commits_are in
     let both_ways : commits_lines sum found ++ lines_of tail ≡ commits_lines sum (kept ++ k.taken) ++ k.records =
     tail_of (header segment sum) (header segment sum) (commits_lines sum found ++ lines_of tail) (commits_lines sum kept ++ lines_of after) (sym there ∙ here)
     ∙ ap (λ v. commits_lines sum kept ++ v) k.front_is
     ∙ sym (append_assoc (commits_lines sum kept) (commits_lines (sum_at sum kept) k.taken) k.records)
-    ∙ ap (λ v. v ++ k.records) (sym (commits_lines-append sum kept k.taken)) in
-    (k.taken, k.lost, k.all, one_reading sum found (kept ++ k.taken) (lines_of tail) k.records f.commits_are some f.unended k.records_are both_ways)
+    ∙ ap (λ v. v ++ k.records) (sym (commits_lines-append sum kept k.taken)) in (
+      k.taken,
+      k.lost,
+      k.all,
+      one_reach sum found (kept ++ k.taken) (lines_of tail) k.records f.commits_are some
+          (no_next_line segment sum file found tail f) (no_next_record (sum_at sum (kept ++ k.taken)) k.records k.records_are) both_ways,
+    )
   where
     lines-append-commits : (a b : List Commit) → AreCommits a → AreCommits b → AreCommits (a ++ b)
     lines-append-commits a b x y = subst IsTrue (sym (list_all-append is_commit a b)) (both (list_all is_commit a) (list_all is_commit b) x y)
@@ -103,24 +112,31 @@ same_sum segment a b e =
 head_of : {A : Type 0} (x y : A) (xs ys : List A) → x ∷ xs ≡ y ∷ ys → x ≡ y
 head_of x y xs ys e = cc
 
--- Behind what was synced any bytes of which no line ends a commit are told, whatever the checksums are.
-pub unended-is-told : (segment : ℕ) (sum : List ℕ) (kept more : List Commit) (junk : List ℕ)
-    → segment < 2 ^ 64 → IsTrue (is_line sum) → AreCommits kept → IsUnended junk
+-- Behind what was synced any bytes are told, whatever the checksums are, that do not begin with a further whole commit.
+pub no-next-is-told : (segment : ℕ) (sum : List ℕ) (kept more : List Commit) (junk : List ℕ) → segment < 2 ^ 64 → IsTrue (is_line sum)
+    → Reaches segment sum (journal_text segment sum kept ++ junk) kept junk
     → IsTold segment (journal_text segment sum (kept ++ more)) (journal_text segment sum kept ++ junk)
-unended-is-told segment sum kept more junk h s are none first found tail line f =
+no-next-is-told segment sum kept more junk h s all first found tail line f =
     let lines : header segment first ∷ (commits_lines first found ++ lines_of tail) ≡ header segment sum ∷ (commits_lines sum kept ++ lines_of junk) =
-    sym (text_lines segment first found tail h line f.commits_are) ∙ ap lines_of (sym f.text_is) ∙ text_lines segment sum kept junk h s are in
+    sym (text_lines segment first found tail h line f.commits_are) ∙ ap lines_of (sym f.begins) ∙ text_lines segment sum kept junk h s all.commits_are in
     let same : first ≡ sum =
     same_sum segment first sum
     (head_of (header segment first) (header segment sum) (commits_lines first found ++ lines_of tail) (commits_lines sum kept ++ lines_of junk) lines) in
-    let rest : commits_lines sum found ++ lines_of tail ≡ commits_lines sum kept ++ lines_of junk =
-    ap (λ v. commits_lines v found ++ lines_of tail) (sym same)
-    ∙ tail_of (header segment first) (header segment sum) (commits_lines first found ++ lines_of tail) (commits_lines sum kept ++ lines_of junk) lines in
-    let all : found ≡ kept = one_reading sum found kept (lines_of tail) (lines_of junk) f.commits_are are f.unended none rest in
+    let kept_is : found ≡ kept =
+    reaches-once segment sum (journal_text segment sum kept ++ junk) found kept tail junk
+    (subst (λ v. Reaches segment v (journal_text segment sum kept ++ junk) found tail) same f) all in
     let others : List ℕ = joined (commits_lines (sum_at sum kept) more) in (
       others,
-      ap (λ v. journal_text segment v found ++ others) same ∙ ap (λ v. journal_text segment sum v ++ others) all ∙ sym (text-append segment sum kept more),
+      ap (λ v. journal_text segment v found ++ others) same ∙ ap (λ v. journal_text segment sum v ++ others) kept_is ∙ sym (text-append segment sum kept more),
     )
+
+-- So are any bytes of which no line ends a commit.
+pub unended-is-told : (segment : ℕ) (sum : List ℕ) (kept more : List Commit) (junk : List ℕ)
+    → segment < 2 ^ 64 → IsTrue (is_line sum) → AreCommits kept → IsUnended junk
+    → IsTold segment (journal_text segment sum (kept ++ more)) (journal_text segment sum kept ++ junk)
+unended-is-told segment sum kept more junk h s are none =
+    no-next-is-told segment sum kept more junk h s
+    (found-reaches segment sum (journal_text segment sum kept ++ junk) kept junk (record { text_is = refl; commits_are = are; unended = none }))
 
 -- of two fronts of a text one is a front of the other
 fronts : (a b x y : List ℕ) → a ++ x ≡ b ++ y → ((more : List ℕ) × (a ≡ b ++ more)) ⊎ ((more : List ℕ) × (b ≡ a ++ more))
@@ -136,17 +152,10 @@ fronts (d ∷ a) (c ∷ b) x y e =
     by same (inl (more, is)) = inl (more, ap (λ v. d ∷ v) is ∙ ap (λ v. v ∷ b ++ more) same)
     by same (inr (more, is)) = inr (more, ap (λ v. c ∷ v) is ∙ ap (λ v. v ∷ a ++ more) (sym same))
 
--- no line of a front ends a commit, if none of all bytes does
-unended-front : (bytes more : List ℕ) → IsUnended (bytes ++ more) → IsUnended bytes
-unended-front bytes more h =
-    let later : List (List ℕ) = lines_of (rest_of bytes ++ more) in
-    let both_of : IsTrue (list_all is_record (lines_of bytes ++ later)) = subst (λ v. IsTrue (list_all is_record v)) (lines_of-append bytes more) h in
-    and_left (list_all is_record (lines_of bytes)) (list_all is_record later)
-    (subst IsTrue (list_all-append is_record (lines_of bytes) later) both_of)
-
--- The commits that are found are also found in a front of what was written: in their own text, or in all that was synced.
+-- The commits that are found have all of those that were synced: else one of these comes next. So they are found in their
+-- own text too, which is a front of what was written.
 pub recovery : RecoveryIsExact
-recovery segment sum kept more file h s are (after, file_is) told found tail f = by (told sum found tail s f)
+recovery segment sum kept more file h s all (after, file_is) told found tail f = by (told sum found tail s f)
   where
     synced : List ℕ
     synced = journal_text segment sum kept
@@ -165,15 +174,42 @@ recovery segment sum kept more file h s are (after, file_is) told found tail f =
 
     in_text : (lost x : List ℕ) → text ++ lost ≡ journal_text segment sum (kept ++ more) → text ≡ synced ++ x → Goal
     in_text lost x whole is =
-        front-recovery segment sum kept more text h s are (x, lost, is, whole) found []
-        (record { text_is = sym (append-nil text); commits_are = f.commits_are; unended = refl })
+        front-recovery segment sum kept more text h s all (x, lost, is, whole) found []
+        (found-reaches segment sum text found [] (record { text_is = sym (append-nil text); commits_are = f.commits_are; unended = refl }))
 
     in_synced : (x : List ℕ) → synced ≡ text ++ x → Goal
-    in_synced x is =
-        let tail_is : tail ≡ x ++ after =
-        append_cancel_left text tail (x ++ after) (sym f.text_is ∙ file_is ∙ ap (λ v. v ++ after) is ∙ append_assoc text x after) in
-        front-recovery segment sum kept more synced h s are ([], others, sym (append-nil synced), sym written_is) found x
-        (record { text_is = is; commits_are = f.commits_are; unended = unended-front x after (subst IsUnended tail_is f.unended) })
+    in_synced x is = which others_is.0 others_is.1
+      where
+        are : AreCommits kept
+        are = are_first kept more all
+
+        rest : joined (commits_lines sum found) ++ x ≡ joined (commits_lines sum kept)
+        rest =
+            append_cancel_left (header_text segment sum) (joined (commits_lines sum found) ++ x) (joined (commits_lines sum kept))
+            (append_assoc (header segment sum) (10 ∷ []) (joined (commits_lines sum found) ++ x)
+            ∙ sym (append_assoc (header segment sum) (10 ∷ joined (commits_lines sum found)) x) ∙ sym is
+            ∙ sym (append_assoc (header segment sum) (10 ∷ []) (joined (commits_lines sum kept))))
+
+        others_is : (others : List Commit) × (kept ≡ found ++ others)
+        others_is =
+            first_commits sum found kept (lines_of x) f.commits_are are
+            (sym (lines_of-joined (commits_lines sum found) x (commits_are_lines sum found f.commits_are)) ∙ ap lines_of rest
+            ∙ ap lines_of (sym (append-nil (joined (commits_lines sum kept))))
+            ∙ lines_of-joined (commits_lines sum kept) [] (commits_are_lines sum kept are) ∙ append-nil (commits_lines sum kept))
+
+        which : (c : List Commit) → kept ≡ found ++ c → Goal
+        which [] e = ([], more, refl, sym (append-nil found) ∙ sym e ∙ sym (append-nil kept))
+        which (next ∷ c) e =
+            let s : List ℕ = sum_at sum found in
+            let back : List ℕ = joined (commits_lines (sum_after s next) c) in
+            let x_is : x ≡ commit_text s next ++ back =
+            append_cancel_left text x (commit_text s next ++ back)
+            (sym is ∙ ap (journal_text segment sum) e ∙ text-append segment sum found (next ∷ c) ∙ ap (λ v. text ++ v) (next_text s next c)) in
+            let tail_is : tail ≡ x ++ after =
+            append_cancel_left text tail (x ++ after) (sym f.begins ∙ file_is ∙ ap (λ v. v ++ after) is ∙ append_assoc text x after) in
+            absurd (f.no_next next (back ++ after)
+            (and_left (is_commit next) (list_all is_commit c) (are_last found (next ∷ c) (subst AreCommits e are)))
+            (tail_is ∙ ap (λ v. v ++ after) x_is ∙ append_assoc (commit_text s next) back after))
 
     by : (lost : List ℕ) × (text ++ lost ≡ journal_text segment sum (kept ++ more)) → Goal
     by (lost, whole) = which (fronts text synced lost others (whole ∙ written_is))
@@ -181,3 +217,35 @@ recovery segment sum kept more file h s are (after, file_is) told found tail f =
         which : ((x : List ℕ) × (text ≡ synced ++ x)) ⊎ ((x : List ℕ) × (synced ≡ text ++ x)) → Goal
         which (inl (x, is)) = in_text lost x whole is
         which (inr (x, is)) = in_synced x is
+
+-- ---- of a file without damage
+
+-- A premise on checksums that speaks only of files of which the rest has no line that ends a commit.
+abbrev pub IsToldOfFound : ℕ → List ℕ → List ℕ → Type 0
+IsToldOfFound segment written file = (sum : List ℕ) (commits : List Commit) (tail : List ℕ) → IsTrue (is_line sum)
+    → Found segment sum file commits tail → (lost : List ℕ) × (journal_text segment sum commits ++ lost ≡ written)
+
+-- Of such a file it says all that the premise of the law says.
+pub told-alike : (segment : ℕ) (sum written file : List ℕ) (commits : List Commit) (tail : List ℕ) → segment < 2 ^ 64 → IsTrue (is_line sum)
+    → Found segment sum file commits tail → IsToldOfFound segment written file → IsTold segment written file
+told-alike segment sum written file commits tail h s f told first found rest line g =
+    let lines : header segment first ∷ (commits_lines first found ++ lines_of rest) ≡ header segment sum ∷ (commits_lines sum commits ++ lines_of tail) =
+    sym (text_lines segment first found rest h line g.commits_are) ∙ ap lines_of (sym g.begins ∙ f.text_is) ∙ text_lines segment sum commits tail h s f.commits_are in
+    let same : first ≡ sum =
+    same_sum segment first sum
+    (head_of (header segment first) (header segment sum) (commits_lines first found ++ lines_of rest) (commits_lines sum commits ++ lines_of tail) lines) in
+    let found_is : found ≡ commits =
+    reaches-once segment sum file found commits rest tail
+    (subst (λ v. Reaches segment v file found rest) same g) (found-reaches segment sum file commits tail f) in
+    let (lost, whole) = told sum commits tail s f in
+    (lost, ap (λ v. journal_text segment v found ++ lost) same ∙ ap (λ v. journal_text segment sum v ++ lost) found_is ∙ whole)
+
+-- So it is enough for such a file.
+pub undamaged-recovery : (segment : ℕ) (sum : List ℕ) (kept more : List Commit) (file : List ℕ)
+    → segment < 2 ^ 64 → IsTrue (is_line sum) → AreCommits (kept ++ more)
+    → MayLeave (journal_text segment sum kept) file → IsToldOfFound segment (journal_text segment sum (kept ++ more)) file
+    → (found : List Commit) (tail : List ℕ) → Found segment sum file found tail
+    → (taken : List Commit) × (lost : List Commit) × (taken ++ lost ≡ more) × (found ≡ kept ++ taken)
+undamaged-recovery segment sum kept more file h s are may told found tail f =
+    recovery segment sum kept more file h s are may (told-alike segment sum (journal_text segment sum (kept ++ more)) file found tail h s f told) found tail
+    (found-reaches segment sum file found tail f)

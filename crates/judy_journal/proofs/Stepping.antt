@@ -46,7 +46,7 @@ module _ (segment : ℕ) (first text : List ℕ) (commits : List Commit) (r : Re
   alone not = h.text_is ∙ ap (λ b. front b segment first commits ++ tail_of r) not ∙ tail_is ∙ ap (λ rs. joined rs ++ r.line) (h.none not).1
 
   -- after it, the commits, records and a line
-  after : r.begun ≡ true → text ≡ journal_text segment first commits ++ (joined r.records ++ r.line)
+  pub after : r.begun ≡ true → text ≡ journal_text segment first commits ++ (joined r.records ++ r.line)
   after has = h.text_is ∙ ap (λ b. front b segment first commits ++ tail_of r) has ∙ ap (λ v. journal_text segment first commits ++ v) tail_is
 
   pub began : (r' : Reading) → r.begun ≡ false → r.line ≡ header r.segment r.first → r' ≡ record r { begun = true; line = [] }
@@ -142,7 +142,7 @@ module _ (segment : ℕ) (first text : List ℕ) (commits : List Commit) (r : Re
     other = λ e. other (e ∙ ap (λ n. header n first) (sym h.segment_is) ∙ ap (header r.segment) (sym h.first_is));
   }
 
-  pub other_mark : r.begun ≡ true → is_mark r.line ≡ true → r.line ≢ mark r.sum r.records → (more : List ℕ) → HasOtherMark segment first (text ++ 10 ∷ more)
+  unfoldable pub other_mark : r.begun ≡ true → is_mark r.line ≡ true → r.line ≢ mark r.sum r.records → (more : List ℕ) → HasOtherMark segment first (text ++ 10 ∷ more)
   other_mark has marks other more = record {
     commits = commits;
     commits_are = h.commits_are;
@@ -156,7 +156,7 @@ module _ (segment : ℕ) (first text : List ℕ) (commits : List Commit) (r : Re
     other = λ e. other (e ∙ ap (λ s. mark s r.records) (sym h.sum_is));
   }
 
-  pub no_room : r.begun ≡ true → IsTrue (is_record r.line) → 16282 < length (joined r.records) + length r.line + 1 → (more : List ℕ)
+  unfoldable pub no_room : r.begun ≡ true → IsTrue (is_record r.line) → 16282 < length (joined r.records) + length r.line + 1 → (more : List ℕ)
       → HasNoMark segment first (text ++ 10 ∷ more)
   no_room has is long more = record {
     commits = commits;
@@ -247,7 +247,7 @@ module _ (segment : ℕ) (first text : List ℕ) (commits : List Commit) (r : Re
       false_true e = cc
 
   -- a line that is too long
-  pub long_line : r.begun ≡ true → 16282 < length r.line + length chunk → (more : List ℕ) → HasNoMark segment first (text ++ (chunk ++ more))
+  unfoldable pub long_line : r.begun ≡ true → 16282 < length r.line + length chunk → (more : List ℕ) → HasNoMark segment first (text ++ (chunk ++ more))
   long_line has long more = record {
     commits = commits;
     commits_are = h.commits_are;
@@ -318,7 +318,7 @@ reading_is_found segment first text commits r h has = record {
         ∙ ap (λ v. r.records ++ v) (lines_of-bytes r.line h.line_is) ∙ append-nil r.records in
         subst (λ ls. IsTrue (list_all is_record ls)) (sym lines) h.records_are
 
--- what holds after an error, and so something else
-pub on_err : {T E P Q : Type 0} (r : Result T E) → (P → Q) → OnErr r P → OnErr r Q
-on_err (Ok x) f h = h
-on_err (Err e) f h = f h
+-- what holds after an error, both of it, and so something else
+pub on_both : {T E O P Q : Type 0} (r : Result T E) → (O → P → Q) → OnErr r O → OnErr r P → OnErr r Q
+on_both (Ok x) f h k = h
+on_both (Err e) f h k = f h k

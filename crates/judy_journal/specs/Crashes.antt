@@ -1,22 +1,17 @@
 -- What recovery finds in all files of a journal.
 --     FoundAll segment sum left commits tail   the files after this segment have these commits, and the last one this tail
 --     JournalIsExact                           after a crash: the synced commits and the first of the others
-use Rattle.std.specs.Prelude.{◌≡◌, ◌⊎◌, ℕ, ◌<◌, ◌+◌, ◌^◌, List, [], ◌∷◌, ◌++◌, IsTrue}
+use Rattle.std.specs.Prelude.{◌≡◌, ℕ, ◌<◌, ◌+◌, ◌^◌, List, [], ◌∷◌, ◌++◌, IsTrue}
 use Rattle.judy_journal.specs.Acts.{DiskAct, File, Journal, Left, AreWhole, IsWriting, MayLeaveAll, disk_after, standing}
 use Rattle.judy_journal.specs.Journals.{Commit, is_line, sum_at}
-use Rattle.judy_journal.specs.Recoveries.{Found}
-
--- not even the first line of the file is whole
-pub record IsHeadless (bytes : List ℕ) (commits : List Commit) (tail : List ℕ) : Type 0 where
-  pub line : IsTrue (is_line bytes)
-  pub none : commits ≡ []
-  pub tail_is : tail ≡ bytes
+use Rattle.judy_journal.specs.Recoveries.{Found, FoundLast}
 
 -- The files are those of the segments after this one, without a gap. Each is whole but the last, and
--- each continues the checksum of the one before.
+-- each continues the checksum of the one before. Of the last one these are all the first whole commits,
+-- whatever comes after them.
 abbrev pub FoundAll : ℕ → List ℕ → List Left → List Commit → List ℕ → Type 0
 FoundAll segment sum [] commits tail = (commits ≡ []) × (tail ≡ [])
-FoundAll segment sum (l ∷ []) commits tail = (l.number ≡ segment + 1) × (Found (segment + 1) sum l.bytes commits tail ⊎ IsHeadless l.bytes commits tail)
+FoundAll segment sum (l ∷ []) commits tail = (l.number ≡ segment + 1) × FoundLast (segment + 1) sum l.bytes commits tail
 FoundAll segment sum (l ∷ m ∷ left) commits tail = (here : List Commit) × (later : List Commit) × (commits ≡ here ++ later)
     × (l.number ≡ segment + 1) × Found (segment + 1) sum l.bytes here [] × FoundAll (segment + 1) (sum_at sum here) (m ∷ left) later tail
 

@@ -1,13 +1,15 @@
 -- A journal that is being read.
 --     Reading                        what a reader shows
 --     IsRead segment first text commits r   this text was read, and these commits are whole
-use Rattle.std.specs.Prelude.{◌≡◌, ◌<◌, ℕ, Bool, true, false, if◌then◌else◌, List, [], ◌∷◌, ◌++◌, ◌+◌, length, IsTrue, Result, Ok, Err}
+--     HasStopped bytes segment first text commits r   it was read up to damage in these bytes
+use Rattle.std.specs.Prelude.{◌≡◌, ◌<◌, ◌≤◌, ℕ, Bool, true, false, if◌then◌else◌, List, [], ◌∷◌, ◌++◌, ◌+◌, length, IsTrue, Result, Ok, Err}
 use Rattle.std.specs.List.{list_all}
 use Rattle.judy_journal.specs.declared.reader.Read.{Read}
 use Rattle.judy_journal.specs.declared.reader.Read.TheVariants.{More, Whole}
 use Rattle.judy_journal.specs.declared.damage.Damage.{Damage}
-use Rattle.judy_journal.specs.Recoveries.{Found, IsDamaged}
-use Rattle.judy_journal.specs.Journals.{Commit, AreCommits, joined, is_line, is_record, journal_text, sum_at}
+use Rattle.judy_journal.specs.declared.format.TheConstants.{COMMIT_LIMIT}
+use Rattle.judy_journal.specs.Recoveries.{Found, FoundLast, IsDamaged}
+use Rattle.judy_journal.specs.Journals.{Commit, AreCommits, header, joined, is_line, is_record, journal_text, sum_at}
 
 -- the segment's number and the checksum that it continues from; the checksum after the last whole
 -- commit; whether the header was read, and whether the last commit became whole; the records of that
@@ -53,10 +55,21 @@ HasEnded (Ok true) segment first text commits records r =
     IsRead segment first (text ++ 10 ∷ []) (commits ++ records ∷ []) r × (r.whole ≡ true) × (r.records ≡ records)
 HasEnded (Err damage) segment first text commits records r = (more : List ℕ) → IsDamaged damage segment first (text ++ 10 ∷ more)
 
+-- the first line of the segment is one line, and not too long for one
+abbrev pub HasShortHeader : ℕ → List ℕ → Type 0
+HasShortHeader segment sum = IsTrue (is_line (header segment sum)) × (length (header segment sum) ≤ COMMIT_LIMIT)
+
+-- Behind the text come these bytes, of which this is left. Whatever comes after them, these commits are all the first
+-- whole ones of the file.
+abbrev pub AreAllFirst : ℕ → List ℕ → List ℕ → List ℕ → List Commit → Reading → List ℕ → Type 0
+AreAllFirst segment first text bytes commits r rest = HasShortHeader segment first → (more : List ℕ)
+    → FoundLast segment first (text ++ (bytes ++ more)) commits (tail_of r ++ (rest ++ more))
+
 -- Damage was found while a line was read, and of these bytes a front was taken. The line, or a front of
--- it, is held behind the records of its commit.
+-- it, is held behind the records of its commit. No further whole commit comes next.
 abbrev pub HasStopped : List ℕ → ℕ → List ℕ → List ℕ → List Commit → Reading → Type 0
-HasStopped bytes segment first text commits r = (used : List ℕ) × (rest : List ℕ) × (used ++ rest ≡ bytes) × IsRead segment first (text ++ used) commits r
+HasStopped bytes segment first text commits r = (used : List ℕ) × (rest : List ℕ) × (used ++ rest ≡ bytes)
+    × IsRead segment first (text ++ used) commits r × AreAllFirst segment first text bytes commits r rest
 
 -- what was read of these bytes: all of them, and no commit became whole; or the bytes up to the end of
 -- a commit, whose records the reader holds; or damage

@@ -3,7 +3,7 @@
 --     IsRecovered segment sum done text commits r   these files and this front of the next one were read
 --     IsUnpacked segment sum text commits r         these bytes of a snapshot were read, after its first line
 --     IsSnapshot segment sum bytes commits          the bytes are those of a snapshot
-use Rattle.std.specs.Prelude.{◌≡◌, ◌==◌, Bool, take, ◌⊎◌, ℕ, ◌≤◌, ◌+◌, ◌^◌, true, false, List, [], ◌∷◌, ◌++◌, length, Result, Ok, Err, if◌then◌else◌}
+use Rattle.std.specs.Prelude.{◌≡◌, ◌==◌, Bool, take, ◌⊎◌, ℕ, ◌≤◌, ◌<◌, ◌+◌, ◌^◌, true, false, List, [], ◌∷◌, ◌++◌, length, Result, Ok, Err, if◌then◌else◌}
 use Rattle.judy_journal.specs.declared.damage.Damage.{Damage}
 use Rattle.judy_journal.specs.declared.reader.Read.{Read}
 use Rattle.judy_journal.specs.declared.reader.Read.TheVariants.{More, Whole}
@@ -11,7 +11,7 @@ use Rattle.judy_journal.specs.declared.recovery.Position.{Position}
 use Rattle.judy_journal.specs.Acts.{AreWhole, File, Left}
 use Rattle.judy_journal.specs.Crashes.{FoundAll}
 use Rattle.judy_journal.specs.Journals.{AreCommits, Commit, commits_lines, joined, journal_text, sum_at}
-use Rattle.judy_journal.specs.Readings.{IsRead, Reading, front, tail_of}
+use Rattle.judy_journal.specs.Readings.{HasShortHeader, IsRead, Reading, front, tail_of}
 use Rattle.judy_journal.specs.Recoveries.{Found, IsDamaged}
 use Rattle.judy_journal.specs.Writes.{header_text, size_with, snapshot_line}
 
@@ -60,11 +60,18 @@ HasRecovered (Ok (Whole left)) segment sum done text commits bytes r = (used : L
 HasRecovered (Err damage) segment sum done text commits bytes r = (before : List Commit) × (here : List Commit) × (commits ≡ before ++ here)
     × IsDamaged damage (segment + length done + 1) (sum_at sum before) (text ++ bytes)
 
+-- Behind the text the current file has these bytes, of which this is left. Whatever comes after them, these commits are
+-- all the first whole ones of the files, unless the file has 2^64 bytes or more.
+abbrev pub AreAllFound : ℕ → List ℕ → List Left → List ℕ → List Commit → List ℕ → Recovering → List ℕ → Type 0
+AreAllFound segment sum done text commits bytes r rest = HasShortHeader r.reading.segment r.reading.first → length (text ++ bytes) < 2 ^ 64
+    → (more : List ℕ) → FoundAll segment sum (done ++ record { number = segment + length done + 1; bytes = text ++ (bytes ++ more) } ∷ [])
+    commits (tail_of r.reading ++ (rest ++ more))
+
 -- Damage was found in these bytes of the current file, and a front of them was taken: it is read, and what
--- follows it is not.
+-- follows it is not. No further whole commit comes next.
 abbrev pub HasHalted : ℕ → List ℕ → List Left → List ℕ → List Commit → List ℕ → Recovering → Type 0
-HasHalted segment sum done text commits bytes r =
-    (used : List ℕ) × (rest : List ℕ) × (used ++ rest ≡ bytes) × IsRecovered segment sum done (text ++ used) commits r
+HasHalted segment sum done text commits bytes r = (used : List ℕ) × (rest : List ℕ) × (used ++ rest ≡ bytes)
+    × IsRecovered segment sum done (text ++ used) commits r × AreAllFound segment sum done text commits bytes r rest
 
 -- how many bytes of the current file are read: up to the last whole commit, or the first line, and those behind it
 abbrev pub read_in : Recovering → ℕ

@@ -1,5 +1,7 @@
 -- What is read of a journal's text.
---     Found segment sum text commits tail     these commits are whole, and this comes after them
+--     Found segment sum text commits tail     these commits are whole, and this comes after them, a part of another one
+--     Reaches segment sum text commits tail   these are all the first whole commits, whatever comes after them
+--     FoundLast segment sum text commits tail   the same of a last file, which may lack its first line
 --     IsTold segment written file             whatever is found in the file was written to it
 --     IsDamaged damage segment sum text       the text is damaged
 --     RecoveryIsExact                         after a crash: the synced commits and the first of the others
@@ -11,7 +13,8 @@ use Rattle.judy_journal.specs.declared.damage.Damage.{Damage}
 use Rattle.judy_journal.specs.declared.damage.Damage.TheVariants as damage
 use Rattle.judy_journal.specs.declared.format.TheConstants.{COMMIT_LIMIT, LAST_SEGMENT}
 use Rattle.judy_journal.specs.Disks.{MayLeave}
-use Rattle.judy_journal.specs.Journals.{Commit, AreCommits, joined, is_line, is_mark, is_record, header, mark, journal_text, sum_at}
+use Rattle.judy_journal.specs.Journals.{Commit, AreCommits, joined, is_commit, is_line, is_mark, is_record, header, mark, journal_text, sum_at}
+use Rattle.judy_journal.specs.Writes.{commit_text, header_text}
 
 -- no whole line of these bytes ends a commit
 abbrev pub IsUnended : List ℕ → Type 0
@@ -24,11 +27,28 @@ pub record Found (segment : ℕ) (sum text : List ℕ) (commits : List Commit) (
   pub commits_are : AreCommits commits
   pub unended : IsUnended tail
 
--- Whatever is found in this file was written to it: its text begins all that was written. Checksums tell all other
--- bytes.
+-- The text begins with these commits, byte by byte and with their checksums, and no further whole commit comes next.
+-- Whatever else comes next is the tail: nothing, a part of a commit, damage, and anything behind that.
+pub record Reaches (segment : ℕ) (sum text : List ℕ) (commits : List Commit) (tail : List ℕ) : Type 0 where
+  pub begins : text ≡ journal_text segment sum commits ++ tail
+  pub commits_are : AreCommits commits
+  pub no_next : (next : Commit) (rest : List ℕ) → IsTrue (is_commit next) → tail ≢ commit_text (sum_at sum commits) next ++ rest
+
+-- the text does not begin with the first line of the segment, so it has no commit
+pub record IsHeadless (segment : ℕ) (sum text : List ℕ) (commits : List Commit) (tail : List ℕ) : Type 0 where
+  pub other : (rest : List ℕ) → text ≢ header_text segment sum ++ rest
+  pub none : commits ≡ []
+  pub tail_is : tail ≡ text
+
+-- all the first whole commits of a last file, and what comes after them
+abbrev pub FoundLast : ℕ → List ℕ → List ℕ → List Commit → List ℕ → Type 0
+FoundLast segment sum text commits tail = Reaches segment sum text commits tail ⊎ IsHeadless segment sum text commits tail
+
+-- Whatever is found in this file was written to it: the text of its first whole commits begins all that was written.
+-- Checksums tell all other bytes.
 abbrev pub IsTold : ℕ → List ℕ → List ℕ → Type 0
 IsTold segment written file = (sum : List ℕ) (commits : List Commit) (tail : List ℕ) → IsTrue (is_line sum)
-    → Found segment sum file commits tail → (lost : List ℕ) × (journal_text segment sum commits ++ lost ≡ written)
+    → Reaches segment sum file commits tail → (lost : List ℕ) × (journal_text segment sum commits ++ lost ≡ written)
 
 -- the first line is not the header
 pub record HasOtherHeader (segment : ℕ) (sum text : List ℕ) : Type 0 where
@@ -87,12 +107,13 @@ IsDamaged damage.Torn segment sum text = IsTorn segment sum text
 IsDamaged damage.Number segment sum text = LAST_SEGMENT ≤ segment
 IsDamaged damage.Size segment sum text = 2 ^ 64 ≤ length text
 
--- After a crash, whatever is found is the commits that were synced and the first of the others.
+-- After a crash, the first whole commits of the file are those that were synced and the first of the others, whatever
+-- comes after them.
 abbrev pub RecoveryIsExact : Type 0
 RecoveryIsExact = (segment : ℕ) (sum : List ℕ) (kept more : List Commit) (file : List ℕ)
     → segment < 2 ^ 64 → IsTrue (is_line sum) → AreCommits (kept ++ more)
     → MayLeave (journal_text segment sum kept) file → IsTold segment (journal_text segment sum (kept ++ more)) file
-    → (found : List Commit) (tail : List ℕ) → Found segment sum file found tail
+    → (found : List Commit) (tail : List ℕ) → Reaches segment sum file found tail
     → (taken : List Commit) × (lost : List Commit) × (taken ++ lost ≡ more) × (found ≡ kept ++ taken)
 
 -- in a front of what was written no header and no mark is told as another one

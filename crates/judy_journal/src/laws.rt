@@ -5,8 +5,9 @@ ghost use Rattle.judy_journal.specs.Recovered.{RecoveredIsWhole, RecoveryIsFound
 ghost use Rattle.judy_journal.specs.Recoveries.{CrashesKeepMarks, RecoveryIsExact};
 
 /// After a crash, recovery finds the commits that were synced and the first of those that were
-/// written after them, with all their records, in their order. Nothing else is found, whatever bytes
-/// are behind what was synced, if the checksums tell what was not written.
+/// written after them, with all their records, in their order. These are all the first whole commits
+/// of the file, whatever comes after them. Nothing else is found, whatever bytes are behind what was
+/// synced, if the checksums tell what was not written.
 pub fn recovery_is_exact()
     ensures { RecoveryIsExact }
 {}

@@ -5,7 +5,7 @@ ghost use Rattle.judy_protocol.specs.Talks.{HasNoLf};
 ghost use Rattle.judy_journal.specs.declared.damage.Damage.TheVariants as damage;
 ghost use Rattle.judy_journal.specs.Journals.{Commit, header, is_mark as marks, is_record, joined, mark, sum_after};
 ghost use Rattle.judy_journal.specs.Notes.{changes_in};
-ghost use Rattle.judy_journal.specs.Readings.{HasClosed, HasEnded, HasRead, HasStopped, HasTaken, IsRead, LeavesLess, forgotten, next_of, restarted, tail_of};
+ghost use Rattle.judy_journal.specs.Readings.{AreAllFirst, HasClosed, HasEnded, HasRead, HasStopped, HasTaken, IsRead, LeavesLess, forgotten, next_of, restarted, tail_of};
 ghost use Rattle.judy_journal.specs.Writes.{header_text};
 
 use crate::damage::Damage;
@@ -182,6 +182,9 @@ impl Reader {
             → IsRead segment first text commits self.old → self.old.whole ≡ false
             → HasEnded result segment first text commits self.old.records self.new }
         ensures same { OnErr result (self.new ≡ self.old) }
+        ensures stopped { OnErr result ((segment : ℕ) (first text : List ℕ) (commits : List Commit)
+            → IsRead segment first text commits self.old → self.old.whole ≡ false
+            → AreAllFirst segment first text (10 ∷ []) commits self.old (10 ∷ [])) }
     {
         if !self.begun {
             if self.begin() {
@@ -219,7 +222,7 @@ impl Reader {
             → HasTaken result segment first text commits chunk.now self.new }
         ensures stopped { OnErr result ((segment : ℕ) (first text : List ℕ) (commits : List Commit)
             → IsRead segment first text commits self.old → self.old.whole ≡ false
-            → HasStopped chunk.now segment first text commits self.new) }
+            → HasStopped (chunk.now ++ 10 ∷ []) segment first text commits self.new) }
     {
         if !self.hold(chunk) {
             return Err(self.too_long());

@@ -17,6 +17,7 @@ module _ {P S : Type 0} (plays : P → List (List ℕ) → P → Type 0) (replay
     commits = h.commits;
     tail = h.tail;
     found = h.found;
+    all = h.all;
     played = tells old (all_records kept.unpacked ++ all_records h.commits) new h.played;
   }
 
@@ -28,6 +29,7 @@ module _ {P S : Type 0} (plays : P → List (List ℕ) → P → Type 0) (replay
       commits = h.journal.commits;
       tail = h.journal.tail;
       found = h.journal.found;
+      all = h.journal.all;
       played = tells old (all_records kept.unpacked ++ all_records h.journal.commits) new h.journal.played;
     };
     files = h.files;

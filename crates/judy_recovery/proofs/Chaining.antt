@@ -1,19 +1,21 @@
 -- How the files of a journal are played one after another.
-use Rattle.std.proofs.Common.{◌≡◌, ◌≢◌, ◌+◌, ◌-◌, ◌≤◌, ◌<◌, ℕ, Bool, true, false, List, [], ◌∷◌, ◌++◌, length, Option, Some, None}
+use Rattle.std.proofs.Common.{◌≡◌, ◌≢◌, ◌+◌, ◌-◌, ◌≤◌, ◌<◌, ◌^◌, ◌⊎◌, ℕ, Bool, true, false, List, [], ◌∷◌, ◌++◌, length, Option, Some, None}
 use Rattle.std.proofs.Common.{refl, sym, ◌∙◌, ap, subst, arith, append_assoc, append-nil, length-append, inl, inr}
 use Rattle.std.specs.Prelude.{Err, IfOk, IfSome, IsTrue, Ok, Result}
 use Rattle.judy_journal.specs.Acts.{AreWhole, Left}
 use Rattle.judy_journal.specs.Journals.{Commit, is_line, commits_lines, header, joined, journal_text, sum_at}
 use Rattle.judy_journal.specs.Notes.{is_torn_end, seen_in}
 use Rattle.judy_journal.specs.Noting.{HasSeen, Noting}
-use Rattle.judy_journal.specs.Readings.{front, tail_of}
+use Rattle.judy_journal.specs.Crashes.{FoundAll}
+use Rattle.judy_journal.specs.Readings.{HasShortHeader, front, tail_of}
 use Rattle.judy_journal.specs.Recovered.{HasEndedSnapshot, IsPosition, IsRecovered, IsUnpacked, RecoveredIsWhole, Recovering, RecoveryIsFound, files_kept}
 use Rattle.judy_journal.specs.Writes.{all_records, snapshot_line}
 use Rattle.judy_journal.specs.declared.recovery.Position.{Position}
 use Rattle.judy_recovery.specs.Played.{HasReadLast, IsDamagedFile, ReadsAll, ReadsUpTo}
-use Rattle.judy_recovery.specs.Whole.{AllGave, EndsIn, EndsThere, Gave, HasRecoveredAll, HasStarted, ReadsFiles, ReadsLast, ReadsSegment, segment_before}
+use Rattle.judy_recovery.specs.Whole.{AllGave, AreAllIn, EndsIn, EndsThere, Gave, HasRecoveredAll, HasStarted, IsStart, ReadsFiles, ReadsLast, ReadsSegment, segment_before, with_last}
 use Rattle.judy_recovery.specs.declared.ends.End.{End}
 use Rattle.judy_recovery.specs.declared.pieces.Damaged.{Damaged}
+use Rattle.judy_journal.proofs.lemmas.ReachingLemmas.{recovered-short}
 use Rattle.judy_recovery.proofs.Playing.{Laws, all_records-append}
 
 -- the size is the position's if the position is in the file of this number, and 0 if not
@@ -65,6 +67,24 @@ whole_to_end law segment sum done text commits r end h e = by r.reading.begun re
         subst (λ n. AreWhole segment sum (files_kept true segment done text n) commits) same w
     by false bare w = w
 
+-- with all bytes of the last file
+all_in : (segment : ℕ) (sum : List ℕ) (done : List Left) (text junk bytes : List ℕ) (commits : List Commit) (r : Recovering) → RecoveryIsFound
+    → IsRecovered segment sum done text commits r → text ++ junk ≡ bytes → HasShortHeader r.reading.segment r.reading.first
+    → (junk ≡ []) ⊎ (HasShortHeader r.reading.segment r.reading.first → AreAllIn segment sum done bytes commits (tail_of r.reading ++ junk))
+    → AreAllIn segment sum done (text ++ junk) commits (tail_of r.reading ++ junk)
+all_in segment sum done text junk bytes commits r is_found h cut short (inl none) small =
+    let tail : List ℕ = tail_of r.reading in
+    subst (λ v. FoundAll segment sum (with_last segment done (text ++ v)) commits (tail ++ v)) (sym none)
+    (subst (λ v. FoundAll segment sum (with_last segment done v) commits (tail ++ [])) (sym (append-nil text))
+    (subst (FoundAll segment sum (with_last segment done text) commits) (sym (append-nil tail)) (is_found segment sum done text commits r h)))
+all_in segment sum done text junk bytes commits r is_found h cut short (inr all) small =
+    subst (λ v. AreAllIn segment sum done v commits (tail_of r.reading ++ junk)) (sym cut) (all short) small
+
+-- the first segment continues from a line
+line_of_start : (snapshot : Option ℕ) (sum : List ℕ) (commits : List Commit) → IsStart snapshot sum commits → IsTrue (is_line sum)
+line_of_start None sum commits (is, none) = subst (λ v. IsTrue (is_line v)) (sym is) refl
+line_of_start (Some number) sum commits start = start.0
+
 module _ {P File : Type 0} (plays : P → List (List ℕ) → P → Type 0) (remaining : File → Option (List ℕ)) where
   -- files and one more gave their bytes
   gave-append : (files : List Left) (l : Left) → AllGave remaining files → Gave remaining l.bytes → AllGave remaining (files ++ l ∷ [])
@@ -73,11 +93,11 @@ module _ {P File : Type 0} (plays : P → List (List ℕ) → P → Type 0) (rem
 
   -- a snapshot was read to its end, and ended
   pub snapshot_started : (number : ℕ) (sum : List ℕ) (file : File) (left' : Option (List ℕ)) (r r' r'' : Recovering) (old new : P)
-      → IsTrue (is_line sum) → IsUnpacked number sum [] [] r → ReadsAll plays (remaining file) left' r old r' new
+      → IsTrue (is_line sum) → length sum ≡ 16 → IsUnpacked number sum [] [] r → ReadsAll plays (remaining file) left' r old r' new
       → ((segment : ℕ) (sum : List ℕ) (text : List ℕ) (commits : List Commit) → IsUnpacked segment sum text commits r'
       → HasEndedSnapshot segment sum text commits r'')
       → HasStarted plays remaining (Some number) old r'' new
-  snapshot_started number sum file left' r r' r'' old new line was all ended =
+  snapshot_started number sum file left' r r' r'' old new line len was all ended =
       let h = all.reads.snapshot number sum [] [] was in
       let e : HasEndedSnapshot number sum all.bytes h.more r'' = ended number sum all.bytes h.more h.read in
       let records : all_records h.more ≡ all_records e.others =
@@ -86,6 +106,7 @@ module _ {P File : Type 0} (plays : P → List (List ℕ) → P → Type 0) (rem
         sum = sum;
         commits = e.others;
         start = (line, snapshot_line number sum ++ 10 ∷ all.bytes, e.snapshot);
+        sum_len = len;
         given = (all.bytes, (file, left', all.given, all.ended), e.snapshot);
         next = e.next;
         played = subst (λ v. plays old v new) records h.played;
@@ -122,6 +143,7 @@ module _ {P File : Type 0} (plays : P → List (List ℕ) → P → Type 0) (rem
           played = k.played;
           ends = h.ends segment sum done h.bytes (commits ++ k.more) k.read there;
           follows = inl refl;
+          alone = inl refl;
         };
   }
 
@@ -164,6 +186,7 @@ module _ {P File : Type 0} (plays : P → List (List ℕ) → P → Type 0) (rem
             ends = ends_there number size torn segment sum done all.bytes (commits ++ k.more) r' p k.read is
                 (at segment sum done all.bytes (commits ++ k.more) k.read) there;
             follows = inl refl;
+            alone = inl refl;
           }
       by (Some damaged) (front, more, cut, breaks) passed segment sum done commits was there =
           let k = breaks segment sum done [] commits was in
@@ -187,13 +210,16 @@ module _ {P File : Type 0} (plays : P → List (List ℕ) → P → Type 0) (rem
                   ∙ ap (λ v. is_torn_end number (seen_in number v) size) whole ∙ ap (λ s. is_torn_end number s size) (sym seen)
                   ∙ ap (λ m. is_torn_end m n'.seen size) (sym (all.noted number [] none).segment_is) ∙ passed;
             });
+            alone = inr (λ short small.
+                subst (λ v. FoundAll segment sum (with_last segment done v) (commits ++ k.more) (tail_of r'.reading ++ (k.rest ++ more))) cut
+                (k.alone short (omega (arith, small, ap length cut, length-append front more)) more));
           }
 
   module _ (laws : Laws plays) where
     -- nothing is played before the first segment if there is no snapshot
     pub none_started : (sum : List ℕ) (r : Recovering) (p : P) → sum ≡ Rattle.judy_recovery.specs.declared.ends.TheConstants.FIRST_SUM
         → IsRecovered 0 sum [] [] [] r → HasStarted plays remaining None p r p
-    none_started sum r p is h = record { sum = sum; commits = []; start = (is, refl); given = tt; next = h; played = laws.rests p }
+    none_started sum r p is h = record { sum = sum; commits = []; start = (is, refl); sum_len = ap length is; given = tt; next = h; played = laws.rests p }
 
     -- no files
     pub files_none : (first : ℕ) (r : Recovering) (p : P) → ReadsFiles plays remaining (first - first) r p r p
@@ -234,8 +260,8 @@ module _ {P File : Type 0} (plays : P → List (List ℕ) → P → Type 0) (rem
     -- the snapshot, the whole files and the last one
     pub recovered_all : RecoveryIsFound → RecoveredIsWhole → (snapshot : Option ℕ) (first last : ℕ) (r r' r'' : Recovering) (old p p' new : P) (end : End)
         → HasStarted plays remaining snapshot old r p → ReadsFiles plays remaining (last - first) r p r' p' → ReadsLast plays remaining last r' p' end r'' new
-        → first ≡ segment_before snapshot + 1 → first ≤ last → HasRecoveredAll plays remaining snapshot last old end new
-    recovered_all is_found is_whole snapshot first last r r' r'' old p p' new end started files reads first_is not_less =
+        → first ≡ segment_before snapshot + 1 → first ≤ last → last < 2 ^ 64 → HasRecoveredAll plays remaining snapshot last old end new
+    recovered_all is_found is_whole snapshot first last r r' r'' old p p' new end started files reads first_is not_less small =
         let f = files (segment_before snapshot) started.sum [] [] started.next in
         let last_is : last ≡ segment_before snapshot + length f.files + 1 = omega (arith, f.count_is, first_is, not_less) in
         let k = reads.reads (segment_before snapshot) started.sum f.files f.more f.read last_is in
@@ -243,6 +269,9 @@ module _ {P File : Type 0} (plays : P → List (List ℕ) → P → Type 0) (rem
         subst (λ v. plays p v new) (sym (all_records-append f.more k.more))
         (laws.joins p p' new (all_records f.more) (all_records k.more) f.played k.played) in
         let l : Left = record { number = segment_before snapshot + length f.files + 1; bytes = k.text ++ k.junk } in
+        let short : HasShortHeader r''.reading.segment r''.reading.first =
+        recovered-short (segment_before snapshot) started.sum f.files k.text (f.more ++ k.more) r'' k.read (omega (arith, small, last_is))
+        (line_of_start snapshot started.sum started.commits started.start) (omega (arith, started.sum_len)) in
         record {
           sum = started.sum;
           unpacked = started.commits;
@@ -254,6 +283,7 @@ module _ {P File : Type 0} (plays : P → List (List ℕ) → P → Type 0) (rem
           r = r'';
           read = k.read;
           found = is_found (segment_before snapshot) started.sum f.files k.text (f.more ++ k.more) r'' k.read;
+          all = all_in (segment_before snapshot) started.sum f.files k.text k.junk reads.bytes (f.more ++ k.more) r'' is_found k.read k.cut short k.alone;
           began = started.given;
           given = gave-append f.files l f.given (subst (Gave remaining) (sym k.cut) reads.given);
           follows = k.follows;

@@ -1,13 +1,15 @@
 -- How the commits of a file are played.
-use Rattle.std.proofs.Common.{◌≡◌, ◌-◌, ℕ, suc, List, [], ◌∷◌, ◌++◌, length, take, drop}
+use Rattle.std.proofs.Common.{◌≡◌, ◌<◌, ◌+◌, ◌-◌, ◌^◌, ℕ, suc, List, [], ◌∷◌, ◌++◌, length, take, drop}
 use Rattle.std.proofs.Common.{refl, sym, ◌∙◌, ap, subst, arith, append_assoc, append-nil, length-append, take-append-drop, Option, Some, None, Ok, Err}
 use Rattle.std.proofs.KnownBytes.{Consumes-trans}
 use Rattle.std.specs.Io.KnownBytes.{Consumes, Keeps}
 use Rattle.judy_journal.specs.Acts.{Left}
+use Rattle.judy_journal.specs.Crashes.{FoundAll}
 use Rattle.judy_journal.specs.Journals.{Commit}
 use Rattle.judy_journal.specs.Notes.{changes_in}
 use Rattle.judy_journal.specs.Noting.{HasSeen, Noting}
-use Rattle.judy_journal.specs.Recovered.{HasHalted, HasRecovered, HasUnpacked, IsRecovered, IsUnpacked, Recovering}
+use Rattle.judy_journal.specs.Readings.{tail_of}
+use Rattle.judy_journal.specs.Recovered.{AreAllFound, HasHalted, HasRecovered, HasUnpacked, IsRecovered, IsUnpacked, Recovering}
 use Rattle.judy_journal.specs.Writes.{all_records}
 use Rattle.judy_journal.specs.declared.reader.Read.{Read}
 use Rattle.judy_journal.specs.declared.reader.Read.TheVariants.{More, Whole}
@@ -179,7 +181,7 @@ module _ {P : Type 0} (plays : P → List (List ℕ) → P → Type 0) where
         → HasHalted segment sum done text commits bytes r')
         → Breaks plays damage r bytes p r' p
     breaks_here r r' bytes p damage damaged halted segment sum done text commits h =
-        let (used, rest, cut, read) = halted segment sum done text commits h in
+        let (used, rest, cut, read, alone) = halted segment sum done text commits h in
         let same : commits ≡ commits ++ [] = sym (append-nil commits) in
         record {
           used = used;
@@ -189,6 +191,7 @@ module _ {P : Type 0} (plays : P → List (List ℕ) → P → Type 0) where
           read = subst (λ v. IsRecovered segment sum done (text ++ used) v r') same read;
           played = laws.rests p;
           damaged = subst (λ v. IsDamagedFile damage segment sum done v (text ++ bytes)) same (damaged segment sum done text commits h);
+          alone = subst (λ v. AreAllFound segment sum done text v bytes r' rest) same alone;
         }
 
     -- bytes, and then damage in more bytes
@@ -209,6 +212,13 @@ module _ {P : Type 0} (plays : P → List (List ℕ) → P → Type 0) where
               (laws.joins old mid new (all_records k.more) (all_records b.more) k.played b.played);
           damaged = subst (λ v. IsDamagedFile damage segment sum done v (text ++ (xs ++ ys))) all
               (subst (λ v. IsDamagedFile damage segment sum done ((commits ++ k.more) ++ b.more) v) (append_assoc text xs ys) b.damaged);
+          alone = λ short small more.
+              let same : (text ++ xs) ++ (ys ++ more) ≡ text ++ ((xs ++ ys) ++ more) =
+              append_assoc text xs (ys ++ more) ∙ ap (λ v. text ++ v) (sym (append_assoc xs ys more)) in
+              let last : List ℕ → List Left = λ v. done ++ record { number = segment + length done + 1; bytes = v } ∷ [] in
+              subst (λ v. FoundAll segment sum (last (text ++ ((xs ++ ys) ++ more))) v (tail_of r''.reading ++ (b.rest ++ more))) all
+              (subst (λ v. FoundAll segment sum (last v) ((commits ++ k.more) ++ b.more) (tail_of r''.reading ++ (b.rest ++ more))) same
+              (b.alone short (subst (λ v. length v < 2 ^ 64) (sym (append_assoc text xs ys)) small) more));
         }
 
     -- damage was found in the rest

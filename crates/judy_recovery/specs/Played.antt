@@ -12,7 +12,7 @@ use Rattle.judy_journal.specs.Acts.{Left}
 use Rattle.judy_journal.specs.Journals.{Commit}
 use Rattle.judy_journal.specs.Journals.{sum_at}
 use Rattle.judy_journal.specs.Noting.{HasSeen, Noting}
-use Rattle.judy_journal.specs.Recovered.{IsRecovered, IsUnpacked, Recovering}
+use Rattle.judy_journal.specs.Recovered.{AreAllFound, IsRecovered, IsUnpacked, Recovering}
 use Rattle.judy_journal.specs.Recoveries.{IsDamaged}
 use Rattle.judy_journal.specs.Writes.{all_records}
 use Rattle.judy_journal.specs.declared.damage.Damage.{Damage}
@@ -86,7 +86,7 @@ IsDamagedFile damage segment sum done commits text = (before : List Commit) × (
     × IsDamaged damage (segment + length done + 1) (sum_at sum before) text
 
 -- Of these bytes behind a text a front was read, and its whole commits were played. With all of them the text is
--- damaged.
+-- damaged, and no further whole commit comes next.
 pub record HasBroken {P : Type 0} (plays : P → List (List ℕ) → P → Type 0) (damage : Damage) (segment : ℕ) (sum : List ℕ) (done : List Left)
     (text : List ℕ) (commits : List Commit) (bytes : List ℕ) (old : P) (r : Recovering) (new : P) : Type 0 where
   pub used : List ℕ
@@ -96,6 +96,7 @@ pub record HasBroken {P : Type 0} (plays : P → List (List ℕ) → P → Type 
   pub read : IsRecovered segment sum done (text ++ used) (commits ++ more) r
   pub played : plays old (all_records more) new
   pub damaged : IsDamagedFile damage segment sum done (commits ++ more) (text ++ bytes)
+  pub alone : AreAllFound segment sum done text (commits ++ more) bytes r rest
 
 -- the same, whatever was read before
 abbrev pub Breaks : {P : Type 0} → (P → List (List ℕ) → P → Type 0) → Damage → Recovering → List ℕ → P → Recovering → P → Type 0

@@ -5,20 +5,22 @@
 --     HasPlayedFiles plays remaining .. count old r new          so many whole files were played
 --     EndsThere segment sum done text commits r end              the journal ends in this text, behind these files
 --     MayFollow segment sum done commits text junk size          behind this text the last file has what a crash may have left
+--     AreAllIn segment sum done bytes commits tail               with all bytes of the last file these are all commits
 --     HasRecoveredAll plays remaining snapshot last old end new  the snapshot and the segments up to the last were played
 --     Recovers plays remaining snapshot last old end new         the same, or there is no segment
 --     GoesOn end at                                              a writer goes on where the journal ends
 --     HasPlayedJournal plays kept old new                        a journal of these files was read and played
 --     HasResumed plays kept old at new                           the same, and a writer goes on behind it
-use Rattle.std.specs.Prelude.{◌≡◌, ◌⊎◌, ℕ, ◌<◌, ◌+◌, ◌-◌, true, false, List, [], ◌∷◌, ◌++◌, length, IsTrue, Option, Some, None}
+use Rattle.std.specs.Prelude.{◌≡◌, ◌⊎◌, ℕ, ◌<◌, ◌+◌, ◌-◌, ◌^◌, true, false, List, [], ◌∷◌, ◌++◌, length, IsTrue, Option, Some, None}
 use Rattle.std.specs.Io.KnownBytes.{Consumes, IsAtEnd}
 use Rattle.judy_journal.specs.Acts.{AreWhole, File, Left}
 use Rattle.judy_journal.specs.Crashes.{FoundAll}
 use Rattle.judy_journal.specs.Journals.{Commit, is_line, sum_at}
 use Rattle.judy_journal.specs.Notes.{is_torn_end, seen_in}
-use Rattle.judy_journal.specs.Readings.{tail_of}
+use Rattle.judy_journal.specs.Readings.{HasShortHeader, tail_of}
 use Rattle.judy_journal.specs.Recovered.{IsPosition, IsRecovered, IsSnapshot, Recovering, files_kept}
 use Rattle.judy_journal.specs.Writes.{all_records, snapshot_line}
+use Rattle.judy_journal.specs.declared.format.TheConstants.{SUM_LEN}
 use Rattle.judy_journal.specs.declared.recovery.Position.{Position}
 use Rattle.judy_journal.specs.declared.damage.Damage.{Damage}
 use Rattle.judy_recovery.specs.Played.{IsDamagedFile, ReadsOn}
@@ -59,6 +61,7 @@ pub record HasStarted {P F : Type 0} (plays : P → List (List ℕ) → P → Ty
   pub sum : List ℕ
   pub commits : List Commit
   pub start : IsStart snapshot sum commits
+  pub sum_len : length sum ≡ SUM_LEN
   pub given : GaveStart remaining snapshot sum commits
   pub next : IsRecovered (segment_before snapshot) sum [] [] [] r
   pub played : plays old (all_records commits) new
@@ -116,8 +119,17 @@ pub record IsCutOff (segment : ℕ) (sum : List ℕ) (done : List Left) (commits
 abbrev pub MayFollow : ℕ → List ℕ → List Left → List Commit → List ℕ → List ℕ → ℕ → Type 0
 MayFollow segment sum done commits text junk size = (junk ≡ []) ⊎ IsCutOff segment sum done commits text junk size
 
+-- the files of the segments after this one, with the last one
+abbrev pub with_last : ℕ → List Left → List ℕ → List Left
+with_last segment done text = done ++ record { number = segment + length done + 1; bytes = text } ∷ []
+
+-- The last file has these bytes, fewer than 2^64 of them. Then these are all the first whole commits of the files,
+-- whatever comes after them.
+abbrev pub AreAllIn : ℕ → List ℕ → List Left → List ℕ → List Commit → List ℕ → Type 0
+AreAllIn segment sum done bytes commits tail = length bytes < 2 ^ 64 → FoundAll segment sum (with_last segment done bytes) commits tail
+
 -- The last file, which has these bytes, was read up to its first damage, and the records of its whole commits were
--- played. What follows was passed over.
+-- played. What follows was passed over: no further whole commit comes next.
 pub record EndsIn {P : Type 0} (plays : P → List (List ℕ) → P → Type 0) (segment : ℕ) (sum : List ℕ) (done : List Left) (commits : List Commit)
     (bytes : List ℕ) (old : P) (end : End) (r : Recovering) (new : P) : Type 0 where
   pub text : List ℕ
@@ -128,6 +140,8 @@ pub record EndsIn {P : Type 0} (plays : P → List (List ℕ) → P → Type 0) 
   pub played : plays old (all_records more) new
   pub ends : EndsThere segment sum done text (commits ++ more) r end
   pub follows : MayFollow segment sum done (commits ++ more) text junk end.size
+  pub alone : (junk ≡ []) ⊎ (HasShortHeader r.reading.segment r.reading.first
+      → AreAllIn segment sum done bytes (commits ++ more) (tail_of r.reading ++ junk))
 
 -- the segment of this number, which is the last one, was read to its end, whatever was read before it
 pub record ReadsLast {P F : Type 0} (plays : P → List (List ℕ) → P → Type 0) (remaining : F → Option (List ℕ)) (number : ℕ)
@@ -136,10 +150,6 @@ pub record ReadsLast {P F : Type 0} (plays : P → List (List ℕ) → P → Typ
   pub given : Gave remaining bytes
   pub reads : (segment : ℕ) (sum : List ℕ) (done : List Left) (commits : List Commit) → IsRecovered segment sum done [] commits before
       → number ≡ segment + length done + 1 → EndsIn plays segment sum done commits bytes old end after new
-
--- the files of the segments after this one, with the last one
-abbrev pub with_last : ℕ → List Left → List ℕ → List Left
-with_last segment done text = done ++ record { number = segment + length done + 1; bytes = text } ∷ []
 
 -- The snapshot was read, if there is one, and then the segments after it, in order and without a gap, up to
 -- the last one. Exactly the records of their whole commits were played, in order: those of the snapshot first.
@@ -155,6 +165,7 @@ pub record HasRecoveredAll {P F : Type 0} (plays : P → List (List ℕ) → P �
   pub r : Recovering
   pub read : IsRecovered (segment_before snapshot) sum done text commits r
   pub found : FoundAll (segment_before snapshot) sum (with_last (segment_before snapshot) done text) commits (tail_of r.reading)
+  pub all : AreAllIn (segment_before snapshot) sum done (text ++ junk) commits (tail_of r.reading ++ junk)
   pub began : GaveStart remaining snapshot sum unpacked
   pub given : AllGave remaining (with_last (segment_before snapshot) done (text ++ junk))
   pub follows : MayFollow (segment_before snapshot) sum done commits text junk end.size
@@ -178,22 +189,37 @@ GoesOn (Some end) at = (at.sum ≡ end.sum)
     × (0 < end.size → (at.segment ≡ end.segment) × (at.size ≡ end.size) × (at.begins ≡ false))
     × (end.size ≡ 0 → (at.segment ≡ end.segment - 1) × (at.begins ≡ true))
 
+-- the last of these files with these bytes behind its own
+abbrev pub with_junk : List Left → List ℕ → List Left
+with_junk [] junk = []
+with_junk (l ∷ []) junk = record { number = l.number; bytes = l.bytes ++ junk } ∷ []
+with_junk (l ∷ m ∷ left) junk = l ∷ with_junk (m ∷ left) junk
+
+-- each of these files has fewer than 2^64 bytes
+abbrev pub AreSized : List Left → Type 0
+AreSized [] = Unit {0}
+AreSized (l ∷ left) = (length l.bytes < 2 ^ 64) × AreSized left
+
 -- What a journal's directory has: the number of its snapshot, if there is one; the checksum that the first
--- segment after it continues from; the commits of the snapshot; and the files of the segments after it.
+-- segment after it continues from; the commits of the snapshot; the files of the segments after it, the last one up to
+-- its first damage; and what the last one has behind that.
 pub record Kept : Type 0 where
   pub snapshot : Option ℕ
   pub sum : List ℕ
   pub unpacked : List Commit
   pub files : List Left
+  pub junk : List ℕ
 
 -- A journal of these files was read: a snapshot, if there is one, and the segments after it, each of them whole
 -- but perhaps the last, which has this tail. Exactly the records of their whole commits were played, in order:
--- those of the snapshot first.
+-- those of the snapshot first. With all bytes of the last file these are all the first whole commits too.
 pub record HasPlayedJournal {P : Type 0} (plays : P → List (List ℕ) → P → Type 0) (kept : Kept) (old new : P) : Type 0 where
   pub start : IsStart kept.snapshot kept.sum kept.unpacked
   pub commits : List Commit
   pub tail : List ℕ
   pub found : FoundAll (segment_before kept.snapshot) kept.sum kept.files commits tail
+  pub all : AreSized (with_junk kept.files kept.junk)
+      → FoundAll (segment_before kept.snapshot) kept.sum (with_junk kept.files kept.junk) commits (tail ++ kept.junk)
   pub played : plays old (all_records kept.unpacked ++ all_records commits) new
 
 -- A journal of these files was read and played, and what a crash left behind the last whole commit was cut off.

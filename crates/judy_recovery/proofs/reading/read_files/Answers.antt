@@ -1,10 +1,11 @@
-use Rattle.std.proofs.Common.{◌≤◌, refl, sym, subst, arith}
+use Rattle.std.proofs.Common.{◌≤◌, ◌<◌, ◌^◌, refl, rules, sym, subst, arith}
 use Rattle.judy_recovery.specs.Whole.{HasStarted, ReadsLast}
 use Rattle.judy_recovery.proofs.Chaining.{recovered_all}
 use Rattle.judy_recovery.proofs.reading.read_files.Goals as goal
 
 pub returns : goal.returns
 returns g c =
+    let small : c.args.last < 2 ^ 64 = search rules in
     let ordered : c.first_after-first.result ≤ c.args.last = omega (arith, c.if-last-first.false) in (
       c.args.last,
       refl,
@@ -19,5 +20,5 @@ returns g c =
           (subst (λ r. ReadsLast g.P.Player.plays g.F.File.Read.remaining c.args.last r c.read_closed.new.player c.in_ok-end.end
           c.read_last_of.new.recovery c.read_last_of.new.player)
           c.deref_mut-2.ensures.value c.in_ok-end.ensures)
-          (c.first_after-first.ensures.follows c.in_ok-recovery.ensures.follows) ordered,
+          (c.first_after-first.ensures.follows c.in_ok-recovery.ensures.follows) ordered small,
     )

@@ -2,6 +2,7 @@ use Rattle.std.proofs.Common.{sym, ap, ◌∙◌, subst}
 use Rattle.std.specs.Prelude.{IsTrue}
 use Rattle.judy_journal.specs.Journals.{is_commit, is_line}
 use Rattle.judy_journal.proofs.Stepping.{closed, kept, other_mark, no_room, record_if}
+use Rattle.judy_journal.proofs.Stopping.{stops-at-header, stops-at-mark, stops-at-record}
 use Rattle.judy_journal.proofs.reader.Reader.end_line.Goals as goal
 
 pub keep-requires : goal.keep-requires
@@ -27,3 +28,18 @@ pub returns-clause-ended : goal.returns-clause-ended
 returns-clause-ended c segment first text commits h unended more =
     no_room segment first text commits c.args.self.now h unended (sym (ap (λ r. r.begun) c.self.view_is) ∙ c.if-not-self.false)
     (record_if c.args.self.now.line h.line_is (sym c.is_mark.ensures ∙ c.if-is_mark.false)) (c.keep.ensures.long c.if-keep.false) more
+
+pub returns-then-not-self-clause-stopped : goal.returns-then-not-self-clause-stopped
+returns-then-not-self-clause-stopped c segment first text commits h unended =
+    stops-at-header segment first text commits c.args.self.now h unended (sym (ap (λ r. r.begun) c.self.view_is) ∙ c.if-not-self.true)
+    (c.begin.ensures.other c.if-begin.false)
+
+pub returns-then-is_mark-clause-stopped : goal.returns-then-is_mark-clause-stopped
+returns-then-is_mark-clause-stopped c segment first text commits h unended =
+    stops-at-mark segment first text commits c.args.self.now h unended (sym (ap (λ r. r.begun) c.self.view_is) ∙ c.if-not-self.false)
+    (sym c.is_mark.ensures ∙ c.if-is_mark.true) (c.close.ensures.other c.if-close.false)
+
+pub returns-clause-stopped : goal.returns-clause-stopped
+returns-clause-stopped c segment first text commits h unended =
+    stops-at-record segment first text commits c.args.self.now h unended (sym (ap (λ r. r.begun) c.self.view_is) ∙ c.if-not-self.false)
+    (record_if c.args.self.now.line h.line_is (sym c.is_mark.ensures ∙ c.if-is_mark.false)) (c.keep.ensures.long c.if-keep.false)

@@ -4,7 +4,8 @@ use Rattle.std.specs.Prelude.{if◌then◌else◌}
 use Rattle.judy_journal.specs.declared.damage.Damage.TheVariants as damage
 use Rattle.judy_journal.specs.Recoveries.{IsDamaged}
 use Rattle.judy_journal.proofs.Stepping.{cut_more, held, long_damage, read_more}
-use Rattle.judy_journal.specs.Readings.{IsRead}
+use Rattle.judy_journal.specs.Readings.{HasStopped, IsRead}
+use Rattle.judy_journal.proofs.Stopping.{stops-at-line, stops-later}
 use Rattle.judy_journal.proofs.reader.Reader.read.Goals as goal
 
 pub returns-in-Ok-true-clause-read : goal.returns-in-Ok-true-clause-read
@@ -68,16 +69,20 @@ pub returns-in-Err-clause-stopped : goal.returns-in-Err-clause-stopped
 returns-in-Err-clause-stopped c segment first text commits h =
     let (used, cut, so_far) = c.loop-chunk.invariant.read in
     let (r, unended) = so_far segment first text commits h in
-    let (more, rest, all, read) = c.in-Err.ensures.stopped segment first (text ++ used) commits r unended in (
-      used ++ more,
-      rest ++ 10 ∷ c.in-Some.after.now,
-      append_assoc used more (rest ++ 10 ∷ c.in-Some.after.now)
-          ∙ ap (λ v. used ++ v) (sym (append_assoc more rest (10 ∷ c.in-Some.after.now)) ∙ ap (λ v. v ++ 10 ∷ c.in-Some.after.now) all ∙ sym c.in-Some.ensures.1) ∙ cut,
-      subst (λ v. IsRead segment first v commits c.take_line.new.self) (append_assoc text used more) read,
-    )
+    stops-later segment first text used (c.in-Some.chunk.now ++ 10 ∷ []) c.args.bytes.now c.in-Some.after.now commits c.take_line.new.self
+    (c.in-Err.ensures.stopped segment first (text ++ used) commits r unended)
+    (ap (λ v. used ++ v) (append_assoc c.in-Some.chunk.now (10 ∷ []) c.in-Some.after.now ∙ sym c.in-Some.ensures.1) ∙ cut)
 
 pub returns-then-not-hold-clause-stopped : goal.returns-then-not-hold-clause-stopped
 returns-then-not-hold-clause-stopped c segment first text commits h =
     let (used, cut, so_far) = c.loop-chunk.invariant.read in
     let (r, unended) = so_far segment first text commits h in
-    (used, c.loop-chunk.rest.now, cut, subst (λ v. IsRead segment first (text ++ used) commits v) (sym (c.hold.ensures.same c.if-not-hold.true)) r)
+    let rest = c.loop-chunk.rest.now in
+    subst (λ v. HasStopped c.args.bytes.now segment first text commits v) (sym (c.hold.ensures.same c.if-not-hold.true))
+    (stops-later segment first text used (rest ++ []) c.args.bytes.now [] commits c.loop-chunk.self (
+      [],
+      rest ++ [],
+      refl,
+      subst (λ v. IsRead segment first v commits c.loop-chunk.self) (sym (append-nil (text ++ used))) r,
+      stops-at-line segment first (text ++ used) commits c.loop-chunk.self r unended rest c.in_default.ensures (c.hold.ensures.long c.if-not-hold.true) [],
+    ) (ap (λ v. used ++ v) (append-nil (rest ++ []) ∙ append-nil rest) ∙ cut))

@@ -67,4 +67,10 @@ returns-in-Err-clause-halted c segment sum done text commits h =
 
 pub returns-in_default-clause-halted : goal.returns-in_default-clause-halted
 returns-in_default-clause-halted c segment sum done text commits h =
-    ([], c.args.bytes.now, refl, subst (λ v. IsRecovered segment sum done v commits c.args.self.now) (sym (append-nil text)) h)
+    let k = subst (λ v. IsRecovered segment sum done text commits v) (sym c.self.view_is) h in (
+      [],
+      c.args.bytes.now,
+      refl,
+      subst (λ v. IsRecovered segment sum done v commits c.args.self.now) (sym (append-nil text)) h,
+      λ short small more. absurd (omega (arith, small, k.taken_is, c.in_default.ensures, length-append text c.args.bytes.now)),
+    )
