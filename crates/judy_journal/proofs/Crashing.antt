@@ -8,7 +8,7 @@ use Rattle.judy_journal.specs.Acts.{DiskAct, Began, Kept, Synced, File, Left, Ph
 use Rattle.judy_journal.specs.Crashes.{FoundAll, JournalIsExact}
 use Rattle.judy_journal.specs.Disks.{MayLeave}
 use Rattle.judy_journal.specs.Journals.{Commit, AreCommits, commits_lines, header, is_commit, is_line, joined, journal_text, sum_after, sum_at}
-use Rattle.judy_journal.specs.Recoveries.{Found, FoundLast, IsTold}
+use Rattle.judy_journal.specs.Recoveries.{Found, FoundLast, IsTold, Reaches}
 use Rattle.judy_journal.specs.Writes.{commit_text, header_text}
 use Rattle.judy_journal.proofs.Fronts.{sum_at-append}
 use Rattle.judy_journal.proofs.Lines.{both, sum-line}
@@ -114,6 +114,14 @@ at_end first there f j bytes found tail small line h (after, file_is) told is = 
         ∙ ap (λ cs. journal_text j.segment first cs ++ more) (sym s.1) in
         recovery j.segment first there j.more bytes small line h.commits_are (more, begins)
         (told_of (journal_text j.segment first (there ++ j.more)) t) found tail k
+
+-- nothing is found in a file to which nothing was written
+in_new : (number : ℕ) (sum bytes : List ℕ) (found : List Commit) (tail : List ℕ) → IsTrue (is_line sum) → IsTold number [] bytes
+    → FoundLast number sum bytes found tail → found ≡ []
+in_new number sum bytes found tail line told (inr none) = none.none
+in_new number sum bytes found tail line told (inl reaches) =
+    let (lost, whole) = told sum found tail line reaches in
+    never_empty (header number sum) 10 (joined (commits_lines sum found) ++ lost) (sym (text_and number sum found lost) ∙ whole)
 
 -- ---- after more acts
 
@@ -236,7 +244,21 @@ pub from_file : (k : ℕ) (first : List ℕ) (prior there : List Commit) (f : Fi
     (found : List Commit) (tail : List ℕ) → j.segment ≡ k + 1 → last.segment < 2 ^ 64 → IsTrue (is_line first) → IsCurrent first there f j
     → j.kept ≡ prior ++ there → IsWriting j acts last → MayLeaveAll (files_after f acts) left → FoundAll k first left found tail → Exact prior last found
 from_file k first prior there f j [] last [] found tail n small line h kept w may is = absurd may
-from_file k first prior there f j [] last (l ∷ m ∷ left) found tail n small line h kept w may is = absurd may.3
+from_file k first prior there f j [] last (l ∷ m ∷ x ∷ left) found tail n small line h kept w may is = nothing x left may.3.0
+from_file k first prior there f j [] last (l ∷ m ∷ []) found tail n small line h kept w may (here, later, joins, at, whole, others) =
+    let is : FoundLast j.segment first l.bytes here [] =
+    inl (subst (λ v. Reaches v first l.bytes here []) (sym n) (found-reaches (k + 1) first l.bytes here [] whole)) in
+    let (taken, lost, all, found_is) = at_end first there f j l.bytes here [] (subst (λ v. v < 2 ^ 64) (ap (λ v. v.segment) w) small) line h may.1 may.2 is in
+    let none : later ≡ [] = in_new (k + 1 + 1) (sum_at first here) m.bytes later tail (sum_at-line first here line)
+    (subst (λ v. IsTold v [] m.bytes) others.0 may.3.1) others.1 in
+    record {
+      since = there;
+      taken = taken;
+      lost = lost;
+      kept_is = ap (λ v. v.kept) w ∙ kept;
+      all = all ∙ ap (λ v. v.more) (sym w);
+      found_is = joins ∙ ap (λ v. here ++ v) none ∙ append-nil here ∙ found_is;
+    }
 from_file k first prior there f j [] last (l ∷ []) found tail n small line h kept w may is =
     let here = subst (λ v. FoundLast v first l.bytes found tail) (sym n) is.1 in
     let (taken, lost, all, found_is) = at_end first there f j l.bytes found tail (subst (λ v. v < 2 ^ 64) (ap (λ v. v.segment) w) small) line h may.1 may.2 here in
@@ -329,7 +351,15 @@ from_disk k sum prior [] commits j [] last [] found tail small line whole s w ma
   all = sym s.none ∙ ap (λ v. v.more) (sym w);
   found_is = is.0;
 }
-from_disk k sum prior [] commits j [] last (l ∷ left) found tail small line whole s w may is = absurd may
+from_disk k sum prior [] commits j [] last (l ∷ m ∷ left) found tail small line whole s w may is = nothing m left may.0
+from_disk k sum prior [] commits j [] last (l ∷ []) found tail small line whole s w may is = record {
+  since = [];
+  taken = [];
+  lost = [];
+  kept_is = ap (λ v. v.kept) w ∙ s.kept_is ∙ ap (λ v. prior ++ v) whole;
+  all = sym s.none ∙ ap (λ v. v.more) (sym w);
+  found_is = in_new (k + 1) sum l.bytes found tail line (subst (λ v. IsTold v [] l.bytes) is.0 may.1) is.1;
+}
 from_disk k sum prior [] commits j (Began number ∷ acts) last left found tail small line whole s (after, b, rest) may is =
     from_file k sum prior [] (empty_file number) (record j { segment = number; phase = Bare }) acts last left found tail
     (omega (arith, b.number_is, s.segment_is)) small line (fresh sum number j (s.sum_is ∙ ap (sum_at sum) whole) s.none)

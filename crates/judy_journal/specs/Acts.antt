@@ -48,9 +48,11 @@ pub record Left : Type 0 where
   pub bytes : List ℕ
 
 -- A crash leaves each file, with all of its synced bytes and any behind them. What is found in it was written to it.
+-- It may leave one more file, which was being made: its name may be there before the directory is synced, and nothing
+-- was written to it.
 abbrev pub MayLeaveAll : List File → List Left → Type 0
 MayLeaveAll [] [] = Unit {0}
-MayLeaveAll [] (l ∷ left) = ⊥
+MayLeaveAll [] (l ∷ left) = (left ≡ []) × IsTold l.number [] l.bytes
 MayLeaveAll (f ∷ files) [] = ⊥
 MayLeaveAll (f ∷ files) (l ∷ left) =
     (l.number ≡ f.number) × MayLeave f.synced l.bytes × IsTold f.number (written f) l.bytes × MayLeaveAll files left
