@@ -4,6 +4,7 @@
 --                                     put in force
 --     HasLooked replay kept fresh after       the same, and nobody goes on with the journal
 --     HasMade at w log log'           this writer goes on there, and the next segment was begun first if it had to be
+--     HasNotPlayed ..                 why a service without its quotas does not go on with the journal
 --     HasNotGoneOn ..                 why nobody goes on with the journal, and all that was done since the service began
 --     HasNoJournal ..                 there is a service, and the journal cannot be gone on with
 --     HasServedOn ..                  there is a service, the journal was played to it, and connections were served with it
@@ -81,6 +82,12 @@ HasFailedNext old log log' = ((LAST_SEGMENT ≤ old.segment) × (log' ≡ log))
 abbrev pub HasNoWriter : Resumed → Hosted → Log → Log → Type 0
 HasNoWriter at how log log' = ((how ≡ hosted.Memory) × (log' ≡ log))
     ⊎ ((how ≡ hosted.Journal) × (at.begins ≡ true) × HasFailedNext (writer_there at) log log')
+
+-- The journal can't be played to a service without its quotas: that is a fault of the journal, and nothing more was
+-- done. Or it was played, and there is no writer that goes on behind it.
+abbrev pub HasNotPlayed : {S : Type 0} → Replay S → (Kept → Type 0) → S → Hosted → Log → Log → Type 0
+HasNotPlayed {S} replay has fresh how log log' = ((how ≡ hosted.Recovery) × (log' ≡ log))
+    ⊎ ((kept : Kept) × (at : Resumed) × (before : S) × has kept × HasGoneOn replay kept fresh at before × HasNoWriter at how log log')
 
 -- The journal can't be played, or there is no memory for that: then nothing more was done. Or it was played, and
 -- there is no writer that goes on behind it.

@@ -5,7 +5,7 @@ ghost use Rattle.judy_many.specs.Rules.{rules_of};
 ghost use Rattle.judy_stream.specs.Streams.{MayAlwaysPull};
 ghost use Rattle.judy_protocol.specs.Serving.{pull_limit};
 ghost use Rattle.judy_programs.specs.Hosting.{desks_at};
-ghost use Rattle.judy_programs.specs.Journaled.{ChecksJournaled, HasFailedNext, HasGoneOn, HasMade, HasNoWriter, HasNotGoneOn, HasOpenedNext, HostsJournaled, replay_of};
+ghost use Rattle.judy_programs.specs.Journaled.{ChecksJournaled, HasFailedNext, HasGoneOn, HasMade, HasNoWriter, HasNotGoneOn, HasNotPlayed, HasOpenedNext, HostsJournaled, replay_of};
 ghost use Rattle.judy_recovery.specs.Whole.{Kept};
 ghost use Rattle.judy_recovery.specs.declared.resuming.Resumed.{Resumed as At};
 ghost use Rattle.judy_table.specs.declared.tenant.Tenant.{Tenant};
@@ -97,6 +97,32 @@ fn lift<S: Replays + Drop>(alloc: Global, mut service: S) -> Option<Playing<S>>
     })
 }
 
+/// Plays the journal to a service without its quotas, and goes on with both.
+///
+/// Err: the journal can't be played (`Recovery`), or no writer goes on behind it. `Memory` is no fault of the journal.
+fn play_on<S: Replays + Drop, H: Journals>(
+    alloc: Global,
+    mut playing: Playing<S>,
+    system: &mut H,
+    directory: &str,
+) -> Result<(S, Box<Writer>), Hosted>
+    ensures made { IfOk result (λ r. (fresh : S) (rows : List Tenant) → playing.table ≡ Some rows
+        → S.lifted fresh rows playing.service → (kept : Kept) × (at : At) × H.may_have directory.now kept
+        × HasGoneOn (replay_of S.lifted S.replayed S.limited) kept fresh at r.0
+        × HasMade at r.1.value (H.log system.old) (H.log system.new)) }
+    ensures none { IfErr result (λ how. (fresh : S) (rows : List Tenant) → playing.table ≡ Some rows
+        → S.lifted fresh rows playing.service → HasNotPlayed (replay_of S.lifted S.replayed S.limited)
+        (H.may_have directory.now) fresh how (H.log system.old) (H.log system.new)) }
+{
+    let Some(at) = system.resume(alloc, directory, &mut playing) else {
+        return Err(Hosted::Recovery);
+    };
+    match writer_at(alloc, system, at) {
+        Ok(writer) => Ok((playing.service, writer)),
+        Err(hosted) => Err(hosted),
+    }
+}
+
 /// The service with all that the journal has, and the writer that goes on with it.
 fn resume_on<S: Replays + Drop, H: Journals>(
     alloc: Global,
@@ -110,16 +136,10 @@ fn resume_on<S: Replays + Drop, H: Journals>(
     ensures none { IfErr result (λ how. HasNotGoneOn (replay_of S.lifted S.replayed S.limited)
         (H.may_have directory.now) service how (H.log system.old) (H.log system.new)) }
 {
-    let Some(mut playing) = lift(alloc, service) else {
+    let Some(playing) = lift(alloc, service) else {
         return Err(Hosted::Memory);
     };
-    let Some(at) = system.resume(alloc, directory, &mut playing) else {
-        return Err(Hosted::Recovery);
-    };
-    match writer_at(alloc, system, at) {
-        Ok(writer) => Ok((playing.service, writer)),
-        Err(hosted) => Err(hosted),
-    }
+    play_on(alloc, playing, system, directory)
 }
 
 /// Serves as `host_on` does, with a journal in this directory. After the memory to reserve, and

@@ -3,15 +3,13 @@
 --     TellsAll parts told told'        the same, one after another
 --     tenants_parts count              how many tenants a table has
 --     fault_parts fault                the fault of a table
---     reason_parts tenants why         why a table was not put in force
+--     reason_parts tenants place       why a table was not put in force: what this tenant holds
 use Rattle.std.specs.Prelude.{◌≡◌, ◌⊎◌, ◌++◌, ◌==◌, ℕ, List, [], ◌∷◌, codes, decimal, if◌then◌else◌}
 use Rattle.judy_programs.specs.Finish.{fault_name}
 use Rattle.judy_table.specs.Seats.{name_at}
 use Rattle.judy_table.specs.declared.fault.TableFault.{TableFault}
 use Rattle.judy_table.specs.declared.fault.TableFault.TheVariants as fault
 use Rattle.judy_table.specs.declared.tenant.Tenant.{Tenant}
-use Rattle.judy_tenants.specs.declared.changing.Unchanged.{Unchanged}
-use Rattle.judy_tenants.specs.declared.changing.Unchanged.TheVariants as unchanged
 
 abbrev pub Tells : List ℕ → List ℕ → List ℕ → Type 0
 Tells part told told' = (told' ≡ told) ⊎ (told' ≡ told ++ part)
@@ -27,7 +25,6 @@ abbrev pub fault_parts : TableFault → List (List ℕ)
 fault_parts fault.Memory = codes "out of memory" ∷ []
 fault_parts other = codes "fault " ∷ fault_name other ∷ []
 
-abbrev pub reason_parts : List Tenant → Unchanged → List (List ℕ)
-reason_parts tenants unchanged.Memory = fault_parts fault.Memory
-reason_parts tenants (unchanged.Quota place) =
+abbrev pub reason_parts : List Tenant → ℕ → List (List ℕ)
+reason_parts tenants place =
     codes "the quota of " ∷ name_at tenants place ∷ codes " is less than what it holds" ∷ []

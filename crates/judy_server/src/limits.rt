@@ -8,7 +8,7 @@ use crate::tally::Tally;
 use judy_model::Name;
 use judy_recovery::JournalFault;
 use judy_table::{Table, TenantId};
-use judy_tenants::{KeyHash, Service, Unchanged};
+use judy_tenants::{KeyHash, Service};
 use std::alloc::Global;
 
 /// The name of a tenant; none if the place has no tenant.
@@ -19,14 +19,6 @@ fn name_of<H: KeyHash>(service: &Service<H>, tenant: TenantId) -> Name {
         return name;
     }
     Name::of(b"")
-}
-
-/// Why a table is not put in force, as an operator reads it.
-fn fault_of<H: KeyHash>(service: &Service<H>, why: Unchanged) -> JournalFault {
-    match why {
-        Unchanged::Memory => JournalFault::Memory,
-        Unchanged::Quota(tenant) => JournalFault::Quota(name_of(service, tenant)),
-    }
 }
 
 /// Takes the quotas away, and returns the table that has them. None if there is no memory for it.
@@ -42,7 +34,7 @@ pub fn lift<H: KeyHash>(alloc: Global, service: &mut Service<H>) -> Option<Table
 
 /// Puts a table in force, and forgets what the quotas before it allowed.
 ///
-/// Err: a record named a tenant that the table lacks; out of memory; or a tenant holds more than its quota.
+/// Err: a record named a tenant that the table lacks, or a tenant holds more than its quota.
 pub fn limit<H: KeyHash>(
     alloc: Global,
     service: &mut Service<H>,
@@ -61,6 +53,6 @@ pub fn limit<H: KeyHash>(
             service.rows_are_sound();
             Ok(())
         }
-        Err(why) => Err(fault_of(&*service, why)),
+        Err(tenant) => Err(JournalFault::Quota(name_of(&*service, tenant))),
     }
 }

@@ -10,7 +10,7 @@ use crate::tally::{Tally, clear_if};
 use itoa::Buffer;
 use judy_programs::fault_name;
 use judy_table::{Blame, Table, TableFault, TenantId};
-use judy_tenants::{KeyHash, Service, Unchanged};
+use judy_tenants::{KeyHash, Service};
 use std::alloc::Global;
 
 /// Appends bytes. Without memory for them nothing is told.
@@ -65,18 +65,13 @@ pub fn name_of<H: KeyHash>(service: &Service<H>, tenant: TenantId) -> &[u8]
     }
 }
 
-/// Tells why a table was not put in force.
-fn tell_reason<H: KeyHash>(told: &mut Vec<u8>, service: &Service<H>, why: Unchanged)
-    ensures { TellsAll (reason_parts service.now.tenants why) told.old.items told.new.items }
+/// Tells that a table was not put in force, since this tenant holds more than its quota there.
+fn tell_reason<H: KeyHash>(told: &mut Vec<u8>, service: &Service<H>, tenant: TenantId)
+    ensures { TellsAll (reason_parts service.now.tenants tenant) told.old.items told.new.items }
 {
-    match why {
-        Unchanged::Memory => tell_fault(told, TableFault::Memory),
-        Unchanged::Quota(tenant) => {
-            tell(told, b"the quota of ");
-            tell(told, name_of(service, tenant));
-            tell(told, b" is less than what it holds");
-        }
-    }
+    tell(told, b"the quota of ");
+    tell(told, name_of(service, tenant));
+    tell(told, b" is less than what it holds");
 }
 
 /// Forgets the counts of places that have no tenant.
@@ -127,8 +122,8 @@ fn change_table<H: KeyHash>(
             tell_tenants(told, count);
             true
         }
-        Err(why) => {
-            tell_reason(told, &*service, why);
+        Err(tenant) => {
+            tell_reason(told, &*service, tenant);
             false
         }
     }
