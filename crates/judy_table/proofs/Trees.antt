@@ -51,6 +51,10 @@ abbrev pub after : List Tenant → Result (List Tenant) TableFault → Result (L
 after xs (Ok ys) = Ok (xs ++ ys)
 after xs (Err f) = Err f
 
+pub after-none : (r : Result (List Tenant) TableFault) → r ≡ after [] r
+after-none (Ok ys) = refl
+after-none (Err f) = refl
+
 pub after-end : (xs : List Tenant) → after xs (Ok []) ≡ Ok xs
 after-end xs = ap Ok (append-nil xs)
 

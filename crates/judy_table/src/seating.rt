@@ -1,14 +1,12 @@
 //! The places of tenants after another table is read.
-ghost use Rattle.std.specs.Prelude.{◌≡◌, ◌∷◌, List, IfOk};
-ghost use Rattle.std.specs.Vec.Iter.{into_iter_items};
+ghost use Rattle.std.specs.Prelude.{◌≡◌, ◌≤◌, [], ◌∷◌, ◌++◌, List, drop, length, slice_get};
 ghost use Rattle.judy_table.specs.declared.tenant.Tenant.{Tenant as TheTenant};
 ghost use Rattle.judy_table.specs.Freezes.{has_tenant_of, with_freeze};
-ghost use Rattle.judy_table.specs.Seats.{has_name, row_of, is_fresh, fresh_in, placed};
+ghost use Rattle.judy_table.specs.Seats.{has_name, row_of, is_fresh, fresh_in, placed, seated};
 ghost use Rattle.judy_table.specs.Unlimited.{unlimited};
 
+use crate::table::{ROWS_LIMIT, Room};
 use crate::tenant::Tenant;
-use std::alloc::{AllocError, Global};
-use std::vec::IntoIter;
 
 /// Whether some row has this name.
 fn has_name(rows: &[Tenant], name: &[u8]) -> bool
@@ -36,58 +34,79 @@ fn is_fresh(rows: &[Tenant], tenant: &Tenant) -> bool
     !tenant.is_vacant() && !has_name(rows, tenant.name.as_bytes())
 }
 
-/// The tenants of a table whose names no row has.
-pub fn fresh_in(alloc: Global, rows: &[Tenant], table: &[Tenant]) -> Result<Vec<Tenant>, AllocError>
-    ensures { IfOk result (λ v. v.items ≡ fresh_in rows.now table.now) }
+/// The next tenant of a table, from a place on, whose name no row has. The place moves behind it.
+fn next_fresh(rows: &[Tenant], table: &[Tenant], next: &mut usize) -> Option<Tenant>
+    ensures first { result ≡ slice_get (fresh_in rows.now (drop next.old table.now)) 0 }
+    ensures rest { fresh_in rows.now (drop next.new table.now)
+        ≡ drop 1 (fresh_in rows.now (drop next.old table.now)) }
 {
-    let mut fresh = Vec::new(alloc);
-    for tenant in table {
-        if is_fresh(rows, tenant) {
-            fresh.push(tenant.copied())?;
+    for place in *next..table.len() {
+        if is_fresh(rows, &table[place]) {
+            *next = place + 1;
+            return Some(table[place].copied());
         }
     }
-    Ok(fresh)
+    *next = table.len();
+    None
 }
 
 /// The row after the table is read, at the place of this one. A tenant that stays is frozen as before.
-fn seat(row: &Tenant, table: &[Tenant], fresh: &mut IntoIter<Tenant>) -> Tenant
-    ensures { (rows : List TheTenant)
-        → placed table.now (row.now ∷ rows) (into_iter_items fresh.old)
-        ≡ result ∷ placed table.now rows (into_iter_items fresh.new) }
+/// A place that was vacant has the next fresh tenant of the table.
+fn seat_at(row: &Tenant, rows: &[Tenant], table: &[Tenant], next: &mut usize) -> Tenant
+    ensures { (others : List TheTenant)
+        → placed table.now (row.now ∷ others) (fresh_in rows.now (drop next.old table.now))
+        ≡ result ∷ placed table.now others (fresh_in rows.now (drop next.new table.now)) }
 {
     if !row.is_vacant() {
         return row_of(table, row.name.as_bytes()).keeping(row.frozen);
     }
-    fresh.next().unwrap_or(Tenant::vacant())
+    next_fresh(rows, table, next).unwrap_or(Tenant::vacant())
 }
 
-/// The rows after the table is read, of which these tenants are fresh.
-pub fn placed(
-    alloc: Global,
-    rows: &[Tenant],
-    table: &[Tenant],
-    fresh: Vec<Tenant>,
-) -> Result<Vec<Tenant>, AllocError>
-    ensures { IfOk result (λ v. v.items ≡ placed table.now rows.now fresh.items) }
+/// Makes these the rows after the table is read, at the places that there were before. Returns the place in
+/// the table from which on its fresh tenants still have no row.
+fn seat_rows(room: &mut Room, rows: &[Tenant], table: &[Tenant]) -> usize
+    requires { length (seated rows.now table.now) ≤ ROWS_LIMIT }
+    ensures { seated rows.now table.now ≡ room.new.items ++ fresh_in rows.now (drop result table.now) }
 {
-    let mut fresh = fresh.into_iter();
-    let mut seats = Vec::new(alloc);
+    room.clear();
+    let mut next = 0;
     for row in rows {
-        seats.push(seat(row, table, &mut fresh))?;
+        room.push(seat_at(row, rows, table, &mut next));
     }
-    seats.extend(fresh)?;
-    Ok(seats)
+    next
 }
 
-/// The rows of the same tenants, each with the greatest quota.
-pub fn unlimited(alloc: Global, rows: &[Tenant]) -> Result<Vec<Tenant>, AllocError>
-    ensures { IfOk result (λ v. v.items ≡ unlimited rows.now) }
+/// Appends the rows of the fresh tenants of a table, from a place on.
+fn add_fresh(room: &mut Room, rows: &[Tenant], table: &[Tenant], next: usize)
+    requires { length (room.old.items ++ fresh_in rows.now (drop next table.now)) ≤ ROWS_LIMIT }
+    ensures { room.new.items ≡ room.old.items ++ fresh_in rows.now (drop next table.now) }
 {
-    let mut free = Vec::new(alloc);
-    for row in rows {
-        free.push(row.unlimited())?;
+    for place in next..table.len() {
+        if is_fresh(rows, &table[place]) {
+            room.push(table[place].copied());
+        }
     }
-    Ok(free)
+}
+
+/// Makes these the rows after the table is read, whatever they were before.
+pub fn seat(room: &mut Room, rows: &[Tenant], table: &[Tenant])
+    requires { length (seated rows.now table.now) ≤ ROWS_LIMIT }
+    ensures { room.new.items ≡ seated rows.now table.now }
+{
+    let next = seat_rows(room, rows, table);
+    add_fresh(room, rows, table, next);
+}
+
+/// Fills empty room with the rows of the same tenants, each with the greatest quota.
+pub fn unlimited(room: &mut Room, rows: &[Tenant])
+    requires empty { room.old.items ≡ [] }
+    requires fits { length rows.now ≤ ROWS_LIMIT }
+    ensures { room.new.items ≡ unlimited rows.now }
+{
+    for row in rows {
+        room.push(row.unlimited());
+    }
 }
 
 /// Gives the tenant of this name this freeze, or none. False if no row has the tenant, and then nothing

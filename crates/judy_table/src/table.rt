@@ -1,5 +1,5 @@
 //! The table of tenants.
-ghost use Rattle.std.specs.Prelude.{◌≡◌, ◌⊎◌, ◌≤◌, ◌<◌, ◌&&◌, nat_le, IfOk, IfErr, IfSome, Some, None, true, option_map, length, map, slice_get};
+ghost use Rattle.std.specs.Prelude.{◌≡◌, ◌⊎◌, ◌≤◌, ◌<◌, ◌&&◌, nat_le, IfOk, IfErr, IfSome, OnOk, Ok, Err, Some, None, true, option_map, [], length, map, slice_get};
 ghost use Rattle.toml.specs.View.{table_view};
 ghost use Rattle.judy_table.specs.Tenants.{size, have_shape, tenants_in, read_table, read_tree, place_of, login_of, HasRisingNames, is_vacant};
 ghost use Rattle.judy_table.specs.Freezes.{has_tenant_of, with_freeze};
@@ -9,9 +9,10 @@ ghost use Rattle.judy_table.specs.Unlimited.{unlimited};
 ghost use Rattle.sha2.specs.Sha256.{sha256};
 
 use crate::fault::TableFault;
-use crate::seating::{freeze, fresh_in, placed, unlimited};
+use crate::seating::{freeze, seat, unlimited};
 use crate::tenant::{Speaker, Tenant, TenantId, digest_of};
 use crate::written::{is_written, read_written, size};
+use arrayvec::ArrayVec;
 use judy_model::{ENTRIES_LIMIT, PIECES_LIMIT, Quota};
 use std::alloc::{AllocError, Global};
 use std::marker::Model;
@@ -22,11 +23,14 @@ pub const TENANTS_LIMIT: usize = 64;
 /// The most rows of a table: places of tenants that left with the last table, and of all tenants.
 pub const ROWS_LIMIT: usize = 128;
 
+/// Room for as many rows as a table can have.
+pub(crate) type Room = ArrayVec<Tenant, ROWS_LIMIT>;
+
 /// The tenants by their places: at most 64 tenants, and vacant places. A table that was read has one
 /// place for each tenant, in the byte order of their names.
 #[derive(Drop)]
 pub struct Table {
-    tenants: Vec<Tenant>,
+    tenants: Box<Room>,
 }
 
 impl Model for Table {
@@ -36,9 +40,9 @@ impl Model for Table {
 
     ghost Value = { List Tenant };
 
-    ghost view = { λ t. t.tenants.items };
+    ghost view = { λ t. t.tenants.value.items };
 
-    ghost invariant = { λ t. AreRows t.tenants.items };
+    ghost invariant = { λ t. AreRows t.tenants.value.items };
 }
 
 // Whether each value is a tenant's table.
@@ -53,24 +57,29 @@ fn have_shape(tree: &toml::Table) -> bool
     true
 }
 
-// The tenants of a document, or the first fault of a tenant.
-fn tenants_in(alloc: Global, tree: &toml::Table) -> Result<Vec<Tenant>, TableFault>
-    ensures ok { IfOk result (λ v. tenants_in (table_view tree.now) ≡ Ok v.items) }
-    ensures sorted { IfOk result (λ v. HasRisingNames v.items) }
-    ensures fault { IfErr result (λ f. (f ≡ TableFault.Memory)
-        ⊎ (tenants_in (table_view tree.now) ≡ Err f)) }
+// Room without rows.
+fn empty_room(alloc: Global) -> Result<Box<Room>, AllocError>
+    ensures { IfOk result (λ b. b.value.items ≡ []) }
 {
-    let mut tenants = Vec::new(alloc);
+    Box::new(alloc, ArrayVec::new()).map_err(|_| AllocError)
+}
+
+// Appends the tenants of a document, or tells the first fault of a tenant.
+fn read_tenants(room: &mut Room, tree: &toml::Table) -> Result<(), TableFault>
+    requires empty { room.old.items ≡ [] }
+    requires few { size (table_view tree.now) ≤ 64 }
+    ensures ok { OnOk result (tenants_in (table_view tree.now) ≡ Ok room.new.items) }
+    ensures sorted { OnOk result (HasRisingNames room.new.items) }
+    ensures fault { IfErr result (λ f. tenants_in (table_view tree.now) ≡ Err f) }
+{
     for (name, value) in tree.iter() {
         let Some(written) = read_written(value) else {
             return Err(TableFault::Shape);
         };
         let tenant = Tenant::new(name.as_str(), written)?;
-        if tenants.push(tenant).is_err() {
-            return Err(TableFault::Memory);
-        }
+        room.push(tenant);
     }
-    Ok(tenants)
+    Ok(())
 }
 
 // The tenants of a document, or its first fault.
@@ -86,7 +95,8 @@ fn read_tree(alloc: Global, tree: &toml::Table) -> Result<Table, TableFault>
     if !has_count(tree) {
         return Err(TableFault::Count);
     }
-    let tenants = tenants_in(alloc, tree)?;
+    let mut tenants = empty_room(alloc).map_err(|_| TableFault::Memory)?;
+    read_tenants(&mut tenants, tree)?;
     Ok(Table { tenants })
 }
 
@@ -107,6 +117,16 @@ fn place_of(tenants: &[Tenant], name: &[u8]) -> Option<usize>
 }
 
 impl Table {
+    /// A table without tenants. It has room for as many rows as a table can have.
+    ///
+    /// Err: out of memory.
+    pub fn empty(alloc: Global) -> Result<Table, AllocError>
+        ensures { IfOk result (λ t. t ≡ []) }
+    {
+        let tenants = empty_room(alloc)?;
+        Ok(Table { tenants })
+    }
+
     /// Reads a table of tenants.
     pub fn parse(alloc: Global, text: &[u8]) -> Result<Table, TableFault>
         ensures ok { IfOk result (λ t. read_table text.now ≡ Ok t) }
@@ -245,17 +265,14 @@ impl Table {
         freeze(&mut self.tenants, name, None)
     }
 
-    /// The rows in force, `self`, after another table is read. A tenant that stays keeps its place, and
-    /// is frozen if it was. The place of one that is gone becomes vacant. The other tenants of the table
-    /// take the places that were vacant before, and then new ones.
-    ///
-    /// Err: out of memory.
-    pub fn seated(&self, alloc: Global, table: &Table) -> Result<Table, AllocError>
-        ensures { IfOk result (λ t. t ≡ seated self.now table.now) }
+    /// Becomes the rows in force after another table is read; `rows` are those in force before. A tenant
+    /// that stays keeps its place, and is frozen if it was. The place of one that is gone becomes vacant.
+    /// The other tenants of the table take the places that were vacant before, and then new ones. It asks
+    /// for no memory.
+    pub fn seat(&mut self, rows: &Table, table: &Table)
+        ensures { self.new ≡ seated rows.now table.now }
     {
-        let fresh = fresh_in(alloc, &self.tenants, &table.tenants)?;
-        let tenants = placed(alloc, &self.tenants, &table.tenants, fresh)?;
-        Ok(Table { tenants })
+        seat(&mut self.tenants, &rows.tenants, &table.tenants);
     }
 
     /// The same tenants at the same places, each with the greatest quota.
@@ -264,7 +281,8 @@ impl Table {
     pub fn unlimited(&self, alloc: Global) -> Result<Table, AllocError>
         ensures { IfOk result (λ t. t ≡ unlimited self.now) }
     {
-        let tenants = unlimited(alloc, &self.tenants)?;
+        let mut tenants = empty_room(alloc)?;
+        unlimited(&mut tenants, &self.tenants);
         Ok(Table { tenants })
     }
 }

@@ -43,6 +43,15 @@ pub struct Tenant {
     pub frozen: Option<[u8; 32]>,
 }
 
+/// A row without a tenant.
+impl Default for Tenant {
+    ghost is_default = { λ t. t ≡ vacant };
+
+    fn default() -> Tenant {
+        Tenant::vacant()
+    }
+}
+
 /// A tenant, by its place in the table of tenants. Only a table makes one.
 #[derive(Clone, Copy, PartialEq, Eq, Debug)]
 pub struct TenantId {

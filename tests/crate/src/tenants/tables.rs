@@ -386,12 +386,19 @@ fn table_of(alloc: Global, names: &[&str]) -> Result<Table, Fail> {
     Ok(parse(alloc, text.as_bytes())?)
 }
 
-// The rows after another table is read. If memory is refused, a second try makes them.
-fn seated(alloc: Global, rows: &Table, table: &Table) -> Result<Table, AllocError> {
-    match rows.seated(alloc, table) {
-        Err(AllocError) => rows.seated(alloc, table),
-        seats => seats,
+// A table without tenants. If memory is refused, a second try makes it.
+fn empty(alloc: Global) -> Result<Table, AllocError> {
+    match Table::empty(alloc) {
+        Err(AllocError) => Table::empty(alloc),
+        made => made,
     }
+}
+
+// The rows after another table is read.
+fn seated(alloc: Global, rows: &Table, table: &Table) -> Result<Table, AllocError> {
+    let mut seats = empty(alloc)?;
+    seats.seat(rows, table);
+    Ok(seats)
 }
 
 // The places after the tenants alice, bob and carol are replaced by bob and dave.
@@ -418,6 +425,14 @@ static THIRD_PLACES: [Seat; 5] = [
 ];
 
 #[test]
+fn an_empty_table(rt: HostRuntime) -> Result<(), Fail> {
+    let table = empty(rt.alloc())?;
+    same(&rt, table.len(), 0);
+    same(&rt, place(&table, b""), None);
+    Ok(())
+}
+
+#[test]
 fn places_after_another_table(rt: HostRuntime) -> Result<(), Fail> {
     let a = rt.alloc();
     let first = table_of(a, &["alice", "bob", "carol"])?;
@@ -429,7 +444,8 @@ fn places_after_another_table(rt: HostRuntime) -> Result<(), Fail> {
     let bob = second.find(b"bob").ok_or("bob")?;
     same(&rt, second.quota(bob).entries, 0);
     let next = table_of(a, &["alice", "dave", "erin", "fred"])?;
-    let third = seated(a, &second, &next)?;
+    let mut third = first;
+    third.seat(&second, &next);
     same(&rt, third.len(), 5);
     compare_places(&rt, &third, &THIRD_PLACES);
     Ok(())

@@ -10,4 +10,4 @@ invariant_of-result c =
     let n = size (table_view c.args.tree.now) in
     let counted = (and_parts (nat_le 1 n) (nat_le n 64) (◌∙◌ (sym c.has_count.ensures) c.if-not-has_count.false)).1 in
     let fits : n ≤ 64 = leb-true n 64 counted in
-    tree-rows (table_view c.args.tree.now) c.in_ok-tenants.tenants.items c.in_ok-tenants.ensures.ok fits c.in_ok-tenants.ensures.sorted
+    tree-rows (table_view c.args.tree.now) c.read_tenants.new.room.items c.in_ok-read_tenants.ensures.ok fits c.in_ok-read_tenants.ensures.sorted

@@ -1,4 +1,4 @@
-use Rattle.std.proofs.Common.{ap, sym, ◌∙◌, subst}
+use Rattle.std.proofs.Common.{◌≡◌, ap, sym, ◌∙◌, subst, rules}
 use Rattle.judy_table.specs.Seats.{AreRows}
 use Rattle.judy_table.specs.Unlimited.{unlimited}
 use Rattle.judy_table.proofs.lemmas.Unlimited.{unlimited-rows}
@@ -6,4 +6,6 @@ use Rattle.judy_table.proofs.table.Table.unlimited.Goals as goal
 
 pub invariant_of-result : goal.invariant_of-result
 invariant_of-result c =
-    subst AreRows (sym (c.in_ok-tenants.ensures ∙ ap unlimited c.deref.ensures.value)) (unlimited-rows c.self.inside.tenants.items c.self.invariant)
+    let rows = c.self.inside.tenants.value.items in
+    let read : c.deref-2.result.now ≡ rows = search rules in
+    subst AreRows (sym (c.unlimited.ensures ∙ ap unlimited read)) (unlimited-rows rows c.self.invariant)
