@@ -18,7 +18,7 @@ that refuses it, all other goals that were left are holes, so that this one alon
 that tries what the compiler tries of itself. So the compiler prints neither the goal nor a file to begin with,
 which takes as long as the search. For a copy the answer has `STEPS` of the 10,000,000 steps that the compiler
 allows: goals of the control are proved in less, and a search that finds nothing would use up all. If the control
-is not proved so, the compiler's own tactics are tried. A wrong body in the function's place has no control, so its
+is not proved so, the compiler's own tactics are tried, unless wrong/GOALS says that its goal takes a long search. A wrong body in the function's place has no control, so its
 answer finds all that the compiler's tactics find (`LIKE_THE_COMPILER`), and counts only if it says that its search
 failed."""
 
@@ -178,8 +178,8 @@ def without_tactics(text):
 class Batch:
     """A crate's texts with copies and changed functions in them, and what is tried there."""
 
-    def __init__(self, crate, sources, holes=None):
-        self.crate, self.sources, self.holes = crate, sources, holes
+    def __init__(self, crate, sources, holes=None, long=None):
+        self.crate, self.sources, self.holes, self.long = crate, sources, holes, long or {}
         self.texts, self.changes, self.imports = with_the_hole(holes.texts if holes else sources.texts), {}, {}
         self.asked, self.spans, self.dug, self.alike = [], [], {}, set()
 
@@ -202,7 +202,7 @@ class Batch:
             self.texts[as_copy + path[len(below) :]] = re.sub(re.escape(cited[0]) + r"(?![\w-])", cited[1], proof)
         self.keep_answers(as_copy, kept)
         if goals or searched:
-            self.dig_goals(as_copy + "Answers.antt", cited[1], goals, searched)
+            self.dig_goals(as_copy + "Answers.antt", cited[1], goals, searched, long=self.long.get(function.path(), ()))
         self.asked.append(function.path(name))
 
     def copy_cycle(self, function, text, name, tried):
@@ -237,15 +237,15 @@ class Batch:
         if self.holes and path in self.texts:
             self.texts[path] = self.holes.answers(self.texts[path], kept)
 
-    def dig_goals(self, path, cited, goals, searched, search=SEARCH):
-        """Answers goals of a function by holes, and others by a search."""
+    def dig_goals(self, path, cited, goals, searched, search=SEARCH, long=()):
+        """Answers goals of a function by holes, and others by a search, these by all that the compiler tries."""
         text = self.texts.get(path, "")
         found = re.search(r"^use %s\.Goals as (\S+)$" % re.escape(cited), text, re.M)
         alias = found[1] if found else "goal_of_copy"
         head = "" if found else GOALS % (self.crate, cited.split(".proofs.")[1], alias)
         head += "" if imports_of(self.crate) in text else imports_of(self.crate) + "\n"
         head += TRIED if searched else ""
-        text += "".join("\n" + search % (it, alias, it, it) for it in searched)
+        text += "".join("\n" + (LIKE_THE_COMPILER if it in long else search) % (it, alias, it, it) for it in searched)
         self.dug[path] = (head + text).count("\n")
         self.texts[path] = head + text + "".join(ANSWER % (it, alias, it, it) for it in goals)
 

@@ -2,11 +2,14 @@
 that refuses it, so of these that one alone is searched, and the others are holes. The file saves time
 and decides nothing: a goal that it lacks is searched, and one that is gone is an error of the copy, which
 is tried then with all of its goals. A line is `FUNCTION: GOAL..`, or `EDIT: GOAL..` of a wrong body with
-which its function has other goals. `tests/wrong --goals` writes it."""
+which its function has other goals. A line `LONG FUNCTION: GOAL..` names goals that the function itself is
+proved to have only by the compiler's whole search. `tests/wrong --goals` writes it, but for those."""
 
 import os
 
 from edits import CRATES, read, write
+
+LONG = "LONG "
 
 
 class Goals:
@@ -16,6 +19,7 @@ class Goals:
         self.crate, self.path = crate, os.path.join(CRATES, crate, "wrong", "GOALS")
         lines = read(self.path).split("\n") if os.path.exists(self.path) else []
         self.known = {name: goals.split() for name, _, goals in (it.partition(": ") for it in lines if it)}
+        self.long = {name[len(LONG) :]: self.known.pop(name) for name in list(self.known) if name.startswith(LONG)}
         self.noted = {}
 
     def of(self, function):
@@ -58,7 +62,7 @@ class Goals:
     def write(self):
         """Writes the file: of the functions with a body that is tried so, and of the bodies that differ."""
         used = {path for name, (path, _) in self.noted.items() if name != path}
-        lines = []
+        lines = ["%s%s: %s\n" % (LONG, path, " ".join(goals)) for path, goals in sorted(self.long.items())]
         for name, (path, goals) in sorted(self.noted.items()):
             if path in used and (name == path or goals != self.noted.get(path, (path, None))[1]):
                 lines.append("%s: %s\n" % (name, " ".join(goals)))
