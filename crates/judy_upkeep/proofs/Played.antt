@@ -5,7 +5,7 @@
 --     freed-next                   one more array of a tenant who leaves
 --     first-name, left-first       one more tenant who leaves, before others
 --     played-first, played-none    one more record, before others, and no more
-use Rattle.std.proofs.Common.{◌≡◌, ℕ, zero, suc, Bool, true, false, List, [], ◌∷◌, ◌++◌, Option, Some, None, Result, Ok, Err, IfOk, refl, sym, ◌∙◌, ap, subst, inl, inr, codes}
+use Rattle.std.proofs.Common.{◌≡◌, ℕ, zero, suc, true, false, List, [], ◌∷◌, ◌++◌, Option, Some, Result, Ok, Err, IfOk, refl, sym, ◌∙◌, ap, subst, inl, inr, codes}
 use Rattle.judy_model.specs.Speakers.{Speaker}
 use Rattle.judy_model.specs.Stream.{lines_of}
 use Rattle.judy_model.proofs.lemmas.LineLemmas.{IsOneLine, lines_of-bytes, lines_of-line}
@@ -58,29 +58,41 @@ told {S} {K} who made speakers speakers' tenant letters array old old' new new' 
 pub sought : {S K : Type 0} (who : K → Speaker) (made : Made S) (speakers noters noters' : List K) (start : Both S) (entries noted noted' : S)
     (tenant : ℕ) (line : List ℕ) (found : Option Array) → noters' ≡ noters → IsSeeking line → Seeks who made noters' tenant line found noted noted'
     → HasSwept who made speakers noters start (both entries noted) → HasSwept who made speakers noters start (both entries noted')
-sought {K = K} who made speakers noters noters' start entries noted noted' tenant line found n is seeks (count, swept) =
-    (suc count, (both entries noted, swept, inl (record {
+sought {K = K} who made speakers noters noters' start entries noted noted' tenant line found n is seeks (count, swept) = (
+  suc count,
+  (
+    both entries noted,
+    swept,
+    inl (record {
       tenant = tenant;
       line = line;
       is_seeking = is;
       found = found;
       seeks = subst (λ (v : List K). Seeks who made v tenant line found noted noted') n seeks;
       same = refl;
-    })))
+    }),
+  ),
+)
 
 -- an array has no entry, and was forgotten
 pub forgot : {S K : Type 0} (who : K → Speaker) (made : Made S) (speakers speakers' noters noters' : List K) (start : Both S)
     (entries entries' noted middle noted' : S) (tenant : ℕ) (array : Array) → speakers' ≡ speakers → noters' ≡ noters → middle ≡ noted
     → IsProbed who made speakers' tenant array true entries entries' → Tells who made noters' tenant (codes "D") array middle noted'
     → HasSwept who made speakers noters start (both entries noted) → HasSwept who made speakers noters start (both entries' noted')
-forgot {S = S} {K = K} who made speakers speakers' noters noters' start entries entries' noted middle noted' tenant array s n m probed told (count, swept) =
-    (suc count, (both entries noted, swept, inr (inr (record {
+forgot {S = S} {K = K} who made speakers speakers' noters noters' start entries entries' noted middle noted' tenant array s n m probed told (count, swept) = (
+  suc count,
+  (
+    both entries noted,
+    swept,
+    inr (inr (record {
       tenant = tenant;
       array = array;
       looked = subst (λ (v : List K). IsProbed who made v tenant array true entries entries') s probed;
       told = subst (λ (v : S). Tells who made noters tenant (codes "D") array v noted') m
           (subst (λ (v : List K). Tells who made v tenant (codes "D") array middle noted') n told);
-    }))))
+    })),
+  ),
+)
 
 -- an array may have an entry
 pub probed : {S K : Type 0} (who : K → Speaker) (made : Made S) (speakers speakers' noters : List K) (start : Both S)
@@ -90,14 +102,20 @@ pub probed : {S K : Type 0} (who : K → Speaker) (made : Made S) (speakers spea
 probed {S} {K} who made speakers speakers' noters start entries entries' noted noted' tenant array s n (inl same) swept =
     subst (λ (v : S). HasSwept who made speakers noters start (both v noted')) (sym same)
     (subst (λ (v : S). HasSwept who made speakers noters start (both entries v)) (sym n) swept)
-probed {S} {K} who made speakers speakers' noters start entries entries' noted noted' tenant array s n (inr (came, looks)) (count, swept) =
-    (suc count, (both entries noted, swept, inr (inl (record {
+probed {S} {K} who made speakers speakers' noters start entries entries' noted noted' tenant array s n (inr (came, looks)) (count, swept) = (
+  suc count,
+  (
+    both entries noted,
+    swept,
+    inr (inl (record {
       tenant = tenant;
       array = array;
       came = came;
       looked = subst (λ (v : List K). Looks who made v tenant array came entries entries') s looks;
       same = n;
-    }))))
+    })),
+  ),
+)
 
 -- a sweep, and then more
 pub swept-append : {S K : Type 0} (who : K → Speaker) (made : Made S) (speakers noters : List K) (more : ℕ) (old mid new : Both S)
@@ -128,14 +146,20 @@ pub freed-next : {S K : Type 0} (who : K → Speaker) (made : Made S) (speakers 
     → TakesFirst who made noters' tenant (Some array) noted middle
     → Gives who made speakers' tenant (call_text array (codes "FA")) (Ok (what.Count count)) entries entries'
     → HasFreed who made speakers noters tenant start (both entries noted) → HasFreed who made speakers noters tenant start (both entries' noted')
-freed-next {S = S} {K = K} who made speakers speakers' noters noters' tenant start entries entries' noted middle noted' array count s n m taken freed (before, all) =
-    (suc before, (both entries noted, all, record {
+freed-next {S = S} {K = K} who made speakers speakers' noters noters' tenant start entries entries' noted middle noted' array count s n m taken freed (before, all) = (
+  suc before,
+  (
+    both entries noted,
+    all,
+    record {
       array = array;
       taken = subst (λ (v : S). TakesFirst who made noters tenant (Some array) noted v) (sym m)
           (subst (λ (v : List K). TakesFirst who made v tenant (Some array) noted middle) n taken);
       count = count;
       freed = subst (λ (v : List K). Gives who made v tenant (call_text array (codes "FA")) (Ok (what.Count count)) entries entries') s freed;
-    }))
+    },
+  ),
+)
 
 -- the first name of some, with a space before each
 pub first-name : (rest name after : List ℕ) (space : ℕ) (names : List (List ℕ)) → AreNames rest → rest ≡ space ∷ name ++ after
@@ -156,9 +180,13 @@ pub left-first : {S K : Type 0} (who : K → Speaker) (made : Made S) (speakers 
     (old : Both S) (names : Names) (mid : Both S) (between : Names) (new : Both S) (names' : Names) → speakers' ≡ speakers → noters' ≡ noters
     → Leaves who made speakers' noters' name old names mid between → AreLeft who made speakers noters others mid between new names'
     → AreLeft who made speakers noters (name ∷ others) old names new names'
-left-first {K = K} who made speakers speakers' noters noters' name others old names mid between new names' s n first more =
-    (mid, between, subst (λ (v : List K). Leaves who made speakers v name old names mid between) n
-    (subst (λ (v : List K). Leaves who made v noters' name old names mid between) s first), more)
+left-first {K = K} who made speakers speakers' noters noters' name others old names mid between new names' s n first more = (
+  mid,
+  between,
+  subst (λ (v : List K). Leaves who made speakers v name old names mid between) n
+      (subst (λ (v : List K). Leaves who made v noters' name old names mid between) s first),
+  more,
+)
 
 -- ---- records
 

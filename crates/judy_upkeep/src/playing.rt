@@ -1,6 +1,5 @@
 //! Plays the records of a journal to a service of made-up tenants, and notes which arrays they make.
 ghost use Rattle.std.specs.Prelude.{◌≡◌, ◌∷◌, ℕ, List, Ok, codes, refl, IfOk, OnOk};
-ghost use Rattle.judy_journal.specs.Leaving.{gone_request};
 ghost use Rattle.judy_protocol.specs.Plain.{spaced_more};
 ghost use Rattle.judy_upkeep.specs.Asking.{Gives};
 ghost use Rattle.judy_upkeep.specs.Leaving.{AreNames};

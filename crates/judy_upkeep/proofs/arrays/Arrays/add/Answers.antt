@@ -1,4 +1,4 @@
-use Rattle.std.proofs.Common.{codes, inl, inr, refl, sym}
+use Rattle.std.proofs.Common.{codes, inr, refl, sym}
 use Rattle.judy_upkeep.proofs.Played.{told}
 use Rattle.judy_upkeep.proofs.arrays.Arrays.add.Goals as goal
 

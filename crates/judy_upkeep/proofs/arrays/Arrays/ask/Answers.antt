@@ -15,6 +15,6 @@ returns-clause-asked g c =
     c.as_slice.ensures.value c.letter.ensures c.as_bytes.ensures.value in
     let line : c.as_slice-3.result.now ≡ note_text c.args.does.now c.args.array.now =
     c.as_slice-3.ensures.value ∙ c.write_look.ensures.text ∙ ap (λ a. look_text a c.args.does.now c.as_slice-2.result.now) c.noting.ensures
-        ∙ ap (λ k. look_text noting c.args.does.now k) (c.as_slice-2.ensures.value ∙ c.write_key.ensures ∙ ap key_text key) in
+    ∙ ap (λ k. look_text noting c.args.does.now k) (c.as_slice-2.ensures.value ∙ c.write_key.ensures ∙ ap key_text key) in
     subst (λ (v : List ℕ). HasAsked g.S.Served.who g.S.Served.made c.args.self.now.asking.speakers.items c.args.tenant v c.ask.result
     c.args.self.now.asking.last.items c.ask.new.self.last.items c.args.self.now.asking.service c.ask.new.self.service) line c.ask.ensures.asked

@@ -1,4 +1,4 @@
-use Rattle.std.proofs.Common.{Option, Some, codes, refl, subst}
+use Rattle.std.proofs.Common.{Option, codes, refl, subst}
 use Rattle.judy_upkeep.specs.Noting.{Seeks, first_text}
 use Rattle.judy_upkeep.specs.declared.kinds.Array.{Array}
 use Rattle.judy_upkeep.proofs.Played.{told}

@@ -8,10 +8,14 @@ loop-name-init g c = record {
   speakers = c.leave.ensures.speakers;
   noters = c.leave.ensures.noters;
   are_names = c.requires;
-  left = λ more new names same left. (more, same, left-first g.S.Served.who g.S.Served.made c.args.self.now.entries.speakers.items c.args.self.now.entries.speakers.items c.args.self.now.arrays.asking.speakers.items c.args.self.now.arrays.asking.speakers.items c.args.first.now more
-      (both c.args.self.now.entries.service c.args.self.now.arrays.asking.service) c.args.self.now.tenants.names.items
-      (both c.leave.new.self.entries.service c.leave.new.self.arrays.asking.service) c.leave.new.self.tenants.names.items new names
-      refl refl c.in_ok-leave.ensures.left left);
+  left = λ more new names same left. (
+    more,
+    same,
+    left-first g.S.Served.who g.S.Served.made c.args.self.now.entries.speakers.items c.args.self.now.entries.speakers.items c.args.self.now.arrays.asking.speakers.items c.args.self.now.arrays.asking.speakers.items c.args.first.now more
+        (both c.args.self.now.entries.service c.args.self.now.arrays.asking.service) c.args.self.now.tenants.names.items
+        (both c.leave.new.self.entries.service c.leave.new.self.arrays.asking.service) c.leave.new.self.tenants.names.items new names
+        refl refl c.in_ok-leave.ensures.left left,
+  );
 }
 
 pub loop-name-preserved : goal.loop-name-preserved
