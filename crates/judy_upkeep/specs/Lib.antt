@@ -5,7 +5,9 @@ pub mod Directories
 pub mod Leaving
 pub mod Lines
 pub mod Notes
+pub mod Noting
 pub mod Output
+pub mod Playing
 pub mod Printing
 pub mod Repairing
 pub mod Replacing

@@ -1,10 +1,13 @@
 //! Which arrays each tenant has, in the order of their kinds and names.
-ghost use Rattle.std.specs.Prelude.{◌≡◌, ◌≤◌, length};
+ghost use Rattle.std.specs.Prelude.{◌≡◌, ◌≤◌, codes, length, IfOk, OnOk};
+ghost use Rattle.judy_upkeep.specs.Asking.{HasAsked};
 ghost use Rattle.judy_upkeep.specs.Changes.{array_at};
+ghost use Rattle.judy_upkeep.specs.Noting.{HasNoted, IsFound, NotesAs, Seeks, TakesFirst, Tells, first_text, note_text, noting};
+ghost use Rattle.judy_upkeep.specs.declared.kinds.Does.TheVariants as does_what;
 
 use crate::asking::{Asking, Came};
 use crate::kinds::{Array, Change, Does, kind_of, letter};
-use crate::lines::{KeyText, Text, write_key, write_look};
+use crate::lines::{KeyText, Text, put, write_key, write_look};
 use arrayvec::ArrayVec;
 use judy_model::{Kind, NAME_LIMIT, Name};
 use judy_programs::Opens;
@@ -33,8 +36,6 @@ struct Noted {
 #[derive(Drop)]
 pub struct Arrays<S: Served> {
     asking: Asking<S>,
-    /// The map of each tenant.
-    map: Array,
     /// Some of the arrays that are noted.
     recent: Vec<Option<Noted>>,
     /// How many looks there may be until arrays without an entry are forgotten.
@@ -63,6 +64,16 @@ fn empty_slots(alloc: Global) -> Result<Vec<Option<Noted>>, Reason> {
     Ok(slots)
 }
 
+/// The map of each tenant.
+fn noting() -> Array
+    ensures { result ≡ noting }
+{
+    Array {
+        kind: Kind::Str,
+        name: Name::of(b"a"),
+    }
+}
+
 /// The array that a key of a map names.
 fn array_of(key: &[u8]) -> Option<Array>
     ensures { result ≡ array_at key.now }
@@ -88,10 +99,6 @@ impl<S: Opens + Drop> Arrays<S> {
         let recent = empty_slots(alloc)?;
         Ok(Arrays {
             asking,
-            map: Array {
-                kind: Kind::Str,
-                name: Name::of(b"a"),
-            },
             recent,
             looks: LOOKS,
             key: ArrayVec::new(),
@@ -110,7 +117,10 @@ impl<S: Served> Arrays<S> {
     }
 
     /// Puts something into a place of the recent ones.
-    fn put_recent(&mut self, slot: usize, noted: Option<Noted>) {
+    fn put_recent(&mut self, slot: usize, noted: Option<Noted>)
+        ensures speakers { self.new.asking.speakers.items ≡ self.old.asking.speakers.items }
+        ensures service { self.new.asking.service ≡ self.old.asking.service }
+    {
         if let Some(place) = self.recent.get_mut(slot) {
             *place = noted;
         }
@@ -119,17 +129,25 @@ impl<S: Served> Arrays<S> {
     /// Asks the map of a tenant about an array.
     fn ask(&mut self, tenant: usize, does: &[u8], array: &Array) -> Result<Came, Reason>
         requires { length does.now ≤ 2 }
+        ensures asked { HasAsked S.who S.made self.old.asking.speakers.items tenant (note_text does.now array.now)
+            result self.old.asking.last.items self.new.asking.last.items self.old.asking.service
+            self.new.asking.service }
+        ensures speakers { self.new.asking.speakers.items ≡ self.old.asking.speakers.items }
     {
         let mut key: ArrayVec<u8, ARRAY_KEY> = ArrayVec::new();
-        let _fits = key.try_push(letter(array.kind));
-        let _fits = key.try_extend_from_slice(array.name.as_bytes());
+        put(&mut key, &[letter(array.kind)]);
+        put(&mut key, array.name.as_bytes());
         write_key(key.as_slice(), &mut self.key);
-        write_look(&self.map, does, self.key.as_slice(), &mut self.line);
+        write_look(&noting(), does, self.key.as_slice(), &mut self.line);
         self.asking.ask(tenant, self.line.as_slice())
     }
 
     /// Notes an array of a tenant.
-    fn add(&mut self, tenant: usize, array: Array) -> Result<(), Reason> {
+    fn add(&mut self, tenant: usize, array: Array) -> Result<(), Reason>
+        ensures noted { OnOk result (NotesAs S.who S.made self.old.asking.speakers.items tenant does_what.Makes array
+            self.old.asking.service self.new.asking.service) }
+        ensures speakers { self.new.asking.speakers.items ≡ self.old.asking.speakers.items }
+    {
         let slot = slot_of(tenant, &array);
         if self.is_recent(slot, tenant, &array) {
             return Ok(());
@@ -146,22 +164,41 @@ impl<S: Served> Arrays<S> {
     }
 
     /// Notes how many arrays are noted. It is not time again before there were twice as many looks.
-    pub fn set_due(&mut self, noted: u64) {
+    pub fn set_due(&mut self, noted: u64)
+        ensures speakers { self.new.asking.speakers.items ≡ self.old.asking.speakers.items }
+        ensures service { self.new.asking.service ≡ self.old.asking.service }
+    {
         self.looks = u64::max(LOOKS, noted.saturating_mul(2));
     }
 
-    /// Forgets an array of a tenant.
-    pub fn forget(&mut self, tenant: usize, array: &Array) -> Result<(), Reason> {
+    /// An array is not known to be noted any more.
+    fn drop_recent(&mut self, tenant: usize, array: &Array)
+        ensures speakers { self.new.asking.speakers.items ≡ self.old.asking.speakers.items }
+        ensures service { self.new.asking.service ≡ self.old.asking.service }
+    {
         let slot = slot_of(tenant, array);
         if self.is_recent(slot, tenant, array) {
             self.put_recent(slot, None);
         }
+    }
+
+    /// Forgets an array of a tenant.
+    pub fn forget(&mut self, tenant: usize, array: &Array) -> Result<(), Reason>
+        ensures told { OnOk result (Tells S.who S.made self.old.asking.speakers.items tenant (codes "D") array.now
+            self.old.asking.service self.new.asking.service) }
+        ensures speakers { self.new.asking.speakers.items ≡ self.old.asking.speakers.items }
+    {
+        self.drop_recent(tenant, array);
         self.ask(tenant, b"D", array)?;
         Ok(())
     }
 
     /// Notes what a call of a tenant may have changed.
-    pub fn note(&mut self, tenant: usize, change: Change) -> Result<(), Reason> {
+    pub fn note(&mut self, tenant: usize, change: Change) -> Result<(), Reason>
+        ensures noted { OnOk result (HasNoted S.who S.made self.old.asking.speakers.items tenant change
+            self.old.asking.service self.new.asking.service) }
+        ensures speakers { self.new.asking.speakers.items ≡ self.old.asking.speakers.items }
+    {
         match change.does {
             Does::Makes => self.add(tenant, change.array),
             Does::Removes => Ok(()),
@@ -170,7 +207,9 @@ impl<S: Served> Arrays<S> {
     }
 
     /// The array that was found.
-    fn found(&self, came: Came) -> Result<Option<Array>, Reason> {
+    fn found(&self, came: Came) -> Result<Option<Array>, Reason>
+        ensures { IfOk result (λ found. IsFound came self.now.asking.last.items found) }
+    {
         match came {
             Came::AtKey(_) => match array_of(self.asking.key_found()) {
                 Some(array) => Ok(Some(array)),
@@ -181,20 +220,32 @@ impl<S: Served> Arrays<S> {
     }
 
     /// The first array of a tenant that is noted.
-    pub fn first(&mut self, tenant: usize) -> Result<Option<Array>, Reason> {
-        write_look(&self.map, b"F", b"x", &mut self.line);
+    pub fn first(&mut self, tenant: usize) -> Result<Option<Array>, Reason>
+        ensures found { IfOk result (λ found. Seeks S.who S.made self.old.asking.speakers.items tenant first_text
+            found self.old.asking.service self.new.asking.service) }
+        ensures speakers { self.new.asking.speakers.items ≡ self.old.asking.speakers.items }
+    {
+        write_look(&noting(), b"F", b"x", &mut self.line);
         let came = self.asking.ask(tenant, self.line.as_slice())?;
         self.found(came)
     }
 
     /// The array of a tenant that is noted after this one.
-    pub fn next(&mut self, tenant: usize, array: &Array) -> Result<Option<Array>, Reason> {
+    pub fn next(&mut self, tenant: usize, array: &Array) -> Result<Option<Array>, Reason>
+        ensures found { IfOk result (λ found. Seeks S.who S.made self.old.asking.speakers.items tenant
+            (note_text (codes "N") array.now) found self.old.asking.service self.new.asking.service) }
+        ensures speakers { self.new.asking.speakers.items ≡ self.old.asking.speakers.items }
+    {
         let came = self.ask(tenant, b"N", array)?;
         self.found(came)
     }
 
     /// Takes out the first array of a tenant, if it has one.
-    pub fn take(&mut self, tenant: usize) -> Result<Option<Array>, Reason> {
+    pub fn take(&mut self, tenant: usize) -> Result<Option<Array>, Reason>
+        ensures taken { IfOk result (λ found. TakesFirst S.who S.made self.old.asking.speakers.items tenant found
+            self.old.asking.service self.new.asking.service) }
+        ensures speakers { self.new.asking.speakers.items ≡ self.old.asking.speakers.items }
+    {
         let Some(array) = self.first(tenant)? else {
             return Ok(None);
         };

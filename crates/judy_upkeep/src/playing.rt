@@ -1,7 +1,10 @@
 //! Plays the records of a journal to a service of made-up tenants, and notes which arrays they make.
-ghost use Rattle.std.specs.Prelude.{Ok, codes, IfOk};
+ghost use Rattle.std.specs.Prelude.{◌≡◌, ◌∷◌, ℕ, List, Ok, codes, refl, IfOk, OnOk};
+ghost use Rattle.judy_protocol.specs.Plain.{spaced_more};
 ghost use Rattle.judy_upkeep.specs.Asking.{Gives};
+ghost use Rattle.judy_upkeep.specs.Leaving.{AreNames};
 ghost use Rattle.judy_upkeep.specs.Lines.{call_text};
+ghost use Rattle.judy_upkeep.specs.Playing.{AreLeft, ArePlayed, HasSwept, IsEmptied, IsProbed, Leaves, Plays, both, played-then};
 
 use crate::arrays::Arrays;
 use crate::asking::{Asking, Came};
@@ -46,9 +49,13 @@ impl<S: Opens + Drop> Playing<S> {
 impl<S: Served> Playing<S> {
     /// Removes all entries of an array. Returns how many there were.
     pub fn free(&mut self, tenant: usize, array: &Array) -> Result<u64, Reason>
-        ensures { IfOk result (λ count. Gives S.who S.made self.old.entries.speakers.items tenant
+        ensures freed { IfOk result (λ count. Gives S.who S.made self.old.entries.speakers.items tenant
             (call_text array.now (codes "FA")) (Ok (Came.Count count)) self.old.entries.service
             self.new.entries.service) }
+        ensures speakers { self.new.entries.speakers.items ≡ self.old.entries.speakers.items }
+        ensures noters { self.new.arrays.asking.speakers.items ≡ self.old.arrays.asking.speakers.items }
+        ensures arrays { self.new.arrays.asking.service ≡ self.old.arrays.asking.service }
+        ensures names { self.new.tenants.names.items ≡ self.old.tenants.names.items }
     {
         write_call(array, b"FA", &mut self.line);
         match self.entries.ask(tenant, self.line.as_slice())? {
@@ -58,7 +65,14 @@ impl<S: Served> Playing<S> {
     }
 
     /// Removes all arrays of a tenant.
-    fn free_all(&mut self, tenant: usize) -> Result<(), Reason> {
+    fn free_all(&mut self, tenant: usize) -> Result<(), Reason>
+        ensures freed { OnOk result (IsEmptied S.who S.made self.old.entries.speakers.items
+            self.old.arrays.asking.speakers.items tenant (both self.old.entries.service self.old.arrays.asking.service)
+            (both self.new.entries.service self.new.arrays.asking.service)) }
+        ensures speakers { self.new.entries.speakers.items ≡ self.old.entries.speakers.items }
+        ensures noters { self.new.arrays.asking.speakers.items ≡ self.old.arrays.asking.speakers.items }
+        ensures names { self.new.tenants.names.items ≡ self.old.tenants.names.items }
+    {
         for _ in 0..u64::MAX {
             let Some(array) = self.arrays.take(tenant)? else {
                 return Ok(());
@@ -69,17 +83,50 @@ impl<S: Served> Playing<S> {
     }
 
     /// Whether an array has no entry, as far as that can be asked: of a map from byte keys it can't.
-    fn is_empty(&mut self, tenant: usize, array: &Array) -> Result<bool, Reason> {
+    fn is_empty(&mut self, tenant: usize, array: &Array) -> Result<bool, Reason>
+        ensures probed { IfOk result (λ empty. IsProbed S.who S.made self.old.entries.speakers.items tenant array.now empty
+            self.old.entries.service self.new.entries.service) }
+        ensures speakers { self.new.entries.speakers.items ≡ self.old.entries.speakers.items }
+        ensures noters { self.new.arrays.asking.speakers.items ≡ self.old.arrays.asking.speakers.items }
+        ensures arrays { self.new.arrays.asking.service ≡ self.old.arrays.asking.service }
+        ensures names { self.new.tenants.names.items ≡ self.old.tenants.names.items }
+    {
         if array.kind == Kind::Bytes {
             return Ok(false);
         }
         write_look(array, b"F", least_key(array.kind), &mut self.line);
         let came = self.entries.ask(tenant, self.line.as_slice())?;
-        Ok(came == Came::Nothing)
+        match came {
+            Came::Nothing => Ok(true),
+            _ => Ok(false),
+        }
+    }
+
+    /// Forgets an array if it has no entry. Returns how many are noted of it still.
+    fn forget_empty(&mut self, tenant: usize, array: &Array) -> Result<u64, Reason>
+        ensures swept { IfOk result (λ _. HasSwept S.who S.made self.old.entries.speakers.items
+            self.old.arrays.asking.speakers.items (both self.old.entries.service self.old.arrays.asking.service)
+            (both self.new.entries.service self.new.arrays.asking.service)) }
+        ensures speakers { self.new.entries.speakers.items ≡ self.old.entries.speakers.items }
+        ensures noters { self.new.arrays.asking.speakers.items ≡ self.old.arrays.asking.speakers.items }
+        ensures names { self.new.tenants.names.items ≡ self.old.tenants.names.items }
+    {
+        if self.is_empty(tenant, array)? {
+            self.arrays.forget(tenant, array)?;
+            return Ok(0);
+        }
+        Ok(1)
     }
 
     /// Forgets the arrays of a tenant that have no entry. Returns how many others there are.
-    fn sweep_tenant(&mut self, tenant: usize) -> Result<u64, Reason> {
+    fn sweep_tenant(&mut self, tenant: usize) -> Result<u64, Reason>
+        ensures swept { IfOk result (λ _. HasSwept S.who S.made self.old.entries.speakers.items
+            self.old.arrays.asking.speakers.items (both self.old.entries.service self.old.arrays.asking.service)
+            (both self.new.entries.service self.new.arrays.asking.service)) }
+        ensures speakers { self.new.entries.speakers.items ≡ self.old.entries.speakers.items }
+        ensures noters { self.new.arrays.asking.speakers.items ≡ self.old.arrays.asking.speakers.items }
+        ensures names { self.new.tenants.names.items ≡ self.old.tenants.names.items }
+    {
         let mut next = self.arrays.first(tenant)?;
         let mut others: u64 = 0;
         for _ in 0..u64::MAX {
@@ -87,17 +134,20 @@ impl<S: Served> Playing<S> {
                 return Ok(others);
             };
             next = self.arrays.next(tenant, &array)?;
-            if self.is_empty(tenant, &array)? {
-                self.arrays.forget(tenant, &array)?;
-            } else {
-                others = others.saturating_add(1);
-            }
+            others = others.saturating_add(self.forget_empty(tenant, &array)?);
         }
         Err(Reason::Record)
     }
 
     /// Forgets the arrays that have no entry.
-    fn sweep(&mut self) -> Result<(), Reason> {
+    fn sweep(&mut self) -> Result<(), Reason>
+        ensures swept { OnOk result (HasSwept S.who S.made self.old.entries.speakers.items
+            self.old.arrays.asking.speakers.items (both self.old.entries.service self.old.arrays.asking.service)
+            (both self.new.entries.service self.new.arrays.asking.service)) }
+        ensures speakers { self.new.entries.speakers.items ≡ self.old.entries.speakers.items }
+        ensures noters { self.new.arrays.asking.speakers.items ≡ self.old.arrays.asking.speakers.items }
+        ensures names { self.new.tenants.names.items ≡ self.old.tenants.names.items }
+    {
         let mut others: u64 = 0;
         for tenant in 0..self.tenants.count() {
             others = others.saturating_add(self.sweep_tenant(tenant)?);
@@ -107,7 +157,14 @@ impl<S: Served> Playing<S> {
     }
 
     /// A tenant leaves. One that has no record has nothing to take along.
-    fn leave(&mut self, name: &[u8]) -> Result<(), Reason> {
+    fn leave(&mut self, name: &[u8]) -> Result<(), Reason>
+        ensures left { OnOk result (Leaves S.who S.made self.old.entries.speakers.items
+            self.old.arrays.asking.speakers.items name.now (both self.old.entries.service self.old.arrays.asking.service)
+            self.old.tenants.names.items (both self.new.entries.service self.new.arrays.asking.service)
+            self.new.tenants.names.items) }
+        ensures speakers { self.new.entries.speakers.items ≡ self.old.entries.speakers.items }
+        ensures noters { self.new.arrays.asking.speakers.items ≡ self.old.arrays.asking.speakers.items }
+    {
         if !name_ok(name) {
             return Err(Reason::Record);
         }
@@ -120,7 +177,16 @@ impl<S: Served> Playing<S> {
     }
 
     /// Tenants leave: the first one, and those of the names behind spaces.
-    fn leave_all(&mut self, first: &[u8], others: &[u8]) -> Result<(), Reason> {
+    fn leave_all(&mut self, first: &[u8], others: &[u8]) -> Result<(), Reason>
+        requires { AreNames others.now }
+        ensures left { OnOk result ((names : List (List ℕ)) × (others.now ≡ spaced_more names)
+            × AreLeft S.who S.made self.old.entries.speakers.items self.old.arrays.asking.speakers.items
+            (first.now ∷ names) (both self.old.entries.service self.old.arrays.asking.service)
+            self.old.tenants.names.items (both self.new.entries.service self.new.arrays.asking.service)
+            self.new.tenants.names.items) }
+        ensures speakers { self.new.entries.speakers.items ≡ self.old.entries.speakers.items }
+        ensures noters { self.new.arrays.asking.speakers.items ≡ self.old.arrays.asking.speakers.items }
+    {
         self.leave(first)?;
         let mut rest = others;
         while let Some((name, after)) = cut_name(rest) {
@@ -131,8 +197,17 @@ impl<S: Served> Playing<S> {
     }
 
     /// Plays a record.
-    fn play_record(&mut self, record: &[u8]) -> Result<(), Reason> {
-        let (name, request) = read_record(record).ok_or(Reason::Record)?;
+    fn play_record(&mut self, record: &[u8]) -> Result<(), Reason>
+        ensures played { OnOk result (Plays S.who S.made self.old.entries.speakers.items
+            self.old.arrays.asking.speakers.items record.now (both self.old.entries.service self.old.arrays.asking.service)
+            self.old.tenants.names.items (both self.new.entries.service self.new.arrays.asking.service)
+            self.new.tenants.names.items) }
+        ensures speakers { self.new.entries.speakers.items ≡ self.old.entries.speakers.items }
+        ensures noters { self.new.arrays.asking.speakers.items ≡ self.old.arrays.asking.speakers.items }
+    {
+        let Some((name, request)) = read_record(record) else {
+            return Err(Reason::Record);
+        };
         if let Some(others) = others_gone(request) {
             return self.leave_all(name, others);
         }
@@ -147,22 +222,36 @@ impl<S: Served> Playing<S> {
 }
 
 impl<S: Served> Player for Playing<S> {
-    /// Nothing is said of the records.
-    ghost plays = { λ _ _ _. Unit {0} };
+    /// The records were played, one after another, and nothing else was done.
+    ghost plays = { λ before records after.
+        (after.entries.speakers.items ≡ before.entries.speakers.items)
+        × (after.arrays.asking.speakers.items ≡ before.arrays.asking.speakers.items)
+        × ArePlayed S.who S.made before.entries.speakers.items before.arrays.asking.speakers.items records
+        (both before.entries.service before.arrays.asking.service) before.tenants.names.items
+        (both after.entries.service after.arrays.asking.service) after.tenants.names.items };
 
     fn play(&mut self, records: &[u8]) -> Result<(), Halt> {
         let mut rest = records;
         let mut played = 0;
         while let Some((record, after)) = cut_line(rest) {
-            self.play_record(record)
-                .map_err(|why| Halt { played, why })?;
+            match self.play_record(record) {
+                Ok(()) => {}
+                Err(why) => return Err(Halt { played, why }),
+            }
             played = usize::saturating_add(played, 1);
             rest = after;
         }
         Ok(())
     }
 
-    ghost rests = { λ _. tt };
+    ghost rests = { λ _. (refl, refl, (refl, refl)) };
 
-    ghost joins = { λ _ _ _ _ _ _ _. tt };
+    ghost joins = { λ before middle after records more first next. played-then S.who S.made
+        before.entries.speakers.items middle.entries.speakers.items after.entries.speakers.items
+        before.arrays.asking.speakers.items middle.arrays.asking.speakers.items
+        after.arrays.asking.speakers.items records more
+        (both before.entries.service before.arrays.asking.service) before.tenants.names.items
+        (both middle.entries.service middle.arrays.asking.service) middle.tenants.names.items
+        (both after.entries.service after.arrays.asking.service) after.tenants.names.items
+        first.0 first.1 first.2 next.0 next.1 next.2 };
 }

@@ -1,6 +1,6 @@
 //! Which made-up tenant stands for which tenant of a journal.
-ghost use Rattle.std.specs.Prelude.{◌≡◌, ◌↔◌, Some, IfSome, IsTrue};
-ghost use Rattle.judy_upkeep.specs.Tenants.{IsAt, Stands};
+ghost use Rattle.std.specs.Prelude.{◌≡◌, ◌↔◌, Some, None, IfOk, IfSome, IsTrue, slice_get};
+ghost use Rattle.judy_upkeep.specs.Tenants.{Admits, IsAt, IsNumbered, Stands, with_name};
 
 use crate::asking::TENANTS;
 use judy_model::Name;
@@ -60,7 +60,9 @@ impl Tenants {
     }
 
     /// The first number that nobody has.
-    fn vacant(&self) -> Option<usize> {
+    fn vacant(&self) -> Option<usize>
+        ensures { IfSome result (λ number. slice_get self.now.names.items number ≡ Some None) }
+    {
         for number in 0..self.names.len() {
             if self.names[number].is_none() {
                 return Some(number);
@@ -70,14 +72,18 @@ impl Tenants {
     }
 
     /// Gives a number that was given before to somebody else, or to nobody.
-    fn put(&mut self, number: usize, name: Option<Name>) {
+    fn put(&mut self, number: usize, name: Option<Name>)
+        ensures { self.new.names.items ≡ with_name self.old.names.items number name }
+    {
         if let Some(at) = self.names.get_mut(number) {
             *at = name;
         }
     }
 
     /// Gives a new tenant a number.
-    fn admit(&mut self, name: &[u8]) -> Result<usize, Reason> {
+    fn admit(&mut self, name: &[u8]) -> Result<usize, Reason>
+        ensures { IfOk result (λ number. Admits self.old.names.items name.now number self.new.names.items) }
+    {
         let Some(name) = Name::read(name) else {
             return Err(Reason::Record);
         };
@@ -96,17 +102,22 @@ impl Tenants {
     }
 
     /// The number of the tenant with this name, who gets one if need be.
-    pub fn number_of(&mut self, name: &[u8]) -> Result<usize, Reason> {
-        let number = match self.find(name) {
-            Some(number) => number,
-            None => self.admit(name)?,
-        };
+    pub fn number_of(&mut self, name: &[u8]) -> Result<usize, Reason>
+        ensures { IfOk result (λ number. IsNumbered self.old.names.items name.now number self.new.names.items) }
+    {
+        if let Some(number) = self.find(name) {
+            self.last = number;
+            return Ok(number);
+        }
+        let number = self.admit(name)?;
         self.last = number;
         Ok(number)
     }
 
     /// Nobody has this number any more.
-    pub fn leave(&mut self, number: usize) {
+    pub fn leave(&mut self, number: usize)
+        ensures { self.new.names.items ≡ with_name self.old.names.items number None }
+    {
         self.put(number, None);
     }
 
