@@ -49,6 +49,11 @@ module _ (f : Account → ℕ) where
       past : n ≤ t → get_or (all (replicate n a)) t 0 ≡ 0
       past h = get_or_past (all (replicate n a)) t 0 (subst (λ m. m ≤ t) (sym (length-map (replicate n a) f ∙ length-replicate n a)) h)
 
+-- a tenant of the table has one of the accounts that were read
+pub has-account : (read accounts : List Account) (tenants : List Tenant) (t : ℕ) → read ≡ accounts → length accounts ≡ 128 → length tenants ≤ 128
+    → t < length tenants → t < length read
+has-account read accounts tenants t e many few known = subst (λ l. t < length l) (sym e) (omega (arith, many, few, known))
+
 -- the quota of a tenant that was read
 pub quota-read : (tenants : List Tenant) (t : ℕ) (q : Quota) → slice_get (map (λ tenant. tenant.quota) tenants) t ≡ Some q → quotas_of tenants t ≡ q
 quota-read tenants t q h = get_or_from_slice_get (map (λ tenant. tenant.quota) tenants) t q no_quota h

@@ -32,7 +32,7 @@ module _ (name : List ℕ) (frozen : Option (List ℕ)) where
   pub frozen-stocked : {H : List ℕ → ℕ} (rows : List Tenant) (stock : Stock) → IsStocked H rows stock → IsStocked H (with_freeze name frozen rows) stock
   frozen-stocked rows stock s = record {
     held = s.held;
-    many = s.many ∙ sym (many rows);
+    many = s.many;
     few = subst (λ n. n ≤ 128) (sym (many rows)) s.few;
     entries = s.entries;
     pieces = s.pieces;

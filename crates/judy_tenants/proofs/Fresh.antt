@@ -21,7 +21,7 @@ module _ {H : List ℕ → ℕ} (laws : KindLaws H) (accounts : List Account) (t
   fresh-state t = ap (λ (c : Blocks). state_in c d t) blocks ∙ ap (λ (p : Places). state_in no_blocks p t) places ∙ nothing-in laws no_blocks t
 
   -- the service is sound
-  pub fresh-server : length accounts ≡ length tenants → length tenants ≤ 128 → ((t : ℕ) → entries_at accounts t ≡ 0) → ((t : ℕ) → account_pieces accounts t ≡ 0)
+  pub fresh-server : length accounts ≡ 128 → length tenants ≤ 128 → ((t : ℕ) → entries_at accounts t ≡ 0) → ((t : ℕ) → account_pieces accounts t ≡ 0)
       → IsServer H b d accounts tenants
   fresh-server many few entries sizes =
       subst (λ (c : Blocks). IsServer H c d accounts tenants) (sym blocks)

@@ -37,8 +37,8 @@ pub record IsOwned (n : ℕ) (b : Blocks) (d : Places) : Type 0 where
 pub record IsServer (H : List ℕ → ℕ) (b : Blocks) (places : Places) (accounts : List Account) (tenants : List Tenant) : Type 0 where
   -- each place leads to an array with its own blocks, and every live block belongs to an array
   pub held : IsHeld H b places
-  -- each row of the table has an account, and there are at most 128
-  pub many : length accounts ≡ length tenants
+  -- there is an account for each row that a table can have, and the table has no more rows
+  pub many : length accounts ≡ 128
   pub few : length tenants ≤ 128
   -- the account has the tenant's numbers of entries and pieces
   pub entries : (t : ℕ) → entries_at accounts t ≡ used (state_in b places t)

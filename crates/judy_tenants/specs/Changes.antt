@@ -3,18 +3,16 @@
 --     stays_at rows later t        it has the place before and after, so it stays
 --     HasChanged old new           the later rows were put in force
 --     HasFreed gone old new        the arrays of the tenants at the marked places were freed
---     IsCarried rows later ..      what the account of a place becomes
+--     StaysWithin rows later ..    if the tenant of a place stays, its account is within its new quota
 --     HasReasonIn, HasReason       why the rows were not put in force, by the accounts and by the arrays
 --     lifted held                  each tenant has the greatest quota
 --     regranted held               what the quotas of earlier tables allowed counts no more
-use Rattle.std.specs.Prelude.{◌≡◌, ◌⊎◌, ◌<◌, ◌≤◌, ℕ, Bool, false, ◌&&◌, not, List, IsTrue, IsFalse, MatchBool, get_or, map, max, option_map, unwrap_or, slice_get}
+use Rattle.std.specs.Prelude.{◌≡◌, ◌⊎◌, ◌<◌, ◌≤◌, ℕ, Bool, false, ◌&&◌, not, List, IsTrue, IsFalse, get_or, map, max, option_map, unwrap_or, slice_get}
 use Rattle.judy_model.specs.Tenant.{no_arrays, used, pieces}
 use Rattle.judy_table.specs.declared.tenant.Tenant.{Tenant}
 use Rattle.judy_table.specs.Tenants.{is_vacant}
 use Rattle.judy_table.specs.Unlimited.{unlimited}
 use Rattle.judy_tenants.specs.declared.accounts.Account.{Account}
-use Rattle.judy_tenants.specs.declared.changing.Unchanged.{Unchanged}
-use Rattle.judy_tenants.specs.declared.changing.Unchanged.TheVariants.{Memory, Quota}
 use Rattle.judy_tenants.specs.Accounts.{entries_at, account_pieces}
 use Rattle.judy_tenants.specs.Held.{Held, states_of, sizes_of, quotas_of, words_for}
 
@@ -57,23 +55,19 @@ pub record HasFreed (gone : List Bool) (old new : Held) : Type 0 where
   pub room : new.room ≡ old.room
   pub granted : new.granted ≡ old.granted
 
--- What the account of a place becomes: a tenant that stays keeps its numbers, and every other place
--- has none. They are within the quota of the later row.
-pub record IsCarried (rows later : List Tenant) (before : List Account) (t entries pieces : ℕ) : Type 0 where
-  pub numbers : MatchBool (stays_at rows later t) ((entries ≡ entries_at before t) × (pieces ≡ account_pieces before t)) ((entries ≡ 0) × (pieces ≡ 0))
-  pub entries_within : entries ≤ (quotas_of later t).entries
-  pub pieces_within : pieces ≤ (quotas_of later t).pieces
+-- the account of a tenant that stays is within its new quota
+abbrev pub StaysWithin : List Tenant → List Tenant → List Account → ℕ → Type 0
+StaysWithin rows later accounts t =
+    IsTrue (stays_at rows later t) → (entries_at accounts t ≤ (quotas_of later t).entries) × (account_pieces accounts t ≤ (quotas_of later t).pieces)
 
--- out of memory, or the account of a tenant that stays exceeds its new quota
-abbrev pub HasReasonIn : List Tenant → List Tenant → List Account → Unchanged → Type 0
-HasReasonIn rows later accounts Memory = Unit {0}
-HasReasonIn rows later accounts (Quota t) =
+-- the account of a tenant that stays exceeds its new quota
+abbrev pub HasReasonIn : List Tenant → List Tenant → List Account → ℕ → Type 0
+HasReasonIn rows later accounts t =
     IsTrue (stays_at rows later t) × (((quotas_of later t).entries < entries_at accounts t) ⊎ ((quotas_of later t).pieces < account_pieces accounts t))
 
--- out of memory, or a tenant that stays holds more than its new quota
-abbrev pub HasReason : Held → List Tenant → Unchanged → Type 0
-HasReason old later Memory = Unit {0}
-HasReason old later (Quota t) =
+-- a tenant that stays holds more than its new quota
+abbrev pub HasReason : Held → List Tenant → ℕ → Type 0
+HasReason old later t =
     IsTrue (stays_at old.tenants later t)
     × (((quotas_of later t).entries < used (states_of old t)) ⊎ ((quotas_of later t).pieces < pieces (states_of old t)))
 

@@ -18,7 +18,7 @@
 --     IsSoundService held            what holds of a service at all times
 --     Keeps event old reply new      what is unchanged after a call
 --     IsReserved old new             memory was taken beforehand, and nothing else changed
---     HasNoReserve words old new     the machine had not that much
+--     HasNoReserve words old new     the machine did not have that much
 --     IsCallOf old event reply new   how one call changes a service
 use Rattle.std.specs.Prelude.{◌≡◌, ◌⊎◌, ◌+◌, ◌≤◌, ◌*◌, ℕ, zero, suc, Bool, true, false, List, [], length, map, get_or, count_by}
 use Rattle.std.specs.Prelude.{sum_by, unwrap_or, IsTrue, MatchBool, ◌≢◌, if◌then◌else◌, max, ◌%◌, ◌<◌}
@@ -268,7 +268,7 @@ pub record HasNoChunk (words : ℕ) (old new : Held) : Type 0 where
   pub whole : new.region % 65536 ≡ 0
   pub short : new.region < words
 
--- it had none for a chunk; or the words were taken, and it had none for the room
+-- it had no memory for a chunk; or the words were taken, and it had no memory for the room
 abbrev pub HasNoReserve : ℕ → Held → Held → Type 0
 HasNoReserve words old new = (HasNoChunk words old new ⊎ ((new.refusals ≡ old.refusals) × (words ≤ new.region))) × (new.room ≡ old.room)
 

@@ -5,7 +5,7 @@
 --     IsExchange H key call old new answer   a call of the array at the key was answered, and the
 --                                            directory has the array's new place
 --     IsRefusedIn key call old new           a call of the array at the key was refused for memory
---     HasNoReserveIn words old new           the machine had not so much memory to take beforehand
+--     HasNoReserveIn words old new           the machine did not have so much memory to take beforehand
 use Rattle.std.specs.Prelude.{◌≡◌, ◌⊎◌, ◌≤◌, ℕ, List, IsTrue, None, length, ◌%◌, ◌<◌}
 use Rattle.std.specs.FinMap as map
 use Rattle.judy_arena.specs.Blocks.{count_up}
@@ -90,7 +90,7 @@ pub record HasNoChunkIn (words : ℕ) (old new : Stock) : Type 0 where
   pub whole : new.arena.region % 65536 ≡ 0
   pub short : new.arena.region < words
 
--- it had none for a chunk; or the words were taken, and it had none for the room
+-- it had no memory for a chunk; or the words were taken, and it had no memory for the room
 abbrev pub HasNoReserveIn : ℕ → Stock → Stock → Type 0
 HasNoReserveIn words old new =
     (HasNoChunkIn words old new ⊎ ((new.arena.refusals ≡ old.arena.refusals) × (words ≤ new.arena.region)))

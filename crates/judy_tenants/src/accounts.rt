@@ -7,6 +7,9 @@ use judy_model::Quota;
 use judy_table::TenantId;
 use std::alloc::{AllocError, Global};
 
+/// How many rows a table has at most.
+pub const ROWS: usize = 128;
+
 /// One tenant's numbers of entries and pieces.
 #[derive(Clone, Copy)]
 pub struct Account {
@@ -14,9 +17,9 @@ pub struct Account {
     pub pieces: u64,
 }
 
-/// Accounts for this many tenants, all of them 0.
-pub fn no_accounts(alloc: Global, tenants: usize) -> Result<Vec<Account>, AllocError>
-    ensures many { IfOk result (λ accounts. length accounts.items ≡ tenants) }
+/// Accounts for as many tenants as a table has at most, all of them 0.
+pub fn no_accounts(alloc: Global) -> Result<Vec<Account>, AllocError>
+    ensures many { IfOk result (λ accounts. length accounts.items ≡ ROWS) }
     ensures entries { IfOk result (λ accounts. (t : ℕ) → entries_at accounts.items t ≡ 0) }
     ensures pieces { IfOk result (λ accounts. (t : ℕ) → account_pieces accounts.items t ≡ 0) }
 {
@@ -24,7 +27,7 @@ pub fn no_accounts(alloc: Global, tenants: usize) -> Result<Vec<Account>, AllocE
         entries: 0,
         pieces: 0,
     };
-    vec![in alloc; nothing; tenants]
+    vec![in alloc; nothing; ROWS]
 }
 
 /// The account of a tenant of the table.

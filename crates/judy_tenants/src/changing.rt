@@ -1,10 +1,9 @@
 //! Later rows of a table are put in force.
-ghost use Rattle.std.specs.Prelude.{◌≡◌, ◌≤◌, ◌&&◌, ℕ, IfOk, IfErr, OnOk, OnErr, length, nat_le};
-ghost use Rattle.judy_tenants.specs.Accounts.{entries_at, account_pieces};
-ghost use Rattle.judy_tenants.specs.Changes.{HasChanged, HasReasonIn, IsCarried};
+ghost use Rattle.std.specs.Prelude.{◌≡◌, ◌≤◌, ◌&&◌, ℕ, IfErr, IfNone, IfSome, IsFalse, IsTrue, OnOk, OnErr, length, nat_le};
+ghost use Rattle.judy_tenants.specs.Changes.{HasChanged, HasReasonIn, StaysWithin};
 ghost use Rattle.judy_tenants.specs.Stocks.{held_of, IsGranted, IsStocked};
 
-use crate::accounts::{Account, account_of, no_accounts};
+use crate::accounts::{Account, account_of};
 use crate::freeing::{free_gone, stays_at};
 use crate::grants::words_for;
 use crate::laws;
@@ -14,15 +13,6 @@ use judy_model::Quota;
 use judy_table::{Table, TenantId};
 use std::alloc::Global;
 
-/// Why a table was not put in force.
-#[derive(Clone, Copy, Debug, PartialEq, Eq)]
-pub enum Unchanged {
-    /// Out of memory.
-    Memory,
-    /// The new quota of this tenant is less than what it holds.
-    Quota(TenantId),
-}
-
 /// Whether the account is within the quota.
 fn is_within(account: Account, quota: Quota) -> bool
     ensures { result ≡ (nat_le account.entries quota.entries
@@ -31,69 +21,45 @@ fn is_within(account: Account, quota: Quota) -> bool
     account.entries <= quota.entries && account.pieces <= quota.pieces
 }
 
-/// The account of a place under later rows. A tenant that stays keeps its numbers; every other place
-/// has none.
-///
-/// Err: they exceed its new quota.
-fn account_under(
-    accounts: &[Account],
-    table: &Table,
-    later: &Table,
-    place: usize,
-) -> Result<Account, Unchanged>
-    requires { length accounts.now ≡ length table.now }
-    ensures ok { IfOk result
-        (λ a. IsCarried table.now later.now accounts.now place a.entries a.pieces) }
-    ensures reason { IfErr result (HasReasonIn table.now later.now accounts.now) }
+/// Whether the tenant of a place stays when later rows come in force, but holds more than its new
+/// quota.
+fn is_beyond(accounts: &[Account], table: &Table, later: &Table, place: usize) -> bool
+    requires { length table.now ≤ length accounts.now }
+    ensures beyond { IsTrue result → HasReasonIn table.now later.now accounts.now place }
+    ensures within { IsFalse result → StaysWithin table.now later.now accounts.now place }
 {
     if !stays_at(table, later, place) {
-        return Ok(Account {
-            entries: 0,
-            pieces: 0,
-        });
+        return false;
     }
     let account = account_of(accounts, table.tenant(place));
-    let tenant = later.tenant(place);
-    if !is_within(account, later.quota(tenant)) {
-        return Err(Unchanged::Quota(tenant));
-    }
-    Ok(account)
+    !is_within(account, later.quota(later.tenant(place)))
 }
 
-/// The accounts of all places under later rows.
-///
-/// Err: out of memory, or the numbers of a tenant exceed its new quota.
-fn accounts_under(
-    alloc: Global,
-    accounts: &[Account],
-    table: &Table,
-    later: &Table,
-) -> Result<Vec<Account>, Unchanged>
-    requires { length accounts.now ≡ length table.now }
-    ensures many { IfOk result (λ v. length v.items ≡ length later.now) }
-    ensures ok { IfOk result (λ v. (t : ℕ) → IsCarried table.now later.now accounts.now t
-        (entries_at v.items t) (account_pieces v.items t)) }
-    ensures reason { IfErr result (HasReasonIn table.now later.now accounts.now) }
+/// The first tenant that stays when later rows come in force, but holds more than its new quota.
+fn first_beyond(accounts: &[Account], table: &Table, later: &Table) -> Option<TenantId>
+    requires { length table.now ≤ length accounts.now }
+    ensures some { IfSome result (HasReasonIn table.now later.now accounts.now) }
+    ensures none { IfNone result
+        ((t : ℕ) → StaysWithin table.now later.now accounts.now t) }
 {
-    let Ok(mut carried) = no_accounts(alloc, later.len()) else {
-        return Err(Unchanged::Memory);
-    };
     for place in 0..later.len() {
-        carried[place] = account_under(accounts, table, later, place)?;
+        if is_beyond(accounts, table, later, place) {
+            return Some(later.tenant(place));
+        }
     }
-    Ok(carried)
+    None
 }
 
 /// Puts later rows in force. The arrays of each tenant that does not stay are freed.
 ///
-/// Err: nothing changed.
+/// Err: the new quota of this tenant is less than what it holds. Nothing changed.
 pub fn put_in_force<H: KeyHash>(
     alloc: Global,
     stock: &mut Stock,
     hash: H,
     table: &Table,
     later: &Table,
-) -> Result<(), Unchanged>
+) -> Result<(), TenantId>
     requires stocked { IsStocked H.hashed table.now stock.old }
     requires granted { IsGranted table.now stock.old }
     ensures stocked { OnOk result (IsStocked H.hashed later.now stock.new) }
@@ -106,9 +72,10 @@ pub fn put_in_force<H: KeyHash>(
 {
     laws::kinds_are_lawful();
     later.rows_are_sound();
-    let accounts = accounts_under(alloc, &stock.accounts, table, later)?;
+    if let Some(tenant) = first_beyond(&stock.accounts, table, later) {
+        return Err(tenant);
+    }
     free_gone(alloc, stock, hash, table, later);
-    stock.accounts = accounts;
     stock.granted = stock.granted.max(words_for(later));
     Ok(())
 }

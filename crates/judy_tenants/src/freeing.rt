@@ -13,7 +13,7 @@ ghost use Rattle.judy_tenants.specs.Frees.{free_of, AreFreed, AreFreedIn};
 ghost use Rattle.judy_tenants.specs.States.{state_in};
 ghost use Rattle.judy_tenants.specs.Stocks.{IsStocked};
 
-use crate::accounts::{Account, settle};
+use crate::accounts::{Account, ROWS, settle};
 use crate::laws;
 use crate::stock::{Stock, stands_at};
 use arrayvec::ArrayVec;
@@ -24,9 +24,6 @@ use judy_kinds::answer;
 use judy_model::{BytesCall, Call, LongCall, Name, OneCall, StrCall};
 use judy_table::Table;
 use std::alloc::Global;
-
-/// How many rows a table has at most.
-const ROWS: usize = 128;
 
 /// The call that frees an array.
 fn free_of<'a>(kind: ArrayKind, name: Name) -> Call<'a>

@@ -12,7 +12,6 @@ mod service;
 mod serving;
 mod stock;
 
-pub use changing::Unchanged;
 pub use judy_bytes::{KeyHash, Sha256Hash};
 pub use judy_kinds::is_callable;
 pub use judy_model::{BytesCall, Call, Key, LongCall, Name, OneCall, Quota, Reply, Right, StrCall};

@@ -14,7 +14,7 @@ ghost use Rattle.judy_tenants.specs.Changes.{HasChanged, HasFreed, HasReason, li
 ghost use Rattle.judy_tenants.specs.Held.{states_of, quotas_of, words_for, HasCause, HasNoReserve, HasServiceSpace, HasNames, IsReserved, IsSoundService, Keeps};
 
 use crate::accounts::{account_of, no_accounts};
-use crate::changing::{Unchanged, put_in_force};
+use crate::changing::put_in_force;
 use crate::freeing::free_all;
 use crate::grants::words_for;
 use crate::laws;
@@ -28,13 +28,15 @@ use judy_model::{Call, KEY_LIMIT, Reply};
 use judy_table::{Speaker, Table, TenantId};
 use std::alloc::Global;
 use std::marker::Model;
-use std::mem::replace;
+use std::mem::{replace, swap};
 
-/// The tenants of a table, each with its own arrays. All arrays lie in one arena.
+/// The tenants of a table, each with its own arrays. All arrays lie in one arena. The spare table takes
+/// the rows after another table is read, so that no memory is asked for then.
 #[derive(Drop)]
 pub struct Service<H: KeyHash> {
     stock: Stock,
     table: Table,
+    spare: Table,
     hash: H,
 }
 
@@ -69,7 +71,10 @@ impl<H: KeyHash> Service<H> {
     {
         laws::kinds_are_lawful();
         let directory = Directory::new(alloc, secret)?;
-        let Ok(accounts) = no_accounts(alloc, table.len()) else {
+        let Ok(accounts) = no_accounts(alloc) else {
+            return Err(NoMemory);
+        };
+        let Ok(spare) = Table::empty(alloc) else {
             return Err(NoMemory);
         };
         let stock = Stock {
@@ -79,7 +84,12 @@ impl<H: KeyHash> Service<H> {
             unplaced: 0,
             granted: words_for(&table),
         };
-        let service = Service { stock, table, hash };
+        let service = Service {
+            stock,
+            table,
+            spare,
+            hash,
+        };
         service.is_at_all_times();
         Ok(service)
     }
@@ -221,21 +231,18 @@ impl<H: KeyHash> Service<H> {
     /// arrays of one that is gone are freed, and its place becomes vacant. The other tenants of the table take
     /// the places that were vacant before, and then new ones.
     ///
-    /// Err: out of memory, or the new quota of a tenant is less than what it holds. Nothing changed.
-    pub fn change(&mut self, alloc: Global, table: Table) -> Result<(), Unchanged>
+    /// Err: the new quota of this tenant is less than what it holds. Nothing changed.
+    pub fn change(&mut self, alloc: Global, table: Table) -> Result<(), TenantId>
         ensures tenants { OnOk result (self.new.tenants ≡ seated self.old.tenants table) }
         ensures changed { OnOk result (HasChanged self.old self.new) }
         ensures refused { OnErr result (self.new ≡ self.old) }
         ensures reason { IfErr result (HasReason self.old (seated self.old.tenants table)) }
         ensures sound { IsSoundService self.new }
     {
-        let Ok(later) = self.table.seated(alloc, &table) else {
-            self.is_at_all_times();
-            return Err(Unchanged::Memory);
-        };
-        let changed = put_in_force(alloc, &mut self.stock, self.hash, &self.table, &later);
+        self.spare.seat(&self.table, &table);
+        let changed = put_in_force(alloc, &mut self.stock, self.hash, &self.table, &self.spare);
         if changed.is_ok() {
-            self.table = later;
+            swap(&mut self.table, &mut self.spare);
         }
         self.is_at_all_times();
         changed

@@ -8,7 +8,7 @@ use judy_model::{KEY_LIMIT, Reply};
 use judy_programs::{Opens, Replays};
 use judy_protocol::{Line, read_line, write_reply};
 use judy_server::{Halt, Server, Tally, replay, replay_all};
-use judy_tenants::{Right, Service, Sha256Hash, Speaker, Table, Unchanged, is_callable};
+use judy_tenants::{Right, Service, Sha256Hash, Speaker, Table, is_callable};
 use std::alloc::Global;
 use std::process::Abort;
 use std::test::Fail;
@@ -383,11 +383,7 @@ fn a_quota_below_what_is_held(rt: HostRuntime) -> Result<(), Fail> {
         same(&rt, play(alloc, &mut service, record.as_str()), Ok(()));
     }
     let abe = service.find(b"abe").ok_or("abe")?;
-    same(
-        &rt,
-        service.change(alloc, table),
-        Err(Unchanged::Quota(abe)),
-    );
+    same(&rt, service.change(alloc, table), Err(abe));
     let mut text = ArrayVec::new();
     ask(alloc, &mut service, "abe", "J1C a 0 -1", &mut text)?;
     same(&rt, text.as_slice(), b"N 6\n".as_slice());

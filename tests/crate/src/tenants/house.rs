@@ -3,9 +3,7 @@ use crate::checks::{holds_at, same, same_at};
 use arrayvec::ArrayVec;
 use judy_model::{Call, OwnedReply, Reply};
 use judy_table::read_digest;
-use judy_tenants::{
-    Event, Service, Sha256Hash, Speaker, Table, TableFault, Unchanged, is_callable,
-};
+use judy_tenants::{Event, Service, Sha256Hash, Speaker, Table, TableFault, is_callable};
 use std::alloc::{AllocError, Global};
 use std::process::Abort;
 use std::test::Fail;
@@ -74,17 +72,11 @@ impl House {
         self.service.knows(*speaker)
     }
 
-    /// Puts the table of this text in force. False if a quota is below what is held. If memory is
-    /// refused, a second try succeeds.
+    /// Puts the table of this text in force. False if a quota is below what is held. No memory is asked
+    /// for, but to read the text.
     pub(crate) fn change(&mut self, rt: &impl Abort, text: &str) -> Result<bool, Fail> {
-        let first = table(rt, self.alloc, text)?;
-        match self.service.change(self.alloc, first) {
-            Ok(()) => return Ok(true),
-            Err(Unchanged::Quota(_)) => return Ok(false),
-            Err(Unchanged::Memory) => {}
-        }
-        let second = table(rt, self.alloc, text)?;
-        Ok(self.service.change(self.alloc, second).is_ok())
+        let table = table(rt, self.alloc, text)?;
+        Ok(self.service.change(self.alloc, table).is_ok())
     }
 
     /// Freezes a tenant with the digest of these digits. False if nobody has the name.

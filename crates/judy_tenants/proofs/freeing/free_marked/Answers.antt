@@ -9,6 +9,7 @@ use Rattle.judy_tenants.specs.declared.stock.Stock.{Stock}
 use Rattle.judy_tenants.specs.Accounts.{entries_at, account_pieces, IsServer}
 use Rattle.judy_tenants.specs.Frees.{AreFreedIn}
 use Rattle.judy_tenants.proofs.CallsServed.{CanSettle}
+use Rattle.judy_tenants.proofs.Counts.{has-account}
 use Rattle.judy_tenants.proofs.Frees.{take-written}
 use Rattle.judy_tenants.proofs.Marked.{FreesNext, frees-next, marked-next, others-next, place-next, few-next, can-next, freed-next, stocked-next, answer-next, freed-more}
 use Rattle.judy_tenants.proofs.freeing.free_marked.Goals as goal
@@ -102,6 +103,12 @@ settling : (g : _) (c : goal.After-deref_mut g) → CanSettle c.tenant-tenant.re
 settling g c =
     can-next (known-freed g c) c.free.new.arena c.free.ensures.array c.free.ensures.refusals c.free.ensures.memory c.deref_mut.result.now
     c.deref_mut.ensures.value
+
+pub settle-requires-clause-known : goal.settle-requires-clause-known
+settle-requires-clause-known g c =
+    let s = c.loop-spot.invariant.stocked in
+    has-account c.deref_mut.result.now c.loop-spot.accounts.items c.args.table.now c.tenant-tenant.result c.deref_mut.ensures.value s.many s.few
+    (c.requires.known c.tenant-tenant.result (marked-freed g c))
 
 pub settle-requires-clause-entries : goal.settle-requires-clause-entries
 settle-requires-clause-entries g c = (settling g c).entries_before

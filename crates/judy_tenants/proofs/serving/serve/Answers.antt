@@ -17,10 +17,16 @@ use Rattle.judy_tenants.specs.Stocks.{held_of}
 use Rattle.judy_tenants.proofs.Answers.{forbidden-cause, forbidden-served}
 use Rattle.judy_tenants.proofs.CallsServed.{Premises, Ends, AtKey, CanSettle, key-is, used-served, full-served, at-key, short}
 use Rattle.judy_tenants.proofs.CallsServed.{can-settle, settled-stocked, answered, whole-keeps}
+use Rattle.judy_tenants.proofs.Counts.{has-account}
 use Rattle.judy_tenants.proofs.Rooms.{pieces-fit}
 use Rattle.judy_tenants.proofs.Peaks.{peak-within, still-granted}
 use Rattle.judy_tenants.proofs.serving.serve.Goals as goal
 use Rattle.judy_tenants.proofs.serving.serve.Goals.{After-quota-quota, After-new-spot, After-spot-1}
+
+pub account_of-account-requires : goal.account_of-account-requires
+account_of-account-requires g c =
+    let s = c.requires.stocked in
+    has-account c.deref.result.now c.args.stock.now.accounts.items c.args.table.now c.args.speaker.tenant c.deref.ensures.value s.many s.few c.requires.known
 
 -- what serve knows of a call, once it has read the quota
 known : (g : _) (c : After-quota-quota g) → Premises g.H.KeyHash.hashed c.args.table.now c.args.stock.now c.args.speaker.tenant
@@ -125,6 +131,12 @@ settling g c =
     can-settle (known g w.After-quota-quota) (key g w.After-new-spot)
     c.is_full.result c.is_full.ensures c.if-is_full.false c.exchange.new.stock c.in-Ok.answered c.in-Ok.ensures.ok
     c.deref_mut.result.now c.deref_mut.ensures.value
+
+pub settle-requires-clause-known : goal.settle-requires-clause-known
+settle-requires-clause-known g c =
+    let s = c.requires.stocked in
+    has-account c.deref_mut.result.now c.args.stock.now.accounts.items c.args.table.now c.args.speaker.tenant
+    (c.deref_mut.ensures.value ∙ c.in-Ok.ensures.ok.accounts) s.many s.few c.requires.known
 
 pub settle-requires-clause-entries : goal.settle-requires-clause-entries
 settle-requires-clause-entries g c = (settling g c).entries_before

@@ -1,10 +1,17 @@
-use Rattle.std.proofs.Common.{◌≡◌, ◌≤◌, List, ap, sym, ◌∙◌, subst}
+use Rattle.std.proofs.Common.{◌≡◌, ◌≤◌, ◌<◌, List, length, ap, sym, ◌∙◌, subst}
 use Rattle.judy_model.specs.Tenant.{State, pieces}
 use Rattle.judy_tenants.specs.declared.accounts.Account.{Account}
 use Rattle.judy_tenants.specs.Held.{Held, states_of, quotas_of}
 use Rattle.judy_tenants.specs.Accounts.{account_pieces}
+use Rattle.judy_tenants.proofs.Counts.{has-account}
 use Rattle.judy_tenants.proofs.Seen.{seen-state}
 use Rattle.judy_tenants.proofs.service.Service.pieces.Goals as goal
+
+pub account_of-requires : goal.account_of-requires
+account_of-requires g c =
+    let s = c.self.invariant.0 in
+    has-account c.deref.result.now c.self.inside.stock.accounts.items c.self.inside.table c.args.tenant c.deref.ensures.value s.many s.few
+    (subst (λ (h : Held). c.args.tenant < length h.tenants) (sym c.self.view_is) c.requires)
 
 pub returns-clause-pieces : goal.returns-clause-pieces
 returns-clause-pieces g c =
