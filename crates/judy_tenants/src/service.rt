@@ -70,6 +70,7 @@ impl<H: KeyHash> Service<H> {
         ensures sound { IfOk result (λ s. IsSoundService s) }
     {
         laws::kinds_are_lawful();
+        table.rows_are_sound();
         let directory = Directory::new(alloc, secret)?;
         let Ok(accounts) = no_accounts(alloc) else {
             return Err(NoMemory);
