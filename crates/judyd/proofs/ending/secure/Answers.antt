@@ -1,7 +1,7 @@
 use Rattle.std.proofs.Common.{inl, option_map, sym, subst}
 use Rattle.judy_programs.specs.declared.socket.Hosted.TheVariants as hosted
 use Rattle.judyd.specs.Obeying.{IsFinished}
-use Rattle.judyd.proofs.secure.Goals as goal
+use Rattle.judyd.proofs.ending.secure.Goals as goal
 
 pub returns-clause-finished : goal.returns-clause-finished
 returns-clause-finished c =
