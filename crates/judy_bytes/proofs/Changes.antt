@@ -15,6 +15,7 @@ use Rattle.judy_refs.specs.References.{is_reference, number_of}
 use Rattle.judy_arena.proofs.lemmas.FrameLaws.{frame-same, frame-then, undone}
 use Rattle.judy_words.specs.LongArrays.{IsLongArray, long_in, long_numbers}
 use Rattle.judy_model.specs.Contents.{Entries, word_order, string_order, value_of, has_key, with_entry, without_key}
+use Rattle.judy_model.specs.Tenant.Reports.{ReportsValue}
 use Rattle.judy_model.specs.Tenant.{insert, insert_over, value_after, value_replied}
 use Rattle.judy_model.specs.declared.calls.Given.{Given}
 use Rattle.judy_model.specs.declared.calls.Given.TheVariants.{Value}
@@ -54,10 +55,10 @@ words-drop a c w x h v sound f e none = record {
       ∙ ap (λ u. cond (eq_by_cmp word_order k h) (if_some u) (value_of word_order (long_in a w) k)) (sym none);
 }
 
-pub entered : (l m : Entries ℕ) (h v r : ℕ) → value_of word_order l h ≡ None → insert word_order true l h (Value v)
+pub entered : (l m : Entries ℕ) (h v r : ℕ) → value_of word_order l h ≡ None → insert word_order true l h (Value v) ReportsValue
     ≡ (reply.Value r, m) → m ≡ with_entry word_order l h v
 entered l m h v r none e =
-    let f : insert_over word_order true l h (Value v) None ≡ (reply.Value r, m) = ap (insert_over word_order true l h (Value v)) (sym none) ∙ e in
+    let f : insert_over word_order true l h (Value v) ReportsValue None ≡ (reply.Value r, m) = ap (insert_over word_order true l h (Value v) ReportsValue) (sym none) ∙ e in
     sym (ap (λ p. p.1) f)
 
 -- ---- the whole map
@@ -139,14 +140,14 @@ none-content b = ap (λ es. in_order (bucket_entries b (bucket_numbers b es))) (
 -- ---- answers
 
 pub insert-new : (l m : ByteEntries) (key : List ℕ) (given : Given) → value_of string_order l key ≡ None → m ≡ with_entry
-    string_order l key (value_after given 0) → insert string_order true l key given ≡ (reply.Value (value_replied given 0), m)
+    string_order l key (value_after given 0) → insert string_order true l key given ReportsValue ≡ (reply.Value (value_replied given 0), m)
 insert-new l m key given none e =
-    ap (insert_over string_order true l key given) none ∙ ap (λ x. (reply.Value (value_replied given 0), x)) (sym e)
+    ap (insert_over string_order true l key given ReportsValue) none ∙ ap (λ x. (reply.Value (value_replied given 0), x)) (sym e)
 
 pub insert-present : (l m : ByteEntries) (key : List ℕ) (given : Given) (v : ℕ) → value_of string_order l key ≡ Some v
-    → m ≡ with_entry string_order l key (value_after given v) → insert string_order true l key given ≡ (reply.Value (value_replied given v), m)
+    → m ≡ with_entry string_order l key (value_after given v) → insert string_order true l key given ReportsValue ≡ (reply.Value (value_replied given v), m)
 insert-present l m key given v some e =
-    ap (insert_over string_order true l key given) some ∙ ap (λ x. (reply.Value (value_replied given v), x)) (sym e)
+    ap (insert_over string_order true l key given ReportsValue) some ∙ ap (λ x. (reply.Value (value_replied given v), x)) (sym e)
 
 -- a chain that has a key is not nothing
 pub some-first : (a : Blocks) (first : ℕ) (key : List ℕ) → has_key string_order (bucket_entries a (chain a first)) key ≡ true → first ≢ 0

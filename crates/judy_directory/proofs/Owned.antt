@@ -2,19 +2,20 @@
 --     owner-tenant    it has the tenant
 --     owner-whole     a number that has the tenant is that of the tenant and a kind
 use Rattle.std.proofs.Common.{◌≡◌, ℕ, zero, suc, ◌/◌, ◌%◌, ◌<◌, refl, arith}
-use Rattle.judy_directory.specs.declared.spot.ArrayKind.{ArrayKind}
-use Rattle.judy_directory.specs.declared.spot.ArrayKind.TheVariants.{One, Long, Str, Bytes}
-use Rattle.judy_directory.specs.Kinds.{array_kind_number, kind_with, owner_byte}
+use Rattle.judy_model.specs.declared.commands.Kind.{Kind}
+use Rattle.judy_model.specs.declared.commands.Kind.TheVariants.{One, Long, Str, Bytes}
+use Rattle.judy_directory.specs.Kinds.{owner_byte}
+use Rattle.judy_model.specs.Commands.{kind_number, kind_with}
 
 -- there are four kinds
-few-kinds : (kind : ArrayKind) → array_kind_number kind < 4
+few-kinds : (kind : Kind) → kind_number kind < 4
 few-kinds One = omega arith
 few-kinds Long = omega arith
 few-kinds Str = omega arith
 few-kinds Bytes = omega arith
 
 -- the number of the kind of a number below 4 is this number
-pub number-of-kind : (n : ℕ) → n < 4 → array_kind_number (kind_with n) ≡ n
+pub number-of-kind : (n : ℕ) → n < 4 → kind_number (kind_with n) ≡ n
 number-of-kind zero h = refl
 number-of-kind (suc zero) h = refl
 number-of-kind (suc (suc zero)) h = refl
@@ -22,7 +23,7 @@ number-of-kind (suc (suc (suc zero))) h = refl
 number-of-kind (suc (suc (suc (suc n)))) h = absurd (omega (arith, h))
 
 -- the number of a tenant and a kind has the tenant
-pub owner-tenant : (tenant : ℕ) (kind : ArrayKind) → owner_byte tenant kind / 4 ≡ tenant
+pub owner-tenant : (tenant : ℕ) (kind : Kind) → owner_byte tenant kind / 4 ≡ tenant
 owner-tenant tenant kind = let few = few-kinds kind in omega (arith, few)
 
 -- a number that has the tenant is that of the tenant and a kind

@@ -12,4 +12,4 @@ mod spot;
 pub use all_names::AllNames;
 pub use directory::Directory;
 pub use keyed::names_are_hashed_whole;
-pub use spot::{ArrayKind, Place, Spot};
+pub use spot::{Place, Spot};

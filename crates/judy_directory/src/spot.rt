@@ -1,56 +1,15 @@
 //! The key of an array in the directory, and its place.
 ghost use Rattle.std.specs.Prelude.{◌≡◌, ℕ, ◌∷◌, ◌<◌, [], drop, nat_eq, slice_index};
-ghost use Rattle.judy_directory.specs.Kinds.{array_kind_number, kind_with, spot_of, is_gone, IsOf};
+ghost use Rattle.judy_directory.specs.Kinds.{spot_of, is_gone, IsOf};
 ghost use Rattle.judy_directory.specs.Lengths.{name_length};
 ghost use Rattle.std.specs.Cmp.{partial_equiv_from_equiv};
 ghost use Rattle.std.specs.Cmp.Lexicographic.{pointwise, nat_list_eq_equiv, bytes_decides};
 ghost use Rattle.std.specs.Hash.{same_Alike, le_bytes};
 
-use judy_model::Name;
+use judy_model::{Kind, Name};
 use judy_refs::Ref;
 use std::hash::{Hash, Hasher};
 use std::marker::Model;
-
-/// The kinds of array. Arrays with one name and different kinds are different arrays.
-#[derive(Clone, Copy, Debug, PartialEq, Eq)]
-pub enum ArrayKind {
-    /// Sets of words.
-    One,
-    /// Maps from words to words.
-    Long,
-    /// Ordered maps from strings to words.
-    Str,
-    /// Maps from byte keys to words.
-    Bytes,
-}
-
-impl ArrayKind {
-    /// The number of the kind.
-    fn number(self) -> u8
-        ensures number { result ≡ array_kind_number self }
-        ensures few { result < 4 }
-    {
-        match self {
-            ArrayKind::One => 0,
-            ArrayKind::Long => 1,
-            ArrayKind::Str => 2,
-            ArrayKind::Bytes => 3,
-        }
-    }
-
-    /// The kind of this number.
-    fn with(number: u16) -> ArrayKind
-        requires { number < 4 }
-        ensures { result ≡ kind_with number }
-    {
-        match number {
-            0 => ArrayKind::One,
-            1 => ArrayKind::Long,
-            2 => ArrayKind::Str,
-            _ => ArrayKind::Bytes,
-        }
-    }
-}
 
 /// A tenant, a kind of array and a name. Contracts see a list of numbers: one for tenant and kind,
 /// then the bytes of the name.
@@ -70,7 +29,7 @@ impl Model for Spot {
 
 impl Spot {
     /// The key of this tenant's array of this kind and name.
-    pub fn new(tenant: u8, kind: ArrayKind, name: Name) -> Spot
+    pub fn new(tenant: u8, kind: Kind, name: Name) -> Spot
         ensures { result ≡ spot_of tenant kind name }
     {
         Spot {
@@ -95,11 +54,11 @@ impl Spot {
     }
 
     /// The kind and the name of the array.
-    pub fn array(&self) -> (ArrayKind, Name)
+    pub fn array(&self) -> (Kind, Name)
         ensures { (tenant : ℕ) → IsOf tenant self.now
             → spot_of tenant result.0 result.1 ≡ self.now }
     {
-        (ArrayKind::with(self.owner % 4), self.name.copied())
+        (Kind::with(self.owner % 4), self.name.copied())
     }
 
     /// The number of bytes of the name.

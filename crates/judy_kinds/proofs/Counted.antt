@@ -12,6 +12,7 @@ use Rattle.judy_model.specs.Grammar.{is_string}
 use Rattle.judy_model.specs.Pieces.{word_pieces, string_pieces, pieces_of}
 use Rattle.judy_model.proofs.lemmas.PieceLemmas.{pieces_of-words, pieces_of-with_entry, pieces_of-without_key}
 use Rattle.judy_model.specs.declared.calls.Given.{Given}
+use Rattle.judy_model.specs.Tenant.Reports.{ReportsValue}
 use Rattle.judy_model.specs.Tenant.{insert, insert_over, value_after}
 use Rattle.judy_model.proofs.lemmas.TestLemmas.{and_left, and_right, to_T}
 use Rattle.judy_model.specs.declared.replies.Reply.{Reply}
@@ -28,8 +29,8 @@ words-counted l q w n is e = record { entries = ap (λ z. z.entries) is ∙ e; p
 module _ (l : Entries (List ℕ)) (p : Stand) (sorted : is_sorted string_order l ≡ true) (h : HasCounts string_pieces l p) where
   -- the entries after an insertion, by what it found
   entered : (k : List ℕ) (given : Given) (o : Option ℕ) → o ≡ value_of string_order l k
-      → (insert string_order true l k given).1 ≡ (insert_over string_order true l k given o).1
-  entered k given o is = ap (λ z. (insert_over string_order true l k given z).1) (sym is)
+      → (insert string_order true l k given ReportsValue).1 ≡ (insert_over string_order true l k given ReportsValue o).1
+  entered k given o is = ap (λ z. (insert_over string_order true l k given ReportsValue z).1) (sym is)
 
   -- the number of entries after an insertion
   lengths : (k : List ℕ) (v : ℕ) → length (with_entry string_order l k v) ≡ cond (has_key string_order l k) (length l) (length l + 1)
@@ -40,7 +41,7 @@ module _ (l : Entries (List ℕ)) (p : Stand) (sorted : is_sorted string_order l
       (pieces_of string_pieces l) (pieces_of string_pieces l + string_pieces k)
   sizes k v = pieces_of-with_entry string_order nat_list_cmp_total names_apart string_pieces l k v sorted
 
-  module _ (n : Entries (List ℕ)) (k : List ℕ) (given : Given) (done : (insert string_order true l k given).1 ≡ n) where
+  module _ (n : Entries (List ℕ)) (k : List ℕ) (given : Given) (done : (insert string_order true l k given ReportsValue).1 ≡ n) where
     -- a new key is one entry more
     longer : None ≡ value_of string_order l k → length n ≡ length l + 1
     longer none = ap length (sym done ∙ entered k given None none) ∙ lengths k (value_after given 0)

@@ -6,7 +6,7 @@ use Rattle.std.proofs.lemmas.Bool.{and_from}
 use Rattle.judy_model.specs.Contents.{word_order, string_order}
 use Rattle.judy_model.proofs.lemmas.TestLemmas.{and_left, and_right}
 use Rattle.judy_model.specs.WellFormed.{is_word}
-use Rattle.judy_directory.specs.declared.spot.ArrayKind.TheVariants.{One, Long, Str, Bytes}
+use Rattle.judy_model.specs.declared.commands.Kind.TheVariants.{One, Long, Str, Bytes}
 use Rattle.judy_tree.specs.Root.{entries, numbers}
 use Rattle.judy_tree.specs.Laws.{ContentIsSound as TreesAreSound}
 use Rattle.judy_string.specs.Laws.{ContentIsSound as StringsAreSound}

@@ -4,9 +4,9 @@ use Rattle.std.proofs.Common.{◌≡◌, ℕ, zero, suc, ◌+◌, ◌*◌, Bool,
 use Rattle.judy_arena.specs.Blocks.{Blocks}
 use Rattle.judy_arena.specs.Frame.{Frame, AreApart}
 use Rattle.judy_model.specs.Pieces.{word_pieces, string_pieces, pieces_of}
-use Rattle.judy_directory.specs.declared.spot.ArrayKind.{ArrayKind}
-use Rattle.judy_directory.specs.declared.spot.ArrayKind.TheVariants.{One, Long, Str, Bytes}
-use Rattle.judy_directory.specs.Kinds.{array_kind_number}
+use Rattle.judy_model.specs.declared.commands.Kind.{Kind}
+use Rattle.judy_model.specs.declared.commands.Kind.TheVariants.{One, Long, Str, Bytes}
+use Rattle.judy_model.specs.Commands.{kind_number}
 use Rattle.judy_directory.specs.Places.{Stand, nothing}
 use Rattle.judy_tree.specs.Laws.{OthersStay as TreesStay, OnlyNothingIsEmpty as NoTreeIsEmpty}
 use Rattle.judy_tree.specs.Root.{IsRoot, entries, numbers as tree_numbers}
@@ -24,12 +24,12 @@ use Rattle.judy_kinds.specs.Laws.{KeysTellKinds, ArraysAreKept, OnlyNothingIsEmp
 four_more : (n m : ℕ) → 4 * suc n + m ≡ suc (suc (suc (suc (4 * n + m))))
 four_more n m = omega arith
 
-kind-again : (n : ℕ) (kind : ArrayKind) → kind_at (4 * n + array_kind_number kind) ≡ kind
+kind-again : (n : ℕ) (kind : Kind) → kind_at (4 * n + kind_number kind) ≡ kind
 kind-again zero One = refl
 kind-again zero Long = refl
 kind-again zero Str = refl
 kind-again zero Bytes = refl
-kind-again (suc n) kind = ap kind_at (four_more n (array_kind_number kind)) ∙ kind-again n kind
+kind-again (suc n) kind = ap kind_at (four_more n (kind_number kind)) ∙ kind-again n kind
 
 pub keys-tell-kinds : KeysTellKinds
 keys-tell-kinds tenant kind name = kind-again tenant kind
@@ -37,7 +37,7 @@ keys-tell-kinds tenant kind name = kind-again tenant kind
 -- ---- no array, and other arrays
 
 module _ (tree : NoTreeIsEmpty) (strings : NoStringsAreEmpty) (bytes : NoBytesAreEmpty) where
-  none-of : (H : List ℕ → ℕ) (kind : ArrayKind) (b : Blocks) → IsPlaceOf H kind b nothing × (numbers_of_array kind b 0 ≡ [])
+  none-of : (H : List ℕ → ℕ) (kind : Kind) (b : Blocks) → IsPlaceOf H kind b nothing × (numbers_of_array kind b 0 ≡ [])
   none-of H One b = let t = (tree false b).0 in
       (record { sound = t.sound; entries = sym (ap length t.content); pieces = sym (ap (pieces_of word_pieces) t.content) }, t.blocks)
   none-of H Long b = let t = (tree true b).0 in
@@ -61,7 +61,7 @@ module _ (tree : NoTreeIsEmpty) (strings : NoStringsAreEmpty) (bytes : NoBytesAr
   empty-bytes : (H : List ℕ → ℕ) (b : Blocks) (w : ℕ) → IsBytesArray H b w → bytes_in b w ≡ [] → w ≡ 0
   empty-bytes H b w h e = (bytes H b).1 w (numbers_of_bytes b w) (record { sound = h; content = e; blocks = refl })
 
-  empty-any : (H : List ℕ → ℕ) (kind : ArrayKind) (b : Blocks) (w : ℕ) → IsArrayOf H kind b w → entries_of kind b w ≡ 0 → w ≡ 0
+  empty-any : (H : List ℕ → ℕ) (kind : Kind) (b : Blocks) (w : ℕ) → IsArrayOf H kind b w → entries_of kind b w ≡ 0 → w ≡ 0
   empty-any H One b w h e = empty-set false b w h (no_entries (one_in b w) e)
   empty-any H Long b w h e = empty-set true b w h (no_entries (long_in b w) e)
   empty-any H Str b w h e = empty-strings b w h (no_entries (string_in b w) e)
@@ -80,7 +80,7 @@ module _ (tree : NoTreeIsEmpty) (strings : NoStringsAreEmpty) (bytes : NoBytesAr
   )
 
   module _ (trees_stay : TreesStay) (strings_stay : StringsStay) (bytes_stay : BytesStay) where
-    stays-of : (H : List ℕ → ℕ) (kind : ArrayKind) (a b : Blocks) (old new : List ℕ) (p : Stand) → Frame a b old new → IsPlaceOf H kind a p
+    stays-of : (H : List ℕ → ℕ) (kind : Kind) (a b : Blocks) (old new : List ℕ) (p : Stand) → Frame a b old new → IsPlaceOf H kind a p
         → AreApart (numbers_of_array kind a p.root) old
         → IsPlaceOf H kind b p × (numbers_of_array kind b p.root ≡ numbers_of_array kind a p.root) × AreApart
         (numbers_of_array kind a p.root) new × IsSameOf kind a b p.root

@@ -7,7 +7,7 @@ use Rattle.judy_arena.specs.Blocks.{Blocks, words_of, is_live}
 use Rattle.judy_arena.specs.Frame.{holds}
 use Rattle.judy_arena.specs.Totals.{are_distinct, words_over}
 use Rattle.judy_model.proofs.lemmas.PieceLemmas.{pieces_of-words}
-use Rattle.judy_directory.specs.declared.spot.ArrayKind.TheVariants.{One, Long, Str, Bytes}
+use Rattle.judy_model.specs.declared.commands.Kind.TheVariants.{One, Long, Str, Bytes}
 use Rattle.judy_tree.specs.Root.{IsRoot, Spells, entries, numbers}
 use Rattle.judy_tree.specs.Laws.{BlocksAreLive as TreesAreLive, BlocksAreSmall, BlocksAreFew, RootsHaveSpace}
 use Rattle.judy_string.specs.Laws.{BlocksAreLive as StringsAreLive, SpaceIsBounded as StringsAreBounded}

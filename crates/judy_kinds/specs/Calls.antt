@@ -1,7 +1,6 @@
 -- A call of an array of any kind.
 --     is_of_array call             the call names an array
 --     kind_of_call, name_of_call   the kind and the name of its array
---     is_insertion call            the call may ask for a new entry
 --     has_string call              the call's key is a string, if it is a JudySL call
 --     asks_at b w call             the call asks for an entry that the array at w does not have
 --     blocks_of_call b w call      the blocks that the call takes at most, of 512 words or less
@@ -12,20 +11,16 @@ use Rattle.judy_arena.specs.Blocks.{Blocks, ArenaState}
 use Rattle.judy_arena.specs.Frame.{Frame}
 use Rattle.judy_model.specs.declared.calls.Call.{Call}
 use Rattle.judy_model.specs.declared.calls.Call.TheVariants as call
-use Rattle.judy_model.specs.declared.calls.OneCall.TheVariants as one
-use Rattle.judy_model.specs.declared.calls.LongCall.TheVariants as long
 use Rattle.judy_model.specs.declared.calls.StrCall.TheVariants as str
-use Rattle.judy_model.specs.declared.calls.BytesCall.TheVariants as bytes
 use Rattle.judy_model.specs.declared.calls.StrCall.{StrCall}
-use Rattle.judy_model.specs.declared.calls.BytesCall.{BytesCall}
 use Rattle.judy_model.specs.declared.replies.Reply.{Reply}
 use Rattle.judy_model.specs.Grammar.{is_string}
 use Rattle.judy_model.specs.Tenant.{one_step, long_step, string_step, bytes_step, one_asks_for_new, long_asks_for_new, string_asks_for_new, bytes_asks_for_new}
-use Rattle.judy_directory.specs.declared.spot.ArrayKind.{ArrayKind}
-use Rattle.judy_directory.specs.declared.spot.ArrayKind.TheVariants.{One, Long, Str, Bytes}
+use Rattle.judy_model.specs.declared.commands.Kind.{Kind}
+use Rattle.judy_model.specs.declared.commands.Kind.TheVariants.{One, Long, Str, Bytes}
 use Rattle.judy_directory.specs.Places.{Stand}
-use Rattle.judy_words.specs.OneArrays.{one_in, one_inserts as one_inserts}
-use Rattle.judy_words.specs.LongArrays.{long_in, long_inserts as long_inserts}
+use Rattle.judy_words.specs.OneArrays.{one_in}
+use Rattle.judy_words.specs.LongArrays.{long_in}
 use Rattle.judy_string.specs.StringArrays.{string_in}
 use Rattle.judy_bytes.specs.BytesArrays.{bytes_in}
 use Rattle.judy_kinds.specs.Kinds.{IsPlaceOf, numbers_of_array}
@@ -36,7 +31,7 @@ is_of_array call.Used = false
 is_of_array _ = true
 
 -- the kind of its array
-abbrev pub kind_of_call : Call → ArrayKind
+abbrev pub kind_of_call : Call → Kind
 kind_of_call (call.One name c) = One
 kind_of_call (call.Long name c) = Long
 kind_of_call (call.Str name c) = Str
@@ -50,23 +45,6 @@ name_of_call (call.Long name c) = name
 name_of_call (call.Str name c) = name
 name_of_call (call.Bytes name c) = name
 name_of_call call.Used = []
-
--- the call of a JudySL may insert a string; below, that of a JudyHS a key
-abbrev pub string_inserts : StrCall → Bool
-string_inserts (str.Insert k given) = true
-string_inserts _ = false
-
-abbrev pub bytes_inserts : BytesCall → Bool
-bytes_inserts (bytes.Insert k given) = true
-bytes_inserts _ = false
-
--- the call may ask for a new entry
-abbrev pub is_insertion : Call → Bool
-is_insertion (call.One name c) = one_inserts c
-is_insertion (call.Long name c) = long_inserts c
-is_insertion (call.Str name c) = string_inserts c
-is_insertion (call.Bytes name c) = bytes_inserts c
-is_insertion call.Used = false
 
 -- the key of a JudySL call
 abbrev pub has_key_string : StrCall → Bool
@@ -93,7 +71,7 @@ asks_at b w (call.Bytes name c) = bytes_asks_for_new (bytes_in b w) c
 asks_at b w call.Used = false
 
 -- the blocks that an insertion into an array of this kind takes at most
-abbrev pub blocks_of_kind : ArrayKind → ℕ
+abbrev pub blocks_of_kind : Kind → ℕ
 blocks_of_kind One = 64
 blocks_of_kind Long = 64
 blocks_of_kind Str = 380
@@ -113,6 +91,6 @@ AnswersAt a w call.Used reply b x = ⊥
 
 -- the array at the place p in a is the one at q in b after the change, and no block of another
 -- array changed
-pub record ArrayBecomes (H : List ℕ → ℕ) (kind : ArrayKind) (a : ArenaState) (p : Stand) (b : ArenaState) (q : Stand) : Type 0 where
+pub record ArrayBecomes (H : List ℕ → ℕ) (kind : Kind) (a : ArenaState) (p : Stand) (b : ArenaState) (q : Stand) : Type 0 where
   pub place : IsPlaceOf H kind b.blocks q
   pub frame : Frame a.blocks b.blocks (numbers_of_array kind a.blocks p.root) (numbers_of_array kind b.blocks q.root)

@@ -2,7 +2,7 @@
 ghost use Rattle.std.specs.Prelude.{◌≡◌, ◌≤◌, ◌<◌, ◌^◌, IfOk, OnOk, OnErr, IsTrue, IsFalse, if◌then◌else◌};
 ghost use Rattle.judy_arena.specs.Takes.{Takes, TakesNothing};
 ghost use Rattle.judy_bytes.specs.BytesArrays.{IsBytesArray, bytes_in, BytesAnswers, BytesLooks, BytesBecomes};
-ghost use Rattle.judy_directory.specs.declared.spot.ArrayKind.TheVariants as kind;
+ghost use Rattle.judy_model.specs.declared.commands.Kind.TheVariants as kind;
 ghost use Rattle.judy_kinds.specs.Calls.{blocks_of_kind};
 ghost use Rattle.judy_kinds.specs.Counts.{HasCounts};
 ghost use Rattle.judy_model.specs.Contents.{string_order, has_key};

@@ -1,36 +1,22 @@
 //! The array of a call, and what the call may do.
 ghost use Rattle.std.specs.Prelude.{◌≡◌, IsTrue, IsFalse, MatchOption, IfSome};
-ghost use Rattle.judy_kinds.specs.Calls.{is_of_array, kind_of_call, name_of_call, is_insertion, has_key_string, has_string};
+ghost use Rattle.judy_kinds.specs.Calls.{is_of_array, kind_of_call, name_of_call, has_key_string, has_string};
 
-use judy_directory::ArrayKind;
-use judy_model::{BytesCall, Call, LongCall, Name, OneCall, StrCall, is_string};
+use judy_model::{Call, Kind, Name, StrCall, is_string};
 
 /// The kind and the name of the array that a call names. None for `Used`, which names no array.
-pub fn array_of<'c>(call: &'c Call<'_>) -> Option<(ArrayKind, &'c Name)>
+pub fn array_of<'c>(call: &'c Call<'_>) -> Option<(Kind, &'c Name)>
     ensures none { MatchOption result (IsFalse (is_of_array call.now))
         (λ a. IsTrue (is_of_array call.now)) }
     ensures kind { IfSome result (λ a. a.0 ≡ kind_of_call call.now) }
     ensures name { IfSome result (λ a. a.1.now ≡ name_of_call call.now) }
 {
     match call {
-        Call::One(name, _) => Some((ArrayKind::One, name)),
-        Call::Long(name, _) => Some((ArrayKind::Long, name)),
-        Call::Str(name, _) => Some((ArrayKind::Str, name)),
-        Call::Bytes(name, _) => Some((ArrayKind::Bytes, name)),
+        Call::One(name, _) => Some((Kind::One, name)),
+        Call::Long(name, _) => Some((Kind::Long, name)),
+        Call::Str(name, _) => Some((Kind::Str, name)),
+        Call::Bytes(name, _) => Some((Kind::Bytes, name)),
         Call::Used => None,
-    }
-}
-
-/// Whether the call may insert a new entry.
-pub fn is_insertion(call: &Call<'_>) -> bool
-    ensures { result ≡ is_insertion call.now }
-{
-    match call {
-        Call::One(_, call) => matches!(call, OneCall::Set(_)),
-        Call::Long(_, call) => matches!(call, LongCall::Insert(..)),
-        Call::Str(_, call) => matches!(call, StrCall::Insert(..)),
-        Call::Bytes(_, call) => matches!(call, BytesCall::Insert(..)),
-        Call::Used => false,
     }
 }
 

@@ -12,4 +12,4 @@ mod one;
 mod string;
 
 pub use answers::{answer, asks};
-pub use calls::{array_of, is_callable, is_insertion};
+pub use calls::{array_of, is_callable};

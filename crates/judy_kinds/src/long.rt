@@ -1,7 +1,7 @@
 //! Calls of a map from words to words at its place.
 ghost use Rattle.std.specs.Prelude.{◌≡◌, ◌≤◌, IfOk, OnOk, OnErr, IsTrue, if◌then◌else◌};
 ghost use Rattle.judy_arena.specs.Takes.{Takes};
-ghost use Rattle.judy_directory.specs.declared.spot.ArrayKind.TheVariants as kind;
+ghost use Rattle.judy_model.specs.declared.commands.Kind.TheVariants as kind;
 ghost use Rattle.judy_kinds.specs.Calls.{blocks_of_kind};
 ghost use Rattle.judy_kinds.specs.Counts.{HasCounts};
 ghost use Rattle.judy_model.specs.Pieces.{word_pieces};

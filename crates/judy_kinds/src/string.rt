@@ -1,7 +1,7 @@
 //! Calls of a JudySL at its place.
 ghost use Rattle.std.specs.Prelude.{◌≡◌, ◌<◌, ◌≤◌, length, ◌^◌, IfOk, OnOk, OnErr, IsTrue, IsFalse, not, if◌then◌else◌};
 ghost use Rattle.judy_arena.specs.Takes.{Takes, TakesNothing};
-ghost use Rattle.judy_directory.specs.declared.spot.ArrayKind.TheVariants as kind;
+ghost use Rattle.judy_model.specs.declared.commands.Kind.TheVariants as kind;
 ghost use Rattle.judy_kinds.specs.Calls.{has_key_string, blocks_of_kind};
 ghost use Rattle.judy_kinds.specs.Counts.{HasCounts};
 ghost use Rattle.judy_model.specs.Contents.{string_order, has_key};

@@ -7,17 +7,13 @@ use Rattle.std.specs.FinMap.{is_sorted, nat_cmp-IsAntisymmetric}
 use Rattle.std.proofs.lemmas.Bool.Decides.{nat_tests}
 use Rattle.judy_model.specs.declared.calls.Call.{Call}
 use Rattle.judy_model.specs.declared.calls.Call.TheVariants.{One, Long, Str, Bytes, Used}
-use Rattle.judy_model.specs.declared.calls.OneCall.TheVariants as one
-use Rattle.judy_model.specs.declared.calls.LongCall.TheVariants as long
-use Rattle.judy_model.specs.declared.calls.StrCall.TheVariants as str
-use Rattle.judy_model.specs.declared.calls.BytesCall.TheVariants as bytes
-use Rattle.judy_model.specs.declared.calls.Given.{Given}
 use Rattle.judy_model.specs.declared.quotas.Quota.{Quota}
 use Rattle.judy_model.specs.declared.quotas.Right.{Right}
 use Rattle.judy_model.specs.declared.quotas.Right.TheVariants.{Change, Look, Frozen}
 use Rattle.judy_model.specs.Contents.{Entries, word_order, string_order}
 use Rattle.judy_model.specs.Pieces.{word_pieces, string_pieces, pieces_of}
 use Rattle.judy_model.specs.Tenant.{State, content_of, used, pieces, one_step, long_step, string_step, bytes_step}
+use Rattle.judy_model.specs.Tenant.{one_effect, long_effect, string_effect, bytes_effect}
 use Rattle.judy_model.specs.Tenant.{one_asks_for_new, long_asks_for_new, string_asks_for_new, bytes_asks_for_new}
 use Rattle.judy_model.specs.Tenant.{asks_for_new, new_pieces, has_room, allowed_step, step}
 use Rattle.judy_model.specs.WellFormed.{is_one_entry, is_long_entry, is_string_entry, is_bytes_entry, IsWellFormed, Grows, IsWithin, StepKeepsQuota}
@@ -25,7 +21,7 @@ use Rattle.judy_model.proofs.lemmas.StateLemmas.{total, total-with_content}
 use Rattle.judy_model.proofs.lemmas.FormLemmas.{names_apart, names_rise, content_form}
 use Rattle.judy_model.proofs.RefusalLaws.{look_keeps, frozen_keeps}
 use Rattle.judy_model.proofs.lemmas.TestLemmas.{and_left, and_right}
-use Rattle.judy_model.proofs.lemmas.GrowthLemmas.{Measure, lengths, sizes, one_grows, long_grows, string_grows, byte_grows, lifted}
+use Rattle.judy_model.proofs.lemmas.GrowthLemmas.{Measure, Weighs, lengths, sizes, one_each, its_size, effect_grows, lifted}
 use Rattle.judy_model.proofs.lemmas.GapLemmas.{le_of}
 
 -- ---- a call of a tenant
@@ -37,15 +33,15 @@ module _ (words : Entries ℕ → ℕ) (word : ℕ → ℕ) (of_words : Measure 
   whole s = total words of_words.none s.one + total words of_words.none s.long + total texts of_texts.none s.string + total texts of_texts.none s.bytes
 
   -- n is the weight of the key that the call would insert
-  abbrev Weighs : Call → ℕ → Type 0
-  Weighs (One name c) n = (x : ℕ) → c ≡ one.Set x → n ≡ word x
-  Weighs (Long name c) n = (k : ℕ) (given : Given) → c ≡ long.Insert k given → n ≡ word k
-  Weighs (Str name c) n = (k : List ℕ) (given : Given) → c ≡ str.Insert k given → n ≡ text k
-  Weighs (Bytes name c) n = (k : List ℕ) (given : Given) → c ≡ bytes.Insert k given → n ≡ text k
-  Weighs Used n = Unit {0}
+  abbrev WeighsIn : Call → ℕ → Type 0
+  WeighsIn (One name c) n = Weighs word (one_effect c) n
+  WeighsIn (Long name c) n = Weighs word (long_effect c) n
+  WeighsIn (Str name c) n = Weighs text (string_effect c) n
+  WeighsIn (Bytes name c) n = Weighs text (bytes_effect c) n
+  WeighsIn Used n = Unit {0}
 
   -- a call that its right allows
-  allowed_grows : (quota : Quota) (s : State) (call : Call) (n : ℕ) → IsWellFormed s → Weighs call n
+  allowed_grows : (quota : Quota) (s : State) (call : Call) (n : ℕ) → IsWellFormed s → WeighsIn call n
       → Grows (asks_for_new Change s call) (has_room quota s call) n (whole s) (whole (allowed_step quota s call).1)
   allowed_grows quota s (One name c) n h w =
       let room = has_room quota s (One name c) in
@@ -53,21 +49,21 @@ module _ (words : Entries ℕ → ℕ) (word : ℕ → ℕ) (of_words : Measure 
       let m = (one_step room l c).1 in
       let e = total-with_content words of_words.none s.one name m (names_rise word_order is_one_entry s.one h.one) in
       lifted (one_asks_for_new l c) room n (words l) (words m) (whole s) (whole (allowed_step quota s (One name c)).1) (omega (arith, e))
-      (one_grows words word of_words room l c n (and_left (is_sorted word_order l) _ (content_form word_order is_one_entry s.one name h.one)) w)
+      (effect_grows word_order words word of_words room l (one_effect c) n (and_left (is_sorted word_order l) _ (content_form word_order is_one_entry s.one name h.one)) w)
   allowed_grows quota s (Long name c) n h w =
       let room = has_room quota s (Long name c) in
       let l = content_of s.long name in
       let m = (long_step room l c).1 in
       let e = total-with_content words of_words.none s.long name m (names_rise word_order is_long_entry s.long h.long) in
       lifted (long_asks_for_new l c) room n (words l) (words m) (whole s) (whole (allowed_step quota s (Long name c)).1) (omega (arith, e))
-      (long_grows words word of_words room l c n (and_left (is_sorted word_order l) _ (content_form word_order is_long_entry s.long name h.long)) w)
+      (effect_grows word_order words word of_words room l (long_effect c) n (and_left (is_sorted word_order l) _ (content_form word_order is_long_entry s.long name h.long)) w)
   allowed_grows quota s (Str name c) n h w =
       let room = has_room quota s (Str name c) in
       let l = content_of s.string name in
       let m = (string_step room l c).1 in
       let e = total-with_content texts of_texts.none s.string name m (names_rise string_order is_string_entry s.string h.string) in
       lifted (string_asks_for_new l c) room n (texts l) (texts m) (whole s) (whole (allowed_step quota s (Str name c)).1) (omega (arith, e))
-      (string_grows texts text of_texts room l c n
+      (effect_grows string_order texts text of_texts room l (string_effect c) n
       (and_left (is_sorted string_order l) _ (content_form string_order is_string_entry s.string name h.string)) w)
   allowed_grows quota s (Bytes name c) n h w =
       let room = has_room quota s (Bytes name c) in
@@ -75,12 +71,12 @@ module _ (words : Entries ℕ → ℕ) (word : ℕ → ℕ) (of_words : Measure 
       let m = (bytes_step room l c).1 in
       let e = total-with_content texts of_texts.none s.bytes name m (names_rise string_order is_bytes_entry s.bytes h.bytes) in
       lifted (bytes_asks_for_new l c) room n (texts l) (texts m) (whole s) (whole (allowed_step quota s (Bytes name c)).1) (omega (arith, e))
-      (byte_grows texts text of_texts room l c n
+      (effect_grows string_order texts text of_texts room l (bytes_effect c) n
       (and_left (is_sorted string_order l) _ (content_form string_order is_bytes_entry s.bytes name h.bytes)) w)
   allowed_grows quota s Used n h w = omega arith
 
   -- a call of any right
-  step_grows : (right : Right) (quota : Quota) (s : State) (call : Call) (n : ℕ) → IsWellFormed s → Weighs call n
+  step_grows : (right : Right) (quota : Quota) (s : State) (call : Call) (n : ℕ) → IsWellFormed s → WeighsIn call n
       → Grows (asks_for_new right s call) (has_room quota s call) n (whole s) (whole (step right quota s call).1)
   step_grows Change quota s call n h w = allowed_grows quota s call n h w
   step_grows Look quota s call n h w = let e = ap whole (look_keeps quota s call h) in omega (arith, e)
@@ -92,14 +88,14 @@ used_grows : (right : Right) (quota : Quota) (s : State) (call : Call) → IsWel
     → Grows (asks_for_new right s call) (has_room quota s call) 1 (used s) (used (step right quota s call).1)
 used_grows right quota s call h =
     step_grows length (λ k. 1) (lengths word_order nat_cmp_total) length (λ k. 1) (lengths string_order nat_list_cmp_total) right
-    quota s call 1 h (one_each call)
+    quota s call 1 h (each call)
   where
-    one_each : (c : Call) → Weighs length (λ k. 1) (lengths word_order nat_cmp_total) length (λ k. 1) (lengths string_order nat_list_cmp_total) c 1
-    one_each (One name c) = λ x e. refl
-    one_each (Long name c) = λ k given e. refl
-    one_each (Str name c) = λ k given e. refl
-    one_each (Bytes name c) = λ k given e. refl
-    one_each Used = tt
+    each : (c : Call) → WeighsIn length (λ k. 1) (lengths word_order nat_cmp_total) length (λ k. 1) (lengths string_order nat_list_cmp_total) c 1
+    each (One name c) = one_each (one_effect c)
+    each (Long name c) = one_each (long_effect c)
+    each (Str name c) = one_each (string_effect c)
+    each (Bytes name c) = one_each (bytes_effect c)
+    each Used = tt
 
 pieces_grow : (right : Right) (quota : Quota) (s : State) (call : Call) → IsWellFormed s
     → Grows (asks_for_new right s call) (has_room quota s call) (new_pieces call) (pieces s) (pieces (step right quota s call).1)
@@ -108,12 +104,12 @@ pieces_grow right quota s call h =
     (pieces_of string_pieces) string_pieces (sizes string_order nat_list_cmp_total names_apart string_pieces) right quota s call
     (new_pieces call) h (its_own call)
   where
-    its_own : (c : Call) → Weighs (pieces_of word_pieces) word_pieces (sizes word_order nat_cmp_total nat_cmp-IsAntisymmetric word_pieces)
+    its_own : (c : Call) → WeighsIn (pieces_of word_pieces) word_pieces (sizes word_order nat_cmp_total nat_cmp-IsAntisymmetric word_pieces)
         (pieces_of string_pieces) string_pieces (sizes string_order nat_list_cmp_total names_apart string_pieces) c (new_pieces c)
-    its_own (One name c) = λ x e. ap (λ d. new_pieces (One name d)) e
-    its_own (Long name c) = λ k given e. ap (λ d. new_pieces (Long name d)) e
-    its_own (Str name c) = λ k given e. ap (λ d. new_pieces (Str name d)) e
-    its_own (Bytes name c) = λ k given e. ap (λ d. new_pieces (Bytes name d)) e
+    its_own (One name c) = its_size word_pieces (one_effect c)
+    its_own (Long name c) = its_size word_pieces (long_effect c)
+    its_own (Str name c) = its_size string_pieces (string_effect c)
+    its_own (Bytes name c) = its_size string_pieces (bytes_effect c)
     its_own Used = tt
 
 -- what grows only if there is room stays within the quota

@@ -5,26 +5,19 @@ use Rattle.std.specs.FinMap.{find}
 use Rattle.std.proofs.lemmas.Bool.{and_from}
 use Rattle.judy_model.specs.declared.calls.Call.{Call}
 use Rattle.judy_model.specs.declared.calls.Call.TheVariants.{One, Long, Str, Bytes, Used}
-use Rattle.judy_model.specs.declared.calls.OneCall.{OneCall}
-use Rattle.judy_model.specs.declared.calls.OneCall.TheVariants as one
-use Rattle.judy_model.specs.declared.calls.LongCall.{LongCall}
-use Rattle.judy_model.specs.declared.calls.LongCall.TheVariants as long
-use Rattle.judy_model.specs.declared.calls.StrCall.{StrCall}
-use Rattle.judy_model.specs.declared.calls.StrCall.TheVariants as str
-use Rattle.judy_model.specs.declared.calls.BytesCall.{BytesCall}
-use Rattle.judy_model.specs.declared.calls.BytesCall.TheVariants as bytes
 use Rattle.judy_model.specs.declared.calls.Given.{Given}
 use Rattle.judy_model.specs.declared.quotas.Quota.{Quota}
 use Rattle.judy_model.specs.declared.quotas.Right.{Right}
 use Rattle.judy_model.specs.declared.quotas.Right.TheVariants.{Change, Look, Frozen}
 use Rattle.judy_model.specs.declared.replies.Reply.{Reply}
 use Rattle.judy_model.specs.declared.replies.Reply.TheVariants as reply
-use Rattle.judy_model.specs.Contents.{Order, Entries, word_order, string_order, value_of, has_key, with_entry, nth, first, next, last, prev}
-use Rattle.judy_model.specs.Gaps.{first_empty, next_empty, last_empty, prev_empty}
-use Rattle.judy_model.specs.Tenant.{State, content_of, with_content, insert_over, insert, index_or_no}
-use Rattle.judy_model.specs.Tenant.{value_at_or_null, value_key_or_null, value_or_null, absent_or_no, one_step, long_step}
-use Rattle.judy_model.specs.Tenant.{string_step, bytes_step, one_changes, long_changes, string_changes, bytes_changes}
-use Rattle.judy_model.specs.Tenant.{one_asks_for_new, long_asks_for_new, string_asks_for_new, bytes_asks_for_new, changes}
+use Rattle.judy_model.specs.Contents.{Order, Entries, word_order, string_order, has_key}
+use Rattle.judy_model.specs.Tenant.Effect.{Insert, Remove, Free, Ask}
+use Rattle.judy_model.specs.Tenant.Answer.{Yes, Number, Index, Absent, ValueOf, ValueAt, ValueKey}
+use Rattle.judy_model.specs.Tenant.Reports.{ReportsNew, ReportsValue}
+use Rattle.judy_model.specs.Tenant.{Effect, Answer, Reports, State, content_of, with_content, insertion_reply, insert_over, insert, index_or_no}
+use Rattle.judy_model.specs.Tenant.{value_at_or_null, value_key_or_null, value_or_null, absent_or_no, reply_of, effect_step, effect_changes}
+use Rattle.judy_model.specs.Tenant.{effect_asks_for_new, one_effect, long_effect, string_effect, bytes_effect, changes}
 use Rattle.judy_model.specs.Tenant.{is_read_only, refusal_of, asks_for_new, has_room, allowed_step, step}
 use Rattle.judy_model.specs.Solo.{is_memory, StepHasMemory}
 use Rattle.judy_model.specs.WellFormed.{is_one_entry, is_long_entry, is_string_entry, is_bytes_entry, IsWellFormed, FullIsForNew, LooksKeepAll, QueriesKeepAll}
@@ -65,165 +58,102 @@ absent_found : (o : Option ℕ) → refusal (absent_or_no o) ≡ 0
 absent_found (Some v) = refl
 absent_found None = refl
 
+-- nor is any other answer
+answered : (a : Answer) → refusal (reply_of a) ≡ 0
+answered (Yes b) = refl
+answered (Number n) = refl
+answered (Index o) = index_found o
+answered (Absent o) = absent_found o
+answered (ValueOf o) = value_found o
+answered (ValueAt o) = value_at_found o
+answered (ValueKey o) = value_key_found o
+
+-- nor is the reply to an insertion that is made
+inserted : (reports : Reports) (given : Given) (had : Option ℕ) → refusal (insertion_reply reports given had) ≡ 0
+inserted ReportsNew given had = refl
+inserted ReportsValue given had = refl
+
 -- ---- a call of an array is refused exactly if it asks for a new entry without room
 
-insert_refusal : {K : Type 0} (order : Order K) (room : Bool) (l : Entries K) (k : K) (given : Given)
-    → refusal (insert order room l k given).0 ≡ at_quota (not (has_key order l k)) room
-insert_refusal order room l k given = by (find order k l) room
+effect_refusal : {K : Type 0} (order : Order K) (room : Bool) (l : Entries K) (effect : Effect K)
+    → refusal (effect_step order room l effect).0 ≡ at_quota (effect_asks_for_new order l effect) room
+effect_refusal order room l (Insert k given reports) = by (find order k l) room
   where
-    by : (had : Option ℕ) (r : Bool) → refusal (insert_over order r l k given had).0 ≡ at_quota (not (is_some had)) r
-    by (Some v) r = refl
-    by None true = refl
+    by : (had : Option ℕ) (r : Bool) → refusal (insert_over order r l k given reports had).0 ≡ at_quota (not (is_some had)) r
+    by (Some v) r = inserted reports given (Some v)
+    by None true = inserted reports given None
     by None false = refl
-
-one_refusal : (room : Bool) (l : Entries ℕ) (c : OneCall) → refusal (one_step room l c).0 ≡ at_quota (one_asks_for_new l c) room
-one_refusal room l (one.Set x) = by (has_key word_order l x) room
-  where
-    by : (b r : Bool) → refusal (cond {A = Reply × Entries ℕ} b (reply.Int false, l)
-        (cond r (reply.Int true, with_entry word_order l x 0) (reply.Full, l))).0 ≡ at_quota (not b) r
-    by true r = refl
-    by false true = refl
-    by false false = refl
-one_refusal room l (one.ByCount n) = index_found (nth l n)
-one_refusal room l (one.First x) = index_found (first word_order l x)
-one_refusal room l (one.Next x) = index_found (next word_order l x)
-one_refusal room l (one.Last x) = index_found (last word_order l x)
-one_refusal room l (one.Prev x) = index_found (prev word_order l x)
-one_refusal room l (one.FirstEmpty x) = absent_found (first_empty l x)
-one_refusal room l (one.NextEmpty x) = absent_found (next_empty l x)
-one_refusal room l (one.LastEmpty x) = absent_found (last_empty l x)
-one_refusal room l (one.PrevEmpty x) = absent_found (prev_empty l x)
-one_refusal room l _ = refl
-
-long_refusal : (room : Bool) (l : Entries ℕ) (c : LongCall) → refusal (long_step room l c).0 ≡ at_quota (long_asks_for_new l c) room
-long_refusal room l (long.Insert k given) = insert_refusal word_order room l k given
-long_refusal room l (long.Get k) = value_found (value_of word_order l k)
-long_refusal room l (long.ByCount n) = value_at_found (nth l n)
-long_refusal room l (long.First x) = value_at_found (first word_order l x)
-long_refusal room l (long.Next x) = value_at_found (next word_order l x)
-long_refusal room l (long.Last x) = value_at_found (last word_order l x)
-long_refusal room l (long.Prev x) = value_at_found (prev word_order l x)
-long_refusal room l (long.FirstEmpty x) = absent_found (first_empty l x)
-long_refusal room l (long.NextEmpty x) = absent_found (next_empty l x)
-long_refusal room l (long.LastEmpty x) = absent_found (last_empty l x)
-long_refusal room l (long.PrevEmpty x) = absent_found (prev_empty l x)
-long_refusal room l _ = refl
-
-string_refusal : (room : Bool) (l : Entries (List ℕ)) (c : StrCall) → refusal (string_step room l c).0 ≡ at_quota (string_asks_for_new l c) room
-string_refusal room l (str.Insert k given) = insert_refusal string_order room l k given
-string_refusal room l (str.Get k) = value_found (value_of string_order l k)
-string_refusal room l (str.First x) = value_key_found (first string_order l x)
-string_refusal room l (str.Next x) = value_key_found (next string_order l x)
-string_refusal room l (str.Last x) = value_key_found (last string_order l x)
-string_refusal room l (str.Prev x) = value_key_found (prev string_order l x)
-string_refusal room l _ = refl
-
-byte_refusal : (room : Bool) (l : Entries (List ℕ)) (c : BytesCall) → refusal (bytes_step room l c).0 ≡ at_quota (bytes_asks_for_new l c) room
-byte_refusal room l (bytes.Insert k given) = insert_refusal string_order room l k given
-byte_refusal room l (bytes.Get k) = value_found (value_of string_order l k)
-byte_refusal room l _ = refl
+effect_refusal order room l (Remove k) = refl
+effect_refusal order room l Free = refl
+effect_refusal order room l (Ask answer) = answered (answer l)
 
 -- ---- what a call leaves unchanged
 
 -- an insertion without room
-insert_kept : {K : Type 0} (order : Order K) (room : Bool) (l : Entries K) (k : K) (given : Given)
-    → (not (has_key order l k) && not room) ≡ true → (insert order room l k given).1 ≡ l
-insert_kept order room l k given = by (find order k l) room
+insert_kept : {K : Type 0} (order : Order K) (room : Bool) (l : Entries K) (k : K) (given : Given) (reports : Reports)
+    → (not (has_key order l k) && not room) ≡ true → (insert order room l k given reports).1 ≡ l
+insert_kept order room l k given reports = by (find order k l) room
   where
-    by : (had : Option ℕ) (r : Bool) → (not (is_some had) && not r) ≡ true → (insert_over order r l k given had).1 ≡ l
+    by : (had : Option ℕ) (r : Bool) → (not (is_some had) && not r) ≡ true → (insert_over order r l k given reports had).1 ≡ l
     by (Some v) r e = cc
     by None true e = cc
     by None false e = refl
-
--- a set insertion without room
-set_kept : (room : Bool) (l : Entries ℕ) (x : ℕ) → (not (has_key word_order l x) && not room) ≡ true → (one_step room l (one.Set x)).1 ≡ l
-set_kept room l x = by (has_key word_order l x) room
-  where
-    by : (b r : Bool) → (not b && not r) ≡ true
-        → (cond {A = Reply × Entries ℕ} b (reply.Int false, l) (cond r (reply.Int true, with_entry word_order l x 0)
-        (reply.Full, l))).1 ≡ l
-    by true r e = cc
-    by false true e = cc
-    by false false e = refl
 
 -- a call that changes nothing, or has no room, leaves the array unchanged
 abbrev Rests : Bool → Bool → Bool → Type 0
 Rests changing asks room = IsTrue (not changing) ⊎ IsTrue (asks && not room)
 
-one_kept : (room : Bool) (l : Entries ℕ) (c : OneCall) → Rests (one_changes c) (one_asks_for_new l c) room → (one_step room l c).1 ≡ l
-one_kept room l (one.Set x) (inl h) = cc
-one_kept room l (one.Set x) (inr h) = set_kept room l x h
-one_kept room l (one.Unset x) (inl h) = cc
-one_kept room l (one.Unset x) (inr h) = cc
-one_kept room l one.Free (inl h) = cc
-one_kept room l one.Free (inr h) = cc
-one_kept room l _ h = refl
+effect_kept : {K : Type 0} (order : Order K) (room : Bool) (l : Entries K) (effect : Effect K)
+    → Rests (effect_changes effect) (effect_asks_for_new order l effect) room → (effect_step order room l effect).1 ≡ l
+effect_kept order room l (Insert k given reports) (inl h) = cc
+effect_kept order room l (Insert k given reports) (inr h) = insert_kept order room l k given reports h
+effect_kept order room l (Remove k) (inl h) = cc
+effect_kept order room l (Remove k) (inr h) = cc
+effect_kept order room l Free (inl h) = cc
+effect_kept order room l Free (inr h) = cc
+effect_kept order room l (Ask answer) h = refl
 
-long_kept : (room : Bool) (l : Entries ℕ) (c : LongCall) → Rests (long_changes c) (long_asks_for_new l c) room → (long_step room l c).1 ≡ l
-long_kept room l (long.Insert k given) (inl h) = cc
-long_kept room l (long.Insert k given) (inr h) = insert_kept word_order room l k given h
-long_kept room l (long.Delete k) (inl h) = cc
-long_kept room l (long.Delete k) (inr h) = cc
-long_kept room l long.Free (inl h) = cc
-long_kept room l long.Free (inr h) = cc
-long_kept room l _ h = refl
-
-string_kept : (room : Bool) (l : Entries (List ℕ)) (c : StrCall) → Rests (string_changes c) (string_asks_for_new l c) room → (string_step room l c).1 ≡ l
-string_kept room l (str.Insert k given) (inl h) = cc
-string_kept room l (str.Insert k given) (inr h) = insert_kept string_order room l k given h
-string_kept room l (str.Delete k) (inl h) = cc
-string_kept room l (str.Delete k) (inr h) = cc
-string_kept room l str.Free (inl h) = cc
-string_kept room l str.Free (inr h) = cc
-string_kept room l _ h = refl
-
-byte_kept : (room : Bool) (l : Entries (List ℕ)) (c : BytesCall) → Rests (bytes_changes c) (bytes_asks_for_new l c) room → (bytes_step room l c).1 ≡ l
-byte_kept room l (bytes.Insert k given) (inl h) = cc
-byte_kept room l (bytes.Insert k given) (inr h) = insert_kept string_order room l k given h
-byte_kept room l (bytes.Delete k) (inl h) = cc
-byte_kept room l (bytes.Delete k) (inr h) = cc
-byte_kept room l bytes.Free (inl h) = cc
-byte_kept room l bytes.Free (inr h) = cc
-byte_kept room l _ h = refl
+-- a call that changes nothing asks for no new entry
+effect_asks_nothing : {K : Type 0} (order : Order K) (l : Entries K) (effect : Effect K) → effect_changes effect ≡ false → effect_asks_for_new order l effect ≡ false
+effect_asks_nothing order l (Insert k given reports) h = cc
+effect_asks_nothing order l (Remove k) h = refl
+effect_asks_nothing order l Free h = refl
+effect_asks_nothing order l (Ask answer) h = refl
 
 -- ---- a call of a tenant
 
 -- a call that its right allows is refused exactly if it asks for a new entry without room
 allowed_refusal : (quota : Quota) (s : State) (call : Call) → refusal (allowed_step quota s call).0 ≡ at_quota
     (asks_for_new Change s call) (has_room quota s call)
-allowed_refusal quota s (One name c) = one_refusal (has_room quota s (One name c)) (content_of s.one name) c
-allowed_refusal quota s (Long name c) = long_refusal (has_room quota s (Long name c)) (content_of s.long name) c
-allowed_refusal quota s (Str name c) = string_refusal (has_room quota s (Str name c)) (content_of s.string name) c
-allowed_refusal quota s (Bytes name c) = byte_refusal (has_room quota s (Bytes name c)) (content_of s.bytes name) c
+allowed_refusal quota s (One name c) = effect_refusal word_order (has_room quota s (One name c)) (content_of s.one name) (one_effect c)
+allowed_refusal quota s (Long name c) = effect_refusal word_order (has_room quota s (Long name c)) (content_of s.long name) (long_effect c)
+allowed_refusal quota s (Str name c) = effect_refusal string_order (has_room quota s (Str name c)) (content_of s.string name) (string_effect c)
+allowed_refusal quota s (Bytes name c) = effect_refusal string_order (has_room quota s (Bytes name c)) (content_of s.bytes name) (bytes_effect c)
 allowed_refusal quota s Used = refl
 
 -- a call that changes nothing, or has no room, leaves the arrays unchanged
 pub allowed_kept : (quota : Quota) (s : State) (call : Call) → IsWellFormed s → Rests (changes call) (asks_for_new Change s call) (has_room quota s call)
     → (allowed_step quota s call).1 ≡ s
 allowed_kept quota s (One name c) h e =
-    ap (λ l. record s { one = with_content s.one name l }) (one_kept (has_room quota s (One name c)) (content_of s.one name) c e)
+    ap (λ l. record s { one = with_content s.one name l }) (effect_kept word_order (has_room quota s (One name c)) (content_of s.one name) (one_effect c) e)
     ∙ ap (λ arrays. record s { one = arrays }) (with_content_same word_order is_one_entry s.one name h.one)
 allowed_kept quota s (Long name c) h e =
-    ap (λ l. record s { long = with_content s.long name l }) (long_kept (has_room quota s (Long name c)) (content_of s.long name) c e)
+    ap (λ l. record s { long = with_content s.long name l }) (effect_kept word_order (has_room quota s (Long name c)) (content_of s.long name) (long_effect c) e)
     ∙ ap (λ arrays. record s { long = arrays }) (with_content_same word_order is_long_entry s.long name h.long)
 allowed_kept quota s (Str name c) h e =
-    ap (λ l. record s { string = with_content s.string name l }) (string_kept (has_room quota s (Str name c)) (content_of s.string name) c e)
+    ap (λ l. record s { string = with_content s.string name l }) (effect_kept string_order (has_room quota s (Str name c)) (content_of s.string name) (string_effect c) e)
     ∙ ap (λ arrays. record s { string = arrays }) (with_content_same string_order is_string_entry s.string name h.string)
 allowed_kept quota s (Bytes name c) h e =
-    ap (λ l. record s { bytes = with_content s.bytes name l }) (byte_kept (has_room quota s (Bytes name c)) (content_of s.bytes name) c e)
+    ap (λ l. record s { bytes = with_content s.bytes name l }) (effect_kept string_order (has_room quota s (Bytes name c)) (content_of s.bytes name) (bytes_effect c) e)
     ∙ ap (λ arrays. record s { bytes = arrays }) (with_content_same string_order is_bytes_entry s.bytes name h.bytes)
 allowed_kept quota s Used h e = refl
 
 -- a call that changes nothing asks for no new entry
 queries_ask_nothing : (s : State) (call : Call) → changes call ≡ false → asks_for_new Change s call ≡ false
-queries_ask_nothing s (One name (one.Set x)) h = cc
-queries_ask_nothing s (One name _) h = refl
-queries_ask_nothing s (Long name (long.Insert k given)) h = cc
-queries_ask_nothing s (Long name _) h = refl
-queries_ask_nothing s (Str name (str.Insert k given)) h = cc
-queries_ask_nothing s (Str name _) h = refl
-queries_ask_nothing s (Bytes name (bytes.Insert k given)) h = cc
-queries_ask_nothing s (Bytes name _) h = refl
+queries_ask_nothing s (One name c) h = effect_asks_nothing word_order (content_of s.one name) (one_effect c) h
+queries_ask_nothing s (Long name c) h = effect_asks_nothing word_order (content_of s.long name) (long_effect c) h
+queries_ask_nothing s (Str name c) h = effect_asks_nothing string_order (content_of s.string name) (string_effect c) h
+queries_ask_nothing s (Bytes name c) h = effect_asks_nothing string_order (content_of s.bytes name) (bytes_effect c) h
 queries_ask_nothing s Used h = refl
 
 -- the refusal of a call under a right that forbids each change

@@ -10,14 +10,6 @@ use Rattle.std.proofs.lemmas.Bool.{eqb-true}
 use Rattle.std.proofs.lemmas.Bool.Decides.{nat_tests}
 use Rattle.judy_model.specs.declared.calls.Call.{Call}
 use Rattle.judy_model.specs.declared.calls.Call.TheVariants.{One, Long, Str, Bytes, Used}
-use Rattle.judy_model.specs.declared.calls.OneCall.{OneCall}
-use Rattle.judy_model.specs.declared.calls.OneCall.TheVariants as one
-use Rattle.judy_model.specs.declared.calls.LongCall.{LongCall}
-use Rattle.judy_model.specs.declared.calls.LongCall.TheVariants as long
-use Rattle.judy_model.specs.declared.calls.StrCall.{StrCall}
-use Rattle.judy_model.specs.declared.calls.StrCall.TheVariants as str
-use Rattle.judy_model.specs.declared.calls.BytesCall.{BytesCall}
-use Rattle.judy_model.specs.declared.calls.BytesCall.TheVariants as bytes
 use Rattle.judy_model.specs.declared.calls.Given.{Given}
 use Rattle.judy_model.specs.declared.calls.Given.TheVariants.{Nothing, Value, Plus}
 use Rattle.judy_model.specs.declared.quotas.Quota.{Quota}
@@ -27,9 +19,11 @@ use Rattle.judy_model.specs.declared.replies.Reply.{Reply}
 use Rattle.judy_model.specs.declared.replies.Reply.TheVariants as reply
 use Rattle.judy_model.specs.Grammar.{are_bytes, is_string, is_byte_key}
 use Rattle.judy_model.specs.Contents.{Order, Entries, word_order, string_order, has_key, with_entry, without_key}
-use Rattle.judy_model.specs.Tenant.{State, content_of, with_content, value_after, value_replied, insert_over, insert, delete, free}
-use Rattle.judy_model.specs.Tenant.{one_step, long_step, string_step, bytes_step, changes, has_room, allowed_step, step}
-use Rattle.judy_model.specs.Unchanged.{keeps, insertion_leaves, says_no, says_none, one_leaves, long_leaves, string_leaves, bytes_leaves, leaves, UnchangedAreTold}
+use Rattle.judy_model.specs.Tenant.Effect.{Insert, Remove, Free, Ask}
+use Rattle.judy_model.specs.Tenant.Reports.{ReportsNew, ReportsValue}
+use Rattle.judy_model.specs.Tenant.{Effect, State, content_of, with_content, value_after, value_replied, insert_over, insert, delete, free}
+use Rattle.judy_model.specs.Tenant.{effect_step, one_effect, long_effect, string_effect, bytes_effect, changes, has_room, allowed_step, step}
+use Rattle.judy_model.specs.Unchanged.{keeps, insertion_leaves, says_no, says_none, effect_leaves, leaves, UnchangedAreTold}
 use Rattle.judy_model.specs.WellFormed.{is_word, is_one_entry, is_long_entry, is_string_entry, is_bytes_entry, is_content, IsWellFormed}
 use Rattle.judy_model.proofs.lemmas.FormLemmas.{content_form, found_passes, names_apart, with_content_same}
 use Rattle.judy_model.proofs.lemmas.StateLemmas.{and_left, and_right, is_Equal}
@@ -86,18 +80,30 @@ module _ {K : Type 0} (order : Order K) (total : IsTotalOrder order) (same : IsA
           never false = refl
 
   insert_left : (test : K × ℕ → Bool) → ((k : K) (v : ℕ) → test (k, v) ≡ true → is_word v ≡ true) → (room : Bool) (l : Entries K) (k : K) (given : Given)
-      → is_content order test l ≡ true → insertion_leaves given (insert order room l k given).0 ≡ true → (insert order room l k given).1 ≡ l
+      → is_content order test l ≡ true → insertion_leaves given (insert order room l k given ReportsValue).0 ≡ true
+      → (insert order room l k given ReportsValue).1 ≡ l
   insert_left test words room l k given form h = by (find order k l) room refl h
     where
       rises : is_sorted order l ≡ true
       rises = and_left (is_sorted order l) _ form
 
-      by : (had : Option ℕ) (r : Bool) → find order k l ≡ had → insertion_leaves given (insert_over order r l k given had).0 ≡ true
-          → (insert_over order r l k given had).1 ≡ l
+      by : (had : Option ℕ) (r : Bool) → find order k l ≡ had → insertion_leaves given (insert_over order r l k given ReportsValue had).0 ≡ true
+          → (insert_over order r l k given ReportsValue had).1 ≡ l
       by (Some v) r is e =
           let word = words k v (found_passes order same test k v l (and_right (is_sorted order l) _ form) is) in
           ap (with_entry order l k) (value_kept given v word e) ∙ put_same l k v rises is
       by None true is e = let no = sym (new_told given) ∙ e in cc
+      by None false is e = cc
+
+  -- a key that was there, and was given nothing
+  present_left : (test : K × ℕ → Bool) (room : Bool) (l : Entries K) (k : K) → is_content order test l ≡ true
+      → says_no (insert order room l k Nothing ReportsNew).0 ≡ true → (insert order room l k Nothing ReportsNew).1 ≡ l
+  present_left test room l k form h = by (find order k l) room refl h
+    where
+      by : (had : Option ℕ) (r : Bool) → find order k l ≡ had → says_no (insert_over order r l k Nothing ReportsNew had).0 ≡ true
+          → (insert_over order r l k Nothing ReportsNew had).1 ≡ l
+      by (Some v) r is e = put_same l k v (and_left (is_sorted order l) _ form) is
+      by None true is e = cc
       by None false is e = cc
 
   delete_left : (test : K × ℕ → Bool) (l : Entries K) (k : K) → is_content order test l ≡ true → says_no (delete order l k).0 ≡ true
@@ -114,53 +120,32 @@ free_left (e ∷ es) h = let no = eqb-true (length (e ∷ es)) 0 h in absurd (om
 
 -- ---- the calls of each kind
 
-one_left : (room : Bool) (l : Entries ℕ) (c : OneCall) → is_content word_order is_one_entry l ≡ true → one_leaves c (one_step room l c).0 ≡ true
-    → (one_step room l c).1 ≡ l
-one_left room l (one.Set x) form h = by (has_key word_order l x) room h
-  where
-    by : (b r : Bool) → says_no (cond {A = Reply × Entries ℕ} b (reply.Int false, l)
-        (cond r (reply.Int true, with_entry word_order l x 0) (reply.Full, l))).0 ≡ true
-        → (cond {A = Reply × Entries ℕ} b (reply.Int false, l) (cond r (reply.Int true, with_entry word_order l x 0) (reply.Full, l))).1 ≡ l
-    by true r e = refl
-    by false true e = cc
-    by false false e = refl
-one_left room l (one.Unset x) form h = delete_left word_order nat_cmp_total nat_cmp-IsAntisymmetric is_one_entry l x form h
-one_left room l one.Free form h = free_left l h
-one_left room l _ form h = refl
-
 -- an entry's value is a word
-word_in_long : (k v : ℕ) → is_long_entry (k, v) ≡ true → is_word v ≡ true
+abbrev HasWords : {K : Type 0} → (K × ℕ → Bool) → Type 0
+HasWords {K} test = (k : K) (v : ℕ) → test (k, v) ≡ true → is_word v ≡ true
+
+word_in_one : HasWords is_one_entry
+word_in_one k v h = ap is_word (eqb-true v 0 (and_right (is_word k) _ h))
+
+word_in_long : HasWords is_long_entry
 word_in_long k v h = and_right (is_word k) _ h
 
-word_in_string : (k : List ℕ) (v : ℕ) → is_string_entry (k, v) ≡ true → is_word v ≡ true
+word_in_string : HasWords is_string_entry
 word_in_string k v h = and_right (is_string k && are_bytes k) _ h
 
-word_in_bytes : (k : List ℕ) (v : ℕ) → is_bytes_entry (k, v) ≡ true → is_word v ≡ true
+word_in_bytes : HasWords is_bytes_entry
 word_in_bytes k v h = and_right (is_byte_key k && are_bytes k) _ h
 
-long_left : (room : Bool) (l : Entries ℕ) (c : LongCall) → is_content word_order is_long_entry l ≡ true → long_leaves c (long_step room l c).0 ≡ true
-    → (long_step room l c).1 ≡ l
-long_left room l (long.Insert k given) form h =
-    insert_left word_order nat_cmp_total nat_cmp-IsAntisymmetric is_long_entry word_in_long room l k given form h
-long_left room l (long.Delete k) form h = delete_left word_order nat_cmp_total nat_cmp-IsAntisymmetric is_long_entry l k form h
-long_left room l long.Free form h = free_left l h
-long_left room l _ form h = refl
-
-string_left : (room : Bool) (l : Entries (List ℕ)) (c : StrCall) → is_content string_order is_string_entry l ≡ true
-    → string_leaves c (string_step room l c).0 ≡ true → (string_step room l c).1 ≡ l
-string_left room l (str.Insert k given) form h =
-    insert_left string_order nat_list_cmp_total names_apart is_string_entry word_in_string room l k given form h
-string_left room l (str.Delete k) form h = delete_left string_order nat_list_cmp_total names_apart is_string_entry l k form h
-string_left room l str.Free form h = free_left l h
-string_left room l _ form h = refl
-
-byte_left : (room : Bool) (l : Entries (List ℕ)) (c : BytesCall) → is_content string_order is_bytes_entry l ≡ true
-    → bytes_leaves c (bytes_step room l c).0 ≡ true → (bytes_step room l c).1 ≡ l
-byte_left room l (bytes.Insert k given) form h =
-    insert_left string_order nat_list_cmp_total names_apart is_bytes_entry word_in_bytes room l k given form h
-byte_left room l (bytes.Delete k) form h = delete_left string_order nat_list_cmp_total names_apart is_bytes_entry l k form h
-byte_left room l bytes.Free form h = free_left l h
-byte_left room l _ form h = refl
+effect_left : {K : Type 0} (order : Order K) (total : IsTotalOrder order) (same : IsAntisymmetric order) (test : K × ℕ → Bool) → HasWords test
+    → (room : Bool) (l : Entries K) (effect : Effect K) → is_content order test l ≡ true → effect_leaves effect (effect_step order room l effect).0 ≡ true
+    → (effect_step order room l effect).1 ≡ l
+effect_left order total same test words room l (Insert k Nothing ReportsNew) form h = present_left order total same test room l k form h
+effect_left order total same test words room l (Insert k (Value v) ReportsNew) form h = cc
+effect_left order total same test words room l (Insert k (Plus n) ReportsNew) form h = cc
+effect_left order total same test words room l (Insert k given ReportsValue) form h = insert_left order total same test words room l k given form h
+effect_left order total same test words room l (Remove k) form h = delete_left order total same test l k form h
+effect_left order total same test words room l Free form h = free_left l h
+effect_left order total same test words room l (Ask answer) form h = refl
 
 -- ---- a call of a tenant
 
@@ -168,19 +153,23 @@ allowed_left : (quota : Quota) (s : State) (call : Call) → IsWellFormed s → 
     → (allowed_step quota s call).1 ≡ s
 allowed_left quota s (One name c) h e =
     ap (λ l. record s { one = with_content s.one name l })
-    (one_left (has_room quota s (One name c)) (content_of s.one name) c (content_form word_order is_one_entry s.one name h.one) e)
+    (effect_left word_order nat_cmp_total nat_cmp-IsAntisymmetric is_one_entry word_in_one (has_room quota s (One name c)) (content_of s.one name) (one_effect c)
+    (content_form word_order is_one_entry s.one name h.one) e)
     ∙ ap (λ arrays. record s { one = arrays }) (with_content_same word_order is_one_entry s.one name h.one)
 allowed_left quota s (Long name c) h e =
     ap (λ l. record s { long = with_content s.long name l })
-    (long_left (has_room quota s (Long name c)) (content_of s.long name) c (content_form word_order is_long_entry s.long name h.long) e)
+    (effect_left word_order nat_cmp_total nat_cmp-IsAntisymmetric is_long_entry word_in_long (has_room quota s (Long name c)) (content_of s.long name) (long_effect c)
+    (content_form word_order is_long_entry s.long name h.long) e)
     ∙ ap (λ arrays. record s { long = arrays }) (with_content_same word_order is_long_entry s.long name h.long)
 allowed_left quota s (Str name c) h e =
     ap (λ l. record s { string = with_content s.string name l })
-    (string_left (has_room quota s (Str name c)) (content_of s.string name) c (content_form string_order is_string_entry s.string name h.string) e)
+    (effect_left string_order nat_list_cmp_total names_apart is_string_entry word_in_string (has_room quota s (Str name c)) (content_of s.string name) (string_effect c)
+    (content_form string_order is_string_entry s.string name h.string) e)
     ∙ ap (λ arrays. record s { string = arrays }) (with_content_same string_order is_string_entry s.string name h.string)
 allowed_left quota s (Bytes name c) h e =
     ap (λ l. record s { bytes = with_content s.bytes name l })
-    (byte_left (has_room quota s (Bytes name c)) (content_of s.bytes name) c (content_form string_order is_bytes_entry s.bytes name h.bytes) e)
+    (effect_left string_order nat_list_cmp_total names_apart is_bytes_entry word_in_bytes (has_room quota s (Bytes name c)) (content_of s.bytes name) (bytes_effect c)
+    (content_form string_order is_bytes_entry s.bytes name h.bytes) e)
     ∙ ap (λ arrays. record s { bytes = arrays }) (with_content_same string_order is_bytes_entry s.bytes name h.bytes)
 allowed_left quota s Used h e = refl
 

@@ -5,7 +5,7 @@
 --     command_of call          the command that makes a call
 --     command_words            the words of the table
 --     command_place command    the place of a command in the table
-use Rattle.std.specs.Prelude.{◌&&◌, ℕ, Bool, List, [], ◌∷◌, Option, Some, None, codes, map, ◌==◌}
+use Rattle.std.specs.Prelude.{◌&&◌, ℕ, zero, suc, Bool, List, [], ◌∷◌, Option, Some, None, codes, map, ◌==◌}
 use Rattle.std.specs.List.{position_or_len}
 use Rattle.judy_model.specs.declared.calls.Call.{Call}
 use Rattle.judy_model.specs.declared.calls.Call.TheVariants as call
@@ -63,7 +63,14 @@ kind_number Long = 1
 kind_number Str = 2
 kind_number Bytes = 3
 
--- that of an operation
+-- the kind with a number
+abbrev pub kind_with : ℕ → Kind
+kind_with zero = One
+kind_with (suc zero) = Long
+kind_with (suc (suc zero)) = Str
+kind_with (suc (suc (suc n))) = Bytes
+
+-- the number of an operation
 abbrev pub operation_number : Operation → ℕ
 operation_number Insert = 0
 operation_number Add = 1

@@ -1,5 +1,5 @@
 -- One tenant's arrays. The reply to each call, and the arrays after it.
-use Rattle.std.specs.Prelude.{◌≡◌, ℕ, ◌+◌, ◌%◌, ◌^◌, Bool, true, false, not, ◌&&◌, List, [], ◌∷◌, ◌++◌, map, length, Option, Some, None, nat_lt, nat_le, if◌then◌else◌, unwrap_or, sum_by, filter}
+use Rattle.std.specs.Prelude.{◌≡◌, ℕ, ◌+◌, ◌%◌, ◌^◌, Bool, true, false, not, ◌&&◌, List, [], ◌∷◌, ◌++◌, map, length, Option, Some, None, nat_lt, nat_le, if◌then◌else◌, is_none, unwrap_or, sum_by, filter}
 use Rattle.std.specs.Ordering.{eq_by_cmp}
 use Rattle.std.specs.FinMap.{find, put}
 use Rattle.judy_model.specs.declared.calls.Call.{Call}
@@ -88,15 +88,51 @@ abbrev pub absent_or_no : Option ℕ → Reply
 absent_or_no (Some x) = reply.Index x
 absent_or_no None = reply.Int false
 
--- Each of the following takes the content of an array, and gives the reply and the content
--- afterwards. A new entry needs room.
+-- ---- what a call does to an array
 
--- inserts a word into a set; the reply says whether it was new
-abbrev pub set : Bool → Entries ℕ → ℕ → Reply × Entries ℕ
-set room l x =
-    if has_key word_order l x then (reply.Int false, l)
-    else if room then (reply.Int true, with_entry word_order l x 0)
-    else (reply.Full, l)
+-- the answer to a call that changes nothing
+pub data Answer : Type 0 where
+  -- yes or no
+  Yes : Bool → Answer
+  -- a number of entries
+  Number : ℕ → Answer
+  -- the index of an entry of a set
+  Index : Option (ℕ × ℕ) → Answer
+  -- an absent word
+  Absent : Option ℕ → Answer
+  -- the value of a key
+  ValueOf : Option ℕ → Answer
+  -- the value and the index of an entry of a JudyL
+  ValueAt : Option (ℕ × ℕ) → Answer
+  -- the value and the string of an entry of a JudySL
+  ValueKey : Option (List ℕ × ℕ) → Answer
+
+-- the reply with this answer
+abbrev pub reply_of : Answer → Reply
+reply_of (Yes b) = reply.Int b
+reply_of (Number n) = reply.Count n
+reply_of (Index o) = index_or_no o
+reply_of (Absent o) = absent_or_no o
+reply_of (ValueOf o) = value_or_null o
+reply_of (ValueAt o) = value_at_or_null o
+reply_of (ValueKey o) = value_key_or_null o
+
+-- what the reply to an insertion shows: whether the key was new, or a value
+pub data Reports : Type 0 where
+  ReportsNew : Reports
+  ReportsValue : Reports
+
+-- What a call does to the entries of an array. Each kind of array has the same four: a call of a kind is one of
+-- them with a key of that kind.
+pub data Effect (K : Type 0) : Type 0 where
+  -- inserts a key with what it is given; a new key needs room
+  Insert : K → Given → Reports → Effect K
+  -- removes a key; the reply says whether it was present
+  Remove : K → Effect K
+  -- removes all entries; the reply is how many there were
+  Free : Effect K
+  -- changes nothing
+  Ask : (Entries K → Answer) → Effect K
 
 -- the value of an entry after its insertion, by the value before; an absent entry counts as 0
 abbrev pub value_after : Given → ℕ → ℕ
@@ -110,117 +146,148 @@ value_replied Nothing before = before
 value_replied (Value v) before = before
 value_replied (Plus n) before = value_after (Plus n) before
 
--- inserts a key into a map. The last argument is the key's value, if it is present.
-abbrev pub insert_over : {K : Type 0} → Order K → Bool → Entries K → K → Given → Option ℕ → Reply × Entries K
-insert_over order room l k given (Some v) = (reply.Value (value_replied given v), with_entry order l k (value_after given v))
-insert_over order room l k given None =
-    if room then (reply.Value (value_replied given 0), with_entry order l k (value_after given 0)) else (reply.Full, l)
+-- the reply to an insertion, by the key's value before, if it was present
+abbrev pub insertion_reply : Reports → Given → Option ℕ → Reply
+insertion_reply ReportsNew given had = reply.Int (is_none had)
+insertion_reply ReportsValue given had = reply.Value (value_replied given (unwrap_or had 0))
 
--- inserts a key into a map
-abbrev pub insert : {K : Type 0} → Order K → Bool → Entries K → K → Given → Reply × Entries K
-insert order room l k given = insert_over order room l k given (value_of order l k)
+-- inserts a key. The last argument is the key's value, if it is present.
+abbrev pub insert_over : {K : Type 0} → Order K → Bool → Entries K → K → Given → Reports → Option ℕ → Reply × Entries K
+insert_over order room l k given reports (Some v) = (insertion_reply reports given (Some v), with_entry order l k (value_after given v))
+insert_over order room l k given reports None =
+    if room then (insertion_reply reports given None, with_entry order l k (value_after given 0)) else (reply.Full, l)
 
--- removes a key; the reply says whether it was present
+-- inserts a key
+abbrev pub insert : {K : Type 0} → Order K → Bool → Entries K → K → Given → Reports → Reply × Entries K
+insert order room l k given reports = insert_over order room l k given reports (value_of order l k)
+
+-- removes a key
 abbrev pub delete : {K : Type 0} → Order K → Entries K → K → Reply × Entries K
 delete order l k = (reply.Int (has_key order l k), without_key order l k)
 
--- removes all entries; the reply is how many there were
+-- removes all entries
 abbrev pub free : {K : Type 0} → Entries K → Reply × Entries K
 free l = (reply.Count (length l), [])
 
--- a call of a set: its reply, and the entries afterwards
+-- the reply to a call that does this, and the entries afterwards
+abbrev pub effect_step : {K : Type 0} → Order K → Bool → Entries K → Effect K → Reply × Entries K
+effect_step order room l (Insert k given reports) = insert order room l k given reports
+effect_step order room l (Remove k) = delete order l k
+effect_step order room l Free = free l
+effect_step order room l (Ask answer) = (reply_of (answer l), l)
+
+-- whether it may change the array
+abbrev pub effect_changes : {K : Type 0} → Effect K → Bool
+effect_changes (Ask answer) = false
+effect_changes _ = true
+
+-- whether it may insert a key
+abbrev pub effect_inserts : {K : Type 0} → Effect K → Bool
+effect_inserts (Insert k given reports) = true
+effect_inserts _ = false
+
+-- whether it asks for a new key
+abbrev pub effect_asks_for_new : {K : Type 0} → Order K → Entries K → Effect K → Bool
+effect_asks_for_new order l (Insert k given reports) = not (has_key order l k)
+effect_asks_for_new order l _ = false
+
+-- the pieces of the entry that it would insert, by those of a key
+abbrev pub effect_pieces : {K : Type 0} → (K → ℕ) → Effect K → ℕ
+effect_pieces size (Insert k given reports) = size k
+effect_pieces size _ = 0
+
+-- ---- the calls of each kind
+
+-- what a call of a set does: its values are 0
+abbrev pub one_effect : OneCall → Effect ℕ
+one_effect (one.Set x) = Insert x Nothing ReportsNew
+one_effect (one.Unset x) = Remove x
+one_effect (one.Test x) = Ask (λ l. Yes (has_key word_order l x))
+one_effect (one.Count a b) = Ask (λ l. Number (count l a b))
+one_effect (one.ByCount n) = Ask (λ l. Index (nth l n))
+one_effect (one.First x) = Ask (λ l. Index (first word_order l x))
+one_effect (one.Next x) = Ask (λ l. Index (next word_order l x))
+one_effect (one.Last x) = Ask (λ l. Index (last word_order l x))
+one_effect (one.Prev x) = Ask (λ l. Index (prev word_order l x))
+one_effect (one.FirstEmpty x) = Ask (λ l. Absent (first_empty l x))
+one_effect (one.NextEmpty x) = Ask (λ l. Absent (next_empty l x))
+one_effect (one.LastEmpty x) = Ask (λ l. Absent (last_empty l x))
+one_effect (one.PrevEmpty x) = Ask (λ l. Absent (prev_empty l x))
+one_effect one.Free = Free
+
+-- what a call of a JudyL does
+abbrev pub long_effect : LongCall → Effect ℕ
+long_effect (long.Insert k given) = Insert k given ReportsValue
+long_effect (long.Delete k) = Remove k
+long_effect (long.Get k) = Ask (λ l. ValueOf (value_of word_order l k))
+long_effect (long.Count a b) = Ask (λ l. Number (count l a b))
+long_effect (long.ByCount n) = Ask (λ l. ValueAt (nth l n))
+long_effect (long.First x) = Ask (λ l. ValueAt (first word_order l x))
+long_effect (long.Next x) = Ask (λ l. ValueAt (next word_order l x))
+long_effect (long.Last x) = Ask (λ l. ValueAt (last word_order l x))
+long_effect (long.Prev x) = Ask (λ l. ValueAt (prev word_order l x))
+long_effect (long.FirstEmpty x) = Ask (λ l. Absent (first_empty l x))
+long_effect (long.NextEmpty x) = Ask (λ l. Absent (next_empty l x))
+long_effect (long.LastEmpty x) = Ask (λ l. Absent (last_empty l x))
+long_effect (long.PrevEmpty x) = Ask (λ l. Absent (prev_empty l x))
+long_effect long.Free = Free
+
+-- what a call of a JudySL does
+abbrev pub string_effect : StrCall → Effect (List ℕ)
+string_effect (str.Insert k given) = Insert k given ReportsValue
+string_effect (str.Delete k) = Remove k
+string_effect (str.Get k) = Ask (λ l. ValueOf (value_of string_order l k))
+string_effect (str.First x) = Ask (λ l. ValueKey (first string_order l x))
+string_effect (str.Next x) = Ask (λ l. ValueKey (next string_order l x))
+string_effect (str.Last x) = Ask (λ l. ValueKey (last string_order l x))
+string_effect (str.Prev x) = Ask (λ l. ValueKey (prev string_order l x))
+string_effect str.Free = Free
+
+-- what a call of a JudyHS does
+abbrev pub bytes_effect : BytesCall → Effect (List ℕ)
+bytes_effect (bytes.Insert k given) = Insert k given ReportsValue
+bytes_effect (bytes.Delete k) = Remove k
+bytes_effect (bytes.Get k) = Ask (λ l. ValueOf (value_of string_order l k))
+bytes_effect bytes.Free = Free
+
+-- a call of each kind: its reply, and the entries afterwards
 abbrev pub one_step : Bool → Entries ℕ → OneCall → Reply × Entries ℕ
-one_step room l (one.Set x) = set room l x
-one_step room l (one.Unset x) = delete word_order l x
-one_step room l (one.Test x) = (reply.Int (has_key word_order l x), l)
-one_step room l (one.Count a b) = (reply.Count (count l a b), l)
-one_step room l (one.ByCount n) = (index_or_no (nth l n), l)
-one_step room l (one.First x) = (index_or_no (first word_order l x), l)
-one_step room l (one.Next x) = (index_or_no (next word_order l x), l)
-one_step room l (one.Last x) = (index_or_no (last word_order l x), l)
-one_step room l (one.Prev x) = (index_or_no (prev word_order l x), l)
-one_step room l (one.FirstEmpty x) = (absent_or_no (first_empty l x), l)
-one_step room l (one.NextEmpty x) = (absent_or_no (next_empty l x), l)
-one_step room l (one.LastEmpty x) = (absent_or_no (last_empty l x), l)
-one_step room l (one.PrevEmpty x) = (absent_or_no (prev_empty l x), l)
-one_step room l one.Free = free l
+one_step room l c = effect_step word_order room l (one_effect c)
 
--- a call of a JudyL
 abbrev pub long_step : Bool → Entries ℕ → LongCall → Reply × Entries ℕ
-long_step room l (long.Insert k given) = insert word_order room l k given
-long_step room l (long.Delete k) = delete word_order l k
-long_step room l (long.Get k) = (value_or_null (value_of word_order l k), l)
-long_step room l (long.Count a b) = (reply.Count (count l a b), l)
-long_step room l (long.ByCount n) = (value_at_or_null (nth l n), l)
-long_step room l (long.First x) = (value_at_or_null (first word_order l x), l)
-long_step room l (long.Next x) = (value_at_or_null (next word_order l x), l)
-long_step room l (long.Last x) = (value_at_or_null (last word_order l x), l)
-long_step room l (long.Prev x) = (value_at_or_null (prev word_order l x), l)
-long_step room l (long.FirstEmpty x) = (absent_or_no (first_empty l x), l)
-long_step room l (long.NextEmpty x) = (absent_or_no (next_empty l x), l)
-long_step room l (long.LastEmpty x) = (absent_or_no (last_empty l x), l)
-long_step room l (long.PrevEmpty x) = (absent_or_no (prev_empty l x), l)
-long_step room l long.Free = free l
+long_step room l c = effect_step word_order room l (long_effect c)
 
--- a call of a JudySL
 abbrev pub string_step : Bool → Entries (List ℕ) → StrCall → Reply × Entries (List ℕ)
-string_step room l (str.Insert k given) = insert string_order room l k given
-string_step room l (str.Delete k) = delete string_order l k
-string_step room l (str.Get k) = (value_or_null (value_of string_order l k), l)
-string_step room l (str.First x) = (value_key_or_null (first string_order l x), l)
-string_step room l (str.Next x) = (value_key_or_null (next string_order l x), l)
-string_step room l (str.Last x) = (value_key_or_null (last string_order l x), l)
-string_step room l (str.Prev x) = (value_key_or_null (prev string_order l x), l)
-string_step room l str.Free = free l
+string_step room l c = effect_step string_order room l (string_effect c)
 
--- a call of a JudyHS
 abbrev pub bytes_step : Bool → Entries (List ℕ) → BytesCall → Reply × Entries (List ℕ)
-bytes_step room l (bytes.Insert k given) = insert string_order room l k given
-bytes_step room l (bytes.Delete k) = delete string_order l k
-bytes_step room l (bytes.Get k) = (value_or_null (value_of string_order l k), l)
-bytes_step room l bytes.Free = free l
+bytes_step room l c = effect_step string_order room l (bytes_effect c)
 
--- ---- the calls that change an array, and those that ask for a new key
-
+-- whether the call may change its array
 abbrev pub one_changes : OneCall → Bool
-one_changes (one.Set x) = true
-one_changes (one.Unset x) = true
-one_changes one.Free = true
-one_changes _ = false
+one_changes c = effect_changes (one_effect c)
 
 abbrev pub long_changes : LongCall → Bool
-long_changes (long.Insert k given) = true
-long_changes (long.Delete k) = true
-long_changes long.Free = true
-long_changes _ = false
+long_changes c = effect_changes (long_effect c)
 
 abbrev pub string_changes : StrCall → Bool
-string_changes (str.Insert k given) = true
-string_changes (str.Delete k) = true
-string_changes str.Free = true
-string_changes _ = false
+string_changes c = effect_changes (string_effect c)
 
 abbrev pub bytes_changes : BytesCall → Bool
-bytes_changes (bytes.Insert k given) = true
-bytes_changes (bytes.Delete k) = true
-bytes_changes bytes.Free = true
-bytes_changes _ = false
+bytes_changes c = effect_changes (bytes_effect c)
 
+-- whether the call asks for a new key
 abbrev pub one_asks_for_new : Entries ℕ → OneCall → Bool
-one_asks_for_new l (one.Set x) = not (has_key word_order l x)
-one_asks_for_new l _ = false
+one_asks_for_new l c = effect_asks_for_new word_order l (one_effect c)
 
 abbrev pub long_asks_for_new : Entries ℕ → LongCall → Bool
-long_asks_for_new l (long.Insert k given) = not (has_key word_order l k)
-long_asks_for_new l _ = false
+long_asks_for_new l c = effect_asks_for_new word_order l (long_effect c)
 
 abbrev pub string_asks_for_new : Entries (List ℕ) → StrCall → Bool
-string_asks_for_new l (str.Insert k given) = not (has_key string_order l k)
-string_asks_for_new l _ = false
+string_asks_for_new l c = effect_asks_for_new string_order l (string_effect c)
 
 abbrev pub bytes_asks_for_new : Entries (List ℕ) → BytesCall → Bool
-bytes_asks_for_new l (bytes.Insert k given) = not (has_key string_order l k)
-bytes_asks_for_new l _ = false
+bytes_asks_for_new l c = effect_asks_for_new string_order l (bytes_effect c)
 
 -- ---- a call of a tenant
 
@@ -256,11 +323,19 @@ asks_for_new Change s Used = false
 
 -- the pieces of the entry that a call would insert
 abbrev pub new_pieces : Call → ℕ
-new_pieces (One name (one.Set x)) = word_pieces x
-new_pieces (Long name (long.Insert k given)) = word_pieces k
-new_pieces (Str name (str.Insert k given)) = string_pieces k
-new_pieces (Bytes name (bytes.Insert k given)) = string_pieces k
-new_pieces _ = 0
+new_pieces (One name c) = effect_pieces word_pieces (one_effect c)
+new_pieces (Long name c) = effect_pieces word_pieces (long_effect c)
+new_pieces (Str name c) = effect_pieces string_pieces (string_effect c)
+new_pieces (Bytes name c) = effect_pieces string_pieces (bytes_effect c)
+new_pieces Used = 0
+
+-- whether the call may insert a key
+abbrev pub inserts : Call → Bool
+inserts (One name c) = effect_inserts (one_effect c)
+inserts (Long name c) = effect_inserts (long_effect c)
+inserts (Str name c) = effect_inserts (string_effect c)
+inserts (Bytes name c) = effect_inserts (bytes_effect c)
+inserts Used = false
 
 -- whether the quota has room for one more entry with the pieces of this call
 abbrev pub has_room : Quota → State → Call → Bool

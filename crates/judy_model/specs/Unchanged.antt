@@ -6,20 +6,18 @@ use Rattle.std.specs.Prelude.{◌≡◌, ℕ, Bool, true, false, not, ◌&&◌, 
 use Rattle.judy_model.specs.declared.calls.Call.{Call}
 use Rattle.judy_model.specs.declared.calls.Call.TheVariants.{One, Long, Str, Bytes, Used}
 use Rattle.judy_model.specs.declared.calls.OneCall.{OneCall}
-use Rattle.judy_model.specs.declared.calls.OneCall.TheVariants as one
 use Rattle.judy_model.specs.declared.calls.LongCall.{LongCall}
-use Rattle.judy_model.specs.declared.calls.LongCall.TheVariants as long
 use Rattle.judy_model.specs.declared.calls.StrCall.{StrCall}
-use Rattle.judy_model.specs.declared.calls.StrCall.TheVariants as str
 use Rattle.judy_model.specs.declared.calls.BytesCall.{BytesCall}
-use Rattle.judy_model.specs.declared.calls.BytesCall.TheVariants as bytes
 use Rattle.judy_model.specs.declared.calls.Given.{Given}
 use Rattle.judy_model.specs.declared.calls.Given.TheVariants.{Nothing, Value, Plus}
 use Rattle.judy_model.specs.declared.quotas.Quota.{Quota}
 use Rattle.judy_model.specs.declared.quotas.Right.{Right}
 use Rattle.judy_model.specs.declared.replies.Reply.{Reply}
 use Rattle.judy_model.specs.declared.replies.Reply.TheVariants as reply
-use Rattle.judy_model.specs.Tenant.{State, step}
+use Rattle.judy_model.specs.Tenant.Effect.{Insert, Remove, Free, Ask}
+use Rattle.judy_model.specs.Tenant.Reports.{ReportsNew, ReportsValue}
+use Rattle.judy_model.specs.Tenant.{Effect, State, one_effect, long_effect, string_effect, bytes_effect, step}
 use Rattle.judy_model.specs.WellFormed.{IsWellFormed}
 
 -- Whether an insertion whose reply shows this value left the value that was there. The reply to a new
@@ -44,30 +42,28 @@ abbrev pub says_none : Reply → Bool
 says_none (reply.Count n) = n == 0
 says_none _ = false
 
--- the reply says that a call of this kind left its array
+-- The reply says that a call that does this left its array. An insertion whose reply shows only whether the
+-- key was new leaves a present one if it gives no value.
+abbrev pub effect_leaves : {K : Type 0} → Effect K → Reply → Bool
+effect_leaves (Insert k Nothing ReportsNew) r = says_no r
+effect_leaves (Insert k given ReportsNew) r = false
+effect_leaves (Insert k given ReportsValue) r = insertion_leaves given r
+effect_leaves (Remove k) r = says_no r
+effect_leaves Free r = says_none r
+effect_leaves (Ask answer) r = false
+
+-- a call of each kind
 abbrev pub one_leaves : OneCall → Reply → Bool
-one_leaves (one.Set x) r = says_no r
-one_leaves (one.Unset x) r = says_no r
-one_leaves one.Free r = says_none r
-one_leaves _ r = false
+one_leaves c r = effect_leaves (one_effect c) r
 
 abbrev pub long_leaves : LongCall → Reply → Bool
-long_leaves (long.Insert k given) r = insertion_leaves given r
-long_leaves (long.Delete k) r = says_no r
-long_leaves long.Free r = says_none r
-long_leaves _ r = false
+long_leaves c r = effect_leaves (long_effect c) r
 
 abbrev pub string_leaves : StrCall → Reply → Bool
-string_leaves (str.Insert k given) r = insertion_leaves given r
-string_leaves (str.Delete k) r = says_no r
-string_leaves str.Free r = says_none r
-string_leaves _ r = false
+string_leaves c r = effect_leaves (string_effect c) r
 
 abbrev pub bytes_leaves : BytesCall → Reply → Bool
-bytes_leaves (bytes.Insert k given) r = insertion_leaves given r
-bytes_leaves (bytes.Delete k) r = says_no r
-bytes_leaves bytes.Free r = says_none r
-bytes_leaves _ r = false
+bytes_leaves c r = effect_leaves (bytes_effect c) r
 
 -- Whether the reply says that the call changed nothing, of a call that may change arrays and was not
 -- refused.

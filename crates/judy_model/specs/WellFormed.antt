@@ -4,10 +4,6 @@ use Rattle.std.specs.List.{list_all}
 use Rattle.std.specs.FinMap.{is_sorted}
 use Rattle.judy_model.specs.declared.calls.Call.{Call}
 use Rattle.judy_model.specs.declared.calls.Call.TheVariants.{One, Long, Str, Bytes, Used}
-use Rattle.judy_model.specs.declared.calls.OneCall.TheVariants as one
-use Rattle.judy_model.specs.declared.calls.LongCall.TheVariants as long
-use Rattle.judy_model.specs.declared.calls.StrCall.TheVariants as str
-use Rattle.judy_model.specs.declared.calls.BytesCall.TheVariants as bytes
 use Rattle.judy_model.specs.declared.quotas.Quota.{Quota}
 use Rattle.judy_model.specs.declared.quotas.Right.{Right}
 use Rattle.judy_model.specs.declared.quotas.Right.TheVariants.{Look, Frozen}
@@ -16,7 +12,9 @@ use Rattle.judy_model.specs.declared.replies.Reply.TheVariants as reply
 use Rattle.judy_model.specs.Contents.{Order, Entries, word_order, string_order, max_word}
 use Rattle.judy_model.specs.Grammar.{are_bytes, is_string, is_byte_key}
 use Rattle.judy_model.specs.Solo.{IsAnswered}
-use Rattle.judy_model.specs.Tenant.{Arrays, State, Attempt, content_of, used, pieces, step, changes, asks_for_new, new_pieces, has_room, value_after}
+use Rattle.judy_model.specs.Tenant.Effect.{Insert}
+use Rattle.judy_model.specs.Tenant.{Effect, one_effect, long_effect, string_effect, bytes_effect, value_after}
+use Rattle.judy_model.specs.Tenant.{Arrays, State, Attempt, content_of, used, pieces, step, changes, asks_for_new, new_pieces, has_room}
 
 -- a number that fits a word
 abbrev pub is_word : ℕ → Bool
@@ -58,13 +56,18 @@ pub record IsWellFormed (s : State) : Type 0 where
   pub string : IsTrue (are_arrays string_order is_string_entry s.string)
   pub bytes : IsTrue (are_arrays string_order is_bytes_entry s.bytes)
 
+-- what a new key would be inserted as is an entry, by the test of its kind
+abbrev pub effect_writes : {K : Type 0} → (K × ℕ → Bool) → Effect K → Bool
+effect_writes is_entry (Insert k given reports) = is_entry (k, value_after given 0)
+effect_writes is_entry _ = true
+
 -- what the call would insert is an entry of its kind
 abbrev pub writes_entry : Call → Bool
-writes_entry (One name (one.Set x)) = is_one_entry (x, 0)
-writes_entry (Long name (long.Insert key given)) = is_long_entry (key, value_after given 0)
-writes_entry (Str name (str.Insert key given)) = is_string_entry (key, value_after given 0)
-writes_entry (Bytes name (bytes.Insert key given)) = is_bytes_entry (key, value_after given 0)
-writes_entry _ = true
+writes_entry (One name c) = effect_writes is_one_entry (one_effect c)
+writes_entry (Long name c) = effect_writes is_long_entry (long_effect c)
+writes_entry (Str name c) = effect_writes is_string_entry (string_effect c)
+writes_entry (Bytes name c) = effect_writes is_bytes_entry (bytes_effect c)
+writes_entry Used = true
 
 -- a call keeps a well-formed state well-formed
 abbrev pub StepKeepsForm : Type 0

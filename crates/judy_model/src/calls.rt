@@ -1,7 +1,7 @@
 //! The calls of a tenant, as in the manual pages Judy1(3), JudyL(3), JudySL(3) and JudyHS(3).
 ghost use Rattle.std.specs.Prelude.{◌≡◌};
 ghost use Rattle.judy_model.specs.Commands.{bytes_operation, command_of, given_operation, long_operation, one_operation, string_operation};
-ghost use Rattle.judy_model.specs.Tenant.{bytes_changes, changes, is_read_only, long_changes, new_pieces, one_changes, string_changes};
+ghost use Rattle.judy_model.specs.Tenant.{bytes_changes, changes, inserts, is_read_only, long_changes, new_pieces, one_changes, string_changes};
 ghost use Rattle.judy_model.specs.Tenant.{value_after, value_replied};
 
 use crate::commands::{Command, Kind, Operation};
@@ -164,6 +164,19 @@ impl<'a> Call<'a> {
             Call::Long(_, call) => call.changes(),
             Call::Str(_, call) => call.changes(),
             Call::Bytes(_, call) => call.changes(),
+            Call::Used => false,
+        }
+    }
+
+    /// Whether the call may insert an entry.
+    pub fn inserts(&self) -> bool
+        ensures { result ≡ inserts self.now }
+    {
+        match self {
+            Call::One(_, call) => matches!(call, OneCall::Set(_)),
+            Call::Long(_, call) => matches!(call, LongCall::Insert(..)),
+            Call::Str(_, call) => matches!(call, StrCall::Insert(..)),
+            Call::Bytes(_, call) => matches!(call, BytesCall::Insert(..)),
             Call::Used => false,
         }
     }

@@ -1,7 +1,7 @@
 //! What commands are: each is of one kind of array, and does one thing there. The words are in
 //! specs/Commands.antt.
 ghost use Rattle.std.specs.Prelude.{◌≡◌, ◌<◌, ◌≤◌, Some, length, map, slice_get};
-ghost use Rattle.judy_model.specs.Commands.{command_place, command_words};
+ghost use Rattle.judy_model.specs.Commands.{command_place, command_words, kind_number, kind_with};
 
 /// How many commands there are.
 pub const COMMANDS: usize = 43;
@@ -88,6 +88,34 @@ pub enum Numbers {
     One(u64),
     /// Two numbers.
     Two(u64, u64),
+}
+
+impl Kind {
+    /// The number of the kind, in the order of the type.
+    pub fn number(self) -> u8
+        ensures number { result ≡ kind_number self }
+        ensures few { result < 4 }
+    {
+        match self {
+            Kind::One => 0,
+            Kind::Long => 1,
+            Kind::Str => 2,
+            Kind::Bytes => 3,
+        }
+    }
+
+    /// The kind with this number.
+    pub fn with(number: u16) -> Kind
+        requires { number < 4 }
+        ensures { result ≡ kind_with number }
+    {
+        match number {
+            0 => Kind::One,
+            1 => Kind::Long,
+            2 => Kind::Str,
+            _ => Kind::Bytes,
+        }
+    }
 }
 
 impl Command {

@@ -13,7 +13,7 @@ use Rattle.judy_model.specs.declared.quotas.Quota.{Quota}
 use Rattle.judy_model.specs.declared.quotas.Right.{Right}
 use Rattle.judy_model.specs.declared.replies.Reply.{Reply}
 use Rattle.judy_model.specs.declared.replies.Reply.TheVariants as reply
-use Rattle.judy_model.specs.Tenant.{State, used, pieces, changes, is_read_only, asks_for_new, has_room, allowed_step}
+use Rattle.judy_model.specs.Tenant.{State, used, pieces, changes, inserts, is_read_only, asks_for_new, has_room, allowed_step}
 use Rattle.judy_model.specs.Solo.{IsAnswered, StepHasMemory}
 use Rattle.judy_model.specs.WellFormed.{FullIsForNew, LooksKeepAll}
 use Rattle.judy_model.specs.Service.{IsServed}
@@ -22,10 +22,10 @@ use Rattle.judy_directory.specs.Places.{at}
 use Rattle.judy_directory.specs.Kinds.{spot_of}
 use Rattle.judy_table.specs.declared.tenant.Tenant.{Tenant}
 use Rattle.judy_kinds.specs.Kinds.{IsPlaceOf, kind_of_key}
-use Rattle.judy_kinds.specs.Calls.{is_of_array, is_insertion, kind_of_call, name_of_call, asks_at, AnswersAt, blocks_of_kind, blocks_of_call}
+use Rattle.judy_kinds.specs.Calls.{is_of_array, kind_of_call, name_of_call, asks_at, AnswersAt, blocks_of_kind, blocks_of_call}
 use Rattle.judy_kinds.specs.Laws.{InsertionsAloneAsk}
-use Rattle.judy_directory.specs.declared.spot.ArrayKind.{ArrayKind}
-use Rattle.judy_directory.specs.declared.spot.ArrayKind.TheVariants.{One, Long, Str, Bytes}
+use Rattle.judy_model.specs.declared.commands.Kind.{Kind}
+use Rattle.judy_model.specs.declared.commands.Kind.TheVariants.{One, Long, Str, Bytes}
 use Rattle.judy_tenants.specs.declared.accounts.Account.{Account}
 use Rattle.judy_tenants.specs.declared.stock.Stock.{Stock}
 use Rattle.judy_tenants.specs.declared.stock.Answered.{Answered}
@@ -95,7 +95,7 @@ whole-keeps event held r = record {
 }
 
 -- the key that the code builds is the call's key
-pub key-is : (tenant t : ℕ) (kind k : ArrayKind) (copied name n : List ℕ) (spot : List ℕ) → spot ≡ spot_of tenant kind copied
+pub key-is : (tenant t : ℕ) (kind k : Kind) (copied name n : List ℕ) (spot : List ℕ) → spot ≡ spot_of tenant kind copied
     → tenant ≡ t → kind ≡ k → copied ≡ name → name ≡ n
     → spot ≡ spot_of t k n
 key-is tenant t kind k copied name n spot e f g h i = e ∙ ap (λ u. spot_of u kind copied) f ∙ ap (λ j. spot_of t j copied) g ∙ ap (spot_of t k) (h ∙ i)
@@ -174,7 +174,7 @@ module _ {H : List ℕ → ℕ} {tenants : List Tenant} {old : Stock} {t : ℕ} 
         unlike h = cc
 
         changing : changes c ≡ true
-        changing = elim (is_insertion c) as (λ b. is_insertion c ≡ b → changes c ≡ true) [
+        changing = elim (inserts c) as (λ b. inserts c ≡ b → changes c ≡ true) [
           | true ↦ λ h. (m.insertions old.arena.blocks (at old.directory.0 (key_of_call t c)).root c).1 h
           | false ↦ λ h. absurd (unlike (sym ((m.insertions old.arena.blocks (at old.directory.0 (key_of_call t c)).root c).0 h) ∙ asked))
         ] refl

@@ -16,8 +16,8 @@ use Rattle.judy_model.specs.declared.replies.Reply.{Reply}
 use Rattle.judy_model.specs.Contents.{string_order}
 use Rattle.judy_model.specs.Tenant.{Arrays, no_arrays, used, pieces, has_room}
 use Rattle.judy_model.proofs.lemmas.EntryLemmas.{string_is}
-use Rattle.judy_directory.specs.declared.spot.ArrayKind.{ArrayKind}
-use Rattle.judy_directory.specs.declared.spot.ArrayKind.TheVariants.{One, Long, Str, Bytes}
+use Rattle.judy_model.specs.declared.commands.Kind.{Kind}
+use Rattle.judy_model.specs.declared.commands.Kind.TheVariants.{One, Long, Str, Bytes}
 use Rattle.judy_directory.specs.Kinds.{owner_byte, spot_of}
 use Rattle.judy_directory.specs.Places.{Stand, at}
 use Rattle.judy_directory.specs.Shelf.{Places}
@@ -41,27 +41,27 @@ use Rattle.judy_tenants.proofs.Steps.{HasWay}
 
 -- ---- the call
 
-pub kind-of-free : (kind : ArrayKind) (name : List ℕ) → kind_of_call (free_of kind name) ≡ kind
+pub kind-of-free : (kind : Kind) (name : List ℕ) → kind_of_call (free_of kind name) ≡ kind
 kind-of-free One name = refl
 kind-of-free Long name = refl
 kind-of-free Str name = refl
 kind-of-free Bytes name = refl
 
-name-of-free : (kind : ArrayKind) (name : List ℕ) → name_of_call (free_of kind name) ≡ name
+name-of-free : (kind : Kind) (name : List ℕ) → name_of_call (free_of kind name) ≡ name
 name-of-free One name = refl
 name-of-free Long name = refl
 name-of-free Str name = refl
 name-of-free Bytes name = refl
 
 -- it asks for no entry
-asks-for-none : (kind : ArrayKind) (name : List ℕ) (b : Blocks) (w : ℕ) → asks_at b w (free_of kind name) ≡ false
+asks-for-none : (kind : Kind) (name : List ℕ) (b : Blocks) (w : ℕ) → asks_at b w (free_of kind name) ≡ false
 asks-for-none One name b w = refl
 asks-for-none Long name b w = refl
 asks-for-none Str name b w = refl
 asks-for-none Bytes name b w = refl
 
 -- and leaves none
-emptied : (kind : ArrayKind) (name : List ℕ) (a b : Blocks) (w x : ℕ) (r : Reply) → AnswersAt a w (free_of kind name) r b x
+emptied : (kind : Kind) (name : List ℕ) (a b : Blocks) (w x : ℕ) (r : Reply) → AnswersAt a w (free_of kind name) r b x
     → content_at (kind_of_call (free_of kind name)) b x ≡ []
 emptied One name a b w x r h = sym (ap (λ z. z.1) h)
 emptied Long name a b w x r h = sym (ap (λ z. z.1) h)
@@ -70,7 +70,7 @@ emptied Bytes name a b w x r h = sym (ap (λ z. z.1) h)
 
 -- a call that is such a call
 pub record Frees (c : Call) : Type 0 where
-  pub kind : ArrayKind
+  pub kind : Kind
   pub name : List ℕ
   pub is : c ≡ free_of kind name
 
@@ -127,7 +127,7 @@ pub record FreesAt (H : List ℕ → ℕ) (tenants : List Tenant) (old : Stock) 
 
 -- kind and name of the key were read from it, and the call was made of them
 pub frees-at : {H : List ℕ → ℕ} {tenants : List Tenant} (old : Stock) (t : ℕ) {c : Call} {key : List ℕ} → KindLaws H → CallsAddOne → IsStocked H tenants old
-    → t < length tenants → AreLimited tenants → (parts : ArrayKind × List ℕ) → spot_of t parts.0 parts.1 ≡ key → c ≡ free_of parts.0 parts.1
+    → t < length tenants → AreLimited tenants → (parts : Kind × List ℕ) → spot_of t parts.0 parts.1 ≡ key → c ≡ free_of parts.0 parts.1
     → FreesAt H tenants old t c key
 frees-at old t laws adds s known limited parts read made =
     let f : Frees _ = record { kind = parts.0; name = parts.1; is = made } in
@@ -221,8 +221,8 @@ take-written n settled items many = ap (λ m. take m (settled ++ drop (length se
 -- ---- all arrays of a tenant
 
 -- a tenant without names has no arrays
-module _ (b : Blocks) (d : Places) (t : ℕ) (none : (kind : ArrayKind) (name : List ℕ) → get d (spot_of t kind name) ≡ None) where
-  nothing-listed : (kind : ArrayKind) → arrays_at kind (state_in b d t) ≡ []
+module _ (b : Blocks) (d : Places) (t : ℕ) (none : (kind : Kind) (name : List ℕ) → get d (spot_of t kind name) ≡ None) where
+  nothing-listed : (kind : Kind) → arrays_at kind (state_in b d t) ≡ []
   nothing-listed kind = by (arrays_at kind (state_in b d t)) found
     where
       found : (m : List ℕ) → find string_order m (arrays_at kind (state_in b d t)) ≡ None

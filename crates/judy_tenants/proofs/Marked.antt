@@ -19,8 +19,8 @@ use Rattle.judy_model.specs.declared.calls.Call.{Call}
 use Rattle.judy_model.specs.declared.replies.Reply.{Reply}
 use Rattle.judy_model.specs.Pieces.{word_pieces, string_pieces, pieces_of}
 use Rattle.judy_model.specs.Tenant.{no_arrays}
-use Rattle.judy_directory.specs.declared.spot.ArrayKind.{ArrayKind}
-use Rattle.judy_directory.specs.declared.spot.ArrayKind.TheVariants.{One, Long, Str, Bytes}
+use Rattle.judy_model.specs.declared.commands.Kind.{Kind}
+use Rattle.judy_model.specs.declared.commands.Kind.TheVariants.{One, Long, Str, Bytes}
 use Rattle.judy_directory.specs.Kinds.{spot_of, is_gone, is_staying}
 use Rattle.judy_directory.specs.Places.{Stand, at, nothing, with_place}
 use Rattle.judy_directory.specs.Shelf.{Places}
@@ -50,26 +50,26 @@ use Rattle.judy_tenants.proofs.StateLaws.{only}
 -- ---- the call that frees an array
 
 -- a place without a root is none
-none-there : (kind : ArrayKind) (b : Blocks) → HoldsNothing b 0 → entries_of kind b 0 ≡ 0
+none-there : (kind : Kind) (b : Blocks) → HoldsNothing b 0 → entries_of kind b 0 ≡ 0
 none-there One b h = ap length h.set
 none-there Long b h = ap length h.map
 none-there Str b h = ap length h.string
 none-there Bytes b h = ap length h.bytes
 
-no-pieces : (kind : ArrayKind) (b : Blocks) → HoldsNothing b 0 → pieces_at kind b 0 ≡ 0
+no-pieces : (kind : Kind) (b : Blocks) → HoldsNothing b 0 → pieces_at kind b 0 ≡ 0
 no-pieces One b h = ap (pieces_of word_pieces) h.set
 no-pieces Long b h = ap (pieces_of word_pieces) h.map
 no-pieces Str b h = ap (pieces_of string_pieces) h.string
 no-pieces Bytes b h = ap (pieces_of string_pieces) h.bytes
 
-no-place : {H : List ℕ → ℕ} (kind : ArrayKind) (b : Blocks) (p : Stand) → HoldsNothing b 0 → IsPlaceOf H kind b p → p.root ≡ 0 → p ≡ nothing
+no-place : {H : List ℕ → ℕ} (kind : Kind) (b : Blocks) (p : Stand) → HoldsNothing b 0 → IsPlaceOf H kind b p → p.root ≡ 0 → p ≡ nothing
 no-place kind b p none h root =
     let entries : p.entries ≡ 0 = h.entries ∙ ap (entries_of kind b) root ∙ none-there kind b none in
     let pieces : p.pieces ≡ 0 = h.pieces ∙ ap (pieces_at kind b) root ∙ no-pieces kind b none in
     λ i. record { root = root i; entries = entries i; pieces = pieces i }
 
 -- the place after the call
-pub freed-place : {H : List ℕ → ℕ} → KindLaws H → (kind : ArrayKind) (name : List ℕ) (c : Call) → c ≡ free_of kind name → (a b : ArenaState) (p q : Stand) (r : Reply)
+pub freed-place : {H : List ℕ → ℕ} → KindLaws H → (kind : Kind) (name : List ℕ) (c : Call) → c ≡ free_of kind name → (a b : ArenaState) (p q : Stand) (r : Reply)
     → ArrayBecomes H (kind_of_call c) a p b q → AnswersAt a.blocks p.root c r b.blocks q.root → ArrayBecomes H kind a p b nothing
 freed-place {H} laws kind name c made a b p q r became step =
     let f : Frees c = record { kind = kind; name = name; is = made } in
@@ -83,7 +83,7 @@ told : {A B : Type 0} (x : A × B) (y : B) → x.1 ≡ y → (r : A) × (x ≡ (
 told x y e = (x.0, ap (λ z. (x.0, z)) e)
 
 -- there is a reply that leads there
-reply-to-free : (kind : ArrayKind) (name : List ℕ) (a b : Blocks) (w : ℕ) → HoldsNothing b 0 → (r : Reply) × AnswersAt a w (free_of kind name) r b 0
+reply-to-free : (kind : Kind) (name : List ℕ) (a b : Blocks) (w : ℕ) → HoldsNothing b 0 → (r : Reply) × AnswersAt a w (free_of kind name) r b 0
 reply-to-free One name a b w h = told _ (one_in b 0) (sym h.set)
 reply-to-free Long name a b w h = told _ (long_in b 0) (sym h.map)
 reply-to-free Str name a b w h = told _ (string_in b 0) (sym h.string)
@@ -92,7 +92,7 @@ reply-to-free Bytes name a b w h = told _ (bytes_in b 0) (sym h.bytes)
 -- ---- one array
 
 -- what is known before the array of the next name is freed
-pub record FreesNext (H : List ℕ → ℕ) (tenants : List Tenant) (old : Stock) (t : ℕ) (key : List ℕ) (kind : ArrayKind) (name : List ℕ) (p : Stand) : Type 0 where
+pub record FreesNext (H : List ℕ → ℕ) (tenants : List Tenant) (old : Stock) (t : ℕ) (key : List ℕ) (kind : Kind) (name : List ℕ) (p : Stand) : Type 0 where
   pub laws : KindLaws H
   pub adds : CallsAddOne
   pub limited : AreLimited tenants
@@ -101,7 +101,7 @@ pub record FreesNext (H : List ℕ → ℕ) (tenants : List Tenant) (old : Stock
   pub read : spot_of t kind name ≡ key
   pub found : p ≡ at old.directory.0 key
 
-module _ {H : List ℕ → ℕ} {tenants : List Tenant} {old : Stock} {t : ℕ} {key : List ℕ} {kind : ArrayKind} {name : List ℕ} {p : Stand}
+module _ {H : List ℕ → ℕ} {tenants : List Tenant} {old : Stock} {t : ℕ} {key : List ℕ} {kind : Kind} {name : List ℕ} {p : Stand}
     (n : FreesNext H tenants old t key kind name p) where
   freeing : FreesAt H tenants old t (free_of kind name) key
   freeing = frees-at old t n.laws n.adds n.stocked n.known n.limited (kind, name) n.read refl
@@ -164,7 +164,7 @@ module _ {H : List ℕ → ℕ} {tenants : List Tenant} {old : Stock} {t : ℕ} 
 -- ---- the names that are left
 
 -- the next name is that of a marked tenant
-pub marked-next : (gone : List Bool) (t : ℕ) (parts : ArrayKind × List ℕ) (key : List ℕ) → spot_of t parts.0 parts.1 ≡ key → is_gone gone key ≡ true
+pub marked-next : (gone : List Bool) (t : ℕ) (parts : Kind × List ℕ) (key : List ℕ) → spot_of t parts.0 parts.1 ≡ key → is_gone gone key ≡ true
     → get_or gone t false ≡ true
 marked-next gone t parts key read leaves = sym (gone-of gone t parts.0 parts.1) ∙ ap (is_gone gone) read ∙ leaves
 
@@ -174,7 +174,7 @@ others-next gone t marked u h e = false≢true (sym h ∙ ap (λ v. get_or gone 
 
 -- what is known of the next name, if the names that are left are those that stay or are still to come
 pub frees-next : {H : List ℕ → ℕ} {tenants : List Tenant} (stock : Stock) (gone : List Bool) (d : Places) (names rest : List (List ℕ)) (key : List ℕ) (t : ℕ)
-    (parts : ArrayKind × List ℕ) (p : Stand) → stock.directory.0 ≡ retain_keys d (is_left gone (key ∷ rest)) → KindLaws H → CallsAddOne → AreLimited tenants
+    (parts : Kind × List ℕ) (p : Stand) → stock.directory.0 ≡ retain_keys d (is_left gone (key ∷ rest)) → KindLaws H → CallsAddOne → AreLimited tenants
     → IsServer H stock.arena.blocks (retain_keys d (is_left gone names)) stock.accounts.items tenants → names ≡ key ∷ rest
     → t < length tenants → spot_of t parts.0 parts.1 ≡ key → p ≡ at d key → FreesNext H tenants stock t key parts.0 parts.1 p
 frees-next {H} {tenants} stock gone d names rest key t parts p left laws adds limited s next known read found = record {

@@ -11,8 +11,8 @@ use Rattle.judy_model.specs.Tenant.{Arrays}
 use Rattle.judy_model.specs.WellFormed.{has_entries}
 use Rattle.judy_directory.specs.Places.{Stand}
 use Rattle.judy_directory.specs.Kinds.{owner_byte, spot_of}
-use Rattle.judy_directory.specs.declared.spot.ArrayKind.{ArrayKind}
-use Rattle.judy_directory.specs.declared.spot.ArrayKind.TheVariants.{One, Long, Str, Bytes}
+use Rattle.judy_model.specs.declared.commands.Kind.{Kind}
+use Rattle.judy_model.specs.declared.commands.Kind.TheVariants.{One, Long, Str, Bytes}
 use Rattle.judy_directory.specs.Shelf.{Places, pick, picked}
 use Rattle.judy_kinds.specs.Kinds.{kind_of_key, IsPlaceOf}
 use Rattle.judy_tenants.specs.Held.{filled_in, arrays_in, all_arrays}
@@ -39,18 +39,18 @@ module _ {K : Type 0} (content : ℕ → Entries K) (o : ℕ) where
 
 module _ (b : Blocks) where
   -- how many arrays of a kind a tenant has at these places
-  abbrev kind_arrays : ArrayKind → ℕ → Placed → ℕ
+  abbrev kind_arrays : Kind → ℕ → Placed → ℕ
   kind_arrays kind t es = filled_in (picked (content_at kind b) (owner_byte t kind) es)
 
   -- one more place, of an array that has entries
-  module _ (kind : ArrayKind) (t : ℕ) (name : List ℕ) (p : Stand) (es : Placed) (some : has_entries (content_at kind b p.root) ≡ true) where
+  module _ (kind : Kind) (t : ℕ) (name : List ℕ) (p : Stand) (es : Placed) (some : has_entries (content_at kind b p.root) ≡ true) where
     abbrev longer : Placed
     longer = (spot_of t kind name, p) ∷ es
 
     kind_own : kind_arrays kind t longer ≡ 1 + kind_arrays kind t es
     kind_own = pick_own (content_at kind b) (owner_byte t kind) name p (picked (content_at kind b) (owner_byte t kind) es) some
 
-    kind_other : (k : ArrayKind) (u : ℕ) → (owner_byte u k == owner_byte t kind) ≡ false → kind_arrays k u longer ≡ kind_arrays k u es
+    kind_other : (k : Kind) (u : ℕ) → (owner_byte u k == owner_byte t kind) ≡ false → kind_arrays k u longer ≡ kind_arrays k u es
     kind_other k u h = pick_other (content_at k b) (owner_byte u k) (owner_byte t kind) name p (picked (content_at k b) (owner_byte u k) es) h
 
     -- the other tenants have as many arrays as before
@@ -68,7 +68,7 @@ module _ (b : Blocks) where
     lower_arrays (suc n) h = let rest = lower_arrays n (omega arith) in let here = other_arrays n (λ e. absurd (omega arith)) in omega (arith, rest, here)
 
   -- the tenant has one array more
-  own_arrays : (kind : ArrayKind) (t : ℕ) (name : List ℕ) (p : Stand) (es : Placed) → has_entries (content_at kind b p.root) ≡ true
+  own_arrays : (kind : Kind) (t : ℕ) (name : List ℕ) (p : Stand) (es : Placed) → has_entries (content_at kind b p.root) ≡ true
       → arrays_in (states_at b ((spot_of t kind name, p) ∷ es) t) ≡ 1 + arrays_in (states_at b es t)
   own_arrays One t name p es some =
       let own = kind_own One t name p es some in
@@ -96,7 +96,7 @@ module _ (b : Blocks) where
       omega (arith, own, ones, longs, strings)
 
   -- so have all tenants below n, if the tenant is one of them
-  all_own : (n : ℕ) (kind : ArrayKind) (t : ℕ) (name : List ℕ) (p : Stand) (es : Placed) → has_entries (content_at kind b p.root) ≡ true → t < n
+  all_own : (n : ℕ) (kind : Kind) (t : ℕ) (name : List ℕ) (p : Stand) (es : Placed) → has_entries (content_at kind b p.root) ≡ true → t < n
       → all_arrays n (states_at b ((spot_of t kind name, p) ∷ es)) ≡ 1 + all_arrays n (states_at b es)
   all_own zero kind t name p es some h = absurd (omega arith)
   all_own (suc n) kind t name p es some h = by (all_own n kind t name p es some) (t == n) refl
@@ -129,7 +129,7 @@ module _ (b : Blocks) where
 
 module _ {H : List ℕ → ℕ} (laws : KindLaws H) {b : Blocks} where
   -- an array with a root has entries
-  pub has_some : (kind : ArrayKind) (p : Stand) → IsPlaceOf H kind b p → p.root ≢ 0 → has_entries (content_at kind b p.root) ≡ true
+  pub has_some : (kind : Kind) (p : Stand) → IsPlaceOf H kind b p → p.root ≢ 0 → has_entries (content_at kind b p.root) ≡ true
   has_some kind p place filled = by (content_at kind b p.root) refl
     where
       by : (l : Entries _) → content_at kind b p.root ≡ l → has_entries l ≡ true

@@ -17,7 +17,7 @@ use Rattle.judy_model.proofs.lemmas.StateLemmas.{not_found}
 use Rattle.judy_model.proofs.lemmas.TestLemmas.{and_left, and_right, from_T}
 use Rattle.judy_model.proofs.lemmas.EntryLemmas.{same_string, string_is}
 use Rattle.judy_directory.specs.Places.{Stand, at, nothing}
-use Rattle.judy_directory.specs.declared.spot.ArrayKind.{ArrayKind}
+use Rattle.judy_model.specs.declared.commands.Kind.{Kind}
 use Rattle.judy_directory.specs.Shelf.{Places}
 use Rattle.judy_directory.proofs.lemmas.Changes.{total}
 use Rattle.judy_kinds.specs.Kinds.{kind_of_key, IsPlaceOf, IsPlaceAt, place_numbers}
@@ -161,8 +161,8 @@ module _ {H : List ℕ → ℕ} {b : Blocks} where
 
   -- ---- the number of words
 
-  module _ (small : (kind : ArrayKind) (p : Stand) → IsPlaceOf H kind b p → IsSmall kind b p)
-      (filled : (kind : ArrayKind) (p : Stand) → IsPlaceOf H kind b p → p.root ≢ 0 → 0 < p.entries) where
+  module _ (small : (kind : Kind) (p : Stand) → IsPlaceOf H kind b p → IsSmall kind b p)
+      (filled : (kind : Kind) (p : Stand) → IsPlaceOf H kind b p → p.root ≢ 0 → 0 < p.entries) where
     -- at most 16 words for each piece
     most : (es : Placed) → AreArrays H b es → words_over b (all_numbers b es) ≤ 16 * all_counted es
     most [] h = omega arith
@@ -219,14 +219,14 @@ module _ {H : List ℕ → ℕ} (laws : KindLaws H) {b : Blocks} {d : Places} (s
       by k (Some p) e h = held q (entries d) are_arrays k p e (ap (λ x. holds q (place_numbers k b x.root)) (sym (found_place k p e)) ∙ h)
 
   -- an array with a root has entries
-  has_entries : (kind : ArrayKind) (p : Stand) → IsPlaceOf H kind b p → p.root ≢ 0 → 0 < p.entries
+  has_entries : (kind : Kind) (p : Stand) → IsPlaceOf H kind b p → p.root ≢ 0 → 0 < p.entries
   has_entries kind p h some = by p.entries refl
     where
       by : (n : ℕ) → p.entries ≡ n → 0 < n
       by zero e = absurd (some (((laws.empties b).1 p.root).any kind h.sound (sym h.entries ∙ e)))
       by (suc n) e = omega arith
 
-  module _ (small : (kind : ArrayKind) (p : Stand) → IsPlaceOf H kind b p → IsSmall kind b p) (totals : TotalsOver) where
+  module _ (small : (kind : Kind) (p : Stand) → IsPlaceOf H kind b p → IsSmall kind b p) (totals : TotalsOver) where
     same_tests : (x y : Bool) → (x ≡ true → y ≡ true) → (y ≡ true → x ≡ true) → x ≡ y
     same_tests true y f g = sym (f refl)
     same_tests false true f g = g refl

@@ -8,8 +8,8 @@ use Rattle.judy_arena.specs.Totals.{TotalsOver}
 use Rattle.judy_model.specs.declared.calls.Call.{Call}
 use Rattle.judy_model.specs.Tenant.{pieces}
 use Rattle.judy_model.specs.Service.{Quotas, States, all_pieces}
-use Rattle.judy_directory.specs.declared.spot.ArrayKind.{ArrayKind}
-use Rattle.judy_directory.specs.declared.spot.ArrayKind.TheVariants.{One, Long, Str, Bytes}
+use Rattle.judy_model.specs.declared.commands.Kind.{Kind}
+use Rattle.judy_model.specs.declared.commands.Kind.TheVariants.{One, Long, Str, Bytes}
 use Rattle.judy_table.specs.declared.tenant.Tenant.{Tenant}
 use Rattle.judy_kinds.specs.Calls.{kind_of_call, asks_at, blocks_of_kind, blocks_of_call}
 use Rattle.judy_kinds.specs.Laws.{PlacesAreSmall}
@@ -25,7 +25,7 @@ all-within : (n : ℕ) (states : States) (quotas : Quotas) → ((t : ℕ) → pi
 all-within zero states quotas h = omega arith
 all-within (suc n) states quotas h = let rest = all-within n states quotas h in let here = h n in omega (arith, rest, here)
 
-few-of-kind : (kind : ArrayKind) → blocks_of_kind kind ≤ 380
+few-of-kind : (kind : Kind) → blocks_of_kind kind ≤ 380
 few-of-kind One = omega arith
 few-of-kind Long = omega arith
 few-of-kind Str = omega arith

@@ -21,8 +21,8 @@ use Rattle.judy_model.specs.WellFormed.{IsWellFormed, IsWithin}
 use Rattle.judy_model.proofs.lemmas.EntryLemmas.{same_string, string_is}
 use Rattle.judy_directory.specs.Places.{Stand, at, nothing}
 use Rattle.judy_directory.specs.Kinds.{owner_byte, spot_of}
-use Rattle.judy_directory.specs.declared.spot.ArrayKind.{ArrayKind}
-use Rattle.judy_directory.specs.declared.spot.ArrayKind.TheVariants.{One, Long, Str, Bytes}
+use Rattle.judy_model.specs.declared.commands.Kind.{Kind}
+use Rattle.judy_model.specs.declared.commands.Kind.TheVariants.{One, Long, Str, Bytes}
 use Rattle.judy_directory.specs.Shelf.{Places}
 use Rattle.judy_directory.proofs.lemmas.Changes.{total}
 use Rattle.judy_directory.proofs.lemmas.Named.{find-arrays_of, sorted-arrays_of}
@@ -93,11 +93,11 @@ find-sized words (a ∷ arrays) m = elim (eq_by_cmp string_order m a.0) as (λ r
 
 module _ {H : List ℕ → ℕ} (laws : KindLaws H) (b : Blocks) (d : Places) (shelf : IsHeld H b d) (t : ℕ) where
   -- the names of its arrays are sorted
-  names_rise : (kind : ArrayKind) → is_sorted string_order (arrays_at kind (state_in b d t)) ≡ true
+  names_rise : (kind : Kind) → is_sorted string_order (arrays_at kind (state_in b d t)) ≡ true
   names_rise kind = ap (is_sorted string_order) (arrays_at-state_in kind b d t) ∙ from_T _ (sorted-arrays_of (content_at kind) (owner_byte t kind) b d)
 
   -- an array that is found is the one at its place, and has entries
-  is_placed : (kind : ArrayKind) (m : List ℕ) (l : Entries (KeyOf kind)) → find string_order m (arrays_at kind (state_in b d t)) ≡ Some l
+  is_placed : (kind : Kind) (m : List ℕ) (l : Entries (KeyOf kind)) → find string_order m (arrays_at kind (state_in b d t)) ≡ Some l
       → (content_at kind b (at d (spot_of t kind m)).root ≡ l) × (has_entries l ≡ true)
   is_placed kind m l h = by (get d (spot_of t kind m)) refl
       (sym (find-arrays_of (content_at kind) (owner_byte t kind) b d m) ∙ ap (find string_order m) (sym (arrays_at-state_in kind b d t)) ∙ h)
@@ -117,7 +117,7 @@ module _ {H : List ℕ → ℕ} (laws : KindLaws H) (b : Blocks) (d : Places) (s
           )
 
   module _ (formed : ContentsAreInForm) where
-    in_form : (kind : ArrayKind) (m : List ℕ) → IsInForm kind b (at d (spot_of t kind m)).root
+    in_form : (kind : Kind) (m : List ℕ) → IsInForm kind b (at d (spot_of t kind m)).root
     in_form kind m = formed H kind b (at d (spot_of t kind m)).root (place-in laws kind b d t m shelf).sound
 
     passes : {K : Type 0} (test : Entries K → Bool) (l x : Entries K) → test x ≡ true → x ≡ l → has_entries l ≡ true → (has_entries l && test l) ≡ true
@@ -142,10 +142,10 @@ module _ {H : List ℕ → ℕ} (laws : KindLaws H) (b : Blocks) (d : Places) (s
     }
 
   module _ (small : PlacesAreSmall) where
-    few : (kind : ArrayKind) (m : List ℕ) → IsSmall kind b (at d (spot_of t kind m))
+    few : (kind : Kind) (m : List ℕ) → IsSmall kind b (at d (spot_of t kind m))
     few kind m = small H kind b (at d (spot_of t kind m)) (place-in laws kind b d t m shelf)
 
-    pieces_there : (kind : ArrayKind) (m : List ℕ) → (at d (spot_of t kind m)).pieces ≡ pieces_of (size_at kind)
+    pieces_there : (kind : Kind) (m : List ℕ) → (at d (spot_of t kind m)).pieces ≡ pieces_of (size_at kind)
         (content_at kind b (at d (spot_of t kind m)).root)
     pieces_there One m = (place-in laws One b d t m shelf).pieces
     pieces_there Long m = (place-in laws Long b d t m shelf).pieces
@@ -153,7 +153,7 @@ module _ {H : List ℕ → ℕ} (laws : KindLaws H) (b : Blocks) (d : Places) (s
     pieces_there Bytes m = (place-in laws Bytes b d t m shelf).pieces
 
     -- at most 16 words for each piece of an array
-    few_there : (kind : ArrayKind) (m : List ℕ) (l : Entries (KeyOf kind)) → find string_order m (arrays_at kind (state_in b d t)) ≡ Some l
+    few_there : (kind : Kind) (m : List ℕ) (l : Entries (KeyOf kind)) → find string_order m (arrays_at kind (state_in b d t)) ≡ Some l
         → words_at kind b d t m ≤ 16 * pieces_of (size_at kind) l
     few_there kind m l h = subst (λ n. words_at kind b d t m ≤ 16 * n) (pieces_there kind m ∙ ap (pieces_of (size_at kind))
         (is_placed kind m l h).0) (few kind m).most
@@ -188,7 +188,7 @@ module _ {H : List ℕ → ℕ} (laws : KindLaws H) (b : Blocks) (d : Places) (s
     least_at words (Some l) h some = h l refl
 
     -- the number of entries of an array that has some
-    some_there : (kind : ArrayKind) (m : List ℕ) (l : Entries (KeyOf kind)) → find string_order m (arrays_at kind (state_in b d t)) ≡ Some l
+    some_there : (kind : Kind) (m : List ℕ) (l : Entries (KeyOf kind)) → find string_order m (arrays_at kind (state_in b d t)) ≡ Some l
         → 0 < (at d (spot_of t kind m)).entries
     some_there kind m l h =
         let p = is_placed kind m l h in
@@ -199,7 +199,7 @@ module _ {H : List ℕ → ℕ} (laws : KindLaws H) (b : Blocks) (d : Places) (s
         by [] e some = cc
         by (x ∷ l) e some = omega (arith, e)
 
-    pub least-of : (kind : ArrayKind) → HasLeastOf (arrays_at kind (state_in b d t)) (sized (words_at kind b d t) (arrays_at kind (state_in b d t)))
+    pub least-of : (kind : Kind) → HasLeastOf (arrays_at kind (state_in b d t)) (sized (words_at kind b d t) (arrays_at kind (state_in b d t)))
     least-of kind m some =
         subst (λ (g : Option ℕ). 4 ≤ unwrap_or g 0) (sym (find-sized (words_at kind b d t) (arrays_at kind (state_in b d t)) m))
         (least_at (words_at kind b d t m) (find string_order m (arrays_at kind (state_in b d t)))

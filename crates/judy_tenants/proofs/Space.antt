@@ -15,8 +15,8 @@ use Rattle.judy_model.specs.Tenant.{Arrays, no_arrays, content_of, pieces_in, pi
 use Rattle.judy_model.specs.Service.{States, all_pieces}
 use Rattle.judy_directory.specs.Places.{Stand, at, with_place}
 use Rattle.judy_directory.specs.Kinds.{owner_byte, spot_of}
-use Rattle.judy_directory.specs.declared.spot.ArrayKind.{ArrayKind}
-use Rattle.judy_directory.specs.declared.spot.ArrayKind.TheVariants.{One, Long, Str, Bytes}
+use Rattle.judy_model.specs.declared.commands.Kind.{Kind}
+use Rattle.judy_model.specs.declared.commands.Kind.TheVariants.{One, Long, Str, Bytes}
 use Rattle.judy_directory.specs.Shelf.{Places, pick, picked}
 use Rattle.judy_words.specs.OneArrays.{one_in}
 use Rattle.judy_words.specs.LongArrays.{long_in}
@@ -39,7 +39,7 @@ pub record IsCompact (n : ℕ) (b : Blocks) (d : Places) : Type 0 where
 
 -- the key belongs to a tenant below n
 abbrev pub Belongs : ℕ → List ℕ → Type 0
-Belongs n k = (t : ℕ) × (t < n) × (kind : ArrayKind) × (name : List ℕ) × (k ≡ spot_of t kind name)
+Belongs n k = (t : ℕ) × (t < n) × (kind : Kind) × (name : List ℕ) × (k ≡ spot_of t kind name)
 
 -- ---- one more place
 
@@ -72,13 +72,13 @@ module _ {K : Type 0} (content : ℕ → Entries K) (size : K → ℕ) (o : ℕ)
 
 module _ (b : Blocks) where
   -- the pieces of a tenant's arrays of one kind
-  abbrev kind_pieces : ArrayKind → ℕ → Placed → ℕ
+  abbrev kind_pieces : Kind → ℕ → Placed → ℕ
   kind_pieces kind t es = pieces_in (size_at kind) (picked (content_at kind b) (owner_byte t kind) es)
 
-  kind_more : (kind : ArrayKind) (t : ℕ) (e : List ℕ × Stand) (es : Placed) → kind_pieces kind t es ≤ kind_pieces kind t (e ∷ es)
+  kind_more : (kind : Kind) (t : ℕ) (e : List ℕ × Stand) (es : Placed) → kind_pieces kind t es ≤ kind_pieces kind t (e ∷ es)
   kind_more kind t e es = pick_more (content_at kind b) (size_at kind) (owner_byte t kind) e.0 e.1 (picked (content_at kind b) (owner_byte t kind) es)
 
-  kind_own : (kind : ArrayKind) (t : ℕ) (name : List ℕ) (p : Stand) (es : Placed)
+  kind_own : (kind : Kind) (t : ℕ) (name : List ℕ) (p : Stand) (es : Placed)
       → kind_pieces kind t ((spot_of t kind name, p) ∷ es) ≡ pieces_of (size_at kind) (content_at kind b p.root) + kind_pieces kind t es
   kind_own kind t name p es = pick_own (content_at kind b) (size_at kind) (owner_byte t kind) name p (picked (content_at kind b) (owner_byte t kind) es)
 
@@ -86,7 +86,7 @@ module _ (b : Blocks) where
   more_pieces : (e : List ℕ × Stand) (es : Placed) (t : ℕ) → pieces (states_at b es t) ≤ pieces (states_at b (e ∷ es) t)
   more_pieces e es t = omega (arith, kind_more One t e es, kind_more Long t e es, kind_more Str t e es, kind_more Bytes t e es)
 
-  own_pieces : (kind : ArrayKind) (t : ℕ) (name : List ℕ) (p : Stand) (es : Placed)
+  own_pieces : (kind : Kind) (t : ℕ) (name : List ℕ) (p : Stand) (es : Placed)
       → pieces (states_at b es t) + pieces_at kind b p.root ≤ pieces (states_at b ((spot_of t kind name, p) ∷ es) t)
   own_pieces One t name p es = let e : List ℕ × Stand = (spot_of t One name, p) in
       omega (arith, kind_own One t name p es, kind_more Long t e es, kind_more Str t e es, kind_more Bytes t e es)
@@ -102,7 +102,7 @@ module _ (b : Blocks) where
   all_more zero e es = omega arith
   all_more (suc n) e es = let rest = all_more n e es in let here = more_pieces e es n in omega (arith, rest, here)
 
-  all_own : (n : ℕ) (kind : ArrayKind) (t : ℕ) (name : List ℕ) (p : Stand) (es : Placed) → t < n
+  all_own : (n : ℕ) (kind : Kind) (t : ℕ) (name : List ℕ) (p : Stand) (es : Placed) → t < n
       → all_pieces n (states_at b es) + pieces_at kind b p.root ≤ all_pieces n (states_at b ((spot_of t kind name, p) ∷ es))
   all_own zero kind t name p es h = absurd (omega arith)
   all_own (suc n) kind t name p es h = by (all_own n kind t name p es) (t == n) refl
@@ -148,7 +148,7 @@ module _ {H : List ℕ → ℕ} (laws : KindLaws H) {n : ℕ} {b : Blocks} {d : 
       less x y e = grind (arith, nat_tests)
 
       -- a tenant from n on has no arrays
-      empty : (kind : ArrayKind) (m : List ℕ) → content_of (arrays_at kind no_arrays) m ≡ []
+      empty : (kind : Kind) (m : List ℕ) → content_of (arrays_at kind no_arrays) m ≡ []
       empty One m = refl
       empty Long m = refl
       empty Str m = refl
@@ -183,7 +183,7 @@ module _ {H : List ℕ → ℕ} (laws : KindLaws H) {n : ℕ} {b : Blocks} {d : 
       omega (arith, rest, here, pieces)
 
   -- at most 16 words for each piece, and at least 4 for each array
-  pub space-in : ((kind : ArrayKind) (p : Stand) → IsPlaceOf H kind b p → IsSmall kind b p) → TotalsOver → IsCompact n b d
+  pub space-in : ((kind : Kind) (p : Stand) → IsPlaceOf H kind b p → IsSmall kind b p) → TotalsOver → IsCompact n b d
   space-in small totals = record {
     most = (let words = words-most laws shelf small totals in let all = counted (entries d) (are_arrays laws shelf) belongs in omega (arith, words, all));
     least = words-least laws shelf small totals;
@@ -196,7 +196,7 @@ pub owned-none : {H : List ℕ → ℕ} → KindLaws H → (n : ℕ) → IsOwned
 owned-none laws n = record { rooted = no_place []; outside = λ t h. nothing-in laws no_blocks t }
 
 -- it still holds after an array of one of them changes
-pub owned-in : {H : List ℕ → ℕ} (laws : KindLaws H) {a c : ArenaState} {d : Places} {t : ℕ} {kind : ArrayKind} {name : List ℕ} {q : Stand} (n : ℕ)
+pub owned-in : {H : List ℕ → ℕ} (laws : KindLaws H) {a c : ArenaState} {d : Places} {t : ℕ} {kind : Kind} {name : List ℕ} {q : Stand} (n : ℕ)
     → Change H a c d t kind name q → t < n → IsOwned n a.blocks d → IsOwned n c.blocks (with_place d (spot_of t kind name) q)
 owned-in laws {d = d} {t = t} {kind = kind} {name = name} {q = q} n x below owned = record {
   rooted = unnamed-in d t kind name q owned.rooted;

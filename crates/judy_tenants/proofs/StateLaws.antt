@@ -31,14 +31,14 @@ use Rattle.judy_model.specs.declared.replies.Reply.TheVariants.{Full}
 use Rattle.judy_model.specs.Contents.{Entries, string_order}
 use Rattle.judy_tenants.specs.Growth.{KindLaws}
 use Rattle.judy_model.specs.Pieces.{word_pieces, string_pieces, pieces_of}
-use Rattle.judy_model.specs.Tenant.{Arrays, State, no_arrays, content_of, with_content, used, pieces, one_step, long_step, string_step, bytes_step}
+use Rattle.judy_model.specs.Tenant.{Arrays, State, no_arrays, content_of, with_content, one_effect, long_effect, string_effect, bytes_effect, used, pieces, one_step, long_step, string_step, bytes_step}
 use Rattle.judy_model.proofs.lemmas.StateLemmas.{entries_in-with_content, pieces_in-with_content}
 use Rattle.judy_model.proofs.lemmas.TestLemmas.{from_T, not_both}
 use Rattle.judy_model.proofs.lemmas.FormLemmas.{names_apart}
 use Rattle.judy_directory.specs.Places.{Stand, at, nothing, some_stand, with_place}
 use Rattle.judy_directory.specs.Kinds.{owner_byte, spot_of}
-use Rattle.judy_directory.specs.declared.spot.ArrayKind.{ArrayKind}
-use Rattle.judy_directory.specs.declared.spot.ArrayKind.TheVariants.{One, Long, Str, Bytes}
+use Rattle.judy_model.specs.declared.commands.Kind.{Kind}
+use Rattle.judy_model.specs.declared.commands.Kind.TheVariants.{One, Long, Str, Bytes}
 use Rattle.judy_directory.specs.Shelf.{Places, arrays_of}
 use Rattle.judy_directory.proofs.lemmas.Changes.{other, shelf-changed, total, get-with_place, at_other}
 use Rattle.judy_directory.proofs.lemmas.Named.{own-changed, others-same, content-of, sorted-arrays_of, find-arrays_of, tied-cons}
@@ -50,41 +50,41 @@ use Rattle.judy_kinds.specs.Kinds.{IsArrayOf, numbers_of_array, IsSameOf, entrie
 use Rattle.judy_kinds.specs.Calls.{kind_of_call, name_of_call, asks_at, AnswersAt, ArrayBecomes}
 use Rattle.judy_tenants.specs.States.{state_in, words_at, sizes_by, sizes_in, IsHeld, key_of_call}
 use Rattle.judy_tenants.proofs.Owners.{kind_at-owner_byte, tenants_apart, kinds_apart}
-use Rattle.judy_tenants.proofs.Steps.{HasWay, one_way, long_way, string_way, bytes_way, one_full, long_full, string_full, bytes_full}
+use Rattle.judy_tenants.proofs.Steps.{HasWay, effect_way, effect_full}
 use Rattle.judy_model.specs.Tenant.{one_asks_for_new, long_asks_for_new, string_asks_for_new, bytes_asks_for_new, asks_for_new, has_room, allowed_step}
 use Rattle.judy_model.proofs.lemmas.EntryLemmas.{same_string, string_is}
 
 -- ---- an array of any kind, with its keys
 
 -- the keys of a kind
-abbrev pub KeyOf : ArrayKind → Type 0
+abbrev pub KeyOf : Kind → Type 0
 KeyOf One = ℕ
 KeyOf Long = ℕ
 KeyOf Str = List ℕ
 KeyOf Bytes = List ℕ
 
 -- the content of an array
-abbrev pub content_at : (kind : ArrayKind) → Blocks → ℕ → Entries (KeyOf kind)
+abbrev pub content_at : (kind : Kind) → Blocks → ℕ → Entries (KeyOf kind)
 content_at One b w = one_in b w
 content_at Long b w = long_in b w
 content_at Str b w = string_in b w
 content_at Bytes b w = bytes_in b w
 
 -- the pieces of a key
-abbrev pub size_at : (kind : ArrayKind) → KeyOf kind → ℕ
+abbrev pub size_at : (kind : Kind) → KeyOf kind → ℕ
 size_at One = word_pieces
 size_at Long = word_pieces
 size_at Str = string_pieces
 size_at Bytes = string_pieces
 
 -- a tenant's arrays of a kind
-abbrev pub arrays_at : (kind : ArrayKind) → State → Arrays (KeyOf kind)
+abbrev pub arrays_at : (kind : Kind) → State → Arrays (KeyOf kind)
 arrays_at One s = s.one
 arrays_at Long s = s.long
 arrays_at Str s = s.string
 arrays_at Bytes s = s.bytes
 
-abbrev pub with_arrays : (kind : ArrayKind) → State → Arrays (KeyOf kind) → State
+abbrev pub with_arrays : (kind : Kind) → State → Arrays (KeyOf kind) → State
 with_arrays One s arrays = record s { one = arrays }
 with_arrays Long s arrays = record s { long = arrays }
 with_arrays Str s arrays = record s { string = arrays }
@@ -94,16 +94,16 @@ with_arrays Bytes s arrays = record s { bytes = arrays }
 
 -- the names of each kind are sorted
 abbrev pub AreSorted : State → Type 0
-AreSorted s = (kind : ArrayKind) → is_sorted string_order (arrays_at kind s) ≡ true
+AreSorted s = (kind : Kind) → is_sorted string_order (arrays_at kind s) ≡ true
 
-used-replaced : (kind : ArrayKind) (s : State) (name : List ℕ) (l : Entries (KeyOf kind)) → AreSorted s
+used-replaced : (kind : Kind) (s : State) (name : List ℕ) (l : Entries (KeyOf kind)) → AreSorted s
     → used (with_arrays kind s (with_content (arrays_at kind s) name l)) + length (content_of (arrays_at kind s) name) ≡ used s + length l
 used-replaced One s name l h = let e = entries_in-with_content s.one name l (h One) in omega (arith, e)
 used-replaced Long s name l h = let e = entries_in-with_content s.long name l (h Long) in omega (arith, e)
 used-replaced Str s name l h = let e = entries_in-with_content s.string name l (h Str) in omega (arith, e)
 used-replaced Bytes s name l h = let e = entries_in-with_content s.bytes name l (h Bytes) in omega (arith, e)
 
-pieces-replaced : (kind : ArrayKind) (s : State) (name : List ℕ) (l : Entries (KeyOf kind)) → AreSorted s
+pieces-replaced : (kind : Kind) (s : State) (name : List ℕ) (l : Entries (KeyOf kind)) → AreSorted s
     → pieces (with_arrays kind s (with_content (arrays_at kind s) name l)) + pieces_of (size_at kind) (content_of (arrays_at kind s) name)
     ≡ pieces s + pieces_of (size_at kind) l
 pieces-replaced One s name l h = let e = pieces_in-with_content word_pieces s.one name l (h One) in omega (arith, e)
@@ -120,36 +120,36 @@ moved : (after part whole more n m : ℕ) → after + part ≡ whole + more → 
 moved after part whole more n m e h g = omega (arith, e, h, g)
 
 -- from a reply with an array's content to a reply with the state
-abbrev pub answered : (kind : ArrayKind) → State → List ℕ → Reply × Entries (KeyOf kind) → Reply × State
+abbrev pub answered : (kind : Kind) → State → List ℕ → Reply × Entries (KeyOf kind) → Reply × State
 answered kind s name z = (z.0, with_arrays kind s (with_content (arrays_at kind s) name z.1))
 
 -- the array of this tenant, kind and name is at q after the change, and no block of another array
 -- changed
-pub record Change (H : List ℕ → ℕ) (a c : ArenaState) (d : Places) (t : ℕ) (kind : ArrayKind) (name : List ℕ) (q : Stand) : Type 0 where
+pub record Change (H : List ℕ → ℕ) (a c : ArenaState) (d : Places) (t : ℕ) (kind : Kind) (name : List ℕ) (q : Stand) : Type 0 where
   pub shelf : IsHeld H a.blocks d
   pub became : ArrayBecomes H kind a (at d (spot_of t kind name)) c q
 
 -- the definitions of judy_kinds, by kind
-same_content : (kind : ArrayKind) (a b : Blocks) (w : ℕ) → IsSameOf kind a b w → content_at kind b w ≡ content_at kind a w
+same_content : (kind : Kind) (a b : Blocks) (w : ℕ) → IsSameOf kind a b w → content_at kind b w ≡ content_at kind a w
 same_content One a b w h = h
 same_content Long a b w h = h
 same_content Str a b w h = h
 same_content Bytes a b w h = h
 
-entries_are : (kind : ArrayKind) (b : Blocks) (w : ℕ) → entries_of kind b w ≡ length (content_at kind b w)
+entries_are : (kind : Kind) (b : Blocks) (w : ℕ) → entries_of kind b w ≡ length (content_at kind b w)
 entries_are One b w = refl
 entries_are Long b w = refl
 entries_are Str b w = refl
 entries_are Bytes b w = refl
 
-pieces_are : (kind : ArrayKind) (b : Blocks) (w : ℕ) → pieces_at kind b w ≡ pieces_of (size_at kind) (content_at kind b w)
+pieces_are : (kind : Kind) (b : Blocks) (w : ℕ) → pieces_at kind b w ≡ pieces_of (size_at kind) (content_at kind b w)
 pieces_are One b w = refl
 pieces_are Long b w = refl
 pieces_are Str b w = refl
 pieces_are Bytes b w = refl
 
 -- a tenant's arrays of a kind are those whose keys have its byte
-pub arrays_at-state_in : (kind : ArrayKind) (b : Blocks) (d : Places) (t : ℕ)
+pub arrays_at-state_in : (kind : Kind) (b : Blocks) (d : Places) (t : ℕ)
     → arrays_at kind (state_in b d t) ≡ arrays_of (content_at kind) (owner_byte t kind) b d
 arrays_at-state_in One b d t = refl
 arrays_at-state_in Long b d t = refl
@@ -204,31 +204,31 @@ put_back d k filled = same_map total names_apart (with_place d k (at d k)) d (λ
     ∙ either (eq_by_cmp string_order m k) (some_stand (at d k)) (get d m) (λ e. put_again (get d k) filled ∙ ap (get d) (sym (same_string m k e))))
 
 -- there is no array at the empty key: each call's key has a first byte
-pub unnamed-in : (d : Places) (t : ℕ) (kind : ArrayKind) (name : List ℕ) (q : Stand) → get d [] ≡ None → get (with_place d (spot_of t kind name) q) [] ≡ None
+pub unnamed-in : (d : Places) (t : ℕ) (kind : Kind) (name : List ℕ) (q : Stand) → get d [] ≡ None → get (with_place d (spot_of t kind name) q) [] ≡ None
 unnamed-in d t kind name q h = get-with_place d (spot_of t kind name) q [] ∙ h
 
 -- ---- what holds of each kind
 
 module _ {H : List ℕ → ℕ} (laws : KindLaws H) where
-  pub none : (kind : ArrayKind) (b : Blocks) → content_at kind b 0 ≡ []
+  pub none : (kind : Kind) (b : Blocks) → content_at kind b 0 ≡ []
   none One b = (laws.empties b).0.set
   none Long b = (laws.empties b).0.map
   none Str b = (laws.empties b).0.string
   none Bytes b = (laws.empties b).0.bytes
 
-  pub only : (kind : ArrayKind) (b : Blocks) (w : ℕ) → IsArrayOf H kind b w → content_at kind b w ≡ [] → w ≡ 0
+  pub only : (kind : Kind) (b : Blocks) (w : ℕ) → IsArrayOf H kind b w → content_at kind b w ≡ [] → w ≡ 0
   only One b w = ((laws.empties b).1 w).set
   only Long b w = ((laws.empties b).1 w).map
   only Str b w = ((laws.empties b).1 w).string
   only Bytes b w = ((laws.empties b).1 w).bytes
 
   -- the content of an array is the content at its place
-  pub holds-in : (kind : ArrayKind) (b : Blocks) (d : Places) (t : ℕ) (name : List ℕ)
+  pub holds-in : (kind : Kind) (b : Blocks) (d : Places) (t : ℕ) (name : List ℕ)
       → content_of (arrays_of (content_at kind) (owner_byte t kind) b d) name ≡ content_at kind b (at d (spot_of t kind name)).root
   holds-in kind b d t name = content-of (content_at kind) (owner_byte t kind) b (none kind b) d name
 
   -- the place of an array is a sound place of its kind
-  pub place-in : (kind : ArrayKind) (b : Blocks) (d : Places) (t : ℕ) (name : List ℕ) → IsHeld H b d → IsPlaceOf H kind b (at d (spot_of t kind name))
+  pub place-in : (kind : Kind) (b : Blocks) (d : Places) (t : ℕ) (name : List ℕ) → IsHeld H b d → IsPlaceOf H kind b (at d (spot_of t kind name))
   place-in kind b d t name shelf = subst (λ k. IsPlaceOf H k b (at d (spot_of t kind name))) (kind_at-owner_byte t kind) (shelf.sound (spot_of t kind name))
 
   -- the call asks for a new entry by the array exactly if it does by the state
@@ -241,7 +241,7 @@ module _ {H : List ℕ → ℕ} (laws : KindLaws H) where
 
   -- ---- one array changed
 
-  module _ {a c : ArenaState} {d : Places} {t : ℕ} {kind : ArrayKind} {name : List ℕ} {q : Stand} (x : Change H a c d t kind name q) where
+  module _ {a c : ArenaState} {d : Places} {t : ℕ} {kind : Kind} {name : List ℕ} {q : Stand} (x : Change H a c d t kind name q) where
     -- the key of the array
     abbrev here : List ℕ
     here = spot_of t kind name
@@ -258,7 +258,7 @@ module _ {H : List ℕ → ℕ} (laws : KindLaws H) where
     held-in = shelf-changed (IsPlaceAt H) place_numbers IsSameAt laws.kept a.blocks c.blocks d here q x.shelf place frame
 
     -- every other place keeps its content
-    stays : (k : ArrayKind) (u : ℕ) (m : List ℕ) → eq_by_cmp string_order (owner_byte u k ∷ m) here ≡ false
+    stays : (k : Kind) (u : ℕ) (m : List ℕ) → eq_by_cmp string_order (owner_byte u k ∷ m) here ≡ false
         → content_at k c.blocks (at d (owner_byte u k ∷ m)).root ≡ content_at k a.blocks (at d (owner_byte u k ∷ m)).root
     stays k u m e = same_content k a.blocks c.blocks (at d (owner_byte u k ∷ m)).root
         (subst (λ j. IsSameOf j a.blocks c.blocks (at d (owner_byte u k ∷ m)).root) (kind_at-owner_byte u k)
@@ -271,12 +271,12 @@ module _ {H : List ℕ → ℕ} (laws : KindLaws H) where
         (none kind c.blocks) (only kind c.blocks q.root x.became.place.sound)
 
     -- the arrays of other kinds and tenants are unchanged
-    rest : (k : ArrayKind) (u : ℕ) → (owner_byte u k == owner_byte t kind) ≡ false
+    rest : (k : Kind) (u : ℕ) → (owner_byte u k == owner_byte t kind) ≡ false
         → arrays_of (content_at k) (owner_byte u k) c.blocks (with_place d here q) ≡ arrays_of (content_at k) (owner_byte u k) a.blocks d
     rest k u e = others-same (content_at k) (owner_byte u k) a.blocks c.blocks d (owner_byte t kind) name q e (stays k u)
 
     -- so does the number of its words
-    words-stay : (k : ArrayKind) (u : ℕ) (m : List ℕ) → eq_by_cmp string_order (owner_byte u k ∷ m) here ≡ false
+    words-stay : (k : Kind) (u : ℕ) (m : List ℕ) → eq_by_cmp string_order (owner_byte u k ∷ m) here ≡ false
         → words_at k c.blocks (with_place d here q) u m ≡ words_at k a.blocks d u m
     words-stay k u m e =
         let key : List ℕ = owner_byte u k ∷ m in
@@ -306,13 +306,13 @@ module _ {H : List ℕ → ℕ} (laws : KindLaws H) where
     -- and the words of each
     pub other-sizes-in : (u : ℕ) → u ≢ t → sizes_in c.blocks (with_place d here q) u ≡ sizes_in a.blocks d u
     other-sizes-in u h =
-        let words : (λ (k : ArrayKind) (m : List ℕ). words_at k c.blocks (with_place d here q) u m) ≡ (λ k m. words_at k a.blocks d u m)
+        let words : (λ (k : Kind) (m : List ℕ). words_at k c.blocks (with_place d here q) u m) ≡ (λ k m. words_at k a.blocks d u m)
         = λ i k m. words-stay k u m (not_same (owner_byte u k) m (owner_byte t kind) name (tenants_apart t u k kind h)) i in
         ap (λ s. sizes_by (λ k m. words_at k c.blocks (with_place d here q) u m) s) (others-in u h)
         ∙ ap (λ w. sizes_by w (state_in a.blocks d u)) words
 
   -- its tenant has the new array instead of the old
-  pub own-in : {a c : ArenaState} {d : Places} {t : ℕ} (kind : ArrayKind) {name : List ℕ} {q : Stand} → Change H a c d t kind name q
+  pub own-in : {a c : ArenaState} {d : Places} {t : ℕ} (kind : Kind) {name : List ℕ} {q : Stand} → Change H a c d t kind name q
       → state_in c.blocks (with_place d (spot_of t kind name) q) t
       ≡ with_arrays kind (state_in a.blocks d t) (with_content (arrays_at kind (state_in a.blocks d t)) name (content_at kind c.blocks q.root))
   own-in {t = t} One x = same_state
@@ -329,19 +329,19 @@ module _ {H : List ℕ → ℕ} (laws : KindLaws H) where
       (rest x Str t (kinds_apart t Str Bytes λ e. cc)) (own x)
 
   -- the content of an array, from its tenant's state
-  pub named-in : (kind : ArrayKind) (b : Blocks) (d : Places) (t : ℕ) (name : List ℕ)
+  pub named-in : (kind : Kind) (b : Blocks) (d : Places) (t : ℕ) (name : List ℕ)
       → content_of (arrays_at kind (state_in b d t)) name ≡ content_at kind b (at d (spot_of t kind name)).root
   named-in kind b d t name = ap (λ l. content_of l name) (arrays_at-state_in kind b d t) ∙ holds-in kind b d t name
 
   -- an array without a place has no entries
-  pub absent-in : (kind : ArrayKind) (b : Blocks) (d : Places) (t : ℕ) (name : List ℕ) → get d (spot_of t kind name) ≡ None
+  pub absent-in : (kind : Kind) (b : Blocks) (d : Places) (t : ℕ) (name : List ℕ) → get d (spot_of t kind name) ≡ None
       → content_of (arrays_at kind (state_in b d t)) name ≡ []
   absent-in kind b d t name h = named-in kind b d t name ∙ ap (λ g. content_at kind b (unwrap_or g nothing).root) h ∙ none kind b
 
   -- ---- calls
 
   -- a reply and a content computed from the array's content give the reply and the state
-  answered-in : (kind : ArrayKind) {a c : ArenaState} {d : Places} {t : ℕ} {name : List ℕ} {q : Stand} (r : Reply) → Change H a c d t kind name q
+  answered-in : (kind : Kind) {a c : ArenaState} {d : Places} {t : ℕ} {name : List ℕ} {q : Stand} (r : Reply) → Change H a c d t kind name q
       → (f : Entries (KeyOf kind) → Reply × Entries (KeyOf kind))
       → f (content_at kind a.blocks (at d (spot_of t kind name)).root) ≡ (r, content_at kind c.blocks q.root)
       → answered kind (state_in a.blocks d t) name (f (content_of (arrays_at kind (state_in a.blocks d t)) name))
@@ -358,20 +358,20 @@ module _ {H : List ℕ → ℕ} (laws : KindLaws H) where
       → allowed_step quota (state_in a.blocks d t) f ≡ (r, state_in c.blocks (with_place d (key_of_call t f) q) t)
   step-in quota (call.One name f) {a = a} {d = d} {t = t} r x answers way =
       let room : Bool = has_room quota (state_in a.blocks d t) (call.One name f) in
-      answered-in One r x (λ l. one_step room l f) (one_way room (one_in a.blocks (at d (spot_of t One name)).root) f way ∙ answers)
+      answered-in One r x (λ l. one_step room l f) (effect_way word_order room (one_in a.blocks (at d (spot_of t One name)).root) (one_effect f) way ∙ answers)
   step-in quota (call.Long name f) {a = a} {d = d} {t = t} r x answers way =
       let room : Bool = has_room quota (state_in a.blocks d t) (call.Long name f) in
-      answered-in Long r x (λ l. long_step room l f) (long_way room (long_in a.blocks (at d (spot_of t Long name)).root) f way ∙ answers)
+      answered-in Long r x (λ l. long_step room l f) (effect_way word_order room (long_in a.blocks (at d (spot_of t Long name)).root) (long_effect f) way ∙ answers)
   step-in quota (call.Str name f) {a = a} {d = d} {t = t} r x answers way =
       let room : Bool = has_room quota (state_in a.blocks d t) (call.Str name f) in
-      answered-in Str r x (λ l. string_step room l f) (string_way room (string_in a.blocks (at d (spot_of t Str name)).root) f way ∙ answers)
+      answered-in Str r x (λ l. string_step room l f) (effect_way string_order room (string_in a.blocks (at d (spot_of t Str name)).root) (string_effect f) way ∙ answers)
   step-in quota (call.Bytes name f) {a = a} {d = d} {t = t} r x answers way =
       let room : Bool = has_room quota (state_in a.blocks d t) (call.Bytes name f) in
-      answered-in Bytes r x (λ l. bytes_step room l f) (bytes_way room (bytes_in a.blocks (at d (spot_of t Bytes name)).root) f way ∙ answers)
+      answered-in Bytes r x (λ l. bytes_step room l f) (effect_way string_order room (bytes_in a.blocks (at d (spot_of t Bytes name)).root) (bytes_effect f) way ∙ answers)
   step-in quota call.Used r x answers way = absurd answers
 
   -- writing an array's own content changes nothing
-  kept_content : (kind : ArrayKind) (b : Blocks) (d : Places) (t : ℕ) (name : List ℕ) → IsHeld H b d
+  kept_content : (kind : Kind) (b : Blocks) (d : Places) (t : ℕ) (name : List ℕ) → IsHeld H b d
       → (let arrays = arrays_of (content_at kind) (owner_byte t kind) b d in with_content arrays name (content_of arrays name) ≡ arrays)
   kept_content kind b d t name shelf =
       let o : ℕ = owner_byte t kind in
@@ -383,7 +383,7 @@ module _ {H : List ℕ → ℕ} (laws : KindLaws H) where
       ∙ sym own ∙ ap (arrays_of (content_at kind) o b) (put_back d k (shelf.filled k))
 
   -- the same of the state
-  kept_state : (kind : ArrayKind) (b : Blocks) (d : Places) (t : ℕ) (name : List ℕ) → IsHeld H b d
+  kept_state : (kind : Kind) (b : Blocks) (d : Places) (t : ℕ) (name : List ℕ) → IsHeld H b d
       → (let s = state_in b d t in with_arrays kind s (with_content (arrays_at kind s) name (content_of (arrays_at kind s) name)) ≡ s)
   kept_state One b d t name shelf = ap (λ l. with_arrays One (state_in b d t) l) (kept_content One b d t name shelf)
   kept_state Long b d t name shelf = ap (λ l. with_arrays Long (state_in b d t) l) (kept_content Long b d t name shelf)
@@ -391,7 +391,7 @@ module _ {H : List ℕ → ℕ} (laws : KindLaws H) where
   kept_state Bytes b d t name shelf = ap (λ l. with_arrays Bytes (state_in b d t) l) (kept_content Bytes b d t name shelf)
 
   -- a refusal by the content of an array is a refusal by the state
-  refused-in : (kind : ArrayKind) (b : Blocks) (d : Places) (t : ℕ) (name : List ℕ) → IsHeld H b d → (f : Entries (KeyOf kind) → Reply × Entries (KeyOf kind))
+  refused-in : (kind : Kind) (b : Blocks) (d : Places) (t : ℕ) (name : List ℕ) → IsHeld H b d → (f : Entries (KeyOf kind) → Reply × Entries (KeyOf kind))
       → (let s = state_in b d t in let l = content_of (arrays_at kind s) name in f l ≡ (Full, l) → answered kind s name (f l) ≡ (Full, s))
   refused-in kind b d t name shelf f e =
       ap (answered kind (state_in b d t) name) e ∙ ap (λ (z : State). (Full, z)) (kept_state kind b d t name shelf)
@@ -402,19 +402,19 @@ module _ {H : List ℕ → ℕ} (laws : KindLaws H) where
   full-in quota (call.One name f) b d t shelf asks room =
       let l : Entries ℕ = content_of (state_in b d t).one name in
       refused-in One b d t name shelf (λ l. one_step (has_room quota (state_in b d t) (call.One name f)) l f)
-      (ap (λ r. one_step r l f) room ∙ one_full l f (sym (asks-in b d t (call.One name f)) ∙ asks))
+      (ap (λ r. one_step r l f) room ∙ effect_full word_order l (one_effect f) (sym (asks-in b d t (call.One name f)) ∙ asks))
   full-in quota (call.Long name f) b d t shelf asks room =
       let l : Entries ℕ = content_of (state_in b d t).long name in
       refused-in Long b d t name shelf (λ l. long_step (has_room quota (state_in b d t) (call.Long name f)) l f)
-      (ap (λ r. long_step r l f) room ∙ long_full l f (sym (asks-in b d t (call.Long name f)) ∙ asks))
+      (ap (λ r. long_step r l f) room ∙ effect_full word_order l (long_effect f) (sym (asks-in b d t (call.Long name f)) ∙ asks))
   full-in quota (call.Str name f) b d t shelf asks room =
       let l : Entries (List ℕ) = content_of (state_in b d t).string name in
       refused-in Str b d t name shelf (λ l. string_step (has_room quota (state_in b d t) (call.Str name f)) l f)
-      (ap (λ r. string_step r l f) room ∙ string_full l f (sym (asks-in b d t (call.Str name f)) ∙ asks))
+      (ap (λ r. string_step r l f) room ∙ effect_full string_order l (string_effect f) (sym (asks-in b d t (call.Str name f)) ∙ asks))
   full-in quota (call.Bytes name f) b d t shelf asks room =
       let l : Entries (List ℕ) = content_of (state_in b d t).bytes name in
       refused-in Bytes b d t name shelf (λ l. bytes_step (has_room quota (state_in b d t) (call.Bytes name f)) l f)
-      (ap (λ r. bytes_step r l f) room ∙ bytes_full l f (sym (asks-in b d t (call.Bytes name f)) ∙ asks))
+      (ap (λ r. bytes_step r l f) room ∙ effect_full string_order l (bytes_effect f) (sym (asks-in b d t (call.Bytes name f)) ∙ asks))
   full-in quota call.Used b d t shelf asks room = cc
 
   -- ---- counts
@@ -423,42 +423,42 @@ module _ {H : List ℕ → ℕ} (laws : KindLaws H) where
   sorted-in b d t kind = ap (is_sorted string_order) (arrays_at-state_in kind b d t) ∙ from_T _ (sorted-arrays_of (content_at kind) (owner_byte t kind) b d)
 
   -- the counts of a place are those of its content
-  pub entries-in : (kind : ArrayKind) (b : Blocks) (p : Stand) → IsPlaceOf H kind b p → length (content_at kind b p.root) ≡ p.entries
+  pub entries-in : (kind : Kind) (b : Blocks) (p : Stand) → IsPlaceOf H kind b p → length (content_at kind b p.root) ≡ p.entries
   entries-in kind b p h = sym (h.entries ∙ entries_are kind b p.root)
 
-  pieces-at-in : (kind : ArrayKind) (b : Blocks) (p : Stand) → IsPlaceOf H kind b p → pieces_of (size_at kind) (content_at kind b p.root) ≡ p.pieces
+  pieces-at-in : (kind : Kind) (b : Blocks) (p : Stand) → IsPlaceOf H kind b p → pieces_of (size_at kind) (content_at kind b p.root) ≡ p.pieces
   pieces-at-in kind b p h = sym (h.pieces ∙ pieces_are kind b p.root)
 
-  used_there : (kind : ArrayKind) (b : Blocks) (d : Places) (t : ℕ) (name : List ℕ) → IsHeld H b d
+  used_there : (kind : Kind) (b : Blocks) (d : Places) (t : ℕ) (name : List ℕ) → IsHeld H b d
       → length (content_of (arrays_at kind (state_in b d t)) name) ≡ (at d (spot_of t kind name)).entries
   used_there kind b d t name shelf =
       ap length (named-in kind b d t name) ∙ entries-in kind b (at d (spot_of t kind name)) (place-in kind b d t name shelf)
 
-  pieces_there : (kind : ArrayKind) (b : Blocks) (d : Places) (t : ℕ) (name : List ℕ) → IsHeld H b d
+  pieces_there : (kind : Kind) (b : Blocks) (d : Places) (t : ℕ) (name : List ℕ) → IsHeld H b d
       → pieces_of (size_at kind) (content_of (arrays_at kind (state_in b d t)) name) ≡ (at d (spot_of t kind name)).pieces
   pieces_there kind b d t name shelf =
       ap (pieces_of (size_at kind)) (named-in kind b d t name) ∙ pieces-at-in kind b (at d (spot_of t kind name)) (place-in kind b d t name shelf)
 
   -- an array's entries are among its tenant's entries
-  pub used-within : (kind : ArrayKind) (b : Blocks) (d : Places) (t : ℕ) (name : List ℕ) → IsHeld H b d
+  pub used-within : (kind : Kind) (b : Blocks) (d : Places) (t : ℕ) (name : List ℕ) → IsHeld H b d
       → (at d (spot_of t kind name)).entries ≤ used (state_in b d t)
   used-within kind b d t name shelf =
       within _ _ _ _ (used-replaced kind (state_in b d t) name [] (sorted-in b d t)) (used_there kind b d t name shelf)
 
-  pub pieces-within : (kind : ArrayKind) (b : Blocks) (d : Places) (t : ℕ) (name : List ℕ) → IsHeld H b d
+  pub pieces-within : (kind : Kind) (b : Blocks) (d : Places) (t : ℕ) (name : List ℕ) → IsHeld H b d
       → (at d (spot_of t kind name)).pieces ≤ pieces (state_in b d t)
   pieces-within kind b d t name shelf =
       within _ _ _ _ (pieces-replaced kind (state_in b d t) name [] (sorted-in b d t)) (pieces_there kind b d t name shelf)
 
   -- the tenant's number changes as the array's does
-  pub used-in : {a c : ArenaState} {d : Places} {t : ℕ} {kind : ArrayKind} {name : List ℕ} {q : Stand} → Change H a c d t kind name q
+  pub used-in : {a c : ArenaState} {d : Places} {t : ℕ} {kind : Kind} {name : List ℕ} {q : Stand} → Change H a c d t kind name q
       → used (state_in c.blocks (with_place d (spot_of t kind name) q) t) + (at d (spot_of t kind name)).entries ≡ used (state_in a.blocks d t) + q.entries
   used-in {a} {c} {d} {t} {kind} {name} {q} x =
       ap (λ z. used z + (at d (spot_of t kind name)).entries) (own-in kind x)
       ∙ moved _ _ _ _ _ _ (used-replaced kind (state_in a.blocks d t) name (content_at kind c.blocks q.root) (sorted-in a.blocks d t))
       (used_there kind a.blocks d t name x.shelf) (entries-in kind c.blocks q x.became.place)
 
-  pub pieces-in : {a c : ArenaState} {d : Places} {t : ℕ} {kind : ArrayKind} {name : List ℕ} {q : Stand} → Change H a c d t kind name q
+  pub pieces-in : {a c : ArenaState} {d : Places} {t : ℕ} {kind : Kind} {name : List ℕ} {q : Stand} → Change H a c d t kind name q
       → pieces (state_in c.blocks (with_place d (spot_of t kind name) q) t) + (at d (spot_of t kind name)).pieces ≡ pieces (state_in a.blocks d t) + q.pieces
   pieces-in {a} {c} {d} {t} {kind} {name} {q} x =
       ap (λ z. pieces z + (at d (spot_of t kind name)).pieces) (own-in kind x)
@@ -468,7 +468,7 @@ module _ {H : List ℕ → ℕ} (laws : KindLaws H) where
   -- ---- no arrays, and no change
 
   -- with an empty directory a tenant has no arrays
-  none_listed : (kind : ArrayKind) (b : Blocks) (o : ℕ) → arrays_of (content_at kind) o b no_places ≡ []
+  none_listed : (kind : Kind) (b : Blocks) (o : ℕ) → arrays_of (content_at kind) o b no_places ≡ []
   none_listed kind b o = same_entries string_order total names_apart _ _ (sorted-arrays_of (content_at kind) o b no_places) tt (λ m.
       find-arrays_of (content_at kind) o b no_places m ∙ ap (option_map (λ (p : Stand). content_at kind b p.root)) (no_place (o ∷ m)))
 

@@ -12,8 +12,8 @@ use Rattle.judy_model.specs.Contents.{Entries, string_order}
 use Rattle.judy_model.specs.Tenant.{Arrays}
 use Rattle.judy_directory.specs.Places.{Stand, at}
 use Rattle.judy_directory.specs.Kinds.{owner_byte, spot_of}
-use Rattle.judy_directory.specs.declared.spot.ArrayKind.{ArrayKind}
-use Rattle.judy_directory.specs.declared.spot.ArrayKind.TheVariants.{One, Long, Str, Bytes}
+use Rattle.judy_model.specs.declared.commands.Kind.{Kind}
+use Rattle.judy_model.specs.declared.commands.Kind.TheVariants.{One, Long, Str, Bytes}
 use Rattle.judy_directory.specs.Shelf.{Places, pick, picked}
 use Rattle.judy_kinds.specs.Kinds.{IsPlaceOf, numbers_of_array, place_numbers}
 use Rattle.judy_kinds.specs.Laws.{IsSmall}
@@ -41,21 +41,21 @@ module _ {K : Type 0} (words : List ℕ → ℕ) (content : ℕ → Entries K) (
 
 module _ (b : Blocks) (d : Places) where
   -- the words of a tenant's arrays of one kind at these places; below, of each of its arrays
-  abbrev kind_words : ArrayKind → ℕ → Placed → ℕ
+  abbrev kind_words : Kind → ℕ → Placed → ℕ
   kind_words kind t es = summed_words (sized (words_at kind b d t) (picked (content_at kind b) (owner_byte t kind) es))
 
   abbrev sizes_at : Placed → ℕ → Sizes
   sizes_at es t = sizes_by (λ kind name. words_at kind b d t name) (states_at b es t)
 
   -- one more place
-  module _ (kind : ArrayKind) (t : ℕ) (name : List ℕ) (p : Stand) (es : Placed) where
+  module _ (kind : Kind) (t : ℕ) (name : List ℕ) (p : Stand) (es : Placed) where
     abbrev longer : Placed
     longer = (spot_of t kind name, p) ∷ es
 
     kind_own : kind_words kind t longer ≡ words_at kind b d t name + kind_words kind t es
     kind_own = pick_own (words_at kind b d t) (content_at kind b) (owner_byte t kind) name p (picked (content_at kind b) (owner_byte t kind) es)
 
-    kind_other : (k : ArrayKind) (u : ℕ) → (owner_byte u k == owner_byte t kind) ≡ false → kind_words k u longer ≡ kind_words k u es
+    kind_other : (k : Kind) (u : ℕ) → (owner_byte u k == owner_byte t kind) ≡ false → kind_words k u longer ≡ kind_words k u es
     kind_other k u h = pick_other (words_at k b d u) (content_at k b) (owner_byte u k) (owner_byte t kind) name p
         (picked (content_at k b) (owner_byte u k) es) h
 
@@ -74,7 +74,7 @@ module _ (b : Blocks) (d : Places) where
     lower_words (suc n) h = let rest = lower_words n (omega arith) in let here = other_words n (λ e. absurd (omega arith)) in omega (arith, rest, here)
 
   -- the tenant has the words of the array more
-  own_words : (kind : ArrayKind) (t : ℕ) (name : List ℕ) (p : Stand) (es : Placed)
+  own_words : (kind : Kind) (t : ℕ) (name : List ℕ) (p : Stand) (es : Placed)
       → tenant_words (sizes_at ((spot_of t kind name, p) ∷ es) t) ≡ words_at kind b d t name + tenant_words (sizes_at es t)
   own_words One t name p es =
       let own = kind_own One t name p es in
@@ -102,7 +102,7 @@ module _ (b : Blocks) (d : Places) where
       omega (arith, own, ones, longs, strings)
 
   -- so have all tenants below n, if the tenant is one of them
-  all_own : (n : ℕ) (kind : ArrayKind) (t : ℕ) (name : List ℕ) (p : Stand) (es : Placed) → t < n
+  all_own : (n : ℕ) (kind : Kind) (t : ℕ) (name : List ℕ) (p : Stand) (es : Placed) → t < n
       → all_words n (sizes_at ((spot_of t kind name, p) ∷ es)) ≡ words_at kind b d t name + all_words n (sizes_at es)
   all_own zero kind t name p es h = absurd (omega arith)
   all_own (suc n) kind t name p es h = by (all_own n kind t name p es) (t == n) refl
@@ -154,7 +154,7 @@ module _ {H : List ℕ → ℕ} (laws : KindLaws H) {n : ℕ} {b : Blocks} where
       omega (arith, rest, own, here, both)
 
   -- the words of all blocks are those of the tenants below n
-  pub words-sum : {d : Places} → IsHeld H b d → IsOwned n b d → ((kind : ArrayKind) (p : Stand) → IsPlaceOf H kind b p → IsSmall kind b p) → TotalsOver
+  pub words-sum : {d : Places} → IsHeld H b d → IsOwned n b d → ((kind : Kind) (p : Stand) → IsPlaceOf H kind b p → IsSmall kind b p) → TotalsOver
       → total_words b ≡ all_words n (sizes_in b d)
   words-sum {d} shelf owned small totals =
       words-are laws shelf small totals ∙ placed-words d (entries d) (are_arrays laws shelf) (belongs laws shelf owned) (found_place laws shelf)

@@ -10,14 +10,14 @@ use Rattle.judy_model.specs.declared.calls.OneCall.TheVariants as one
 use Rattle.judy_model.specs.declared.calls.LongCall.TheVariants as long
 use Rattle.judy_model.specs.declared.calls.StrCall.TheVariants as str
 use Rattle.judy_model.specs.declared.calls.BytesCall.TheVariants as bytes
-use Rattle.judy_directory.specs.declared.spot.ArrayKind.{ArrayKind}
-use Rattle.judy_directory.specs.declared.spot.ArrayKind.TheVariants.{One, Long, Str, Bytes}
+use Rattle.judy_model.specs.declared.commands.Kind.{Kind}
+use Rattle.judy_model.specs.declared.commands.Kind.TheVariants.{One, Long, Str, Bytes}
 use Rattle.judy_directory.specs.Shelf.{Places}
 use Rattle.judy_tenants.specs.declared.stock.Stock.{Stock}
 use Rattle.judy_tenants.specs.States.{state_in, sizes_in}
 
 -- the call that frees an array of this kind and name
-abbrev pub free_of : ArrayKind → List ℕ → Call
+abbrev pub free_of : Kind → List ℕ → Call
 free_of One name = call.One name one.Free
 free_of Long name = call.Long name long.Free
 free_of Str name = call.Str name str.Free

@@ -11,8 +11,8 @@ use Rattle.judy_arena.specs.Totals.{words_over}
 use Rattle.judy_model.specs.Tenant.{Arrays, State}
 use Rattle.judy_directory.specs.Kinds.{owner_byte, spot_of}
 use Rattle.judy_directory.specs.Places.{at}
-use Rattle.judy_directory.specs.declared.spot.ArrayKind.{ArrayKind}
-use Rattle.judy_directory.specs.declared.spot.ArrayKind.TheVariants.{One, Long, Str, Bytes}
+use Rattle.judy_model.specs.declared.commands.Kind.{Kind}
+use Rattle.judy_model.specs.declared.commands.Kind.TheVariants.{One, Long, Str, Bytes}
 use Rattle.judy_directory.specs.Shelf.{Places, IsShelf, arrays_of}
 use Rattle.judy_words.specs.OneArrays.{one_in}
 use Rattle.judy_words.specs.LongArrays.{long_in}
@@ -32,7 +32,7 @@ state_in b places t = record {
 }
 
 -- the words in the blocks of an array
-abbrev pub words_at : ArrayKind → Blocks → Places → ℕ → List ℕ → ℕ
+abbrev pub words_at : Kind → Blocks → Places → ℕ → List ℕ → ℕ
 words_at kind b places t name = words_over b (numbers_of_array kind b (at places (spot_of t kind name)).root)
 
 -- the names of these arrays, each with its number of words
@@ -40,7 +40,7 @@ abbrev pub sized : {K : Type 0} → (List ℕ → ℕ) → Arrays K → List (Li
 sized words arrays = map (λ a. (a.0, words a.0)) arrays
 
 -- the words in the blocks of each array of this state
-abbrev pub sizes_by : (ArrayKind → List ℕ → ℕ) → State → Sizes
+abbrev pub sizes_by : (Kind → List ℕ → ℕ) → State → Sizes
 sizes_by words s = record {
   one = sized (words One) s.one;
   long = sized (words Long) s.long;

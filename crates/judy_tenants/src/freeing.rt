@@ -19,21 +19,21 @@ use crate::stock::{Stock, stands_at};
 use arrayvec::ArrayVec;
 use judy_arena::Arena;
 use judy_bytes::KeyHash;
-use judy_directory::{ArrayKind, Directory, Place};
+use judy_directory::{Directory, Place};
 use judy_kinds::answer;
-use judy_model::{BytesCall, Call, LongCall, Name, OneCall, StrCall};
+use judy_model::{BytesCall, Call, Kind, LongCall, Name, OneCall, StrCall};
 use judy_table::Table;
 use std::alloc::Global;
 
 /// The call that frees an array.
-fn free_of<'a>(kind: ArrayKind, name: Name) -> Call<'a>
+fn free_of<'a>(kind: Kind, name: Name) -> Call<'a>
     ensures { result ≡ free_of kind name }
 {
     match kind {
-        ArrayKind::One => Call::One(name, OneCall::Free),
-        ArrayKind::Long => Call::Long(name, LongCall::Free),
-        ArrayKind::Str => Call::Str(name, StrCall::Free),
-        ArrayKind::Bytes => Call::Bytes(name, BytesCall::Free),
+        Kind::One => Call::One(name, OneCall::Free),
+        Kind::Long => Call::Long(name, LongCall::Free),
+        Kind::Str => Call::Str(name, StrCall::Free),
+        Kind::Bytes => Call::Bytes(name, BytesCall::Free),
     }
 }
 
@@ -42,7 +42,7 @@ fn free<H: KeyHash>(
     alloc: Global,
     arena: &mut Arena,
     hash: H,
-    kind: ArrayKind,
+    kind: Kind,
     name: Name,
     place: Place,
 )

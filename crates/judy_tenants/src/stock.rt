@@ -3,7 +3,8 @@ ghost use Rattle.std.specs.Prelude.{◌≡◌, ◌<◌, ◌≤◌, ◌^◌, ◌&
 ghost use Rattle.judy_arena.specs.Takes.{Takes};
 ghost use Rattle.judy_directory.specs.Places.{at};
 ghost use Rattle.judy_kinds.specs.Kinds.{kind_of_key, IsPlaceOf};
-ghost use Rattle.judy_kinds.specs.Calls.{is_of_array, kind_of_call, is_insertion, has_string, asks_at, blocks_of_call};
+ghost use Rattle.judy_kinds.specs.Calls.{is_of_array, kind_of_call, has_string, asks_at, blocks_of_call};
+ghost use Rattle.judy_model.specs.Tenant.{inserts};
 ghost use Rattle.judy_tenants.specs.Accounts.{has_room_in};
 ghost use Rattle.judy_tenants.specs.States.{IsHeld};
 ghost use Rattle.judy_tenants.specs.Stocks.{HasNoReserveIn, IsExchange, IsRefusedIn};
@@ -13,7 +14,7 @@ use arrayvec::ArrayVec;
 use judy_arena::{Arena, NoMemory};
 use judy_bytes::KeyHash;
 use judy_directory::{Directory, Place, Spot};
-use judy_kinds::{answer, asks, is_insertion};
+use judy_kinds::{answer, asks};
 use judy_model::{Call, KEY_LIMIT, Quota, Reply};
 use std::alloc::Global;
 
@@ -89,7 +90,7 @@ pub fn is_full<H: KeyHash>(
         && not (has_room_in account quota call.now)) }
 {
     judy_kinds::laws::insertions_alone_ask();
-    if !is_insertion(call) {
+    if !call.inserts() {
         return false;
     }
     if has_room(account, quota, call.new_pieces()) {
@@ -121,7 +122,7 @@ pub fn exchange<'a, H: KeyHash>(
     ensures memory { Takes (blocks_of_call stock.old.arena.blocks
         (at stock.old.directory.0 spot.now).root call.now) stock.old.arena stock.new.arena }
 {
-    if is_insertion(call) {
+    if call.inserts() {
         return enter(alloc, stock, hash, spot, call, found);
     }
     look_up(alloc, stock, hash, spot, call, found)
@@ -140,7 +141,7 @@ fn look_up<'a, H: KeyHash>(
     requires few { (at stock.old.directory.0 spot.now).pieces < 2 ^ 63 }
     requires array { IsTrue (is_of_array call.now) }
     requires string { IsTrue (has_string call.now) }
-    requires insertion { IsFalse (is_insertion call.now) }
+    requires insertion { IsFalse (inserts call.now) }
     requires kind { kind_of_key spot.now ≡ kind_of_call call.now }
     ensures ok { IfOk result
         (λ answer. IsExchange H.hashed spot.now call.now stock.old stock.new answer) }
@@ -181,7 +182,7 @@ fn enter<'a, H: KeyHash>(
     requires few { (at stock.old.directory.0 spot.now).pieces < 2 ^ 63 }
     requires array { IsTrue (is_of_array call.now) }
     requires string { IsTrue (has_string call.now) }
-    requires insertion { IsTrue (is_insertion call.now) }
+    requires insertion { IsTrue (inserts call.now) }
     requires kind { kind_of_key spot.now ≡ kind_of_call call.now }
     ensures ok { IfOk result
         (λ answer. IsExchange H.hashed spot.now call.now stock.old stock.new answer) }

@@ -8,6 +8,7 @@ use Rattle.std.specs.Ordering.{nat_cmp}
 use Rattle.std.specs.Cmp.{nat_cmp_total}
 use Rattle.std.specs.FinMap.Entries.{find-put}
 use Rattle.judy_model.specs.Contents.{Entries, word_order, value_of, has_key, with_entry}
+use Rattle.judy_model.specs.Tenant.Reports.{ReportsValue}
 use Rattle.judy_model.specs.Tenant.{insert, value_after, value_replied}
 use Rattle.judy_model.specs.declared.calls.Given.{Given}
 use Rattle.judy_model.proofs.lemmas.EntryLemmas.{word_itself}
@@ -39,7 +40,7 @@ both_values l n m x w v first then = then ∙ ap (λ z. with_entry word_order z 
 -- an index that is there is put in, and then its value is written
 pub insert-over : (l n m : Entries ℕ) (x value w told v : ℕ) (given : Given) → value_of word_order l x ≡ Some value
     → w ≡ value_after given value → told ≡ value_replied given value
-    → n ≡ with_entry word_order l x v → m ≡ with_entry word_order n x w → insert word_order true l x given ≡ (reply.Value told, m)
+    → n ≡ with_entry word_order l x v → m ≡ with_entry word_order n x w → insert word_order true l x given ReportsValue ≡ (reply.Value told, m)
 insert-over l n m x value w told v given was is shows first then =
     let new : m ≡ with_entry word_order l x (value_after given value) = both_values l n m x w v first then ∙ ap (with_entry word_order l x) is in
     rw was (ap (λ z. (reply.Value z, with_entry word_order l x (value_after given value))) (sym shows) ∙ ap (λ z. (reply.Value told, z)) (sym new))

@@ -3,7 +3,6 @@
 --     IsLongFinger b w x f   f is the finger of the index x
 --     long_in b w        its content: each index with its value
 --     long_numbers b w   the numbers of its blocks
---     long_inserts c           the call may insert an index
 --     IsFound l o              the entry o is one of l
 --     LongAnswers, LongLooks   the reply to a call, and what the call leaves
 --     LongBecomes              what every call leaves of the map and of other arrays
@@ -13,7 +12,6 @@ use Rattle.judy_arena.specs.Blocks.{Blocks, ArenaState, count_up}
 use Rattle.judy_arena.specs.Frame.{Frame}
 use Rattle.judy_model.specs.Contents.{Entries, word_order, value_of, has_key, with_entry}
 use Rattle.judy_model.specs.declared.calls.LongCall.{LongCall}
-use Rattle.judy_model.specs.declared.calls.LongCall.TheVariants as long
 use Rattle.judy_model.specs.declared.replies.Reply.{Reply}
 use Rattle.judy_model.specs.Tenant.{long_step}
 use Rattle.judy_tree.specs.Root.{IsRoot, entries, numbers as numbers_of_root, HasRootSpace}
@@ -35,11 +33,6 @@ long_in b w = entries true b w
 -- the numbers of its blocks
 abbrev pub long_numbers : Blocks → ℕ → List ℕ
 long_numbers b w = numbers_of_root b w
-
--- the call may insert an index
-abbrev pub long_inserts : LongCall → Bool
-long_inserts (long.Insert x given) = true
-long_inserts _ = false
 
 -- the map after the index is inserted: a present index keeps its value, and a new one gets 0
 abbrev pub kept_or_zero : Entries ℕ → ℕ → Entries ℕ

@@ -3,7 +3,6 @@
 --     one_in b w             its content: each index, with the value 0
 --     one_numbers b w        the numbers of its blocks
 --     index_shown o          the reply to a search that found this
---     one_inserts c          the call may insert an index
 --     OneAnswers, OneLooks   the reply to a call, and what the call leaves
 --     OneBecomes             what every call leaves of the set and of other arrays
 --     HasOneSpace a w        its blocks have few words
@@ -12,7 +11,6 @@ use Rattle.judy_arena.specs.Blocks.{Blocks, ArenaState}
 use Rattle.judy_arena.specs.Frame.{Frame}
 use Rattle.judy_model.specs.Contents.{Entries, word_order, has_key}
 use Rattle.judy_model.specs.declared.calls.OneCall.{OneCall}
-use Rattle.judy_model.specs.declared.calls.OneCall.TheVariants as one
 use Rattle.judy_model.specs.declared.replies.Reply.{Reply}
 use Rattle.judy_model.specs.declared.replies.Reply.TheVariants as reply
 use Rattle.judy_model.specs.Tenant.{one_step}
@@ -34,11 +32,6 @@ one_numbers b w = numbers_of_root b w
 abbrev pub index_shown : Option ℕ → Reply
 index_shown (Some x) = reply.Index x
 index_shown None = reply.Int false
-
--- the call may insert an index
-abbrev pub one_inserts : OneCall → Bool
-one_inserts (one.Set x) = true
-one_inserts _ = false
 
 -- if there is room, the call of the set at w in a has this reply and leaves the set at x in b
 abbrev pub OneAnswers : ArenaState → ℕ → OneCall → Reply → ArenaState → ℕ → Type 0

@@ -89,7 +89,6 @@ impl Judy1 {
             (if has_key word_order (one_in arena.old.blocks self.old) x then 0 else 64)
             arena.old arena.new }
     {
-        judy_tree::laws::content_is_sound();
         let answer = self.root.insert(alloc, arena, x)?;
         Ok(answer.before.is_none())
     }

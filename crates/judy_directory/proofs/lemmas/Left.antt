@@ -11,7 +11,7 @@ use Rattle.std.specs.Ordering.{eq_by_cmp}
 use Rattle.std.specs.FinMap.{FinMap, get, remove, contains_key, retain_keys, get-retain_keys, get-remove, same_map}
 use Rattle.judy_model.specs.Contents.{string_order}
 use Rattle.judy_model.proofs.lemmas.FormLemmas.{names_apart}
-use Rattle.judy_directory.specs.declared.spot.ArrayKind.{ArrayKind}
+use Rattle.judy_model.specs.declared.commands.Kind.{Kind}
 use Rattle.judy_directory.specs.Kinds.{owner_byte, spot_of, is_gone, is_staying}
 use Rattle.judy_directory.specs.Places.{Stand}
 use Rattle.judy_directory.specs.Rooms.{alike, is_listed}
@@ -22,7 +22,7 @@ use Rattle.judy_directory.proofs.Leaving.{get-staying}
 use Rattle.judy_directory.proofs.lemmas.Changes.{total}
 
 -- whether a key is marked, by its tenant
-pub gone-of : (gone : List Bool) (t : ℕ) (kind : ArrayKind) (name : List ℕ) → is_gone gone (spot_of t kind name) ≡ get_or gone t false
+pub gone-of : (gone : List Bool) (t : ℕ) (kind : Kind) (name : List ℕ) → is_gone gone (spot_of t kind name) ≡ get_or gone t false
 gone-of gone t kind name = ap (λ n. get_or gone n false) (owner-tenant t kind)
 
 -- a key that is marked has no place once the names are forgotten

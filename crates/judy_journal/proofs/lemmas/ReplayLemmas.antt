@@ -11,20 +11,14 @@ use Rattle.std.proofs.lemmas.List.Elements.{filter_map-append}
 use Rattle.std.proofs.lemmas.Slice.Eq.{bytes_eq-Decides}
 use Rattle.judy_model.specs.declared.calls.Call.{Call}
 use Rattle.judy_model.specs.declared.calls.Call.TheVariants.{One, Long, Str, Bytes, Used}
-use Rattle.judy_model.specs.declared.calls.OneCall.{OneCall}
-use Rattle.judy_model.specs.declared.calls.OneCall.TheVariants as one
-use Rattle.judy_model.specs.declared.calls.LongCall.{LongCall}
-use Rattle.judy_model.specs.declared.calls.LongCall.TheVariants as long
-use Rattle.judy_model.specs.declared.calls.StrCall.{StrCall}
-use Rattle.judy_model.specs.declared.calls.StrCall.TheVariants as str
-use Rattle.judy_model.specs.declared.calls.BytesCall.{BytesCall}
-use Rattle.judy_model.specs.declared.calls.BytesCall.TheVariants as bytes
 use Rattle.judy_model.specs.declared.calls.Given.{Given}
 use Rattle.judy_model.specs.declared.quotas.Quota.{Quota}
 use Rattle.judy_model.specs.declared.replies.Reply.{Reply}
 use Rattle.judy_model.specs.declared.replies.Reply.TheVariants as reply
 use Rattle.judy_model.specs.Contents.{Order, Entries, word_order, string_order, value_of, has_key, with_entry}
-use Rattle.judy_model.specs.Tenant.{State, Attempt, content_of, with_content, insert_over, insert, set, used, pieces, new_pieces, one_step, long_step}
+use Rattle.judy_model.specs.Tenant.Effect.{Insert, Remove, Free, Ask}
+use Rattle.judy_model.specs.Tenant.{Effect, Reports, effect_step, one_effect, long_effect, string_effect, bytes_effect}
+use Rattle.judy_model.specs.Tenant.{State, Attempt, content_of, with_content, insert_over, insert, used, pieces, new_pieces, one_step, long_step}
 use Rattle.judy_model.specs.Tenant.{string_step, bytes_step, changes, is_read_only, refusal_of, has_room, allowed_step, attempt_step}
 use Rattle.judy_model.specs.Solo.{is_memory, IsAnswered, MayLackMemory}
 use Rattle.judy_model.specs.Service.{States}
@@ -49,46 +43,22 @@ use Rattle.judy_model.proofs.lemmas.TestLemmas.{and_left, and_right, not_both}
 
 -- ---- a call that is not refused does as it would with room
 
-set_same : (room : Bool) (l : Entries ℕ) (x : ℕ) → is_refused (set room l x).0 ≡ false → (set room l x).1 ≡ (set true l x).1
-set_same room l x = by (has_key word_order l x) room
+insert_same : {K : Type 0} (order : Order K) (room : Bool) (l : Entries K) (k : K) (given : Given) (reports : Reports)
+    → is_refused (insert order room l k given reports).0 ≡ false → (insert order room l k given reports).1 ≡ (insert order true l k given reports).1
+insert_same order room l k given reports = by (value_of order l k) room
   where
-    new : Reply × Entries ℕ
-    new = (reply.Int true, with_entry word_order l x 0)
-
-    by : (b r : Bool) → is_refused (cond {A = Reply × Entries ℕ} b (reply.Int false, l) (cond r new (reply.Full, l))).0 ≡ false
-        → (cond {A = Reply × Entries ℕ} b (reply.Int false, l) (cond r new (reply.Full, l))).1
-        ≡ (cond {A = Reply × Entries ℕ} b (reply.Int false, l) new).1
-    by true r h = refl
-    by false true h = refl
-    by false false h = cc
-
-insert_same : {K : Type 0} (order : Order K) (room : Bool) (l : Entries K) (k : K) (given : Given)
-    → is_refused (insert order room l k given).0 ≡ false → (insert order room l k given).1 ≡ (insert order true l k given).1
-insert_same order room l k given = by (value_of order l k) room
-  where
-    by : (had : Option ℕ) (r : Bool) → is_refused (insert_over order r l k given had).0 ≡ false
-        → (insert_over order r l k given had).1 ≡ (insert_over order true l k given had).1
+    by : (had : Option ℕ) (r : Bool) → is_refused (insert_over order r l k given reports had).0 ≡ false
+        → (insert_over order r l k given reports had).1 ≡ (insert_over order true l k given reports had).1
     by (Some v) r h = refl
     by None true h = refl
     by None false h = cc
 
-one_same : (room : Bool) (l : Entries ℕ) (c : OneCall) → is_refused (one_step room l c).0 ≡ false → (one_step room l c).1 ≡ (one_step true l c).1
-one_same room l (one.Set x) h = set_same room l x h
-one_same room l _ h = refl
-
-long_same : (room : Bool) (l : Entries ℕ) (c : LongCall) → is_refused (long_step room l c).0 ≡ false → (long_step room l c).1 ≡ (long_step true l c).1
-long_same room l (long.Insert k given) h = insert_same word_order room l k given h
-long_same room l _ h = refl
-
-string_same : (room : Bool) (l : Entries (List ℕ)) (c : StrCall) → is_refused (string_step room l c).0 ≡ false
-    → (string_step room l c).1 ≡ (string_step true l c).1
-string_same room l (str.Insert k given) h = insert_same string_order room l k given h
-string_same room l _ h = refl
-
-byte_same : (room : Bool) (l : Entries (List ℕ)) (c : BytesCall) → is_refused (bytes_step room l c).0 ≡ false
-    → (bytes_step room l c).1 ≡ (bytes_step true l c).1
-byte_same room l (bytes.Insert k given) h = insert_same string_order room l k given h
-byte_same room l _ h = refl
+effect_same : {K : Type 0} (order : Order K) (room : Bool) (l : Entries K) (effect : Effect K) → is_refused (effect_step order room l effect).0 ≡ false
+    → (effect_step order room l effect).1 ≡ (effect_step order true l effect).1
+effect_same order room l (Insert k given reports) h = insert_same order room l k given reports h
+effect_same order room l (Remove k) h = refl
+effect_same order room l Free h = refl
+effect_same order room l (Ask answer) h = refl
 
 -- the ample quota has room
 ample_room : (s : State) (call : Call) → has_room (ample s call) s call ≡ true
@@ -105,19 +75,19 @@ allowed_same : (quota : Quota) (s : State) (call : Call) → is_refused (allowed
     → (allowed_step quota s call).1 ≡ after_call s call
 allowed_same quota s (One name c) h =
     ap (λ l. record s { one = with_content s.one name l })
-    (one_same (has_room quota s (One name c)) (content_of s.one name) c h
+    (effect_same word_order (has_room quota s (One name c)) (content_of s.one name) (one_effect c) h
     ∙ ap (λ room. (one_step room (content_of s.one name) c).1) (sym (ample_room s (One name c))))
 allowed_same quota s (Long name c) h =
     ap (λ l. record s { long = with_content s.long name l })
-    (long_same (has_room quota s (Long name c)) (content_of s.long name) c h
+    (effect_same word_order (has_room quota s (Long name c)) (content_of s.long name) (long_effect c) h
     ∙ ap (λ room. (long_step room (content_of s.long name) c).1) (sym (ample_room s (Long name c))))
 allowed_same quota s (Str name c) h =
     ap (λ l. record s { string = with_content s.string name l })
-    (string_same (has_room quota s (Str name c)) (content_of s.string name) c h
+    (effect_same string_order (has_room quota s (Str name c)) (content_of s.string name) (string_effect c) h
     ∙ ap (λ room. (string_step room (content_of s.string name) c).1) (sym (ample_room s (Str name c))))
 allowed_same quota s (Bytes name c) h =
     ap (λ l. record s { bytes = with_content s.bytes name l })
-    (byte_same (has_room quota s (Bytes name c)) (content_of s.bytes name) c h
+    (effect_same string_order (has_room quota s (Bytes name c)) (content_of s.bytes name) (bytes_effect c) h
     ∙ ap (λ room. (bytes_step room (content_of s.bytes name) c).1) (sym (ample_room s (Bytes name c))))
 allowed_same quota s Used h = refl
 

@@ -16,12 +16,6 @@ use Rattle.judy_model.specs.declared.calls.Call.{Call}
 use Rattle.judy_model.specs.declared.calls.Call.TheVariants.{One, Long, Str, Bytes, Used}
 use Rattle.judy_model.specs.declared.calls.OneCall.{OneCall}
 use Rattle.judy_model.specs.declared.calls.OneCall.TheVariants as one
-use Rattle.judy_model.specs.declared.calls.LongCall.{LongCall}
-use Rattle.judy_model.specs.declared.calls.LongCall.TheVariants as long
-use Rattle.judy_model.specs.declared.calls.StrCall.{StrCall}
-use Rattle.judy_model.specs.declared.calls.StrCall.TheVariants as str
-use Rattle.judy_model.specs.declared.calls.BytesCall.{BytesCall}
-use Rattle.judy_model.specs.declared.calls.BytesCall.TheVariants as bytes
 use Rattle.judy_model.specs.declared.calls.Given.{Given}
 use Rattle.judy_model.specs.declared.calls.Given.TheVariants.{Nothing, Value, Plus}
 use Rattle.judy_model.specs.declared.quotas.Quota.{Quota}
@@ -29,10 +23,12 @@ use Rattle.judy_model.specs.declared.replies.Reply.{Reply}
 use Rattle.judy_model.specs.declared.replies.Reply.TheVariants as reply
 use Rattle.judy_model.specs.Grammar.{are_bytes, is_string, is_byte_key}
 use Rattle.judy_model.specs.Contents.{Order, Entries, word_order, string_order, has_key, with_entry, without_key}
+use Rattle.judy_model.specs.Tenant.Effect.{Insert, Remove, Free, Ask}
+use Rattle.judy_model.specs.Tenant.{Effect, Reports, effect_step, one_effect, long_effect, string_effect, bytes_effect}
 use Rattle.judy_model.specs.Tenant.{Arrays, State, content_of, with_content, value_after, insert_over, insert, one_step}
 use Rattle.judy_model.specs.Tenant.{long_step, string_step, bytes_step, has_room, allowed_step, is_read_only, refusal_of}
 use Rattle.judy_model.specs.WellFormed.{is_word, is_one_entry, is_long_entry, is_string_entry, is_bytes_entry, is_content}
-use Rattle.judy_model.specs.WellFormed.{has_entries, are_arrays, IsWellFormed, writes_entry, StepKeepsForm}
+use Rattle.judy_model.specs.WellFormed.{has_entries, are_arrays, IsWellFormed, effect_writes, writes_entry, StepKeepsForm}
 use Rattle.judy_model.proofs.lemmas.TestLemmas.{to_T, from_T}
 use Rattle.judy_model.proofs.lemmas.StateLemmas.{and_left, and_right, is_Equal, equal_names}
 
@@ -96,17 +92,31 @@ module _ {K : Type 0} (order : Order K) (total : IsTotalOrder order) (same : IsA
     abbrev TakesWords : Type 0
     TakesWords = (k : K) (v w : ℕ) → test (k, v) ≡ true → is_word w ≡ true → test (k, w) ≡ true
 
-    insert_form : TakesWords → (room : Bool) (l : Entries K) (k : K) (given : Given) → is_content order test l ≡ true
-        → test (k, value_after given 0) ≡ true → is_content order test (insert order room l k given).1 ≡ true
-    insert_form words room l k given h f = by (find order k l) refl given f
+    -- an addition needs such a test
+    abbrev Suits : Effect K → Type 0
+    Suits (Insert k (Plus n) reports) = TakesWords
+    Suits _ = Unit {0}
+
+    insert_form : (room : Bool) (l : Entries K) (k : K) (given : Given) (reports : Reports) → Suits (Insert k given reports) → is_content order test l ≡ true
+        → test (k, value_after given 0) ≡ true → is_content order test (insert order room l k given reports).1 ≡ true
+    insert_form room l k given reports suits h f = by (find order k l) refl given suits f
       where
-        by : (had : Option ℕ) → find order k l ≡ had → (given : Given) → test (k, value_after given 0) ≡ true → is_content order
-            test (insert_over order room l k given had).1 ≡ true
-        by (Some v) is (Value w) f = content_put l k w f h
-        by (Some v) is (Plus n) f = content_put l k ((v + n) % 2 ^ 64) (words k ((0 + n) % 2 ^ 64) ((v + n) % 2 ^ 64) f (sum_is_word (v + n))) h
-        by (Some v) is Nothing f = content_put l k v (found_passes order same test k v l (and_right (is_sorted order l) _ h) is) h
-        by None is given f = elim room as (λ r. is_content order test (insert_over order r l k given None).1 ≡ true)
+        by : (had : Option ℕ) → find order k l ≡ had → (given : Given) → Suits (Insert k given reports) → test (k, value_after given 0) ≡ true
+            → is_content order test (insert_over order room l k given reports had).1 ≡ true
+        by (Some v) is (Value w) suits f = content_put l k w f h
+        by (Some v) is (Plus n) suits f =
+            content_put l k ((v + n) % 2 ^ 64) (suits k ((0 + n) % 2 ^ 64) ((v + n) % 2 ^ 64) f (sum_is_word (v + n))) h
+        by (Some v) is Nothing suits f = content_put l k v (found_passes order same test k v l (and_right (is_sorted order l) _ h) is) h
+        by None is given suits f = elim room as (λ r. is_content order test (insert_over order r l k given reports None).1 ≡ true)
             [ true ↦ content_put l k (value_after given 0) f h | false ↦ h ]
+
+    -- a call keeps the content well-formed
+    effect_form : (room : Bool) (l : Entries K) (effect : Effect K) → Suits effect → is_content order test l ≡ true → IsTrue (effect_writes test effect)
+        → is_content order test (effect_step order room l effect).1 ≡ true
+    effect_form room l (Insert k given reports) suits h w = insert_form room l k given reports suits h w
+    effect_form room l (Remove k) suits h w = content_less l k h
+    effect_form room l Free suits h w = refl
+    effect_form room l (Ask answer) suits h w = h
 
 -- ---- the arrays of a kind
 
@@ -182,45 +192,48 @@ module _ {K : Type 0} (order : Order K) (test : K × ℕ → Bool) where
 
 -- ---- the calls of each kind
 
+-- a set has no additions
+one_suits : (c : OneCall) → Suits word_order nat_cmp_total nat_cmp-IsAntisymmetric is_one_entry (one_effect c)
+one_suits (one.Set x) = tt
+one_suits _ = tt
+
+-- a test that takes words as values suits each call
+suits_all : {K : Type 0} (order : Order K) (total : IsTotalOrder order) (same : IsAntisymmetric order) (test : K × ℕ → Bool)
+    → TakesWords order total same test → (effect : Effect K) → Suits order total same test effect
+suits_all order total same test takes (Insert k (Plus n) reports) = takes
+suits_all order total same test takes (Insert k Nothing reports) = tt
+suits_all order total same test takes (Insert k (Value v) reports) = tt
+suits_all order total same test takes (Remove k) = tt
+suits_all order total same test takes Free = tt
+suits_all order total same test takes (Ask answer) = tt
+
 -- a call of a set keeps its content well-formed
-one_form : (name : List ℕ) (room : Bool) (l : Entries ℕ) (c : OneCall) → is_content word_order is_one_entry l ≡ true → IsTrue (writes_entry (One name c))
+one_form : (room : Bool) (l : Entries ℕ) (c : OneCall) → is_content word_order is_one_entry l ≡ true → IsTrue (effect_writes is_one_entry (one_effect c))
     → is_content word_order is_one_entry (one_step room l c).1 ≡ true
-one_form name room l (one.Set x) h w = by (has_key word_order l x) room
-  where
-    by : (b r : Bool) → is_content word_order is_one_entry (cond {A = Reply × Entries ℕ} b (reply.Int false, l)
-        (cond r (reply.Int true, with_entry word_order l x 0) (reply.Full, l))).1 ≡ true
-    by true r = h
-    by false true = content_put word_order nat_cmp_total nat_cmp-IsAntisymmetric is_one_entry l x 0 w h
-    by false false = h
-one_form name room l (one.Unset x) h w = content_less word_order nat_cmp_total nat_cmp-IsAntisymmetric is_one_entry l x h
-one_form name room l one.Free h w = refl
-one_form name room l _ h w = h
+one_form room l c h w = effect_form word_order nat_cmp_total nat_cmp-IsAntisymmetric is_one_entry room l (one_effect c) (one_suits c) h w
 
 -- of a JudyL
-long_form : (name : List ℕ) (room : Bool) (l : Entries ℕ) (c : LongCall) → is_content word_order is_long_entry l ≡ true → IsTrue (writes_entry (Long name c))
-    → is_content word_order is_long_entry (long_step room l c).1 ≡ true
-long_form name room l (long.Insert k given) h w = insert_form word_order nat_cmp_total nat_cmp-IsAntisymmetric is_long_entry (λ x v u f g. and_from (is_word x) _ (and_left (is_word x) _ f) g) room l k given h w
-long_form name room l (long.Delete k) h w = content_less word_order nat_cmp_total nat_cmp-IsAntisymmetric is_long_entry l k h
-long_form name room l long.Free h w = refl
-long_form name room l _ h w = h
+long_form : (room : Bool) (l : Entries ℕ) (effect : Effect ℕ) → is_content word_order is_long_entry l ≡ true → IsTrue (effect_writes is_long_entry effect)
+    → is_content word_order is_long_entry (effect_step word_order room l effect).1 ≡ true
+long_form room l effect h w = effect_form word_order nat_cmp_total nat_cmp-IsAntisymmetric is_long_entry room l effect
+    (suits_all word_order nat_cmp_total nat_cmp-IsAntisymmetric is_long_entry
+    (λ x v u f g. and_from (is_word x) _ (and_left (is_word x) _ f) g) effect) h w
 
 -- of a JudySL
-string_form : (name : List ℕ) (room : Bool) (l : Entries (List ℕ)) (c : StrCall) → is_content string_order is_string_entry l
-    ≡ true → IsTrue (writes_entry (Str name c))
-    → is_content string_order is_string_entry (string_step room l c).1 ≡ true
-string_form name room l (str.Insert k given) h w = insert_form string_order nat_list_cmp_total names_apart is_string_entry (λ x v u f g. and_from (is_string x && are_bytes x) _ (and_left (is_string x && are_bytes x) _ f) g) room l k given h w
-string_form name room l (str.Delete k) h w = content_less string_order nat_list_cmp_total names_apart is_string_entry l k h
-string_form name room l str.Free h w = refl
-string_form name room l _ h w = h
+string_form : (room : Bool) (l : Entries (List ℕ)) (effect : Effect (List ℕ)) → is_content string_order is_string_entry l ≡ true
+    → IsTrue (effect_writes is_string_entry effect)
+    → is_content string_order is_string_entry (effect_step string_order room l effect).1 ≡ true
+string_form room l effect h w = effect_form string_order nat_list_cmp_total names_apart is_string_entry room l effect
+    (suits_all string_order nat_list_cmp_total names_apart is_string_entry
+    (λ x v u f g. and_from (is_string x && are_bytes x) _ (and_left (is_string x && are_bytes x) _ f) g) effect) h w
 
 -- of a JudyHS
-byte_form : (name : List ℕ) (room : Bool) (l : Entries (List ℕ)) (c : BytesCall) → is_content string_order is_bytes_entry l ≡ true
-    → IsTrue (writes_entry (Bytes name c))
-    → is_content string_order is_bytes_entry (bytes_step room l c).1 ≡ true
-byte_form name room l (bytes.Insert k given) h w = insert_form string_order nat_list_cmp_total names_apart is_bytes_entry (λ x v u f g. and_from (is_byte_key x && are_bytes x) _ (and_left (is_byte_key x && are_bytes x) _ f) g) room l k given h w
-byte_form name room l (bytes.Delete k) h w = content_less string_order nat_list_cmp_total names_apart is_bytes_entry l k h
-byte_form name room l bytes.Free h w = refl
-byte_form name room l _ h w = h
+byte_form : (room : Bool) (l : Entries (List ℕ)) (effect : Effect (List ℕ)) → is_content string_order is_bytes_entry l ≡ true
+    → IsTrue (effect_writes is_bytes_entry effect)
+    → is_content string_order is_bytes_entry (effect_step string_order room l effect).1 ≡ true
+byte_form room l effect h w = effect_form string_order nat_list_cmp_total names_apart is_bytes_entry room l effect
+    (suits_all string_order nat_list_cmp_total names_apart is_bytes_entry
+    (λ x v u f g. and_from (is_byte_key x && are_bytes x) _ (and_left (is_byte_key x && are_bytes x) _ f) g) effect) h w
 
 -- a call that its right allows keeps the arrays well-formed
 allowed_keeps_form : (quota : Quota) (s : State) (call : Call) → IsWellFormed s → IsTrue (writes_entry call) → IsWellFormed (allowed_step quota s call).1
@@ -230,7 +243,7 @@ allowed_keeps_form quota s (One name c) h w = record {
   bytes = h.bytes;
   one = let room = has_room quota s (One name c) in
       arrays_form word_order is_one_entry s.one name (one_step room (content_of s.one name) c).1 h.one
-      (one_form name room (content_of s.one name) c (content_form word_order is_one_entry s.one name h.one) w);
+      (one_form room (content_of s.one name) c (content_form word_order is_one_entry s.one name h.one) w);
 }
 allowed_keeps_form quota s (Long name c) h w = record {
   one = h.one;
@@ -238,7 +251,7 @@ allowed_keeps_form quota s (Long name c) h w = record {
   bytes = h.bytes;
   long = let room = has_room quota s (Long name c) in
       arrays_form word_order is_long_entry s.long name (long_step room (content_of s.long name) c).1 h.long
-      (long_form name room (content_of s.long name) c (content_form word_order is_long_entry s.long name h.long) w);
+      (long_form room (content_of s.long name) (long_effect c) (content_form word_order is_long_entry s.long name h.long) w);
 }
 allowed_keeps_form quota s (Str name c) h w = record {
   one = h.one;
@@ -246,7 +259,7 @@ allowed_keeps_form quota s (Str name c) h w = record {
   bytes = h.bytes;
   string = let room = has_room quota s (Str name c) in
       arrays_form string_order is_string_entry s.string name (string_step room (content_of s.string name) c).1 h.string
-      (string_form name room (content_of s.string name) c (content_form string_order is_string_entry s.string name h.string) w);
+      (string_form room (content_of s.string name) (string_effect c) (content_form string_order is_string_entry s.string name h.string) w);
 }
 allowed_keeps_form quota s (Bytes name c) h w = record {
   one = h.one;
@@ -254,7 +267,7 @@ allowed_keeps_form quota s (Bytes name c) h w = record {
   string = h.string;
   bytes = let room = has_room quota s (Bytes name c) in
       arrays_form string_order is_bytes_entry s.bytes name (bytes_step room (content_of s.bytes name) c).1 h.bytes
-      (byte_form name room (content_of s.bytes name) c (content_form string_order is_bytes_entry s.bytes name h.bytes) w);
+      (byte_form room (content_of s.bytes name) (bytes_effect c) (content_form string_order is_bytes_entry s.bytes name h.bytes) w);
 }
 allowed_keeps_form quota s Used h w = h
 

@@ -2,7 +2,9 @@
 //! for; nothing changed.
 ghost use Rattle.std.specs.Prelude.{◌≡◌, IsTrue, IfOk, OnErr};
 ghost use Rattle.judy_model.specs.Contents.{word_order, value_of};
-ghost use Rattle.judy_model.specs.Tenant.{content_of, set, insert, delete, free};
+ghost use Rattle.judy_model.specs.Tenant.{content_of, insert, delete, free};
+ghost use Rattle.judy_model.specs.Tenant.Reports.{ReportsNew, ReportsValue};
+ghost use Rattle.judy_model.specs.declared.calls.Given.TheVariants as given;
 ghost use Rattle.judy_reference.specs.Store.{on_array};
 
 use super::directory::Directory;
@@ -18,19 +20,22 @@ pub(super) fn set(
     index: u64,
 ) -> Result<Reply<'static>, AllocError>
     ensures ok { IfOk result
-        (λ reply. on_array sets.old name.now (λ l. set room l index) ≡ (reply, sets.new)) }
+        (λ reply. on_array sets.old name.now (λ l. insert word_order room l index given.Nothing ReportsNew) ≡ (reply, sets.new)) }
     ensures unchanged { OnErr result (sets.new ≡ sets.old) }
     ensures lacks { OnErr result (IsTrue room
         × (value_of word_order (content_of sets.old name.now) index ≡ None)) }
 {
-    if sets.get(name, &index).is_some() {
-        return Ok(Reply::Int(false));
+    match sets.get(name, &index) {
+        Some(value) => {
+            sets.put(alloc, name, index, value)?;
+            Ok(Reply::Int(false))
+        }
+        None if room => {
+            sets.put(alloc, name, index, 0)?;
+            Ok(Reply::Int(true))
+        }
+        None => Ok(Reply::Full),
     }
-    if !room {
-        return Ok(Reply::Full);
-    }
-    sets.put(alloc, name, index, 0)?;
-    Ok(Reply::Int(true))
 }
 
 /// Inserts a key into the map of this name, gives it a value or adds to its value.
@@ -45,7 +50,7 @@ pub(super) fn insert<K: Ord>(
 where
     K: Drop,
     ensures ok { IfOk result
-        (λ reply. on_array maps.old name.now (λ l. insert K.cmp room l key given)
+        (λ reply. on_array maps.old name.now (λ l. insert K.cmp room l key given ReportsValue)
         ≡ (reply, maps.new)) }
     ensures unchanged { OnErr result (maps.new ≡ maps.old) }
     ensures lacks { OnErr result (IsTrue room

@@ -1,5 +1,5 @@
 use Rattle.std.proofs.Common.{◌∷◌, ◌/◌, ◌%◌, ap, sym, ◌∙◌, refl}
-use Rattle.judy_directory.specs.Kinds.{kind_with}
+use Rattle.judy_model.specs.Commands.{kind_with}
 use Rattle.judy_directory.proofs.Owned.{owner-whole}
 use Rattle.judy_directory.proofs.spot.Spot.tenant.Goals as goal
 

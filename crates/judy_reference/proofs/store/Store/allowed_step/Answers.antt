@@ -6,11 +6,12 @@ use Rattle.std.specs.FinMap.{nat_cmp-IsAntisymmetric}
 use Rattle.judy_model.specs.declared.calls.Call.TheVariants.{One, Long, Str, Bytes}
 use Rattle.judy_model.specs.Contents.{word_order, string_order}
 use Rattle.judy_model.specs.Pieces.{word_pieces, string_pieces, pieces_of}
+use Rattle.judy_model.specs.Tenant.{one_effect, long_effect, string_effect, bytes_effect}
 use Rattle.judy_model.specs.Tenant.{content_of, entries_in, pieces_in, used, pieces, new_pieces, one_step, long_step}
 use Rattle.judy_model.specs.Tenant.{string_step, bytes_step, one_asks_for_new, long_asks_for_new, string_asks_for_new}
 use Rattle.judy_model.specs.Tenant.{bytes_asks_for_new}
 use Rattle.judy_model.proofs.lemmas.FormLemmas.{names_apart}
-use Rattle.judy_model.proofs.lemmas.GrowthLemmas.{lengths, sizes, one_grows, long_grows, string_grows, byte_grows}
+use Rattle.judy_model.proofs.lemmas.GrowthLemmas.{lengths, sizes, one_each, its_size, effect_grows}
 use Rattle.judy_reference.specs.Store.{IsKept}
 use Rattle.judy_reference.proofs.KeptLemmas.{content_sorted}
 use Rattle.judy_reference.proofs.GrowthLemmas.{stay_words}
@@ -34,9 +35,9 @@ invariant_of-self c =
     (entries_in c.self.inside.long + entries_in c.self.inside.string + entries_in c.self.inside.bytes)
     (pieces_in word_pieces c.self.inside.long + pieces_in string_pieces c.self.inside.string + pieces_in string_pieces c.self.inside.bytes)
     c.one_step.result kept
-    (one_grows length (λ k. 1) (lengths word_order nat_cmp_total) room l call 1 sorted (λ x e. refl))
-    (one_grows (pieces_of word_pieces) word_pieces (sizes word_order nat_cmp_total nat_cmp-IsAntisymmetric word_pieces) room l
-    call n sorted (λ x e. ap (λ d. new_pieces (One name d)) e))
+    (effect_grows word_order length (λ k. 1) (lengths word_order nat_cmp_total) room l (one_effect call) 1 sorted (one_each (one_effect call)))
+    (effect_grows word_order (pieces_of word_pieces) word_pieces (sizes word_order nat_cmp_total nat_cmp-IsAntisymmetric word_pieces) room l
+    (one_effect call) n sorted (its_size word_pieces (one_effect call)))
     c.one_step.ensures.ok c.one_step.ensures.unchanged is
     (omega (arith, c.used-used.ensures.value, ap used c.self.view_is)) (omega (arith, c.pieces-pieces.ensures, ap pieces c.self.view_is))
     (omega arith) (omega arith) (omega arith) (omega arith) in
@@ -60,9 +61,9 @@ invariant_of-self-in-Long c =
     (entries_in c.self.inside.one + entries_in c.self.inside.string + entries_in c.self.inside.bytes)
     (pieces_in word_pieces c.self.inside.one + pieces_in string_pieces c.self.inside.string + pieces_in string_pieces c.self.inside.bytes)
     c.long_step.result kept
-    (long_grows length (λ k. 1) (lengths word_order nat_cmp_total) room l call 1 sorted (λ k given e. refl))
-    (long_grows (pieces_of word_pieces) word_pieces (sizes word_order nat_cmp_total nat_cmp-IsAntisymmetric word_pieces) room l
-    call n sorted (λ k given e. ap (λ d. new_pieces (Long name d)) e))
+    (effect_grows word_order length (λ k. 1) (lengths word_order nat_cmp_total) room l (long_effect call) 1 sorted (one_each (long_effect call)))
+    (effect_grows word_order (pieces_of word_pieces) word_pieces (sizes word_order nat_cmp_total nat_cmp-IsAntisymmetric word_pieces) room l
+    (long_effect call) n sorted (its_size word_pieces (long_effect call)))
     c.long_step.ensures.ok c.long_step.ensures.unchanged is
     (omega (arith, c.used-used.ensures.value, ap used c.self.view_is)) (omega (arith, c.pieces-pieces.ensures, ap pieces c.self.view_is))
     (omega arith) (omega arith) (omega arith) (omega arith) in
@@ -86,9 +87,9 @@ invariant_of-self-in-Str c =
     (entries_in c.self.inside.one + entries_in c.self.inside.long + entries_in c.self.inside.bytes)
     (pieces_in word_pieces c.self.inside.one + pieces_in word_pieces c.self.inside.long + pieces_in string_pieces c.self.inside.bytes)
     c.string_step.result kept
-    (string_grows length (λ k. 1) (lengths string_order nat_list_cmp_total) room l call 1 sorted (λ k given e. refl))
-    (string_grows (pieces_of string_pieces) string_pieces (sizes string_order nat_list_cmp_total names_apart string_pieces) room l
-    call n sorted (λ k given e. ap (λ d. new_pieces (Str name d)) e))
+    (effect_grows string_order length (λ k. 1) (lengths string_order nat_list_cmp_total) room l (string_effect call) 1 sorted (one_each (string_effect call)))
+    (effect_grows string_order (pieces_of string_pieces) string_pieces (sizes string_order nat_list_cmp_total names_apart string_pieces) room l
+    (string_effect call) n sorted (its_size string_pieces (string_effect call)))
     c.string_step.ensures.ok c.string_step.ensures.unchanged is
     (omega (arith, c.used-used.ensures.value, ap used c.self.view_is)) (omega (arith, c.pieces-pieces.ensures, ap pieces c.self.view_is))
     (omega arith) (omega arith) (omega arith) (omega arith) in
@@ -112,9 +113,9 @@ invariant_of-self-in-Bytes c =
     (entries_in c.self.inside.one + entries_in c.self.inside.long + entries_in c.self.inside.string)
     (pieces_in word_pieces c.self.inside.one + pieces_in word_pieces c.self.inside.long + pieces_in string_pieces c.self.inside.string)
     c.bytes_step.result kept
-    (byte_grows length (λ k. 1) (lengths string_order nat_list_cmp_total) room l call 1 sorted (λ k given e. refl))
-    (byte_grows (pieces_of string_pieces) string_pieces (sizes string_order nat_list_cmp_total names_apart string_pieces) room l
-    call n sorted (λ k given e. ap (λ d. new_pieces (Bytes name d)) e))
+    (effect_grows string_order length (λ k. 1) (lengths string_order nat_list_cmp_total) room l (bytes_effect call) 1 sorted (one_each (bytes_effect call)))
+    (effect_grows string_order (pieces_of string_pieces) string_pieces (sizes string_order nat_list_cmp_total names_apart string_pieces) room l
+    (bytes_effect call) n sorted (its_size string_pieces (bytes_effect call)))
     c.bytes_step.ensures.ok c.bytes_step.ensures.unchanged is
     (omega (arith, c.used-used.ensures.value, ap used c.self.view_is)) (omega (arith, c.pieces-pieces.ensures, ap pieces c.self.view_is))
     (omega arith) (omega arith) (omega arith) (omega arith) in

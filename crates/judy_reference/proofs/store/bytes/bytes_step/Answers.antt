@@ -2,6 +2,7 @@ use Rattle.std.proofs.Common.{◌≡◌, IfOk, not, sym, ◌∙◌, ap, subst}
 use Rattle.std.specs.Prelude.{is_some}
 use Rattle.std.proofs.lemmas.Result.{on_err_weaker}
 use Rattle.judy_model.specs.Contents.{string_order, value_of}
+use Rattle.judy_model.specs.Tenant.Reports.{ReportsValue}
 use Rattle.judy_model.specs.Tenant.{content_of, insert, delete}
 use Rattle.judy_reference.specs.Store.{on_array}
 use Rattle.judy_reference.proofs.CallLemmas.{looked}
@@ -12,7 +13,7 @@ pub returns-in-Insert-clause-ok : goal.returns-in-Insert-clause-ok
 returns-in-Insert-clause-ok c =
     rw c.in-Insert.is
     (subst (λ k. IfOk c.insert.result (λ reply. on_array c.args.maps.now c.args.name.now
-    (λ l. insert string_order c.args.room l k c.in-Insert.given) ≡ (reply, c.insert.new.maps)))
+    (λ l. insert string_order c.args.room l k c.in-Insert.given ReportsValue) ≡ (reply, c.insert.new.maps)))
     c.of.ensures c.insert.ensures.ok)
 
 pub returns-in-Insert-clause-lacks : goal.returns-in-Insert-clause-lacks

@@ -1,5 +1,6 @@
 use Rattle.std.proofs.Common.{◌≡◌, true, sym, ◌∙◌, ap, subst, unwrap_or}
 use Rattle.judy_model.specs.Contents.{word_order, value_of, has_key}
+use Rattle.judy_model.specs.Tenant.Reports.{ReportsValue}
 use Rattle.judy_model.specs.Tenant.{insert}
 use Rattle.judy_model.specs.declared.replies.Reply.TheVariants as reply
 use Rattle.judy_words.specs.LongArrays.{long_in}
@@ -16,7 +17,7 @@ pub returns-clause-step : goal.returns-clause-step
 returns-clause-step c =
     let b = c.args.arena.now.blocks in
     let before = long_in b c.self.inside.root.reference in
-    subst (λ w. insert word_order true (long_in b w) c.args.x c.args.given
+    subst (λ w. insert word_order true (long_in b w) c.args.x c.args.given ReportsValue
     ≡ (reply.Value c.value_replied-2.result, long_in c.write.new.arena.blocks c.write.new.self)) c.self.view_is
     (insert-over before (long_in c.insert_given.new.arena.blocks c.insert_given.new.self.reference) (long_in c.write.new.arena.blocks c.write.new.self)
     c.args.x c.in-Some.value c.value_after-2.result c.value_replied-2.result
