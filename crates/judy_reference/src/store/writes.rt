@@ -30,11 +30,11 @@ pub(super) fn set(
             sets.put(alloc, name, index, value)?;
             Ok(Reply::Int(false))
         }
-        None if room => {
+        None if !room => Ok(Reply::Full),
+        None => {
             sets.put(alloc, name, index, 0)?;
             Ok(Reply::Int(true))
         }
-        None => Ok(Reply::Full),
     }
 }
 
