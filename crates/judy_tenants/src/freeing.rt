@@ -38,14 +38,7 @@ fn free_of<'a>(kind: Kind, name: Name) -> Call<'a>
 }
 
 /// Frees the array at a place, by its own call. Its name is not forgotten.
-fn free<H: KeyHash>(
-    alloc: Global,
-    arena: &mut Arena,
-    hash: H,
-    kind: Kind,
-    name: Name,
-    place: Place,
-)
+fn free<H: KeyHash>(alloc: Global, arena: &mut Arena, hash: H, kind: Kind, name: Name, place: Place)
     requires place { IsPlaceOf H.hashed kind arena.old.blocks place }
     requires few { place.pieces < 2 ^ 63 }
     ensures array { ArrayBecomes H.hashed kind arena.old place arena.new nothing }
