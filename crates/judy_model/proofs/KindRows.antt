@@ -62,6 +62,32 @@ one_name : alice (codes "J1S a 1\nJLI a 1 2\nJSLI a x61 3\nJHSI a x61 4\nJSLG a 
 unfolding digits decode_pairs
 one_name = refl
 
+-- ---- a call that decides by the value that is there
+
+-- an absent index is inserted, and a present one keeps its value
+kept : alice (codes "JLK l 1 5\nJLK l 1 6\nJLG l 1\nJSLK s x61 5\nJSLK s x61 6\nJSLG s x61\nJHSK h x 5\nJHSK h x 6\nJHSG h x\nUSED\n")
+    ≡ codes "OK\nNULL\nV 5\nV 5\nNULL\nV 5\nV 5\nNULL\nV 5\nV 5\nQ 3 4 3 504\n"
+unfolding digits decode_pairs
+kept = refl
+
+-- a value is exchanged if it is the one that is given
+exchanged : alice (codes "JLX l 1 0 5\nUSED\nJLI l 1 5\nJLX l 1 4 6\nJLG l 1\nJLX l 1 5 6\nJLG l 1\nJSLI s x61 5\nJSLX s x61 4 6\nJSLX s x61 5 6\nJSLG s x61\nJHSX h x 5 6\nJHSI h x 5\nJHSX h x 5 -1\nJHSG h x\n")
+    ≡ codes "OK\nNULL\nQ 0 4 0 504\nV 0\nV 5\nV 5\nV 5\nV 6\nV 0\nV 5\nV 5\nV 6\nNULL\nV 0\nV 5\nV 18446744073709551615\n"
+unfolding digits decode_pairs
+exchanged = refl
+
+-- an entry is removed if it has the value that is given
+removed_if : alice (codes "JLD l 1 0\nJLI l 1 5\nJLD l 1 4\nJLG l 1\nJLD l 1 5\nJLG l 1\nJSLI s x61 5\nJSLD s x61 4\nJSLD s x61 5\nJHSI h x 5\nJHSD h x 4\nJHSD h x 5\nUSED\n")
+    ≡ codes "OK\n0\nV 0\n0\nV 5\n1\nNULL\nV 0\n0\n1\nV 0\n0\n1\nQ 0 4 0 504\n"
+unfolding digits decode_pairs
+removed_if = refl
+
+-- an entry that is taken is shown and removed
+taken : alice (codes "JLT l 1\nJLI l 1 5\nJLT l 1\nJLT l 1\nJSLI s x61 5\nJSLT s x61\nJSLT s x61\nJHSI h x 5\nJHST h x\nJHST h x\nUSED\n")
+    ≡ codes "OK\nNULL\nV 0\nV 5\nNULL\nV 0\nV 5\nNULL\nV 0\nV 5\nNULL\nQ 0 4 0 504\n"
+unfolding digits decode_pairs
+taken = refl
+
 -- two names of a kind are two arrays
 two_names : bob (codes "J1S a 1\nJ1S b 2\nJ1FA a\nJ1T b 2\nJSLI s x61 1\nJSLI t x61 2\nJSLD s x61\nJSLG t x61\n")
     ≡ codes "OK\n1\n1\nN 1\n1\nV 0\nV 0\n1\nV 2\n"
@@ -77,26 +103,26 @@ many (suc n) = codes "ERR SYNTAX\n" ++ many n
 
 -- one too many for each command
 fields_more : alice
-    (codes "J1S a 1 2\nJ1U a 1 2\nJ1T a 1 2\nJ1C a 1 2 3\nJ1BC a 1 2\nJ1F a 1 2\nJ1NE a 1 2\nJ1FA a 1\nJLI l 1 2 3\nJLA l 1 2 3\nJLD l 1 2\nJLG l 1 2\nJLC l 1 2 3\nJLBC l 1 2\nJLP l 1 2\nJLLE l 1 2\nJLFA l 1\n")
-    ≡ codes "OK\n" ++ many 17
+    (codes "J1S a 1 2\nJ1U a 1 2\nJ1T a 1 2\nJ1C a 1 2 3\nJ1BC a 1 2\nJ1F a 1 2\nJ1NE a 1 2\nJ1FA a 1\nJLI l 1 2 3\nJLA l 1 2 3\nJLK l 1 2 3\nJLX l 1 2 3 4\nJLD l 1 2 3\nJLT l 1 2\nJLG l 1 2\nJLC l 1 2 3\nJLBC l 1 2\nJLP l 1 2\nJLLE l 1 2\nJLFA l 1\n")
+    ≡ codes "OK\n" ++ many 20
 fields_more = refl
 
 fields_more_keys : alice
-    (codes "JSLI s x61 1 2\nJSLA s x61 1 2\nJSLD s x61 1\nJSLG s x61 1\nJSLF s x61 1\nJSLP s x61 1\nJSLFA s x61\nJHSI h x 1 2\nJHSA h x 1 2\nJHSD h x 1\nJHSG h x 1\nJHSFA h x\nUSED a\nQUIT now\nAUTH alice abc d\n")
-    ≡ codes "OK\n" ++ many 15
+    (codes "JSLI s x61 1 2\nJSLA s x61 1 2\nJSLK s x61 1 2\nJSLX s x61 1 2 3\nJSLD s x61 1 2\nJSLT s x61 1\nJSLG s x61 1\nJSLF s x61 1\nJSLP s x61 1\nJSLFA s x61\nJHSI h x 1 2\nJHSA h x 1 2\nJHSK h x 1 2\nJHSX h x 1 2 3\nJHSD h x 1 2\nJHST h x 1\nJHSG h x 1\nJHSFA h x\nUSED a\nQUIT now\nAUTH alice abc d\n")
+    ≡ codes "OK\n" ++ many 21
 unfolding decode_pairs
 fields_more_keys = refl
 
 -- one too few
 fields_fewer : alice
-    (codes "J1S a\nJ1U a\nJ1T a\nJ1C a 1\nJ1BC a\nJ1F a\nJ1NE a\nJ1FA\nJLI l\nJLA l 1\nJLD l\nJLG l\nJLC l 1\nJLBC l\nJLP l\nJLLE l\nJLFA\nJSLI s\nJSLA s x61\nJSLD s\nJSLG s\nJSLN s\nJSLFA\nJHSI h\nJHSA h x61\nJHSD h\nJHSG h\nJHSFA\nAUTH alice\n")
-    ≡ codes "OK\n" ++ many 29
+    (codes "J1S a\nJ1U a\nJ1T a\nJ1C a 1\nJ1BC a\nJ1F a\nJ1NE a\nJ1FA\nJLI l\nJLA l 1\nJLK l 1\nJLX l 1 2\nJLD l\nJLT l\nJLG l\nJLC l 1\nJLBC l\nJLP l\nJLLE l\nJLFA\nJSLI s\nJSLA s x61\nJSLK s x61\nJSLX s x61 1\nJSLD s\nJSLT s\nJSLG s\nJSLN s\nJSLFA\nJHSI h\nJHSA h x61\nJHSK h x61\nJHSX h x61 1\nJHSD h\nJHST h\nJHSG h\nJHSFA\nAUTH alice\n")
+    ≡ codes "OK\n" ++ many 38
 unfolding decode_pairs
 fields_fewer = refl
 
 -- and a command of another kind
-other_kinds : alice (codes "J1I a 1\nJ1A a 1 1\nJ1D a 1\nJ1G a 1\nJLS a 1\nJLU a 1\nJLT a 1\nJSLC s x 1\nJSLBC s x\nJSLFE s x\nJHSF s x\nJHSN s x\nJH1S a 1\n")
-    ≡ codes "OK\n" ++ many 13
+other_kinds : alice (codes "J1I a 1\nJ1A a 1 1\nJ1D a 1\nJ1G a 1\nJ1K a 1 1\nJ1X a 1 1 1\nJ1TA a 1\nJLS a 1\nJLU a 1\nJSLC s x 1\nJSLBC s x\nJSLFE s x\nJHSF s x\nJHSN s x\nJH1S a 1\n")
+    ≡ codes "OK\n" ++ many 15
 unfolding decode_pairs
 other_kinds = refl
 

@@ -11,10 +11,11 @@ use Rattle.judy_model.specs.declared.quotas.Right.{Right}
 use Rattle.judy_model.specs.declared.quotas.Right.TheVariants.{Change, Look, Frozen}
 use Rattle.judy_model.specs.declared.replies.Reply.{Reply}
 use Rattle.judy_model.specs.declared.replies.Reply.TheVariants as reply
-use Rattle.judy_model.specs.Contents.{Order, Entries, word_order, string_order, has_key}
-use Rattle.judy_model.specs.Tenant.Effect.{Insert, Remove, Free, Ask}
+use Rattle.judy_model.specs.Contents.{Order, Entries, word_order, string_order, value_of, has_key}
+use Rattle.judy_model.specs.Tenant.Effect.{Insert, Keep, Exchange, Remove, Take, RemoveIf, Free, Ask}
 use Rattle.judy_model.specs.Tenant.Answer.{Yes, Number, Index, Absent, ValueOf, ValueAt, ValueKey}
 use Rattle.judy_model.specs.Tenant.Reports.{ReportsNew, ReportsValue}
+use Rattle.judy_model.specs.Tenant.{keep_over, exchange_over, remove_over}
 use Rattle.judy_model.specs.Tenant.{Effect, Answer, Reports, State, content_of, with_content, insertion_reply, insert_over, insert, index_or_no}
 use Rattle.judy_model.specs.Tenant.{value_at_or_null, value_key_or_null, value_or_null, absent_or_no, reply_of, effect_step, effect_changes}
 use Rattle.judy_model.specs.Tenant.{effect_asks_for_new, one_effect, long_effect, string_effect, bytes_effect, changes}
@@ -83,7 +84,24 @@ effect_refusal order room l (Insert k given reports) = by (find order k l) room
     by (Some v) r = inserted reports given (Some v)
     by None true = inserted reports given None
     by None false = refl
+effect_refusal order room l (Keep k v) = by (find order k l) room
+  where
+    by : (had : Option ℕ) (r : Bool) → refusal (keep_over order r l k v had).0 ≡ at_quota (not (is_some had)) r
+    by (Some w) r = refl
+    by None true = refl
+    by None false = refl
+effect_refusal order room l (Exchange k old new) = by (value_of order l k)
+  where
+    by : (had : Option ℕ) → refusal (exchange_over order l k old new had).0 ≡ 0
+    by (Some v) = refl
+    by None = refl
 effect_refusal order room l (Remove k) = refl
+effect_refusal order room l (Take k) = value_found (value_of order l k)
+effect_refusal order room l (RemoveIf k v) = by (value_of order l k)
+  where
+    by : (had : Option ℕ) → refusal (remove_over order l k v had).0 ≡ 0
+    by (Some w) = refl
+    by None = refl
 effect_refusal order room l Free = refl
 effect_refusal order room l (Ask answer) = answered (answer l)
 
@@ -99,6 +117,13 @@ insert_kept order room l k given reports = by (find order k l) room
     by None true e = cc
     by None false e = refl
 
+-- a key for which there is no room is not kept
+keep_kept : {K : Type 0} (order : Order K) (room : Bool) (l : Entries K) (k : K) (v : ℕ) (had : Option ℕ)
+    → (not (is_some had) && not room) ≡ true → (keep_over order room l k v had).1 ≡ l
+keep_kept order room l k v (Some w) e = cc
+keep_kept order true l k v None e = cc
+keep_kept order false l k v None e = refl
+
 -- a call that changes nothing, or has no room, leaves the array unchanged
 abbrev Rests : Bool → Bool → Bool → Type 0
 Rests changing asks room = IsTrue (not changing) ⊎ IsTrue (asks && not room)
@@ -107,6 +132,14 @@ effect_kept : {K : Type 0} (order : Order K) (room : Bool) (l : Entries K) (effe
     → Rests (effect_changes effect) (effect_asks_for_new order l effect) room → (effect_step order room l effect).1 ≡ l
 effect_kept order room l (Insert k given reports) (inl h) = cc
 effect_kept order room l (Insert k given reports) (inr h) = insert_kept order room l k given reports h
+effect_kept order room l (Keep k v) (inl h) = cc
+effect_kept order room l (Keep k v) (inr h) = keep_kept order room l k v (value_of order l k) h
+effect_kept order room l (Exchange k old new) (inl h) = cc
+effect_kept order room l (Exchange k old new) (inr h) = cc
+effect_kept order room l (Take k) (inl h) = cc
+effect_kept order room l (Take k) (inr h) = cc
+effect_kept order room l (RemoveIf k v) (inl h) = cc
+effect_kept order room l (RemoveIf k v) (inr h) = cc
 effect_kept order room l (Remove k) (inl h) = cc
 effect_kept order room l (Remove k) (inr h) = cc
 effect_kept order room l Free (inl h) = cc
@@ -116,7 +149,11 @@ effect_kept order room l (Ask answer) h = refl
 -- a call that changes nothing asks for no new entry
 effect_asks_nothing : {K : Type 0} (order : Order K) (l : Entries K) (effect : Effect K) → effect_changes effect ≡ false → effect_asks_for_new order l effect ≡ false
 effect_asks_nothing order l (Insert k given reports) h = cc
+effect_asks_nothing order l (Keep k v) h = cc
+effect_asks_nothing order l (Exchange k old new) h = refl
 effect_asks_nothing order l (Remove k) h = refl
+effect_asks_nothing order l (Take k) h = refl
+effect_asks_nothing order l (RemoveIf k v) h = refl
 effect_asks_nothing order l Free h = refl
 effect_asks_nothing order l (Ask answer) h = refl
 

@@ -18,12 +18,13 @@ use Rattle.judy_model.specs.declared.quotas.Right.TheVariants.{Change, Look, Fro
 use Rattle.judy_model.specs.declared.replies.Reply.{Reply}
 use Rattle.judy_model.specs.declared.replies.Reply.TheVariants as reply
 use Rattle.judy_model.specs.Grammar.{are_bytes, is_string, is_byte_key}
-use Rattle.judy_model.specs.Contents.{Order, Entries, word_order, string_order, has_key, with_entry, without_key}
-use Rattle.judy_model.specs.Tenant.Effect.{Insert, Remove, Free, Ask}
+use Rattle.judy_model.specs.Contents.{Order, Entries, word_order, string_order, value_of, has_key, with_entry, without_key}
+use Rattle.judy_model.specs.Tenant.Effect.{Insert, Keep, Exchange, Remove, Take, RemoveIf, Free, Ask}
 use Rattle.judy_model.specs.Tenant.Reports.{ReportsNew, ReportsValue}
+use Rattle.judy_model.specs.Tenant.{keep_over, exchange_over, remove_over, value_or_null}
 use Rattle.judy_model.specs.Tenant.{Effect, State, content_of, with_content, value_after, value_replied, insert_over, insert, delete, free}
 use Rattle.judy_model.specs.Tenant.{effect_step, one_effect, long_effect, string_effect, bytes_effect, changes, has_room, allowed_step, step}
-use Rattle.judy_model.specs.Unchanged.{keeps, insertion_leaves, says_no, says_none, effect_leaves, leaves, UnchangedAreTold}
+use Rattle.judy_model.specs.Unchanged.{keeps, insertion_leaves, says_no, says_none, says_some, says_null, says_other, effect_leaves, leaves, UnchangedAreTold}
 use Rattle.judy_model.specs.WellFormed.{is_word, is_one_entry, is_long_entry, is_string_entry, is_bytes_entry, is_content, IsWellFormed}
 use Rattle.judy_model.proofs.lemmas.FormLemmas.{content_form, found_passes, names_apart, with_content_same}
 use Rattle.judy_model.proofs.lemmas.StateLemmas.{and_left, and_right, is_Equal}
@@ -106,6 +107,15 @@ module _ {K : Type 0} (order : Order K) (total : IsTotalOrder order) (same : IsA
       by None true is e = cc
       by None false is e = cc
 
+  -- a key that was taken and was absent
+  take_left : (test : K × ℕ → Bool) (l : Entries K) (k : K) → is_content order test l ≡ true
+      → says_null (value_or_null (value_of order l k)) ≡ true → without_key order l k ≡ l
+  take_left test l k form h = less_same l k (and_left (is_sorted order l) _ form) (by (value_of order l k) h)
+    where
+      by : (had : Option ℕ) → says_null (value_or_null had) ≡ true → is_some had ≡ false
+      by (Some v) e = cc
+      by None e = refl
+
   delete_left : (test : K × ℕ → Bool) (l : Entries K) (k : K) → is_content order test l ≡ true → says_no (delete order l k).0 ≡ true
       → (delete order l k).1 ≡ l
   delete_left test l k form h = by (has_key order l k) refl h
@@ -113,6 +123,27 @@ module _ {K : Type 0} (order : Order K) (total : IsTotalOrder order) (same : IsA
       by : (b : Bool) → has_key order l k ≡ b → not b ≡ true → without_key order l k ≡ l
       by true is e = cc
       by false is e = less_same l k (and_left (is_sorted order l) _ form) is
+
+-- a key that is kept and was there
+keep_left : {K : Type 0} (order : Order K) (room : Bool) (l : Entries K) (k : K) (v : ℕ) (had : Option ℕ)
+    → says_some (keep_over order room l k v had).0 ≡ true → (keep_over order room l k v had).1 ≡ l
+keep_left order room l k v (Some w) h = refl
+keep_left order true l k v None h = cc
+keep_left order false l k v None h = cc
+
+-- a key that was absent or had another value
+exchange_left : {K : Type 0} (order : Order K) (l : Entries K) (k : K) (old new : ℕ) (had : Option ℕ)
+    → says_other old (exchange_over order l k old new had).0 ≡ true → (exchange_over order l k old new had).1 ≡ l
+exchange_left order l k old new None h = refl
+exchange_left order l k old new (Some v) h = elim (v == old) as (λ b. not b ≡ true → cond b (with_entry order l k new) l ≡ l)
+    [ true ↦ λ e. cc | false ↦ λ e. refl ] h
+
+-- a key that is not removed
+remove_left : {K : Type 0} (order : Order K) (l : Entries K) (k : K) (v : ℕ) (had : Option ℕ)
+    → says_no (remove_over order l k v had).0 ≡ true → (remove_over order l k v had).1 ≡ l
+remove_left order l k v None h = refl
+remove_left order l k v (Some w) h = elim (w == v) as (λ b. not b ≡ true → cond b (without_key order l k) l ≡ l)
+    [ true ↦ λ e. cc | false ↦ λ e. refl ] h
 
 free_left : {K : Type 0} (l : Entries K) → says_none (free l).0 ≡ true → (free l).1 ≡ l
 free_left [] h = refl
@@ -143,6 +174,10 @@ effect_left order total same test words room l (Insert k Nothing ReportsNew) for
 effect_left order total same test words room l (Insert k (Value v) ReportsNew) form h = cc
 effect_left order total same test words room l (Insert k (Plus n) ReportsNew) form h = cc
 effect_left order total same test words room l (Insert k given ReportsValue) form h = insert_left order total same test words room l k given form h
+effect_left order total same test words room l (Keep k v) form h = keep_left order room l k v (value_of order l k) h
+effect_left order total same test words room l (Exchange k old new) form h = exchange_left order l k old new (value_of order l k) h
+effect_left order total same test words room l (Take k) form h = take_left order total same test l k form h
+effect_left order total same test words room l (RemoveIf k v) form h = remove_left order l k v (value_of order l k) h
 effect_left order total same test words room l (Remove k) form h = delete_left order total same test l k form h
 effect_left order total same test words room l Free form h = free_left l h
 effect_left order total same test words room l (Ask answer) form h = refl

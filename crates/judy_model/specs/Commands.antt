@@ -26,7 +26,7 @@ use Rattle.judy_model.specs.declared.commands.Kind.TheVariants.{One, Long, Str, 
 use Rattle.judy_model.specs.declared.commands.Numbers.{Numbers}
 use Rattle.judy_model.specs.declared.commands.Numbers.TheVariants as numbers
 use Rattle.judy_model.specs.declared.commands.Operation.{Operation}
-use Rattle.judy_model.specs.declared.commands.Operation.TheVariants.{Insert, Add, Remove, Look, Count, Nth, First, Next, Last, Prev, Free}
+use Rattle.judy_model.specs.declared.commands.Operation.TheVariants.{Insert, Add, Keep, Exchange, Remove, Take, Look, Count, Nth, First, Next, Last, Prev, Free}
 use Rattle.judy_model.specs.declared.commands.Operation.TheVariants.{FirstEmpty, NextEmpty, LastEmpty, PrevEmpty}
 
 -- what does this to an array of this kind
@@ -41,15 +41,18 @@ commands =
     ∷ (codes "J1F", to One First) ∷ (codes "J1N", to One Next) ∷ (codes "J1L", to One Last) ∷ (codes "J1P", to One Prev)
     ∷ (codes "J1FE", to One FirstEmpty) ∷ (codes "J1NE", to One NextEmpty)
     ∷ (codes "J1LE", to One LastEmpty) ∷ (codes "J1PE", to One PrevEmpty) ∷ (codes "J1FA", to One Free)
-    ∷ (codes "JLI", to Long Insert) ∷ (codes "JLA", to Long Add) ∷ (codes "JLD", to Long Remove) ∷ (codes "JLG", to Long Look)
+    ∷ (codes "JLI", to Long Insert) ∷ (codes "JLA", to Long Add) ∷ (codes "JLK", to Long Keep) ∷ (codes "JLX", to Long Exchange)
+    ∷ (codes "JLD", to Long Remove) ∷ (codes "JLT", to Long Take) ∷ (codes "JLG", to Long Look)
     ∷ (codes "JLC", to Long Count) ∷ (codes "JLBC", to Long Nth)
     ∷ (codes "JLF", to Long First) ∷ (codes "JLN", to Long Next) ∷ (codes "JLL", to Long Last) ∷ (codes "JLP", to Long Prev)
     ∷ (codes "JLFE", to Long FirstEmpty) ∷ (codes "JLNE", to Long NextEmpty)
     ∷ (codes "JLLE", to Long LastEmpty) ∷ (codes "JLPE", to Long PrevEmpty) ∷ (codes "JLFA", to Long Free)
-    ∷ (codes "JSLI", to Str Insert) ∷ (codes "JSLA", to Str Add) ∷ (codes "JSLD", to Str Remove) ∷ (codes "JSLG", to Str Look)
+    ∷ (codes "JSLI", to Str Insert) ∷ (codes "JSLA", to Str Add) ∷ (codes "JSLK", to Str Keep) ∷ (codes "JSLX", to Str Exchange)
+    ∷ (codes "JSLD", to Str Remove) ∷ (codes "JSLT", to Str Take) ∷ (codes "JSLG", to Str Look)
     ∷ (codes "JSLF", to Str First) ∷ (codes "JSLN", to Str Next) ∷ (codes "JSLL", to Str Last) ∷ (codes "JSLP", to Str Prev)
     ∷ (codes "JSLFA", to Str Free)
-    ∷ (codes "JHSI", to Bytes Insert) ∷ (codes "JHSA", to Bytes Add) ∷ (codes "JHSD", to Bytes Remove) ∷ (codes "JHSG", to Bytes Look)
+    ∷ (codes "JHSI", to Bytes Insert) ∷ (codes "JHSA", to Bytes Add) ∷ (codes "JHSK", to Bytes Keep) ∷ (codes "JHSX", to Bytes Exchange)
+    ∷ (codes "JHSD", to Bytes Remove) ∷ (codes "JHST", to Bytes Take) ∷ (codes "JHSG", to Bytes Look)
     ∷ (codes "JHSFA", to Bytes Free) ∷ []
 
 -- their words
@@ -74,19 +77,22 @@ kind_with (suc (suc (suc n))) = Bytes
 abbrev pub operation_number : Operation → ℕ
 operation_number Insert = 0
 operation_number Add = 1
-operation_number Remove = 2
-operation_number Look = 3
-operation_number Count = 4
-operation_number Nth = 5
-operation_number First = 6
-operation_number Next = 7
-operation_number Last = 8
-operation_number Prev = 9
-operation_number FirstEmpty = 10
-operation_number NextEmpty = 11
-operation_number LastEmpty = 12
-operation_number PrevEmpty = 13
-operation_number Free = 14
+operation_number Keep = 2
+operation_number Exchange = 3
+operation_number Remove = 4
+operation_number Take = 5
+operation_number Look = 6
+operation_number Count = 7
+operation_number Nth = 8
+operation_number First = 9
+operation_number Next = 10
+operation_number Last = 11
+operation_number Prev = 12
+operation_number FirstEmpty = 13
+operation_number NextEmpty = 14
+operation_number LastEmpty = 15
+operation_number PrevEmpty = 16
+operation_number Free = 17
 
 -- whether two commands are one
 abbrev pub is_same : Command → Command → Bool
@@ -121,7 +127,11 @@ abbrev pub long_with : Operation → Numbers → Option LongCall
 long_with Insert (numbers.One i) = Some (long.Insert i given.Nothing)
 long_with Insert (numbers.Two i v) = Some (long.Insert i (Value v))
 long_with Add (numbers.Two i n) = Some (long.Insert i (Plus n))
+long_with Keep (numbers.Two i v) = Some (long.Keep i v)
+long_with Exchange (numbers.Three i old new) = Some (long.Exchange i old new)
 long_with Remove (numbers.One i) = Some (long.Delete i)
+long_with Remove (numbers.Two i v) = Some (long.DeleteIf i v)
+long_with Take (numbers.One i) = Some (long.Take i)
 long_with Look (numbers.One i) = Some (long.Get i)
 long_with Count (numbers.Two i k) = Some (long.Count i k)
 long_with Nth (numbers.One n) = Some (long.ByCount n)
@@ -141,7 +151,11 @@ abbrev pub string_with : Operation → List ℕ → Numbers → Option StrCall
 string_with Insert key numbers.Nothing = Some (str.Insert key given.Nothing)
 string_with Insert key (numbers.One v) = Some (str.Insert key (Value v))
 string_with Add key (numbers.One n) = Some (str.Insert key (Plus n))
+string_with Keep key (numbers.One v) = Some (str.Keep key v)
+string_with Exchange key (numbers.Two old new) = Some (str.Exchange key old new)
 string_with Remove key numbers.Nothing = Some (str.Delete key)
+string_with Remove key (numbers.One v) = Some (str.DeleteIf key v)
+string_with Take key numbers.Nothing = Some (str.Take key)
 string_with Look key numbers.Nothing = Some (str.Get key)
 string_with First key numbers.Nothing = Some (str.First key)
 string_with Next key numbers.Nothing = Some (str.Next key)
@@ -154,7 +168,11 @@ abbrev pub bytes_with : Operation → List ℕ → Numbers → Option BytesCall
 bytes_with Insert key numbers.Nothing = Some (bytes.Insert key given.Nothing)
 bytes_with Insert key (numbers.One v) = Some (bytes.Insert key (Value v))
 bytes_with Add key (numbers.One n) = Some (bytes.Insert key (Plus n))
+bytes_with Keep key (numbers.One v) = Some (bytes.Keep key v)
+bytes_with Exchange key (numbers.Two old new) = Some (bytes.Exchange key old new)
 bytes_with Remove key numbers.Nothing = Some (bytes.Delete key)
+bytes_with Remove key (numbers.One v) = Some (bytes.DeleteIf key v)
+bytes_with Take key numbers.Nothing = Some (bytes.Take key)
 bytes_with Look key numbers.Nothing = Some (bytes.Get key)
 bytes_with _ key _ = None
 
@@ -191,7 +209,11 @@ one_operation one.Free = Free
 -- of a JudyL
 abbrev pub long_operation : LongCall → Operation
 long_operation (long.Insert i g) = given_operation g
+long_operation (long.Keep i v) = Keep
+long_operation (long.Exchange i old new) = Exchange
 long_operation (long.Delete i) = Remove
+long_operation (long.DeleteIf i v) = Remove
+long_operation (long.Take i) = Take
 long_operation (long.Get i) = Look
 long_operation (long.Count i k) = Count
 long_operation (long.ByCount n) = Nth
@@ -208,7 +230,11 @@ long_operation long.Free = Free
 -- of a JudySL
 abbrev pub string_operation : StrCall → Operation
 string_operation (str.Insert key g) = given_operation g
+string_operation (str.Keep key v) = Keep
+string_operation (str.Exchange key old new) = Exchange
 string_operation (str.Delete key) = Remove
+string_operation (str.DeleteIf key v) = Remove
+string_operation (str.Take key) = Take
 string_operation (str.Get key) = Look
 string_operation (str.First key) = First
 string_operation (str.Next key) = Next
@@ -219,7 +245,11 @@ string_operation str.Free = Free
 -- of a JudyHS
 abbrev pub bytes_operation : BytesCall → Operation
 bytes_operation (bytes.Insert key g) = given_operation g
+bytes_operation (bytes.Keep key v) = Keep
+bytes_operation (bytes.Exchange key old new) = Exchange
 bytes_operation (bytes.Delete key) = Remove
+bytes_operation (bytes.DeleteIf key v) = Remove
+bytes_operation (bytes.Take key) = Take
 bytes_operation (bytes.Get key) = Look
 bytes_operation bytes.Free = Free
 

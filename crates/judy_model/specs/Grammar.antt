@@ -112,12 +112,14 @@ key_of (letter ∷ digits) = if letter == 120 && nat_le (length digits) (2 * KEY
 abbrev pub string_of : List ℕ → Option (List ℕ)
 string_of field = option_and_then (λ key. if is_string key then Some key else None) (key_of field)
 
--- the numbers that fields spell: at most two fields, each of them a number
+-- the numbers that fields spell: at most three fields, each of them a number
 abbrev pub numbers_of_fields : List (List ℕ) → Option Numbers
 numbers_of_fields [] = Some numbers.Nothing
 numbers_of_fields (f ∷ []) = option_map (λ i. numbers.One i) (number_of_field f)
 numbers_of_fields (f ∷ g ∷ []) = option_and_then (λ i. option_map (λ j. numbers.Two i j) (number_of_field g)) (number_of_field f)
-numbers_of_fields (f ∷ g ∷ h ∷ more) = None
+numbers_of_fields (f ∷ g ∷ h ∷ []) =
+    option_and_then (λ i. option_and_then (λ j. option_map (λ k. numbers.Three i j k) (number_of_field h)) (number_of_field g)) (number_of_field f)
+numbers_of_fields (f ∷ g ∷ h ∷ e ∷ more) = None
 
 -- ---- the commands
 

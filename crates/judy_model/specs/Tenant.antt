@@ -1,5 +1,5 @@
 -- One tenant's arrays. The reply to each call, and the arrays after it.
-use Rattle.std.specs.Prelude.{◌≡◌, ℕ, ◌+◌, ◌%◌, ◌^◌, Bool, true, false, not, ◌&&◌, List, [], ◌∷◌, ◌++◌, map, length, Option, Some, None, nat_lt, nat_le, if◌then◌else◌, is_none, unwrap_or, sum_by, filter}
+use Rattle.std.specs.Prelude.{◌≡◌, ℕ, ◌+◌, ◌%◌, ◌^◌, Bool, true, false, not, ◌&&◌, ◌==◌, List, [], ◌∷◌, ◌++◌, map, length, Option, Some, None, nat_lt, nat_le, if◌then◌else◌, is_none, unwrap_or, sum_by, filter}
 use Rattle.std.specs.Ordering.{eq_by_cmp}
 use Rattle.std.specs.FinMap.{find, put}
 use Rattle.judy_model.specs.declared.calls.Call.{Call}
@@ -122,13 +122,21 @@ pub data Reports : Type 0 where
   ReportsNew : Reports
   ReportsValue : Reports
 
--- What a call does to the entries of an array. Each kind of array has the same four: a call of a kind is one of
--- them with a key of that kind.
+-- What a call does to the entries of an array. A call of a kind of array is one of these with a key of that
+-- kind.
 pub data Effect (K : Type 0) : Type 0 where
   -- inserts a key with what it is given; a new key needs room
   Insert : K → Given → Reports → Effect K
+  -- keeps the value of a present key, and inserts an absent one with this value; a new key needs room
+  Keep : K → ℕ → Effect K
+  -- gives a present key the second value if it has the first
+  Exchange : K → ℕ → ℕ → Effect K
   -- removes a key; the reply says whether it was present
   Remove : K → Effect K
+  -- removes a key and shows its value
+  Take : K → Effect K
+  -- removes a key if it has this value; the reply says whether it had
+  RemoveIf : K → ℕ → Effect K
   -- removes all entries; the reply is how many there were
   Free : Effect K
   -- changes nothing
@@ -161,6 +169,21 @@ insert_over order room l k given reports None =
 abbrev pub insert : {K : Type 0} → Order K → Bool → Entries K → K → Given → Reports → Reply × Entries K
 insert order room l k given reports = insert_over order room l k given reports (value_of order l k)
 
+-- keeps a key. The last argument is the key's value, if it is present.
+abbrev pub keep_over : {K : Type 0} → Order K → Bool → Entries K → K → ℕ → Option ℕ → Reply × Entries K
+keep_over order room l k v (Some w) = (reply.Value w, l)
+keep_over order room l k v None = if room then (reply.Null, with_entry order l k v) else (reply.Full, l)
+
+-- exchanges the value of a key
+abbrev pub exchange_over : {K : Type 0} → Order K → Entries K → K → ℕ → ℕ → Option ℕ → Reply × Entries K
+exchange_over order l k old new (Some v) = (reply.Value v, if v == old then with_entry order l k new else l)
+exchange_over order l k old new None = (reply.Null, l)
+
+-- removes a key that has a value
+abbrev pub remove_over : {K : Type 0} → Order K → Entries K → K → ℕ → Option ℕ → Reply × Entries K
+remove_over order l k v (Some w) = (reply.Int (w == v), if w == v then without_key order l k else l)
+remove_over order l k v None = (reply.Int false, l)
+
 -- removes a key
 abbrev pub delete : {K : Type 0} → Order K → Entries K → K → Reply × Entries K
 delete order l k = (reply.Int (has_key order l k), without_key order l k)
@@ -172,7 +195,11 @@ free l = (reply.Count (length l), [])
 -- the reply to a call that does this, and the entries afterwards
 abbrev pub effect_step : {K : Type 0} → Order K → Bool → Entries K → Effect K → Reply × Entries K
 effect_step order room l (Insert k given reports) = insert order room l k given reports
+effect_step order room l (Keep k v) = keep_over order room l k v (value_of order l k)
+effect_step order room l (Exchange k old new) = exchange_over order l k old new (value_of order l k)
 effect_step order room l (Remove k) = delete order l k
+effect_step order room l (Take k) = (value_or_null (value_of order l k), without_key order l k)
+effect_step order room l (RemoveIf k v) = remove_over order l k v (value_of order l k)
 effect_step order room l Free = free l
 effect_step order room l (Ask answer) = (reply_of (answer l), l)
 
@@ -184,16 +211,19 @@ effect_changes _ = true
 -- whether it may insert a key
 abbrev pub effect_inserts : {K : Type 0} → Effect K → Bool
 effect_inserts (Insert k given reports) = true
+effect_inserts (Keep k v) = true
 effect_inserts _ = false
 
 -- whether it asks for a new key
 abbrev pub effect_asks_for_new : {K : Type 0} → Order K → Entries K → Effect K → Bool
 effect_asks_for_new order l (Insert k given reports) = not (has_key order l k)
+effect_asks_for_new order l (Keep k v) = not (has_key order l k)
 effect_asks_for_new order l _ = false
 
 -- the pieces of the entry that it would insert, by those of a key
 abbrev pub effect_pieces : {K : Type 0} → (K → ℕ) → Effect K → ℕ
 effect_pieces size (Insert k given reports) = size k
+effect_pieces size (Keep k v) = size k
 effect_pieces size _ = 0
 
 -- ---- the calls of each kind
@@ -218,7 +248,11 @@ one_effect one.Free = Free
 -- what a call of a JudyL does
 abbrev pub long_effect : LongCall → Effect ℕ
 long_effect (long.Insert k given) = Insert k given ReportsValue
+long_effect (long.Keep k v) = Keep k v
+long_effect (long.Exchange k old new) = Exchange k old new
 long_effect (long.Delete k) = Remove k
+long_effect (long.Take k) = Take k
+long_effect (long.DeleteIf k v) = RemoveIf k v
 long_effect (long.Get k) = Ask (λ l. ValueOf (value_of word_order l k))
 long_effect (long.Count a b) = Ask (λ l. Number (count l a b))
 long_effect (long.ByCount n) = Ask (λ l. ValueAt (nth l n))
@@ -235,7 +269,11 @@ long_effect long.Free = Free
 -- what a call of a JudySL does
 abbrev pub string_effect : StrCall → Effect (List ℕ)
 string_effect (str.Insert k given) = Insert k given ReportsValue
+string_effect (str.Keep k v) = Keep k v
+string_effect (str.Exchange k old new) = Exchange k old new
 string_effect (str.Delete k) = Remove k
+string_effect (str.Take k) = Take k
+string_effect (str.DeleteIf k v) = RemoveIf k v
 string_effect (str.Get k) = Ask (λ l. ValueOf (value_of string_order l k))
 string_effect (str.First x) = Ask (λ l. ValueKey (first string_order l x))
 string_effect (str.Next x) = Ask (λ l. ValueKey (next string_order l x))
@@ -246,7 +284,11 @@ string_effect str.Free = Free
 -- what a call of a JudyHS does
 abbrev pub bytes_effect : BytesCall → Effect (List ℕ)
 bytes_effect (bytes.Insert k given) = Insert k given ReportsValue
+bytes_effect (bytes.Keep k v) = Keep k v
+bytes_effect (bytes.Exchange k old new) = Exchange k old new
 bytes_effect (bytes.Delete k) = Remove k
+bytes_effect (bytes.Take k) = Take k
+bytes_effect (bytes.DeleteIf k v) = RemoveIf k v
 bytes_effect (bytes.Get k) = Ask (λ l. ValueOf (value_of string_order l k))
 bytes_effect bytes.Free = Free
 

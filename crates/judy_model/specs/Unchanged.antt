@@ -15,7 +15,7 @@ use Rattle.judy_model.specs.declared.quotas.Quota.{Quota}
 use Rattle.judy_model.specs.declared.quotas.Right.{Right}
 use Rattle.judy_model.specs.declared.replies.Reply.{Reply}
 use Rattle.judy_model.specs.declared.replies.Reply.TheVariants as reply
-use Rattle.judy_model.specs.Tenant.Effect.{Insert, Remove, Free, Ask}
+use Rattle.judy_model.specs.Tenant.Effect.{Insert, Keep, Exchange, Remove, Take, RemoveIf, Free, Ask}
 use Rattle.judy_model.specs.Tenant.Reports.{ReportsNew, ReportsValue}
 use Rattle.judy_model.specs.Tenant.{Effect, State, one_effect, long_effect, string_effect, bytes_effect, step}
 use Rattle.judy_model.specs.WellFormed.{IsWellFormed}
@@ -37,6 +37,22 @@ abbrev pub says_no : Reply → Bool
 says_no (reply.Int new) = not new
 says_no _ = false
 
+-- the key was present
+abbrev pub says_some : Reply → Bool
+says_some (reply.Value v) = true
+says_some _ = false
+
+-- the key was absent
+abbrev pub says_null : Reply → Bool
+says_null reply.Null = true
+says_null _ = false
+
+-- the key was absent, or had another value
+abbrev pub says_other : ℕ → Reply → Bool
+says_other old (reply.Value v) = not (v == old)
+says_other old reply.Null = true
+says_other old _ = false
+
 -- there was no entry to be removed
 abbrev pub says_none : Reply → Bool
 says_none (reply.Count n) = n == 0
@@ -48,7 +64,11 @@ abbrev pub effect_leaves : {K : Type 0} → Effect K → Reply → Bool
 effect_leaves (Insert k Nothing ReportsNew) r = says_no r
 effect_leaves (Insert k given ReportsNew) r = false
 effect_leaves (Insert k given ReportsValue) r = insertion_leaves given r
+effect_leaves (Keep k v) r = says_some r
+effect_leaves (Exchange k old new) r = says_other old r
 effect_leaves (Remove k) r = says_no r
+effect_leaves (Take k) r = says_null r
+effect_leaves (RemoveIf k v) r = says_no r
 effect_leaves Free r = says_none r
 effect_leaves (Ask answer) r = false
 

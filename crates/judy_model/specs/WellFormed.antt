@@ -12,7 +12,7 @@ use Rattle.judy_model.specs.declared.replies.Reply.TheVariants as reply
 use Rattle.judy_model.specs.Contents.{Order, Entries, word_order, string_order, max_word}
 use Rattle.judy_model.specs.Grammar.{are_bytes, is_string, is_byte_key}
 use Rattle.judy_model.specs.Solo.{IsAnswered}
-use Rattle.judy_model.specs.Tenant.Effect.{Insert}
+use Rattle.judy_model.specs.Tenant.Effect.{Insert, Keep, Exchange}
 use Rattle.judy_model.specs.Tenant.{Effect, one_effect, long_effect, string_effect, bytes_effect, value_after}
 use Rattle.judy_model.specs.Tenant.{Arrays, State, Attempt, content_of, used, pieces, step, changes, asks_for_new, new_pieces, has_room}
 
@@ -56,12 +56,14 @@ pub record IsWellFormed (s : State) : Type 0 where
   pub string : IsTrue (are_arrays string_order is_string_entry s.string)
   pub bytes : IsTrue (are_arrays string_order is_bytes_entry s.bytes)
 
--- what a new key would be inserted as is an entry, by the test of its kind
+-- what a key would be inserted or written with is an entry, by the test of its kind
 abbrev pub effect_writes : {K : Type 0} → (K × ℕ → Bool) → Effect K → Bool
 effect_writes is_entry (Insert k given reports) = is_entry (k, value_after given 0)
+effect_writes is_entry (Keep k v) = is_entry (k, v)
+effect_writes is_entry (Exchange k old new) = is_entry (k, new)
 effect_writes is_entry _ = true
 
--- what the call would insert is an entry of its kind
+-- what the call would insert or write is an entry of its kind
 abbrev pub writes_entry : Call → Bool
 writes_entry (One name c) = effect_writes is_one_entry (one_effect c)
 writes_entry (Long name c) = effect_writes is_long_entry (long_effect c)

@@ -76,8 +76,18 @@ pub enum LongCall {
     /// Inserts the index. The reply is the value before, 0 if the index is new. After an addition
     /// it is the new value.
     Insert(u64, Given),
+    /// Keeps the value of a present index, and inserts an absent one with this value. The reply is the
+    /// value that stays, or that the index was absent.
+    Keep(u64, u64),
+    /// Gives a present index the second value if it has the first. The reply is the value before, or that
+    /// the index is absent.
+    Exchange(u64, u64, u64),
     /// Removes the index. The reply says whether it was present.
     Delete(u64),
+    /// Removes the index if it has this value. The reply says whether it had.
+    DeleteIf(u64, u64),
+    /// Removes the index. The reply is its value, or that it was absent.
+    Take(u64),
     /// The value of the index.
     Get(u64),
     /// The number of indexes in the map from the first argument to the second, inclusive.
@@ -111,8 +121,16 @@ pub enum LongCall {
 pub enum StrCall<'a> {
     /// Inserts the string, as `LongCall::Insert` does an index.
     Insert(Key<'a>, Given),
+    /// As `LongCall::Keep` does an index.
+    Keep(Key<'a>, u64),
+    /// As `LongCall::Exchange` does an index.
+    Exchange(Key<'a>, u64, u64),
     /// Removes the string. The reply says whether it was present.
     Delete(Key<'a>),
+    /// Removes the string if it has this value. The reply says whether it had.
+    DeleteIf(Key<'a>, u64),
+    /// Removes the string. The reply is its value, or that it was absent.
+    Take(Key<'a>),
     /// The value of the string.
     Get(Key<'a>),
     /// The least string in the map that is at least this one.
@@ -132,8 +150,16 @@ pub enum StrCall<'a> {
 pub enum BytesCall<'a> {
     /// Inserts the key, as `LongCall::Insert` does an index.
     Insert(Key<'a>, Given),
+    /// As `LongCall::Keep` does an index.
+    Keep(Key<'a>, u64),
+    /// As `LongCall::Exchange` does an index.
+    Exchange(Key<'a>, u64, u64),
     /// Removes the key. The reply says whether it was present.
     Delete(Key<'a>),
+    /// Removes the key if it has this value. The reply says whether it had.
+    DeleteIf(Key<'a>, u64),
+    /// Removes the key. The reply is its value, or that it was absent.
+    Take(Key<'a>),
     /// The value of the key.
     Get(Key<'a>),
     /// Removes all keys. The reply is how many there were.
@@ -174,9 +200,9 @@ impl<'a> Call<'a> {
     {
         match self {
             Call::One(_, call) => matches!(call, OneCall::Set(_)),
-            Call::Long(_, call) => matches!(call, LongCall::Insert(..)),
-            Call::Str(_, call) => matches!(call, StrCall::Insert(..)),
-            Call::Bytes(_, call) => matches!(call, BytesCall::Insert(..)),
+            Call::Long(_, call) => matches!(call, LongCall::Insert(..) | LongCall::Keep(..)),
+            Call::Str(_, call) => matches!(call, StrCall::Insert(..) | StrCall::Keep(..)),
+            Call::Bytes(_, call) => matches!(call, BytesCall::Insert(..) | BytesCall::Keep(..)),
             Call::Used => false,
         }
     }
@@ -196,9 +222,13 @@ impl<'a> Call<'a> {
         ensures { result ≡ new_pieces self.now }
     {
         match self {
-            Call::One(_, OneCall::Set(_)) | Call::Long(_, LongCall::Insert(..)) => 1,
-            Call::Str(_, StrCall::Insert(key, _)) | Call::Bytes(_, BytesCall::Insert(key, _)) =>
-                key.pieces(),
+            Call::One(_, OneCall::Set(_))
+            | Call::Long(_, LongCall::Insert(..))
+            | Call::Long(_, LongCall::Keep(..)) => 1,
+            Call::Str(_, StrCall::Insert(key, _))
+            | Call::Str(_, StrCall::Keep(key, _))
+            | Call::Bytes(_, BytesCall::Insert(key, _))
+            | Call::Bytes(_, BytesCall::Keep(key, _)) => key.pieces(),
             _ => 0,
         }
     }
@@ -275,7 +305,10 @@ impl LongCall {
     {
         match self {
             LongCall::Insert(_, given) => given.operation(),
-            LongCall::Delete(_) => Operation::Remove,
+            LongCall::Keep(..) => Operation::Keep,
+            LongCall::Exchange(..) => Operation::Exchange,
+            LongCall::Delete(_) | LongCall::DeleteIf(..) => Operation::Remove,
+            LongCall::Take(_) => Operation::Take,
             LongCall::Get(_) => Operation::Look,
             LongCall::Count(_, _) => Operation::Count,
             LongCall::ByCount(_) => Operation::Nth,
@@ -297,7 +330,13 @@ impl LongCall {
     {
         matches!(
             self,
-            LongCall::Insert(..) | LongCall::Delete(_) | LongCall::Free
+            LongCall::Insert(..)
+                | LongCall::Keep(..)
+                | LongCall::Exchange(..)
+                | LongCall::Delete(_)
+                | LongCall::DeleteIf(..)
+                | LongCall::Take(_)
+                | LongCall::Free
         )
     }
 }
@@ -309,7 +348,10 @@ impl<'a> StrCall<'a> {
     {
         match self {
             StrCall::Insert(_, given) => given.operation(),
-            StrCall::Delete(_) => Operation::Remove,
+            StrCall::Keep(..) => Operation::Keep,
+            StrCall::Exchange(..) => Operation::Exchange,
+            StrCall::Delete(_) | StrCall::DeleteIf(..) => Operation::Remove,
+            StrCall::Take(_) => Operation::Take,
             StrCall::Get(_) => Operation::Look,
             StrCall::First(_) => Operation::First,
             StrCall::Next(_) => Operation::Next,
@@ -325,7 +367,13 @@ impl<'a> StrCall<'a> {
     {
         matches!(
             self,
-            StrCall::Insert(..) | StrCall::Delete(_) | StrCall::Free
+            StrCall::Insert(..)
+                | StrCall::Keep(..)
+                | StrCall::Exchange(..)
+                | StrCall::Delete(_)
+                | StrCall::DeleteIf(..)
+                | StrCall::Take(_)
+                | StrCall::Free
         )
     }
 }
@@ -337,7 +385,10 @@ impl<'a> BytesCall<'a> {
     {
         match self {
             BytesCall::Insert(_, given) => given.operation(),
-            BytesCall::Delete(_) => Operation::Remove,
+            BytesCall::Keep(..) => Operation::Keep,
+            BytesCall::Exchange(..) => Operation::Exchange,
+            BytesCall::Delete(_) | BytesCall::DeleteIf(..) => Operation::Remove,
+            BytesCall::Take(_) => Operation::Take,
             BytesCall::Get(_) => Operation::Look,
             BytesCall::Free => Operation::Free,
         }
@@ -349,7 +400,13 @@ impl<'a> BytesCall<'a> {
     {
         matches!(
             self,
-            BytesCall::Insert(..) | BytesCall::Delete(_) | BytesCall::Free
+            BytesCall::Insert(..)
+                | BytesCall::Keep(..)
+                | BytesCall::Exchange(..)
+                | BytesCall::Delete(_)
+                | BytesCall::DeleteIf(..)
+                | BytesCall::Take(_)
+                | BytesCall::Free
         )
     }
 }

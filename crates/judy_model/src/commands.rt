@@ -4,22 +4,29 @@ ghost use Rattle.std.specs.Prelude.{◌≡◌, ◌<◌, ◌≤◌, Some, length,
 ghost use Rattle.judy_model.specs.Commands.{command_place, command_words, kind_number, kind_with};
 
 /// How many commands there are.
-pub const COMMANDS: usize = 43;
+pub const COMMANDS: usize = 52;
 
 /// Their words, in the order of the table.
 static WORDS: [&'static str; COMMANDS] = [
     "J1S", "J1U", "J1T", "J1C", "J1BC", "J1F", "J1N", "J1L", "J1P", "J1FE", "J1NE", "J1LE", "J1PE",
-    "J1FA", "JLI", "JLA", "JLD", "JLG", "JLC", "JLBC", "JLF", "JLN", "JLL", "JLP", "JLFE", "JLNE",
-    "JLLE", "JLPE", "JLFA", "JSLI", "JSLA", "JSLD", "JSLG", "JSLF", "JSLN", "JSLL", "JSLP",
-    "JSLFA", "JHSI", "JHSA", "JHSD", "JHSG", "JHSFA",
+    "J1FA", "JLI", "JLA", "JLK", "JLX", "JLD", "JLT", "JLG", "JLC", "JLBC", "JLF", "JLN", "JLL",
+    "JLP", "JLFE", "JLNE", "JLLE", "JLPE", "JLFA", "JSLI", "JSLA", "JSLK", "JSLX", "JSLD", "JSLT",
+    "JSLG", "JSLF", "JSLN", "JSLL", "JSLP", "JSLFA", "JHSI", "JHSA", "JHSK", "JHSX", "JHSD",
+    "JHST", "JHSG", "JHSFA",
 ];
 
 /// For each kind and operation, in the order of their types, the place of the command in the table.
-static PLACES: [[usize; 15]; 4] = [
-    [0, 43, 1, 2, 3, 4, 5, 6, 7, 8, 9, 10, 11, 12, 13],
-    [14, 15, 16, 17, 18, 19, 20, 21, 22, 23, 24, 25, 26, 27, 28],
-    [29, 30, 31, 32, 43, 43, 33, 34, 35, 36, 43, 43, 43, 43, 37],
-    [38, 39, 40, 41, 43, 43, 43, 43, 43, 43, 43, 43, 43, 43, 42],
+static PLACES: [[usize; 18]; 4] = [
+    [0, 52, 52, 52, 1, 52, 2, 3, 4, 5, 6, 7, 8, 9, 10, 11, 12, 13],
+    [
+        14, 15, 16, 17, 18, 19, 20, 21, 22, 23, 24, 25, 26, 27, 28, 29, 30, 31,
+    ],
+    [
+        32, 33, 34, 35, 36, 37, 38, 52, 52, 39, 40, 41, 42, 52, 52, 52, 52, 43,
+    ],
+    [
+        44, 45, 46, 47, 48, 49, 50, 52, 52, 52, 52, 52, 52, 52, 52, 52, 52, 51,
+    ],
 ];
 
 /// The kinds of array.
@@ -42,8 +49,14 @@ pub enum Operation {
     Insert,
     /// Adds to the value of an index.
     Add,
-    /// Removes an index.
+    /// Inserts an absent index, and keeps the value of a present one.
+    Keep,
+    /// Gives an index another value, if it has this one.
+    Exchange,
+    /// Removes an index, or removes it if it has this value.
     Remove,
+    /// Removes an index and shows its value.
+    Take,
     /// Looks an index up.
     Look,
     /// Counts the indexes from one to another.
@@ -79,7 +92,7 @@ pub struct Command {
     pub operation: Operation,
 }
 
-/// The numbers that follow a name, or a key: at most two.
+/// The numbers that follow a name, or a key: at most three.
 #[derive(Clone, Copy, Debug, PartialEq, Eq)]
 pub enum Numbers {
     /// No number.
@@ -88,6 +101,8 @@ pub enum Numbers {
     One(u64),
     /// Two numbers.
     Two(u64, u64),
+    /// Three numbers.
+    Three(u64, u64, u64),
 }
 
 impl Kind {

@@ -1,6 +1,6 @@
 //! What a reply says of the arrays: whether they are as they were before the call.
 ghost use Rattle.std.specs.Prelude.{◌≡◌};
-ghost use Rattle.judy_model.specs.Unchanged.{bytes_leaves, insertion_leaves, keeps, leaves, long_leaves, one_leaves, says_no, says_none, string_leaves};
+ghost use Rattle.judy_model.specs.Unchanged.{bytes_leaves, insertion_leaves, keeps, leaves, long_leaves, one_leaves, says_no, says_none, says_null, says_other, says_some, string_leaves};
 
 use crate::calls::{BytesCall, Call, Given, LongCall, OneCall, StrCall};
 use crate::replies::Reply;
@@ -36,6 +36,31 @@ fn says_no(reply: &Reply<'_>) -> bool
     }
 }
 
+/// Whether the key was present.
+fn says_some(reply: &Reply<'_>) -> bool
+    ensures { result ≡ says_some reply.now }
+{
+    matches!(reply, Reply::Value(_))
+}
+
+/// Whether the key was absent.
+fn says_null(reply: &Reply<'_>) -> bool
+    ensures { result ≡ says_null reply.now }
+{
+    matches!(reply, Reply::Null)
+}
+
+/// Whether the key was absent, or had another value.
+fn says_other(old: u64, reply: &Reply<'_>) -> bool
+    ensures { result ≡ says_other old reply.now }
+{
+    match reply {
+        Reply::Value(value) => *value != old,
+        Reply::Null => true,
+        _ => false,
+    }
+}
+
 /// Whether there was no entry to be removed.
 fn says_none(reply: &Reply<'_>) -> bool
     ensures { result ≡ says_none reply.now }
@@ -63,7 +88,10 @@ fn long_leaves(call: &LongCall, reply: &Reply<'_>) -> bool
 {
     match call {
         LongCall::Insert(_, given) => insertion_leaves(*given, reply),
-        LongCall::Delete(_) => says_no(reply),
+        LongCall::Keep(..) => says_some(reply),
+        LongCall::Exchange(_, old, _) => says_other(*old, reply),
+        LongCall::Delete(_) | LongCall::DeleteIf(..) => says_no(reply),
+        LongCall::Take(_) => says_null(reply),
         LongCall::Free => says_none(reply),
         _ => false,
     }
@@ -75,7 +103,10 @@ fn string_leaves(call: &StrCall<'_>, reply: &Reply<'_>) -> bool
 {
     match call {
         StrCall::Insert(_, given) => insertion_leaves(*given, reply),
-        StrCall::Delete(_) => says_no(reply),
+        StrCall::Keep(..) => says_some(reply),
+        StrCall::Exchange(_, old, _) => says_other(*old, reply),
+        StrCall::Delete(_) | StrCall::DeleteIf(..) => says_no(reply),
+        StrCall::Take(_) => says_null(reply),
         StrCall::Free => says_none(reply),
         _ => false,
     }
@@ -87,7 +118,10 @@ fn bytes_leaves(call: &BytesCall<'_>, reply: &Reply<'_>) -> bool
 {
     match call {
         BytesCall::Insert(_, given) => insertion_leaves(*given, reply),
-        BytesCall::Delete(_) => says_no(reply),
+        BytesCall::Keep(..) => says_some(reply),
+        BytesCall::Exchange(_, old, _) => says_other(*old, reply),
+        BytesCall::Delete(_) | BytesCall::DeleteIf(..) => says_no(reply),
+        BytesCall::Take(_) => says_null(reply),
         BytesCall::Free => says_none(reply),
         _ => false,
     }

@@ -10,7 +10,7 @@ use Rattle.judy_model.specs.declared.commands.Kind.TheVariants as kind
 use Rattle.judy_model.specs.declared.commands.Numbers.{Numbers}
 use Rattle.judy_model.specs.declared.commands.Numbers.TheVariants as numbers
 use Rattle.judy_model.specs.declared.commands.Operation.{Operation}
-use Rattle.judy_model.specs.declared.commands.Operation.TheVariants.{Insert, Add, Remove, Look, Count, Nth, First, Next, Last, Prev, Free}
+use Rattle.judy_model.specs.declared.commands.Operation.TheVariants.{Insert, Add, Keep, Exchange, Remove, Take, Look, Count, Nth, First, Next, Last, Prev, Free}
 use Rattle.judy_model.specs.declared.commands.Operation.TheVariants.{FirstEmpty, NextEmpty, LastEmpty, PrevEmpty}
 use Rattle.judy_model.specs.Commands.{bytes_operation, bytes_with, command_of, free_with, long_operation, long_with, one_operation, one_with}
 use Rattle.judy_model.specs.Commands.{string_operation, string_with, to}
@@ -55,6 +55,10 @@ long_made PrevEmpty (numbers.One i) = refl
 long_made Insert (numbers.Two i j) = refl
 long_made Add (numbers.Two i j) = refl
 long_made Count (numbers.Two i j) = refl
+long_made Keep (numbers.Two i j) = refl
+long_made Exchange (numbers.Three i j k) = refl
+long_made Remove (numbers.Two i j) = refl
+long_made Take (numbers.One i) = refl
 long_made Free numbers.Nothing = refl
 long_made _ _ = tt
 
@@ -68,6 +72,10 @@ string_made Last key numbers.Nothing = refl
 string_made Prev key numbers.Nothing = refl
 string_made Insert key (numbers.One i) = refl
 string_made Add key (numbers.One i) = refl
+string_made Keep key (numbers.One i) = refl
+string_made Exchange key (numbers.Two i j) = refl
+string_made Remove key (numbers.One i) = refl
+string_made Take key numbers.Nothing = refl
 string_made _ key _ = tt
 
 bytes_made : (operation : Operation) (key : List ℕ) (ns : Numbers) → IsOf bytes_operation operation (bytes_with operation key ns)
@@ -76,6 +84,10 @@ bytes_made Remove key numbers.Nothing = refl
 bytes_made Look key numbers.Nothing = refl
 bytes_made Insert key (numbers.One i) = refl
 bytes_made Add key (numbers.One i) = refl
+bytes_made Keep key (numbers.One i) = refl
+bytes_made Exchange key (numbers.Two i j) = refl
+bytes_made Remove key (numbers.One i) = refl
+bytes_made Take key numbers.Nothing = refl
 bytes_made _ key _ = tt
 
 free_made : {C : Type 0} (operation_of : C → Operation) (operation : Operation) (call : C) → operation_of call ≡ Free

@@ -1,6 +1,6 @@
 -- A call keeps a tenant's arrays well-formed.
 use Rattle.std.proofs.Common.{◌≡◌, ℕ, ◌+◌, ◌%◌, ◌^◌, arith, Bool, true, false, not, cond, ◌&&◌, List, [], ◌∷◌, refl, sym, ◌∙◌, ap, subst, Option, Some, None}
-use Rattle.std.specs.Prelude.{IsTrue, filter, unwrap_or}
+use Rattle.std.specs.Prelude.{IsTrue, ◌==◌, filter, unwrap_or}
 use Rattle.std.specs.List.{list_all}
 use Rattle.std.specs.declared.cmp.Ordering.{Ordering}
 use Rattle.std.specs.declared.cmp.Ordering.TheVariants.{Less, Equal, Greater}
@@ -22,8 +22,9 @@ use Rattle.judy_model.specs.declared.quotas.Quota.{Quota}
 use Rattle.judy_model.specs.declared.replies.Reply.{Reply}
 use Rattle.judy_model.specs.declared.replies.Reply.TheVariants as reply
 use Rattle.judy_model.specs.Grammar.{are_bytes, is_string, is_byte_key}
-use Rattle.judy_model.specs.Contents.{Order, Entries, word_order, string_order, has_key, with_entry, without_key}
-use Rattle.judy_model.specs.Tenant.Effect.{Insert, Remove, Free, Ask}
+use Rattle.judy_model.specs.Contents.{Order, Entries, word_order, string_order, value_of, has_key, with_entry, without_key}
+use Rattle.judy_model.specs.Tenant.Effect.{Insert, Keep, Exchange, Remove, Take, RemoveIf, Free, Ask}
+use Rattle.judy_model.specs.Tenant.{keep_over, exchange_over, remove_over}
 use Rattle.judy_model.specs.Tenant.{Effect, Reports, effect_step, one_effect, long_effect, string_effect, bytes_effect}
 use Rattle.judy_model.specs.Tenant.{Arrays, State, content_of, with_content, value_after, insert_over, insert, one_step}
 use Rattle.judy_model.specs.Tenant.{long_step, string_step, bytes_step, has_room, allowed_step, is_read_only, refusal_of}
@@ -110,11 +111,33 @@ module _ {K : Type 0} (order : Order K) (total : IsTotalOrder order) (same : IsA
         by None is given suits f = elim room as (λ r. is_content order test (insert_over order r l k given reports None).1 ≡ true)
             [ true ↦ content_put l k (value_after given 0) f h | false ↦ h ]
 
+    keep_form : (room : Bool) (l : Entries K) (k : K) (v : ℕ) → is_content order test l ≡ true → test (k, v) ≡ true
+        → (had : Option ℕ) → is_content order test (keep_over order room l k v had).1 ≡ true
+    keep_form room l k v h f (Some w) = h
+    keep_form true l k v h f None = content_put l k v f h
+    keep_form false l k v h f None = h
+
+    exchange_form : (l : Entries K) (k : K) (old new : ℕ) → is_content order test l ≡ true → test (k, new) ≡ true
+        → (had : Option ℕ) → is_content order test (exchange_over order l k old new had).1 ≡ true
+    exchange_form l k old new h f None = h
+    exchange_form l k old new h f (Some v) = elim (v == old) as (λ b. is_content order test (cond b (with_entry order l k new) l) ≡ true)
+        [ true ↦ content_put l k new f h | false ↦ h ]
+
+    remove_form : (l : Entries K) (k : K) (v : ℕ) → is_content order test l ≡ true
+        → (had : Option ℕ) → is_content order test (remove_over order l k v had).1 ≡ true
+    remove_form l k v h None = h
+    remove_form l k v h (Some w) = elim (w == v) as (λ b. is_content order test (cond b (without_key order l k) l) ≡ true)
+        [ true ↦ content_less l k h | false ↦ h ]
+
     -- a call keeps the content well-formed
     effect_form : (room : Bool) (l : Entries K) (effect : Effect K) → Suits effect → is_content order test l ≡ true → IsTrue (effect_writes test effect)
         → is_content order test (effect_step order room l effect).1 ≡ true
     effect_form room l (Insert k given reports) suits h w = insert_form room l k given reports suits h w
+    effect_form room l (Keep k v) suits h w = keep_form room l k v h w (value_of order l k)
+    effect_form room l (Exchange k old new) suits h w = exchange_form l k old new h w (value_of order l k)
     effect_form room l (Remove k) suits h w = content_less l k h
+    effect_form room l (Take k) suits h w = content_less l k h
+    effect_form room l (RemoveIf k v) suits h w = remove_form l k v h (value_of order l k)
     effect_form room l Free suits h w = refl
     effect_form room l (Ask answer) suits h w = h
 
@@ -203,7 +226,11 @@ suits_all : {K : Type 0} (order : Order K) (total : IsTotalOrder order) (same : 
 suits_all order total same test takes (Insert k (Plus n) reports) = takes
 suits_all order total same test takes (Insert k Nothing reports) = tt
 suits_all order total same test takes (Insert k (Value v) reports) = tt
+suits_all order total same test takes (Keep k v) = tt
+suits_all order total same test takes (Exchange k old new) = tt
 suits_all order total same test takes (Remove k) = tt
+suits_all order total same test takes (Take k) = tt
+suits_all order total same test takes (RemoveIf k v) = tt
 suits_all order total same test takes Free = tt
 suits_all order total same test takes (Ask answer) = tt
 

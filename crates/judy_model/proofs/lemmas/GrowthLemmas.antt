@@ -1,13 +1,14 @@
 -- The numbers of entries and pieces of an array after a call.
 use Rattle.std.proofs.Common.{◌≡◌, ℕ, ◌+◌, ◌≤◌, Bool, true, false, not, cond, List, [], length, refl, sym, ◌∙◌, ap, subst, arith, Option, Some, None}
-use Rattle.std.specs.Prelude.{is_some}
+use Rattle.std.specs.Prelude.{is_some, ◌==◌}
 use Rattle.std.specs.Cmp.{IsTotalOrder}
 use Rattle.std.specs.FinMap.{find, is_sorted, IsAntisymmetric}
 use Rattle.std.specs.FinMap.Entries.{length-put, length_without}
 use Rattle.judy_model.specs.declared.calls.Given.{Given}
-use Rattle.judy_model.specs.Contents.{Order, Entries, has_key, with_entry, without_key}
+use Rattle.judy_model.specs.Contents.{Order, Entries, value_of, has_key, with_entry, without_key}
 use Rattle.judy_model.specs.Pieces.{pieces_of}
-use Rattle.judy_model.specs.Tenant.Effect.{Insert, Remove, Free, Ask}
+use Rattle.judy_model.specs.Tenant.Effect.{Insert, Keep, Exchange, Remove, Take, RemoveIf, Free, Ask}
+use Rattle.judy_model.specs.Tenant.{keep_over, exchange_over, remove_over}
 use Rattle.judy_model.specs.Tenant.{Effect, Reports, value_after, insert_over, insert, effect_step, effect_asks_for_new, effect_pieces}
 use Rattle.judy_model.specs.WellFormed.{Grows}
 use Rattle.judy_model.proofs.lemmas.PieceLemmas.{pieces_of-with_entry, pieces_of-without_key}
@@ -41,19 +42,28 @@ sizes order o same size = record {
 -- n is the weight of the key that a call would insert
 abbrev pub Weighs : {K : Type 0} → (K → ℕ) → Effect K → ℕ → Type 0
 Weighs weight (Insert k given reports) n = n ≡ weight k
+Weighs weight (Keep k v) n = n ≡ weight k
 Weighs weight _ n = Unit {0}
 
 -- each key counts as 1
 pub one_each : {K : Type 0} (effect : Effect K) → Weighs (λ k. 1) effect 1
 one_each (Insert k given reports) = refl
+one_each (Keep k v) = refl
+one_each (Exchange k old new) = tt
 one_each (Remove k) = tt
+one_each (Take k) = tt
+one_each (RemoveIf k v) = tt
 one_each Free = tt
 one_each (Ask answer) = tt
 
 -- a key counts as its size
 pub its_size : {K : Type 0} (size : K → ℕ) (effect : Effect K) → Weighs size effect (effect_pieces size effect)
 its_size size (Insert k given reports) = refl
+its_size size (Keep k v) = refl
+its_size size (Exchange k old new) = tt
 its_size size (Remove k) = tt
+its_size size (Take k) = tt
+its_size size (RemoveIf k v) = tt
 its_size size Free = tt
 its_size size (Ask answer) = tt
 
@@ -71,13 +81,51 @@ module _ {K : Type 0} (order : Order K) (size : Entries K → ℕ) (weight : K �
         | false ↦ refl
       ]
 
+  -- so does a key that is kept
+  keep_grows : (room : Bool) (l : Entries K) (k : K) (v : ℕ) → is_sorted order l ≡ true
+      → Grows (not (has_key order l k)) room (weight k) (size l) (size (keep_over order room l k v (value_of order l k)).1)
+  keep_grows room l k v h = by (find order k l) refl
+    where
+      by : (had : Option ℕ) → find order k l ≡ had → Grows (not (is_some had)) room (weight k) (size l) (size (keep_over order room l k v had).1)
+      by (Some w) is = omega arith
+      by None is = elim room as (λ r. Grows true r (weight k) (size l) (size (keep_over order r l k v None).1)) [
+        | true ↦ m.put l k v h ∙ ap (λ o. cond (is_some o) (size l) (size l + weight k)) is
+        | false ↦ refl
+      ]
+
+  -- another value of a present key adds nothing
+  exchange_grows : (l : Entries K) (k : K) (old new : ℕ) → is_sorted order l ≡ true
+      → size (exchange_over order l k old new (value_of order l k)).1 ≤ size l
+  exchange_grows l k old new h = by (find order k l) refl
+    where
+      by : (had : Option ℕ) → find order k l ≡ had → size (exchange_over order l k old new had).1 ≤ size l
+      by None is = omega arith
+      by (Some v) is = elim (v == old) as (λ b. size (cond b (with_entry order l k new) l) ≤ size l) [
+        | true ↦ let e = m.put l k new h ∙ ap (λ o. cond (is_some o) (size l) (size l + weight k)) is in omega (arith, e)
+        | false ↦ omega arith
+      ]
+
+  -- nor does a removal
+  remove_grows : (l : Entries K) (k : K) (v : ℕ) → is_sorted order l ≡ true → size (remove_over order l k v (value_of order l k)).1 ≤ size l
+  remove_grows l k v h = by (find order k l)
+    where
+      by : (had : Option ℕ) → size (remove_over order l k v had).1 ≤ size l
+      by None = omega arith
+      by (Some w) = elim (w == v) as (λ b. size (cond b (without_key order l k) l) ≤ size l) [ true ↦ m.less l k h | false ↦ omega arith ]
+
   -- a call grows it by the weight of a key that it asks for
   pub effect_grows : (room : Bool) (l : Entries K) (effect : Effect K) (n : ℕ) → is_sorted order l ≡ true → Weighs weight effect n
       → Grows (effect_asks_for_new order l effect) room n (size l) (size (effect_step order room l effect).1)
   effect_grows room l (Insert k given reports) n h w =
       subst (λ z. Grows (not (has_key order l k)) room z (size l) (size (insert order room l k given reports).1))
       (sym w) (insert_grows room l k given reports h)
+  effect_grows room l (Keep k v) n h w =
+      subst (λ z. Grows (not (has_key order l k)) room z (size l) (size (keep_over order room l k v (value_of order l k)).1))
+      (sym w) (keep_grows room l k v h)
+  effect_grows room l (Exchange k old new) n h w = exchange_grows l k old new h
   effect_grows room l (Remove k) n h w = m.less l k h
+  effect_grows room l (Take k) n h w = m.less l k h
+  effect_grows room l (RemoveIf k v) n h w = remove_grows l k v h
   effect_grows room l Free n h w = omega (arith, m.none)
   effect_grows room l (Ask answer) n h w = omega arith
 
