@@ -49,7 +49,11 @@ name_of_call call.Used = []
 -- the key of a JudySL call
 abbrev pub has_key_string : StrCall → Bool
 has_key_string (str.Insert k given) = is_string k
+has_key_string (str.Keep k v) = is_string k
+has_key_string (str.Exchange k old new) = is_string k
 has_key_string (str.Delete k) = is_string k
+has_key_string (str.DeleteIf k v) = is_string k
+has_key_string (str.Take k) = is_string k
 has_key_string (str.Get k) = is_string k
 has_key_string (str.First k) = is_string k
 has_key_string (str.Next k) = is_string k

@@ -26,7 +26,7 @@ pub(crate) fn asks<H: KeyHash>(arena: &Arena, hash: H, root: Ref, call: &BytesCa
     ensures { result ≡ bytes_asks_for_new (bytes_in arena.now.blocks root) call.now }
 {
     match call {
-        BytesCall::Insert(key, _) => JudyHS::from_reference(hash, root)
+        BytesCall::Insert(key, _) | BytesCall::Keep(key, _) => JudyHS::from_reference(hash, root)
             .get(arena, key.as_bytes())
             .is_none(),
         _ => false,
@@ -60,7 +60,13 @@ pub(crate) fn answer<H: KeyHash>(
 {
     match call {
         BytesCall::Insert(key, given) => insert(alloc, arena, hash, place, key, *given),
+        BytesCall::Keep(key, value) => keep(alloc, arena, hash, place, key, *value),
+        BytesCall::Exchange(key, from, to) => {
+            Ok(exchange(alloc, arena, hash, place, key, *from, *to))
+        }
         BytesCall::Delete(key) => Ok(delete(arena, hash, place, key)),
+        BytesCall::DeleteIf(key, value) => Ok(delete_if(arena, hash, place, key, *value)),
+        BytesCall::Take(key) => Ok(take(arena, hash, place, key)),
         BytesCall::Free => Ok(clear(arena, hash, place)),
         BytesCall::Get(key) => {
             judy_bytes::laws::blocks_are_live();
@@ -126,6 +132,118 @@ fn delete<H: KeyHash>(
         Reply::Int(true),
         counts::shrunk(place, map.reference(), key),
     )
+}
+
+/// Keeps the value of a key that is present, and inserts one that is absent with `value`.
+fn keep<H: KeyHash>(
+    alloc: Global,
+    arena: &mut Arena,
+    hash: H,
+    place: Place,
+    key: &Key<'_>,
+    value: u64,
+) -> Result<(Reply<'static>, Place), NoMemory>
+    requires array { IsBytesArray H.hashed arena.old.blocks place.root }
+    requires counts { HasCounts string_pieces (bytes_in arena.old.blocks place.root) place }
+    requires room { place.pieces < 2 ^ 63 }
+    ensures array { IfOk result (λ r. BytesBecomes H.hashed arena.old place.root arena.new r.1.root) }
+    ensures counts { IfOk result
+        (λ r. HasCounts string_pieces (bytes_in arena.new.blocks r.1.root) r.1) }
+    ensures step { IfOk result
+        (λ r. BytesAnswers arena.old place.root (bytes.Keep key.now value) r.0 arena.new r.1.root) }
+    ensures quiet { OnOk result (arena.new.refusals ≡ arena.old.refusals) }
+    ensures asked { OnErr result
+        (IsFalse (has_key string_order (bytes_in arena.old.blocks place.root) key.now)) }
+    ensures refused { OnErr result (IsShort arena.old arena.new) }
+    ensures memory { Takes (if has_key string_order (bytes_in arena.old.blocks place.root) key.now
+        then 0 else blocks_of_kind kind.Bytes) arena.old arena.new }
+{
+    if let Some(stays) = JudyHS::from_reference(hash, place.root).get(arena, key.as_bytes()) {
+        judy_bytes::laws::blocks_are_live();
+        return Ok((Reply::Value(stays), place));
+    }
+    let (_, place) = insert(alloc, arena, hash, place, key, Given::Value(value))?;
+    Ok((Reply::Null, place))
+}
+
+/// Gives a key the value `to` if it has the value `from`.
+fn exchange<H: KeyHash>(
+    alloc: Global,
+    arena: &mut Arena,
+    hash: H,
+    place: Place,
+    key: &Key<'_>,
+    from: u64,
+    to: u64,
+) -> (Reply<'static>, Place)
+    requires array { IsBytesArray H.hashed arena.old.blocks place.root }
+    requires counts { HasCounts string_pieces (bytes_in arena.old.blocks place.root) place }
+    requires room { place.pieces < 2 ^ 63 }
+    ensures array { BytesBecomes H.hashed arena.old place.root arena.new result.1.root }
+    ensures counts { HasCounts string_pieces (bytes_in arena.new.blocks result.1.root) result.1 }
+    ensures step { BytesAnswers arena.old place.root (bytes.Exchange key.now from to) result.0
+        arena.new result.1.root }
+    ensures memory { TakesNothing arena.old arena.new }
+{
+    judy_bytes::laws::blocks_are_live();
+    let Some(value) = JudyHS::from_reference(hash, place.root).get(arena, key.as_bytes()) else {
+        return (Reply::Null, place);
+    };
+    if value != from {
+        return (Reply::Value(value), place);
+    }
+    match insert(alloc, arena, hash, place, key, Given::Value(to)) {
+        Ok((_, place)) => (Reply::Value(value), place),
+        Err(_) => unreachable!(),
+    }
+}
+
+/// Removes a key, and shows its value.
+fn take<H: KeyHash>(
+    arena: &mut Arena,
+    hash: H,
+    place: Place,
+    key: &Key<'_>,
+) -> (Reply<'static>, Place)
+    requires array { IsBytesArray H.hashed arena.old.blocks place.root }
+    requires counts { HasCounts string_pieces (bytes_in arena.old.blocks place.root) place }
+    ensures array { BytesBecomes H.hashed arena.old place.root arena.new result.1.root }
+    ensures counts { HasCounts string_pieces (bytes_in arena.new.blocks result.1.root) result.1 }
+    ensures step { BytesAnswers arena.old place.root (bytes.Take key.now) result.0 arena.new
+        result.1.root }
+    ensures memory { TakesNothing arena.old arena.new }
+{
+    let had = JudyHS::from_reference(hash, place.root).get(arena, key.as_bytes());
+    let (_, place) = delete(arena, hash, place, key);
+    (value_reply(had), place)
+}
+
+/// Removes a key if it has this value.
+fn delete_if<H: KeyHash>(
+    arena: &mut Arena,
+    hash: H,
+    place: Place,
+    key: &Key<'_>,
+    value: u64,
+) -> (Reply<'static>, Place)
+    requires array { IsBytesArray H.hashed arena.old.blocks place.root }
+    requires counts { HasCounts string_pieces (bytes_in arena.old.blocks place.root) place }
+    ensures array { BytesBecomes H.hashed arena.old place.root arena.new result.1.root }
+    ensures counts { HasCounts string_pieces (bytes_in arena.new.blocks result.1.root) result.1 }
+    ensures step { BytesAnswers arena.old place.root (bytes.DeleteIf key.now value) result.0
+        arena.new result.1.root }
+    ensures memory { TakesNothing arena.old arena.new }
+{
+    judy_bytes::laws::blocks_are_live();
+    match JudyHS::from_reference(hash, place.root).get(arena, key.as_bytes()) {
+        Some(had) => {
+            if had == value {
+                return delete(arena, hash, place, key);
+            }
+            (Reply::Int(false), place)
+        }
+        None => (Reply::Int(false), place),
+    }
 }
 
 /// Removes all keys.

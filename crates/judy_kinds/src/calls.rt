@@ -37,7 +37,11 @@ fn has_key_string(call: &StrCall<'_>) -> bool
 {
     match call {
         StrCall::Insert(key, _)
+        | StrCall::Keep(key, _)
+        | StrCall::Exchange(key, _, _)
         | StrCall::Delete(key)
+        | StrCall::DeleteIf(key, _)
+        | StrCall::Take(key)
         | StrCall::Get(key)
         | StrCall::First(key)
         | StrCall::Next(key)

@@ -23,7 +23,9 @@ pub(crate) fn asks(arena: &Arena, root: Ref, call: LongCall) -> bool
     ensures { result ≡ long_asks_for_new (long_in arena.now.blocks root) call }
 {
     match call {
-        LongCall::Insert(x, _) => JudyL::from_reference(root).get(arena, x).is_none(),
+        LongCall::Insert(x, _) | LongCall::Keep(x, _) => JudyL::from_reference(root)
+            .get(arena, x)
+            .is_none(),
         _ => false,
     }
 }

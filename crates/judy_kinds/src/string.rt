@@ -46,7 +46,7 @@ pub(crate) fn asks(arena: &Arena, root: Ref, call: &StrCall<'_>) -> bool
     ensures { result ≡ string_asks_for_new (string_in arena.now.blocks root) call.now }
 {
     match call {
-        StrCall::Insert(key, _) => JudySL::from_reference(root)
+        StrCall::Insert(key, _) | StrCall::Keep(key, _) => JudySL::from_reference(root)
             .get(arena, string_of(key))
             .is_none(),
         _ => false,
@@ -80,7 +80,11 @@ pub(crate) fn answer<'a>(
 {
     match call {
         StrCall::Insert(key, given) => insert(alloc, arena, place, key, *given),
+        StrCall::Keep(key, value) => keep(alloc, arena, place, key, *value),
+        StrCall::Exchange(key, from, to) => { Ok(exchange(alloc, arena, place, key, *from, *to)) }
         StrCall::Delete(key) => Ok(delete(arena, place, key)),
+        StrCall::DeleteIf(key, value) => Ok(delete_if(arena, place, key, *value)),
+        StrCall::Take(key) => Ok(take(arena, place, key)),
         StrCall::Free => Ok(clear(arena, place)),
         _ => {
             judy_string::laws::blocks_are_live();
@@ -144,6 +148,109 @@ fn delete(arena: &mut Arena, place: Place, key: &Key<'_>) -> (Reply<'static>, Pl
     )
 }
 
+/// Keeps the value of a string that is present, and inserts one that is absent with `value`.
+fn keep(
+    alloc: Global,
+    arena: &mut Arena,
+    place: Place,
+    key: &Key<'_>,
+    value: u64,
+) -> Result<(Reply<'static>, Place), NoMemory>
+    requires key { IsTrue (is_string key.now) }
+    requires array { IsStringArray arena.old.blocks place.root }
+    requires counts { HasCounts string_pieces (string_in arena.old.blocks place.root) place }
+    requires room { place.pieces < 2 ^ 63 }
+    ensures array { IfOk result (λ r. StringBecomes arena.old place.root arena.new r.1.root) }
+    ensures counts { IfOk result
+        (λ r. HasCounts string_pieces (string_in arena.new.blocks r.1.root) r.1) }
+    ensures step { IfOk result
+        (λ r. StringAnswers arena.old place.root (str.Keep key.now value) r.0 arena.new r.1.root) }
+    ensures quiet { OnOk result (arena.new.refusals ≡ arena.old.refusals) }
+    ensures asked { OnErr result
+        (IsFalse (has_key string_order (string_in arena.old.blocks place.root) key.now)) }
+    ensures refused { OnErr result (IsShort arena.old arena.new) }
+    ensures memory { Takes (if has_key string_order (string_in arena.old.blocks place.root) key.now
+        then 0 else blocks_of_kind kind.Str) arena.old arena.new }
+{
+    if let Some(stays) = JudySL::from_reference(place.root).get(arena, string_of(key)) {
+        judy_string::laws::blocks_are_live();
+        return Ok((Reply::Value(stays), place));
+    }
+    let (_, place) = insert(alloc, arena, place, key, Given::Value(value))?;
+    Ok((Reply::Null, place))
+}
+
+/// Gives a string the value `to` if it has the value `from`.
+fn exchange(
+    alloc: Global,
+    arena: &mut Arena,
+    place: Place,
+    key: &Key<'_>,
+    from: u64,
+    to: u64,
+) -> (Reply<'static>, Place)
+    requires key { IsTrue (is_string key.now) }
+    requires array { IsStringArray arena.old.blocks place.root }
+    requires counts { HasCounts string_pieces (string_in arena.old.blocks place.root) place }
+    requires room { place.pieces < 2 ^ 63 }
+    ensures array { StringBecomes arena.old place.root arena.new result.1.root }
+    ensures counts { HasCounts string_pieces (string_in arena.new.blocks result.1.root) result.1 }
+    ensures step { StringAnswers arena.old place.root (str.Exchange key.now from to) result.0
+        arena.new result.1.root }
+    ensures memory { TakesNothing arena.old arena.new }
+{
+    judy_string::laws::blocks_are_live();
+    let Some(value) = JudySL::from_reference(place.root).get(arena, string_of(key)) else {
+        return (Reply::Null, place);
+    };
+    if value != from {
+        return (Reply::Value(value), place);
+    }
+    match insert(alloc, arena, place, key, Given::Value(to)) {
+        Ok((_, place)) => (Reply::Value(value), place),
+        Err(_) => unreachable!(),
+    }
+}
+
+/// Removes a string, and shows its value.
+fn take(arena: &mut Arena, place: Place, key: &Key<'_>) -> (Reply<'static>, Place)
+    requires key { IsTrue (is_string key.now) }
+    requires array { IsStringArray arena.old.blocks place.root }
+    requires counts { HasCounts string_pieces (string_in arena.old.blocks place.root) place }
+    ensures array { StringBecomes arena.old place.root arena.new result.1.root }
+    ensures counts { HasCounts string_pieces (string_in arena.new.blocks result.1.root) result.1 }
+    ensures step { StringAnswers arena.old place.root (str.Take key.now) result.0 arena.new
+        result.1.root }
+    ensures memory { TakesNothing arena.old arena.new }
+{
+    let had = JudySL::from_reference(place.root).get(arena, string_of(key));
+    let (_, place) = delete(arena, place, key);
+    (value_reply(had), place)
+}
+
+/// Removes a string if it has this value.
+fn delete_if(arena: &mut Arena, place: Place, key: &Key<'_>, value: u64) -> (Reply<'static>, Place)
+    requires key { IsTrue (is_string key.now) }
+    requires array { IsStringArray arena.old.blocks place.root }
+    requires counts { HasCounts string_pieces (string_in arena.old.blocks place.root) place }
+    ensures array { StringBecomes arena.old place.root arena.new result.1.root }
+    ensures counts { HasCounts string_pieces (string_in arena.new.blocks result.1.root) result.1 }
+    ensures step { StringAnswers arena.old place.root (str.DeleteIf key.now value) result.0
+        arena.new result.1.root }
+    ensures memory { TakesNothing arena.old arena.new }
+{
+    judy_string::laws::blocks_are_live();
+    match JudySL::from_reference(place.root).get(arena, string_of(key)) {
+        Some(had) => {
+            if had == value {
+                return delete(arena, place, key);
+            }
+            (Reply::Int(false), place)
+        }
+        None => (Reply::Int(false), place),
+    }
+}
+
 /// Removes all strings.
 fn clear(arena: &mut Arena, place: Place) -> (Reply<'static>, Place)
     requires { IsStringArray arena.old.blocks place.root }
@@ -189,7 +296,13 @@ fn look<'a>(
             let found = map.prev(arena, string_of(key), buffer);
             entry_reply(found, buffer.as_slice())
         }
-        StrCall::Insert(..) | StrCall::Delete(_) | StrCall::Free => unreachable!(),
+        StrCall::Insert(..)
+        | StrCall::Keep(..)
+        | StrCall::Exchange(..)
+        | StrCall::Delete(_)
+        | StrCall::DeleteIf(..)
+        | StrCall::Take(_)
+        | StrCall::Free => unreachable!(),
     }
 }
 

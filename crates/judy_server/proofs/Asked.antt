@@ -18,7 +18,7 @@ use Rattle.judy_model.specs.declared.commands.Kind.TheVariants as kind
 use Rattle.judy_model.specs.declared.commands.Numbers.{Numbers}
 use Rattle.judy_model.specs.declared.commands.Numbers.TheVariants as numbers
 use Rattle.judy_model.specs.declared.commands.Operation.{Operation}
-use Rattle.judy_model.specs.declared.commands.Operation.TheVariants.{Insert, Add, Remove, Look, Count, Nth, First, Next, Last, Prev, Free}
+use Rattle.judy_model.specs.declared.commands.Operation.TheVariants.{Insert, Add, Keep, Exchange, Remove, Take, Look, Count, Nth, First, Next, Last, Prev, Free}
 use Rattle.judy_model.specs.declared.commands.Operation.TheVariants.{FirstEmpty, NextEmpty, LastEmpty, PrevEmpty}
 use Rattle.judy_model.specs.declared.requests.Line.TheVariants as request
 use Rattle.judy_kinds.specs.Calls.{has_key_string, has_string}
@@ -41,27 +41,47 @@ with_passes : (operation : Operation) (key : List ℕ) (ns : Numbers) → is_str
 with_passes Insert key numbers.Nothing h = h
 with_passes Insert key (numbers.One i) h = h
 with_passes Insert key (numbers.Two i j) h = tt
+with_passes Insert key (numbers.Three i j k) h = tt
 with_passes Add key numbers.Nothing h = tt
 with_passes Add key (numbers.One i) h = h
 with_passes Add key (numbers.Two i j) h = tt
+with_passes Add key (numbers.Three i j k) h = tt
+with_passes Keep key numbers.Nothing h = tt
+with_passes Keep key (numbers.One i) h = h
+with_passes Keep key (numbers.Two i j) h = tt
+with_passes Keep key (numbers.Three i j k) h = tt
+with_passes Exchange key numbers.Nothing h = tt
+with_passes Exchange key (numbers.One i) h = tt
+with_passes Exchange key (numbers.Two i j) h = h
+with_passes Exchange key (numbers.Three i j k) h = tt
 with_passes Remove key numbers.Nothing h = h
-with_passes Remove key (numbers.One i) h = tt
+with_passes Remove key (numbers.One i) h = h
 with_passes Remove key (numbers.Two i j) h = tt
+with_passes Remove key (numbers.Three i j k) h = tt
+with_passes Take key numbers.Nothing h = h
+with_passes Take key (numbers.One i) h = tt
+with_passes Take key (numbers.Two i j) h = tt
+with_passes Take key (numbers.Three i j k) h = tt
 with_passes Look key numbers.Nothing h = h
 with_passes Look key (numbers.One i) h = tt
 with_passes Look key (numbers.Two i j) h = tt
+with_passes Look key (numbers.Three i j k) h = tt
 with_passes First key numbers.Nothing h = h
 with_passes First key (numbers.One i) h = tt
 with_passes First key (numbers.Two i j) h = tt
+with_passes First key (numbers.Three i j k) h = tt
 with_passes Next key numbers.Nothing h = h
 with_passes Next key (numbers.One i) h = tt
 with_passes Next key (numbers.Two i j) h = tt
+with_passes Next key (numbers.Three i j k) h = tt
 with_passes Last key numbers.Nothing h = h
 with_passes Last key (numbers.One i) h = tt
 with_passes Last key (numbers.Two i j) h = tt
+with_passes Last key (numbers.Three i j k) h = tt
 with_passes Prev key numbers.Nothing h = h
 with_passes Prev key (numbers.One i) h = tt
 with_passes Prev key (numbers.Two i j) h = tt
+with_passes Prev key (numbers.Three i j k) h = tt
 with_passes Count key ns h = tt
 with_passes Nth key ns h = tt
 with_passes FirstEmpty key ns h = tt
@@ -75,7 +95,10 @@ free_passes : (operation : Operation) → Passes (free_with operation str.Free)
 free_passes Free = refl
 free_passes Insert = tt
 free_passes Add = tt
+free_passes Keep = tt
+free_passes Exchange = tt
 free_passes Remove = tt
+free_passes Take = tt
 free_passes Look = tt
 free_passes Count = tt
 free_passes Nth = tt

@@ -8,7 +8,7 @@ use Rattle.judy_model.specs.declared.calls.Call.{Call}
 use Rattle.judy_model.specs.declared.calls.Call.TheVariants as call
 use Rattle.judy_model.specs.declared.replies.Reply.{Reply}
 use Rattle.judy_model.specs.Contents.{Order, Entries, word_order, string_order}
-use Rattle.judy_model.specs.Tenant.Effect.{Insert, Remove, Free, Ask}
+use Rattle.judy_model.specs.Tenant.Effect.{Insert, Keep, Exchange, Remove, Take, RemoveIf, Free, Ask}
 use Rattle.judy_model.specs.Tenant.{Effect, effect_step, effect_inserts, inserts, one_effect, long_effect, string_effect, bytes_effect}
 use Rattle.judy_model.specs.Tenant.{one_step, long_step, string_step, bytes_step}
 use Rattle.judy_words.specs.OneArrays.{one_in}
@@ -22,7 +22,11 @@ use Rattle.judy_kinds.specs.Laws.{OnlyNothingIsEmpty}
 -- a call that is no insertion leaves an empty array empty
 effect_rests : {K : Type 0} (order : Order K) (effect : Effect K) → effect_inserts effect ≡ false → (effect_step order true [] effect).1 ≡ []
 effect_rests order (Insert k given reports) h = cc
+effect_rests order (Keep k v) h = cc
+effect_rests order (Exchange k old new) h = refl
 effect_rests order (Remove k) h = refl
+effect_rests order (Take k) h = refl
+effect_rests order (RemoveIf k v) h = refl
 effect_rests order Free h = refl
 effect_rests order (Ask answer) h = refl
 

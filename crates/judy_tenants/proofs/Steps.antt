@@ -3,8 +3,8 @@ use Rattle.std.proofs.Common.{◌≡◌, ℕ, ◌⊎◌, inl, inr, Bool, true, f
 use Rattle.judy_model.specs.declared.calls.Given.{Given}
 use Rattle.judy_model.specs.declared.replies.Reply.TheVariants.{Full}
 use Rattle.judy_model.specs.Contents.{Order, Entries, value_of}
-use Rattle.judy_model.specs.Tenant.Effect.{Insert, Remove, Free, Ask}
-use Rattle.judy_model.specs.Tenant.{Effect, Reports, insert_over, effect_step, effect_asks_for_new}
+use Rattle.judy_model.specs.Tenant.Effect.{Insert, Keep, Exchange, Remove, Take, RemoveIf, Free, Ask}
+use Rattle.judy_model.specs.Tenant.{Effect, Reports, insert_over, keep_over, effect_step, effect_asks_for_new}
 
 -- the call asks for nothing new, or there is room
 abbrev pub HasWay : Bool → Bool → Type 0
@@ -16,10 +16,19 @@ insert_alike : {K : Type 0} (order : Order K) (room : Bool) (l : Entries K) (k :
 insert_alike order room l k given reports (Some v) h = refl
 insert_alike order room l k given reports None h = cc
 
+keep_alike : {K : Type 0} (order : Order K) (room : Bool) (l : Entries K) (k : K) (v : ℕ) (had : Option ℕ)
+    → not (is_some had) ≡ false → keep_over order room l k v had ≡ keep_over order true l k v had
+keep_alike order room l k v (Some w) h = refl
+keep_alike order room l k v None h = cc
+
 effect_alike : {K : Type 0} (order : Order K) (room : Bool) (l : Entries K) (effect : Effect K) → effect_asks_for_new order l effect ≡ false
     → effect_step order room l effect ≡ effect_step order true l effect
 effect_alike order room l (Insert k given reports) h = insert_alike order room l k given reports (value_of order l k) h
+effect_alike order room l (Keep k v) h = keep_alike order room l k v (value_of order l k) h
+effect_alike order room l (Exchange k old new) h = refl
 effect_alike order room l (Remove k) h = refl
+effect_alike order room l (Take k) h = refl
+effect_alike order room l (RemoveIf k v) h = refl
 effect_alike order room l Free h = refl
 effect_alike order room l (Ask answer) h = refl
 
@@ -35,9 +44,18 @@ insert_full : {K : Type 0} (order : Order K) (l : Entries K) (k : K) (given : Gi
 insert_full order l k given reports (Some v) h = cc
 insert_full order l k given reports None h = refl
 
+keep_full : {K : Type 0} (order : Order K) (l : Entries K) (k : K) (v : ℕ) (had : Option ℕ)
+    → not (is_some had) ≡ true → keep_over order false l k v had ≡ (Full, l)
+keep_full order l k v (Some w) h = cc
+keep_full order l k v None h = refl
+
 pub effect_full : {K : Type 0} (order : Order K) (l : Entries K) (effect : Effect K) → effect_asks_for_new order l effect ≡ true
     → effect_step order false l effect ≡ (Full, l)
 effect_full order l (Insert k given reports) h = insert_full order l k given reports (value_of order l k) h
+effect_full order l (Keep k v) h = keep_full order l k v (value_of order l k) h
+effect_full order l (Exchange k old new) h = cc
 effect_full order l (Remove k) h = cc
+effect_full order l (Take k) h = cc
+effect_full order l (RemoveIf k v) h = cc
 effect_full order l Free h = cc
 effect_full order l (Ask answer) h = cc

@@ -45,6 +45,7 @@ insertion name key = record { array = record { kind = kind.Bytes; name = name };
 -- the entry that a call makes, if it is one of a map from byte keys
 abbrev pub insertion_by : Call → Option Insertion
 insertion_by (calls.Bytes name (bytes.Insert key given)) = Some (insertion name key)
+insertion_by (calls.Bytes name (bytes.Keep key value)) = Some (insertion name key)
 insertion_by _ = None
 
 abbrev pub insertion_in : Option Line → Option Insertion

@@ -41,7 +41,7 @@ pub struct Array {
 /// What a call may do to an array.
 #[derive(Clone, Copy, Debug, PartialEq, Eq)]
 pub enum Does {
-    /// It may make an entry.
+    /// It may make an entry, or write the value of one.
     Makes,
     /// It removes an entry.
     Removes,
@@ -63,8 +63,10 @@ fn does_of(operation: Operation) -> Option<Does>
     ensures { result ≡ does_of operation }
 {
     match operation {
-        Operation::Insert | Operation::Add => Some(Does::Makes),
-        Operation::Remove => Some(Does::Removes),
+        Operation::Insert | Operation::Add | Operation::Keep | Operation::Exchange => {
+            Some(Does::Makes)
+        }
+        Operation::Remove | Operation::Take => Some(Does::Removes),
         Operation::Free => Some(Does::Frees),
         _ => None,
     }

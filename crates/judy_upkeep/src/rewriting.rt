@@ -21,14 +21,17 @@ fn insertion_by(call: &Call<'_>, text: &mut KeyText) -> Option<Array>
     ensures { IsInsertion (insertion_by call.now) result text.new.items }
 {
     match call {
-        Call::Bytes(name, BytesCall::Insert(key, _)) => {
+        Call::Bytes(name, BytesCall::Insert(key, _) | BytesCall::Keep(key, _)) => {
             write_key(key.as_bytes(), text);
             Some(Array {
                 kind: Kind::Bytes,
                 name: name.copied(),
             })
         }
+        Call::Bytes(_, BytesCall::Exchange(..)) => None,
         Call::Bytes(_, BytesCall::Delete(_)) => None,
+        Call::Bytes(_, BytesCall::DeleteIf(..)) => None,
+        Call::Bytes(_, BytesCall::Take(_)) => None,
         Call::Bytes(_, BytesCall::Get(_)) => None,
         Call::Bytes(_, BytesCall::Free) => None,
         Call::One(_, _) => None,

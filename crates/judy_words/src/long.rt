@@ -143,6 +143,93 @@ impl JudyL {
         judy_query::count(arena, &self.root, a, b)
     }
 
+    /// Keeps the value of a present index, and inserts an absent one with `value`. Returns the value that
+    /// stays, or None if the index was absent. The Judy library has no such call.
+    ///
+    /// Err means what it means for `insert`.
+    pub fn keep(
+        &mut self,
+        alloc: Global,
+        arena: &mut Arena,
+        x: u64,
+        value: u64,
+    ) -> Result<Option<u64>, NoMemory>
+        requires { IsLongArray arena.old.blocks self.old }
+        ensures array { LongBecomes arena.old self.old arena.new self.new }
+        ensures space { HasLongSpace arena.new self.new }
+        ensures step { IfOk result
+            (λ stays. LongAnswers arena.old self.old (long.Keep x value) (value_or_null stays)
+            arena.new self.new) }
+        ensures absent { OnErr result
+            (IsFalse (has_key word_order (long_in arena.old.blocks self.old) x)) }
+        ensures refused { OnErr result (IsRefused arena.old self.old arena.new self.new) }
+        ensures quiet { OnOk result (arena.new.refusals ≡ arena.old.refusals) }
+        ensures memory { Takes
+            (if has_key word_order (long_in arena.old.blocks self.old) x then 0 else 64)
+            arena.old arena.new }
+    {
+        judy_tree::laws::content_is_sound();
+        let answer = self.root.insert_given(alloc, arena, x, value)?;
+        Ok(answer.before)
+    }
+
+    /// Gives an index the value `to` if it has the value `from`. Returns its value before, or None if it
+    /// is absent. The Judy library has no such call.
+    pub fn exchange(&mut self, arena: &mut Arena, x: u64, from: u64, to: u64) -> Option<u64>
+        requires { IsLongArray arena.old.blocks self.old }
+        ensures array { LongBecomes arena.old self.old arena.new self.new }
+        ensures space { HasLongSpace arena.new self.new }
+        ensures step { LongAnswers arena.old self.old (long.Exchange x from to)
+            (value_or_null result) arena.new self.new }
+        ensures memory { TakesNothing arena.old arena.new }
+    {
+        judy_tree::laws::nothing_changes();
+        judy_tree::laws::roots_have_space();
+        match self.get(arena, x) {
+            Some(value) => {
+                if value == from {
+                    self.write(arena, x, to);
+                }
+                Some(value)
+            }
+            None => None,
+        }
+    }
+
+    /// Removes an index: its value, or None if it was absent. The Judy library has no such call.
+    pub fn take(&mut self, arena: &mut Arena, x: u64) -> Option<u64>
+        requires { IsLongArray arena.old.blocks self.old }
+        ensures array { LongBecomes arena.old self.old arena.new self.new }
+        ensures space { HasLongSpace arena.new self.new }
+        ensures step { LongAnswers arena.old self.old (long.Take x) (value_or_null result)
+            arena.new self.new }
+        ensures memory { TakesNothing arena.old arena.new }
+    {
+        self.root.remove(arena, x)
+    }
+
+    /// Removes an index if it has this value: true if it had. The Judy library has no such call.
+    pub fn delete_if(&mut self, arena: &mut Arena, x: u64, value: u64) -> bool
+        requires { IsLongArray arena.old.blocks self.old }
+        ensures array { LongBecomes arena.old self.old arena.new self.new }
+        ensures space { HasLongSpace arena.new self.new }
+        ensures step { LongAnswers arena.old self.old (long.DeleteIf x value) (reply.Int result)
+            arena.new self.new }
+        ensures memory { TakesNothing arena.old arena.new }
+    {
+        judy_tree::laws::nothing_changes();
+        judy_tree::laws::roots_have_space();
+        match self.get(arena, x) {
+            Some(found) => {
+                if found == value {
+                    return self.delete(arena, x);
+                }
+                false
+            }
+            None => false,
+        }
+    }
+
     // The index with its value.
     fn entry(&self, arena: &Arena, index: Option<u64>) -> Option<(u64, u64)>
         requires { IsLongArray arena.now.blocks self.now }
@@ -291,7 +378,13 @@ impl JudyL {
             LongCall::NextEmpty(x) => absent_reply(self.next_empty(arena, x)),
             LongCall::LastEmpty(x) => absent_reply(self.last_empty(arena, x)),
             LongCall::PrevEmpty(x) => absent_reply(self.prev_empty(arena, x)),
-            LongCall::Insert(_, _) | LongCall::Delete(_) | LongCall::Free => unreachable!(),
+            LongCall::Insert(..)
+            | LongCall::Keep(..)
+            | LongCall::Exchange(..)
+            | LongCall::Delete(_)
+            | LongCall::DeleteIf(..)
+            | LongCall::Take(_)
+            | LongCall::Free => unreachable!(),
         }
     }
 
@@ -387,7 +480,11 @@ impl JudyL {
                 let value = self.insert_given(alloc, arena, x, given)?;
                 Ok(Reply::Value(value))
             }
+            LongCall::Keep(x, value) => Ok(value_reply(self.keep(alloc, arena, x, value)?)),
+            LongCall::Exchange(x, from, to) => Ok(value_reply(self.exchange(arena, x, from, to))),
             LongCall::Delete(x) => Ok(Reply::Int(self.delete(arena, x))),
+            LongCall::DeleteIf(x, value) => Ok(Reply::Int(self.delete_if(arena, x, value))),
+            LongCall::Take(x) => Ok(value_reply(self.take(arena, x))),
             LongCall::Free => Ok(Reply::Count(self.clear(arena))),
             _ => {
                 judy_tree::laws::nothing_changes();

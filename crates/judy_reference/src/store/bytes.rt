@@ -5,7 +5,7 @@ ghost use Rattle.judy_reference.specs.Store.{on_array};
 
 use super::directory::Directory;
 use super::replies::value_or_null;
-use super::writes::{delete, free, insert};
+use super::writes::{delete, delete_if, exchange, free, insert, keep, take};
 use judy_model::{BytesCall, Name, OwnedKey, Reply};
 use std::alloc::{AllocError, Global};
 
@@ -34,7 +34,18 @@ pub(super) fn bytes_step(
             OwnedKey::of(k),
             *given,
         ),
+        BytesCall::Keep(k, value) => return keep(alloc, maps, room, name, OwnedKey::of(k), *value),
+        BytesCall::Exchange(k, from, to) => return exchange(
+            alloc,
+            maps,
+            name,
+            OwnedKey::of(k),
+            *from,
+            *to,
+        ),
         BytesCall::Delete(k) => delete(maps, name, &OwnedKey::of(k)),
+        BytesCall::DeleteIf(k, value) => delete_if(maps, name, &OwnedKey::of(k), *value),
+        BytesCall::Take(k) => take(maps, name, &OwnedKey::of(k)),
         BytesCall::Free => free(maps, name),
         BytesCall::Get(k) => value_or_null(maps.get(name, &OwnedKey::of(k))),
     };

@@ -5,7 +5,7 @@ ghost use Rattle.judy_reference.specs.Store.{on_array};
 
 use super::directory::Directory;
 use super::replies::{absent_or_no, value_at_or_null, value_or_null};
-use super::writes::{delete, free, insert};
+use super::writes::{delete, delete_if, exchange, free, insert, keep, take};
 use crate::slow::{
     count_between, first_entry, first_gap, last_entry, last_gap, next_entry, next_gap, nth_entry,
     prev_entry, prev_gap,
@@ -31,7 +31,11 @@ pub(super) fn long_step(
     let entries = maps.content(name);
     let reply = match call {
         LongCall::Insert(k, given) => return insert(alloc, maps, room, name, *k, *given),
+        LongCall::Keep(k, value) => return keep(alloc, maps, room, name, *k, *value),
+        LongCall::Exchange(k, from, to) => return exchange(alloc, maps, name, *k, *from, *to),
         LongCall::Delete(k) => delete(maps, name, k),
+        LongCall::DeleteIf(k, value) => delete_if(maps, name, k, *value),
+        LongCall::Take(k) => take(maps, name, k),
         LongCall::Free => free(maps, name),
         LongCall::Get(k) => value_or_null(maps.get(name, k)),
         LongCall::Count(a, b) => Reply::Count(count_between(entries, *a, *b) as u64),

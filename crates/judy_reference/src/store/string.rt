@@ -5,7 +5,7 @@ ghost use Rattle.judy_reference.specs.Store.{on_array};
 
 use super::directory::Directory;
 use super::replies::{value_key_or_null, value_or_null};
-use super::writes::{delete, free, insert};
+use super::writes::{delete, delete_if, exchange, free, insert, keep, take};
 use crate::slow::{first_string, last_string, next_string, prev_string};
 use arrayvec::ArrayVec;
 use judy_model::{KEY_LIMIT, Name, OwnedKey, Reply, StrCall};
@@ -38,7 +38,18 @@ pub(super) fn string_step<'a>(
             OwnedKey::of(k),
             *given,
         ),
+        StrCall::Keep(k, value) => return keep(alloc, maps, room, name, OwnedKey::of(k), *value),
+        StrCall::Exchange(k, from, to) => return exchange(
+            alloc,
+            maps,
+            name,
+            OwnedKey::of(k),
+            *from,
+            *to,
+        ),
         StrCall::Delete(k) => delete(maps, name, &OwnedKey::of(k)),
+        StrCall::DeleteIf(k, value) => delete_if(maps, name, &OwnedKey::of(k), *value),
+        StrCall::Take(k) => take(maps, name, &OwnedKey::of(k)),
         StrCall::Free => free(maps, name),
         StrCall::Get(k) => value_or_null(maps.get(name, &OwnedKey::of(k))),
         StrCall::First(x) => value_key_or_null(first_string(entries, x), found),
