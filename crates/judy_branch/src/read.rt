@@ -90,6 +90,7 @@ pub fn population(arena: &Arena, branch: Ref) -> u64
 }
 
 // A child's word as a reference.
+#[inline(always)]
 fn known(word: Option<u64>) -> Option<Ref>
     requires { IfSome word (λ w. IsTrue (is_reference w)) }
     ensures { result ≡ word }
@@ -100,7 +101,7 @@ fn known(word: Option<u64>) -> Option<Ref>
     }
 }
 
-/// The child of a byte.
+/// The child of a byte. A full branch is tested for first, as most insertions and look-ups pass through some.
 #[inline(always)]
 pub fn child(arena: &Arena, branch: Ref, byte: u8) -> Option<Ref>
     requires { IsBranch arena.now.blocks branch }
@@ -110,10 +111,7 @@ pub fn child(arena: &Arena, branch: Ref, byte: u8) -> Option<Ref>
     if branch.leads_to(Kind::FullBranch) {
         return known(full::child(words, byte));
     }
-    if branch.leads_to(Kind::BitmapBranch) {
-        return known(bitmap::child(words, byte));
-    }
-    known(linear::child(words, byte))
+    known(child_in(read_shape(branch), words, byte))
 }
 
 // The first byte from this one on that has a child, by the shape of the branch.
