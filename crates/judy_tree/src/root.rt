@@ -116,10 +116,11 @@ impl<const VALUES: bool> Root<VALUES> {
                 self.reference = root;
                 Ok(Inserted { root, before: None })
             }
-            Added::Present(found) => Ok(Inserted {
-                root: self.reference,
-                before: Some(found),
-            }),
+            Added::Present(found) => {
+                let root = self.reference;
+                let before = Some(found);
+                Ok(Inserted { root, before })
+            }
             Added::NoMemory => Err(NoMemory),
         }
     }

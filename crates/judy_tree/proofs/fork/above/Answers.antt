@@ -13,9 +13,11 @@ overflow_add-keys c = let h = one-fits c.args.values c.args.arena.now.blocks c.a
     c.population-keys.ensures in omega arith
 
 pub returns-in_default-clause-insertion : goal.returns-in_default-clause-insertion
-returns-in_default-clause-insertion c = (other-head c.args.values c.args.arena.now.blocks c.args.node c.args.sample c.args.key
-    c.difference-level.result (c.requires.fork c.difference-level.result c.difference-level.ensures) c.difference-level.ensures,
-    record { blocks = c.in_default.ensures.making.0; refusals = c.in_default.ensures.making.1 })
+returns-in_default-clause-insertion c = (
+  other-head c.args.values c.args.arena.now.blocks c.args.node c.args.sample c.args.key
+      c.difference-level.result (c.requires.fork c.difference-level.result c.difference-level.ensures) c.difference-level.ensures,
+  record { blocks = c.in_default.ensures.making.0; refusals = c.in_default.ensures.making.1 },
+)
 
 pub returns-in_default-clause-memory : goal.returns-in_default-clause-memory
 returns-in_default-clause-memory c = takes-more 0 2 c.args.arena.now c.single.new.arena (omega arith) c.in_default.ensures.memory

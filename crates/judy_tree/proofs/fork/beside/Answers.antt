@@ -16,9 +16,11 @@ pub population-population-requires : goal.population-population-requires
 population-population-requires c = (root-top c.args.values c.args.arena.now.blocks c.args.node c.requires.branch c.requires.root).branch
 
 pub returns-in_default-clause-insertion : goal.returns-in_default-clause-insertion
-returns-in_default-clause-insertion c = (absent-in c.args.values c.args.arena.now.blocks c.args.node c.args.byte c.args.key
-    c.requires.branch c.requires.root c.requires.byte c.requires.none,
-    record { blocks = c.in_default.ensures.making.0; refusals = c.in_default.ensures.making.1 })
+returns-in_default-clause-insertion c = (
+  absent-in c.args.values c.args.arena.now.blocks c.args.node c.args.byte c.args.key
+      c.requires.branch c.requires.root c.requires.byte c.requires.none,
+  record { blocks = c.in_default.ensures.making.0; refusals = c.in_default.ensures.making.1 },
+)
 
 pub returns-in_default-clause-memory : goal.returns-in_default-clause-memory
 returns-in_default-clause-memory c = takes-more 0 2 c.args.arena.now c.single.new.arena (omega arith) c.in_default.ensures.memory

@@ -95,7 +95,7 @@ pub returns-in-Present-clause-insertion : goal.returns-in-Present-clause-inserti
 returns-in-Present-clause-insertion t c =
     let at = at-view _ _ _ _ c.args.key c.in-Some.byte c.head-branch.ensures.level c.head-branch.ensures.prefix c.in-Some.ensures.some in (
       below c.args.values c.args.arena.now c.insert.new.arena c.args.node c.in-Some.byte c.in-Some-child.child c.args.key c.args.value
-    (sym c.leads_to_branch.ensures ∙ c.if-leads_to_branch.true) c.requires.root (sym c.child.ensures ∙ c.in-Some-child.is) at ∙ c.in-Present.ensures.insertion.0,
+          (sym c.leads_to_branch.ensures ∙ c.if-leads_to_branch.true) c.requires.root (sym c.child.ensures ∙ c.in-Some-child.is) at ∙ c.in-Present.ensures.insertion.0,
       c.in-Present.ensures.insertion.1,
     )
 
@@ -103,7 +103,7 @@ pub returns-in-NoMemory-clause-insertion : goal.returns-in-NoMemory-clause-inser
 returns-in-NoMemory-clause-insertion t c =
     let at = at-view _ _ _ _ c.args.key c.in-Some.byte c.head-branch.ensures.level c.head-branch.ensures.prefix c.in-Some.ensures.some in (
       ap is_some (below c.args.values c.args.arena.now c.insert.new.arena c.args.node c.in-Some.byte c.in-Some-child.child c.args.key c.args.value
-    (sym c.leads_to_branch.ensures ∙ c.if-leads_to_branch.true) c.requires.root (sym c.child.ensures ∙ c.in-Some-child.is) at) ∙ c.in-NoMemory.ensures.insertion.0,
+          (sym c.leads_to_branch.ensures ∙ c.if-leads_to_branch.true) c.requires.root (sym c.child.ensures ∙ c.in-Some-child.is) at) ∙ c.in-NoMemory.ensures.insertion.0,
       c.in-NoMemory.ensures.insertion.1,
     )
 
