@@ -1,15 +1,20 @@
 -- What a reference to a branch leads to.
-use Rattle.std.proofs.Common.{◌≡◌, ◌≢◌, ℕ, ◌<◌, ◌≤◌, List, length, Option, Some, None, ap, sym, ◌∙◌, refl, subst, arith}
+use Rattle.std.proofs.Common.{◌≡◌, ◌≢◌, ℕ, ◌<◌, ◌≤◌, List, length, Option, Some, None, ap, sym, ◌∙◌, refl, subst, arith, eqb, true}
+use Rattle.std.proofs.lemmas.Bool.Decides.{nat_tests}
 use Rattle.std.specs.Prelude.{IsSome, IfSome, IsTrue, not, ◌==◌}
-use Rattle.judy_refs.specs.References.{is_reference}
+use Rattle.judy_refs.specs.References.{is_reference, kind_part, kind_of_number}
 use Rattle.judy_arena.specs.Blocks.{Blocks}
 use Rattle.judy_model.specs.Contents.{word_order, value_of}
 use Rattle.judy_model.proofs.lemmas.TestLemmas.{and_right}
 use Rattle.judy_branch.specs.declared.shape.Shape.{Shape}
-use Rattle.judy_branch.specs.Children.{shape_of, count_in, children_in, level_in, prefix_in, population_in, IsLaid, IsShaped, is_child}
+use Rattle.judy_branch.specs.declared.shape.Shape.TheVariants.{Full}
+use Rattle.judy_branch.specs.Children.{shape_of, shape_by, count_in, children_in, level_in, prefix_in, population_in, IsLaid, IsShaped, is_child}
 use Rattle.judy_branch.specs.Branch.{IsBranch, View, IsShapedBy, children_by, branch_words, branch_view, view_in}
 use Rattle.judy_branch.proofs.Shapes.{found-sound}
 use Rattle.judy_branch.proofs.Lists.{laid-count, used-some}
+
+same_kind : (k n : ℕ) → eqb k n ≡ true → k ≡ n
+same_kind k n h = grind (arith, nat_tests)
 
 some_shape : (o : Option Shape) (ws : List ℕ) → IsShapedBy o ws → IsSome o
 some_shape None ws h = absurd h
@@ -64,6 +69,11 @@ view-is b w s e = ap (λ o. record {
 pub children-are : (b : Blocks) (w : ℕ) (s : Shape) → shape_of w ≡ Some s → (branch_view b w).children ≡ children_in s (branch_words b w)
 children-are b w s e = ap (λ (v : View). v.children) (view-is b w s e)
 
+-- a reference to a full branch has that shape
+pub full-shape : (w : ℕ) → eqb (kind_part w) 6 ≡ true → shape_of w ≡ Some Full
+unfolding shape_of
+full-shape w h = ap (λ k. shape_by (kind_of_number k)) (same_kind (kind_part w) 6 h)
+
 -- a child that was found is a reference
 pub found-reference : (s : Shape) (ws : List ℕ) (k w : ℕ) → IsLaid s ws → value_of word_order (children_in s ws) k ≡ Some w → IsTrue (is_child w)
 found-reference s ws k w laid e = subst (λ o. IfSome o (λ w. IsTrue (is_child w))) e (found-sound (children_in s ws) k laid.sound)
@@ -78,6 +88,17 @@ module _ (b : Blocks) (w : ℕ) (s : Shape) (ws : List ℕ) (e : shape_of w ≡ 
 
   pub children-words : (branch_view b w).children ≡ children_in s ws
   children-words = children-are b w s e ∙ ap (children_in s) (sym f)
+
+  -- the child of a byte is among them, and is a reference
+  pub child-words : (k : ℕ) → value_of word_order (branch_view b w).children k ≡ value_of word_order (children_in s ws) k
+  child-words k = ap (λ l. value_of word_order l k) children-words
+
+  pub found-some : IsBranch b w → (k : ℕ) → IfSome (value_of word_order (children_in s ws) k) (λ r. IsTrue (is_reference r))
+  found-some h k = weaker (value_of word_order (children_in s ws) k) (found-sound (children_in s ws) k (laid-words h).sound)
+    where
+      weaker : (o : Option ℕ) → IfSome o (λ r. IsTrue (is_child r)) → IfSome o (λ r. IsTrue (is_reference r))
+      weaker None i = i
+      weaker (Some r) i = child-reference r i
 
 -- the count is that of the children
 pub count-is : (b : Blocks) (w : ℕ) → IsBranch b w → length (branch_view b w).children ≡ count_in (branch_words b w)

@@ -101,6 +101,7 @@ pub(crate) fn gather(shape: Shape, words: &[u64], list: &mut [(u8, Ref)]) -> usi
 }
 
 // Inserts a child at a byte that has none, and writes the population.
+#[inline(always)]
 fn insert_with(shape: Shape, words: &mut [u64], byte: u8, child: Ref, population: u64)
     requires laid { IsLaid shape words.old }
     requires absent { IsFalse (has_key word_order (children_in shape words.old) byte) }
@@ -221,6 +222,7 @@ fn widen(
 
 // Replaces a block that has no room by a new one: with the same children and one more, and this
 // population. The shape stays if it has room for one more child.
+#[inline(never)]
 fn grow(
     alloc: Global,
     arena: &mut Arena,
@@ -316,6 +318,7 @@ pub fn change_child(arena: &mut Arena, branch: Ref, byte: u8, was: Ref, child: R
 /// change.
 ///
 /// Err if the arena refused a block: no block changes.
+#[inline(always)]
 pub fn put_child(
     alloc: Global,
     arena: &mut Arena,

@@ -8,7 +8,8 @@ use crate::shape::Shape;
 use crate::{bitmap, full, linear};
 use judy_refs::Ref;
 
-/// Inserts a child at a byte that has none.
+/// Inserts a child at a byte that has none. Inlined, as are its callers in an insertion.
+#[inline(always)]
 pub(crate) fn insert_child(shape: Shape, words: &mut [u64], byte: u8, child: Ref)
     requires laid { IsLaid shape words.old }
     requires absent { IsFalse (has_key word_order (children_in shape words.old) byte) }

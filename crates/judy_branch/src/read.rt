@@ -1,5 +1,5 @@
 //! Reads a branch.
-ghost use Rattle.std.specs.Prelude.{◌≡◌, ◌≢◌, ◌<◌, ◌≤◌, ◌&&◌, nat_le, nat_lt, filter, length, Some, IsSome, IsTrue, slice_get};
+ghost use Rattle.std.specs.Prelude.{◌≡◌, ◌≢◌, ◌<◌, ◌≤◌, ◌&&◌, nat_le, nat_lt, filter, length, Some, IfSome, IsSome, IsTrue, slice_get};
 ghost use Rattle.judy_arena.specs.Blocks.{words_of};
 ghost use Rattle.judy_refs.specs.References.{is_reference, number_of};
 ghost use Rattle.judy_model.specs.Contents.{word_order, value_of, first, last};
@@ -13,7 +13,7 @@ use crate::heads::Head;
 use crate::shape::{Shape, read_shape};
 use crate::{bitmap, full, linear};
 use judy_arena::{Arena, Block};
-use judy_refs::Ref;
+use judy_refs::{Kind, Ref};
 
 // The block of a branch.
 pub(crate) fn block(branch: Ref) -> Block
@@ -89,18 +89,29 @@ pub fn population(arena: &Arena, branch: Ref) -> u64
     look(arena, branch)[2]
 }
 
-/// The child of a byte.
+// A child's word as a reference.
+#[inline(always)]
+fn known(word: Option<u64>) -> Option<Ref>
+    requires { IfSome word (λ w. IsTrue (is_reference w)) }
+    ensures { result ≡ word }
+{
+    match word {
+        Some(word) => Some(Ref::known(word)),
+        None => None,
+    }
+}
+
+/// The child of a byte. A full branch is tested for first, as most insertions and look-ups pass through some.
 #[inline(always)]
 pub fn child(arena: &Arena, branch: Ref, byte: u8) -> Option<Ref>
     requires { IsBranch arena.now.blocks branch }
     ensures { result ≡ value_of word_order (branch_view arena.now.blocks branch).children byte }
 {
     let words = look(arena, branch);
-    let shape = read_shape(branch);
-    match child_in(shape, words, byte) {
-        Some(word) => Some(Ref::known(word)),
-        None => None,
+    if branch.leads_to(Kind::FullBranch) {
+        return known(full::child(words, byte));
     }
+    known(child_in(read_shape(branch), words, byte))
 }
 
 // The first byte from this one on that has a child, by the shape of the branch.

@@ -197,7 +197,8 @@ pub(crate) fn write(words: &mut [u64], key: u64, value: u64)
     words[1 + count + place] = value;
 }
 
-/// Inserts an absent key at this place, with its value, 0 in a set.
+/// Inserts an absent key at this place, with its value, 0 in a set. Inlined in each insertion.
+#[inline(always)]
 pub(crate) fn insert(values: bool, words: &mut [u64], place: usize, key: u64, value: u64)
     requires leaf { IsLinear values words.old }
     requires few { leaf_count words.old < 31 }

@@ -18,7 +18,6 @@ use Rattle.std.proofs.lemmas.Bool.Decides.{nat_tests}
 use Rattle.std.specs.Prelude.{nat_lt}
 use Rattle.judy_tree.specs.Calls.{StaysDeep, NodeGrows, Adds}
 use Rattle.judy_tree.specs.Changes.{IsShort}
-use Rattle.judy_tree.specs.declared.answers.Inserted.{Inserted}
 use Rattle.judy_tree.specs.Fork.{IsFork, Forks, Differ}
 use Rattle.judy_branch.specs.Branch.{IsBranchOf}
 use Rattle.std.specs.Prelude.{Result, Ok, Err, IfOk, OnErr, IsErr, is_ok, if◌then◌else◌}
@@ -333,12 +332,6 @@ grows v old new w x key value b r = record {
       λ l h e. let d = b.deep in omega arith;
   refusals = r;
 }
-
--- an insertion that was refused
-pub refused-add : (v : Bool) (old new : ArenaState) (w key value : ℕ) (r : Result Inserted NoMemory) → IsErr r
-    → has_key word_order (entries v old.blocks w) key ≡ false → IsShort old new → Adds v old w new key value r
-refused-add v old new w key value (Ok it) is absent short = cc
-refused-add v old new w key value (Err e) is absent short = (absent, short)
 
 -- a key that parts from all keys of a node is none of them
 pub other-head : (v : Bool) (b : Blocks) (w sample key level : ℕ) → (level < depth b w) × (level ≤ 6)

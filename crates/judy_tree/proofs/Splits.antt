@@ -1,6 +1,6 @@
 -- A leaf that cannot take a key: where its keys and the new one differ, and what becomes of it.
 use Rattle.std.proofs.Common.{◌≡◌, ◌≢◌, ℕ, zero, suc, ◌+◌, ◌-◌, ◌/◌, ◌<◌, ◌≤◌, Bool, true, false, [], ◌∷◌}
-use Rattle.std.proofs.Common.{length, Option, Some, None, is_some, ap, sym, ◌∙◌, refl, subst, arith, ◌⊎◌, inl, inr, Result, Ok, Err}
+use Rattle.std.proofs.Common.{length, Option, Some, None, is_some, ap, sym, ◌∙◌, refl, subst, arith, ◌⊎◌, inl, inr}
 use Rattle.std.proofs.lemmas.Bool.Decides.{nat_tests}
 use Rattle.std.specs.Prelude.{nat_lt}
 use Rattle.std.specs.FinMap.{is_sorted}
@@ -15,9 +15,9 @@ use Rattle.judy_tree.specs.Calls.{entry_at}
 use Rattle.judy_tree.proofs.LeafLaws.{ShareFront, CannotShare, cannot-share}
 use Rattle.judy_tree.specs.Nodes.{head_at, is_branch}
 use Rattle.judy_tree.specs.Root.{entries, numbers, IsRoot}
-use Rattle.judy_tree.specs.Calls.{StaysDeep, NodeGrows, HasAdded, Adds}
-use Rattle.judy_tree.specs.declared.answers.Inserted.{Inserted}
-use Rattle.judy_arena.specs.declared.blocks.NoMemory.{NoMemory}
+use Rattle.judy_tree.specs.Calls.{StaysDeep, NodeGrows, Adds}
+use Rattle.judy_tree.specs.declared.answers.Added.{Added}
+use Rattle.judy_tree.specs.declared.answers.Added.TheVariants as added
 use Rattle.judy_tree.specs.Fork.{Differ, CanFork}
 use Rattle.judy_tree.specs.Split.{MustSplit, IsSpread, low_key, high_key}
 use Rattle.judy_arena.specs.Blocks.{ArenaState, count_up}
@@ -277,55 +277,47 @@ split-grows v a b c d w split grown key value next is leaf s g third n deep =
       refusals = n ∙ g.refusals ∙ s.refusals;
     }
 
--- the key was put into the branch that a leaf without the key was split into
-module _ (v : Bool) (a b c : ArenaState) (w split next key value x : ℕ) (told : Option ℕ) (leaf : IsLeaf v a.blocks w) (s : IsSpread v a b [] w next split)
-    (absent : has_key word_order (leaf_entries v a.blocks w) key ≡ false) (added : HasAdded v b split c key value x told) where
-  pub split-new : told ≡ None
-  split-new = new told added
-    where
-      new : (o : Option ℕ) → HasAdded v b split c key value x o → o ≡ None
-      new None h = refl
-      new (Some y) h = absurd (not_true (sym absent ∙ ap (λ l. has_key word_order l key) (sym s.content) ∙ ap is_some h.0))
+-- a leaf without the key was split into a branch
+module _ (v : Bool) (a b c : ArenaState) (w split next key value : ℕ) (leaf : IsLeaf v a.blocks w) (s : IsSpread v a b [] w next split)
+    (absent : has_key word_order (leaf_entries v a.blocks w) key ≡ false) where
+  -- the branch does not have the key
+  pub split-new : (y : ℕ) → value_of word_order (entries v b.blocks split) key ≡ Some y → ⊥
+  split-new y found = not_true (sym absent ∙ ap (λ l. has_key word_order l key) (sym s.content) ∙ ap is_some found)
 
-  grown : NodeGrows v b split c x key value
-  grown = (subst (HasAdded v b split c key value x) split-new added).1
+  -- the key was put into it
+  module _ (x : ℕ) (grown : NodeGrows v b split c x key value) where
+    pub split-leaf : IsLeaf v c.blocks w
+    split-leaf = (leaf-still v a.blocks b.blocks c.blocks w split x (leaf-kind v a.blocks w leaf) leaf s.frame grown.array.frame).leaf
 
-  pub split-leaf : IsLeaf v c.blocks w
-  split-leaf = (leaf-still v a.blocks b.blocks c.blocks w split x (leaf-kind v a.blocks w leaf) leaf s.frame grown.array.frame).leaf
-
-  pub split-adds : (d : ArenaState) → Frame c.blocks d.blocks (leaf_numbers c.blocks w) [] → d.refusals ≡ c.refusals
-      → ((m : ℕ) → m < 8 → Each (λ e. head_at m e.0 ≡ head_at m key) (leaf_entries v a.blocks w) → m < next) → HasAdded v a w d key value x told
-  split-adds d third n deep =
-      let is = leaf-kind v a.blocks w leaf in
-      subst (HasAdded v a w d key value x) (sym split-new) (
-        ap (λ l. has_key word_order l key) (leaf-content v a.blocks w is) ∙ absent,
-        split-grows v a b c d w split x key value next is leaf s grown third n deep,
-      )
+    pub split-adds : (d : ArenaState) → Frame c.blocks d.blocks (leaf_numbers c.blocks w) [] → d.refusals ≡ c.refusals
+        → ((m : ℕ) → m < 8 → Each (λ e. head_at m e.0 ≡ head_at m key) (leaf_entries v a.blocks w) → m < next)
+        → (has_key word_order (entries v a.blocks w) key ≡ false) × NodeGrows v a w d x key value
+    split-adds d third n deep =
+        let is = leaf-kind v a.blocks w leaf in (
+          ap (λ l. has_key word_order l key) (leaf-content v a.blocks w is) ∙ absent,
+          split-grows v a b c d w split x key value next is leaf s grown third n deep,
+        )
 
 -- an insertion after a call that changed nothing
 pub adds-after : (v : Bool) (old mid new : ArenaState) (w key value : ℕ) → mid.blocks ≡ old.blocks → mid.refusals ≡ old.refusals
-    → (r : Result Inserted NoMemory) → Adds v mid w new key value r → Adds v old w new key value r
-adds-after v old mid new w key value b n (Ok it) h = added it.root it.before h
-  where
-    added : (x : ℕ) (told : Option ℕ) → HasAdded v mid w new key value x told → HasAdded v old w new key value x told
-    added x None h = (
-      ap (λ z. has_key word_order (entries v z w) key) (sym b) ∙ h.0,
-      record {
-        array = record {
-          root = h.1.array.root;
-          content = h.1.array.content ∙ ap (λ z. with_entry word_order (entries v z w) key value) b;
-          frame = subst (λ z. Frame z new.blocks (numbers z w) (numbers new.blocks x)) b h.1.array.frame;
-        };
-        deep = subst (λ z. StaysDeep z new.blocks w x (entries v z w) key) b h.1.deep;
-        refusals = h.1.refusals ∙ n;
-      },
-    )
-    added x (Some y) h = (
-      ap (λ z. value_of word_order (entries v z w) key) (sym b) ∙ h.0,
-      h.1,
-      record { blocks = h.2.blocks ∙ b; refusals = h.2.refusals ∙ n },
-    )
-adds-after v old mid new w key value b n (Err refused) h = (
+    → (r : Added) → Adds v mid w new key value r → Adds v old w new key value r
+adds-after v old mid new w key value b n (added.Done x) h = (
+  ap (λ z. has_key word_order (entries v z w) key) (sym b) ∙ h.0,
+  record {
+    array = record {
+      root = h.1.array.root;
+      content = h.1.array.content ∙ ap (λ z. with_entry word_order (entries v z w) key value) b;
+      frame = subst (λ z. Frame z new.blocks (numbers z w) (numbers new.blocks x)) b h.1.array.frame;
+    };
+    deep = subst (λ z. StaysDeep z new.blocks w x (entries v z w) key) b h.1.deep;
+    refusals = h.1.refusals ∙ n;
+  },
+)
+adds-after v old mid new w key value b n (added.Present y) h = (
+  ap (λ z. value_of word_order (entries v z w) key) (sym b) ∙ h.0,
+  record { blocks = h.1.blocks ∙ b; refusals = h.1.refusals ∙ n },
+)
+adds-after v old mid new w key value b n added.NoMemory h = (
   ap (λ z. has_key word_order (entries v z w) key) (sym b) ∙ h.0,
   record { blocks = h.1.blocks ∙ b; refusals = h.1.refusals ∙ ap count_up n },
 )

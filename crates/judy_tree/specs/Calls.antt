@@ -1,12 +1,12 @@
 -- What the calls on nodes require and promise. Each definition takes the arena's whole view before
 -- and after.
-use Rattle.std.specs.Prelude.{◌≡◌, ◌≢◌, ℕ, ◌+◌, ◌<◌, ◌≤◌, Bool, IsFalse, get_or, Option, None, Some, is_some, if◌then◌else◌, Result, Ok, Err}
+use Rattle.std.specs.Prelude.{◌≡◌, ◌≢◌, ℕ, ◌+◌, ◌<◌, ◌≤◌, Bool, IsFalse, get_or, Some}
 use Rattle.judy_arena.specs.Blocks.{Blocks, ArenaState}
 use Rattle.judy_model.specs.Contents.{Entries, word_order, value_of, has_key, with_entry, without_key}
 use Rattle.judy_leaf.specs.declared.answers.Removed.{Removed}
 use Rattle.judy_leaf.specs.declared.answers.Removed.TheVariants as removed
-use Rattle.judy_arena.specs.declared.blocks.NoMemory.{NoMemory}
-use Rattle.judy_tree.specs.declared.answers.Inserted.{Inserted}
+use Rattle.judy_tree.specs.declared.answers.Added.{Added}
+use Rattle.judy_tree.specs.declared.answers.Added.TheVariants as added
 use Rattle.judy_tree.specs.Each.{Each}
 use Rattle.judy_tree.specs.Nodes.{depth, head_at}
 use Rattle.judy_tree.specs.Root.{entries}
@@ -35,20 +35,17 @@ pub record NodeGrows (v : Bool) (old : ArenaState) (w : ℕ) (new : ArenaState) 
   pub deep : StaysDeep old.blocks new.blocks w x (entries v old.blocks w) key
   pub refusals : new.refusals ≡ old.refusals
 
--- the node at w, which had this value at the key or none, became the one at x that has the key
-abbrev pub HasAdded : Bool → ArenaState → ℕ → ArenaState → ℕ → ℕ → ℕ → Option ℕ → Type 0
-HasAdded v old w new key value x None = IsFalse (has_key word_order (entries v old.blocks w) key) × NodeGrows v old w new x key value
-HasAdded v old w new key value x (Some y) = (value_of word_order (entries v old.blocks w) key ≡ Some y) × (x ≡ w) × IsSame old new
-
 -- what an insertion below a node does, by its answer
-abbrev pub Adds : Bool → ArenaState → ℕ → ArenaState → ℕ → ℕ → Result Inserted NoMemory → Type 0
-Adds v old w new key value (Ok it) = HasAdded v old w new key value it.root it.before
-Adds v old w new key value (Err refused) = IsFalse (has_key word_order (entries v old.blocks w) key) × IsShort old new
+abbrev pub Adds : Bool → ArenaState → ℕ → ArenaState → ℕ → ℕ → Added → Type 0
+Adds v old w new key value (added.Done x) = IsFalse (has_key word_order (entries v old.blocks w) key) × NodeGrows v old w new x key value
+Adds v old w new key value (added.Present y) = (value_of word_order (entries v old.blocks w) key ≡ Some y) × IsSame old new
+Adds v old w new key value added.NoMemory = IsFalse (has_key word_order (entries v old.blocks w) key) × IsShort old new
 
 -- how many blocks an insertion takes, if one of an absent key takes at most n
-abbrev pub most_blocks : ℕ → Result Inserted NoMemory → ℕ
-most_blocks n (Ok it) = if is_some it.before then 0 else n
-most_blocks n (Err refused) = n
+abbrev pub most_blocks : ℕ → Added → ℕ
+most_blocks n (added.Done x) = n
+most_blocks n (added.Present y) = 0
+most_blocks n added.NoMemory = n
 
 -- the node at w became the one at x, without one key
 pub record NodeShrinks (v : Bool) (old : ArenaState) (w : ℕ) (new : ArenaState) (x key : ℕ) : Type 0 where

@@ -9,7 +9,7 @@ ghost use Rattle.judy_tree.specs.Root.{IsRoot, entries};
 ghost use Rattle.judy_tree.specs.Calls.{HasByte, IsOutside, Adds, most_blocks};
 ghost use Rattle.judy_tree.specs.Fork.{Differ, CanFork, Forks};
 
-use crate::answers::Inserted;
+use crate::answers::Added;
 use crate::node::population;
 use judy_arena::{Arena, NoMemory};
 use judy_branch::Head;
@@ -85,7 +85,7 @@ pub fn beside(
     byte: u8,
     key: u64,
     value: u64,
-) -> Result<Inserted, NoMemory>
+) -> Added
     requires root { IsRoot values arena.old.blocks node }
     requires branch { is_branch node ≡ true }
     requires byte { HasByte (branch_view arena.old.blocks node).level
@@ -96,12 +96,14 @@ pub fn beside(
     ensures memory { Takes (most_blocks 2 result) arena.old arena.new }
 {
     let population = judy_branch::population(arena, node);
-    let made = judy_leaf::single(values, alloc, arena, key, value)?;
+    let Ok(made) = judy_leaf::single(values, alloc, arena, key, value) else {
+        return Added::NoMemory;
+    };
     let Ok(root) = judy_branch::put_child(alloc, arena, node, byte, made, population + 1) else {
         judy_leaf::release(values, arena, made);
-        return Err(NoMemory);
+        return Added::NoMemory;
     };
-    Ok(Inserted { root, before: None })
+    Added::Done(root)
 }
 
 /// Makes a branch of a node and a leaf of one key, at the first byte in which the key differs from
@@ -114,7 +116,7 @@ pub fn above(
     sample: u64,
     key: u64,
     value: u64,
-) -> Result<Inserted, NoMemory>
+) -> Added
     requires root { IsRoot values arena.old.blocks node }
     requires some { 0 < length (entries values arena.old.blocks node) }
     requires other { sample ≢ key }
@@ -125,12 +127,14 @@ pub fn above(
 {
     let level = difference(sample, key);
     let keys = population(values, arena, node) + 1;
-    let made = judy_leaf::single(values, alloc, arena, key, value)?;
+    let Ok(made) = judy_leaf::single(values, alloc, arena, key, value) else {
+        return Added::NoMemory;
+    };
     let Ok(root) = fork(alloc, arena, level, keys, sample, node, key, made) else {
         judy_leaf::release(values, arena, made);
-        return Err(NoMemory);
+        return Added::NoMemory;
     };
-    Ok(Inserted { root, before: None })
+    Added::Done(root)
 }
 
 // The bytes of a key before the level; the others are 0.

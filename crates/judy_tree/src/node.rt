@@ -8,11 +8,11 @@ ghost use Rattle.judy_tree.specs.Root.{IsRoot, entries, numbers};
 ghost use Rattle.judy_tree.specs.Changes.{Writes};
 ghost use Rattle.judy_tree.specs.Calls.{Adds, TakesBelow, most_blocks};
 
-use crate::answers::Inserted;
+use crate::answers::Added;
 use crate::fork::{above, beside, byte_at, byte_of, leads_to_branch};
 use crate::parts::next_part;
 use crate::split::{split_level, spread};
-use judy_arena::{Arena, NoMemory};
+use judy_arena::Arena;
 use judy_branch::Taken;
 use judy_leaf::{Put, Removed};
 use judy_refs::Ref;
@@ -57,7 +57,7 @@ pub fn insert(
     node: Ref,
     key: u64,
     value: u64,
-) -> Result<Inserted, NoMemory>
+) -> Added
     requires root { IsRoot values arena.old.blocks node }
     requires zero { IsFalse values → value ≡ 0 }
     ensures insertion { Adds values arena.old node arena.new key value result }
@@ -73,33 +73,39 @@ pub fn insert(
         let Some(child) = judy_branch::child(arena, node, byte) else {
             return beside(values, alloc, arena, node, byte, key, value);
         };
-        let below = insert(values, alloc, arena, child, key, value)?;
-        let before = below.before;
-        if before.is_none() {
-            let keys = branch.population + 1;
-            judy_branch::change_child(arena, node, byte, child, below.root, keys);
-        }
-        return Ok(Inserted { root: node, before });
+        return match insert(values, alloc, arena, child, key, value) {
+            Added::Done(root) => {
+                let keys = branch.population + 1;
+                judy_branch::change_child(arena, node, byte, child, root, keys);
+                Added::Done(node)
+            }
+            Added::Present(found) => Added::Present(found),
+            Added::NoMemory => Added::NoMemory,
+        };
     }
     match judy_leaf::insert(values, alloc, arena, node, key, value) {
-        Put::Done(root) => Ok(Inserted { root, before: None }),
-        Put::Present(found) => Ok(Inserted {
-            root: node,
-            before: Some(found),
-        }),
-        Put::NoMemory => Err(NoMemory),
+        Put::Done(root) => Added::Done(root),
+        Put::Present(found) => Added::Present(found),
+        Put::NoMemory => Added::NoMemory,
         Put::Split => {
             let low = judy_leaf::key_at(values, arena, node, 0);
             let Some(level) = split_level(values, arena, node, low, key) else {
                 return above(values, alloc, arena, node, low, key, value);
             };
-            let split = spread(values, alloc, arena, node, level)?;
-            let Ok(answer) = insert(values, alloc, arena, split, key, value) else {
-                clear(values, arena, split);
-                return Err(NoMemory);
+            let Ok(split) = spread(values, alloc, arena, node, level) else {
+                return Added::NoMemory;
             };
-            judy_leaf::release(values, arena, node);
-            Ok(answer)
+            match insert(values, alloc, arena, split, key, value) {
+                Added::Done(root) => {
+                    judy_leaf::release(values, arena, node);
+                    Added::Done(root)
+                }
+                Added::Present(_) => unreachable!(),
+                Added::NoMemory => {
+                    clear(values, arena, split);
+                    Added::NoMemory
+                }
+            }
         }
     }
 }

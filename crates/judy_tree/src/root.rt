@@ -4,7 +4,7 @@ ghost use Rattle.judy_arena.specs.Takes.{Takes, TakesNothing};
 ghost use Rattle.judy_tree.specs.Changes.{RootBecomes, Puts, Writes, RootRemoves, IsRefused, found, has_found};
 ghost use Rattle.judy_tree.specs.Root.{IsRoot, entries, HasRootSpace};
 
-use crate::answers::Inserted;
+use crate::answers::{Added, Inserted};
 use crate::node;
 use judy_arena::{Arena, NoMemory};
 use judy_leaf::Removed;
@@ -111,9 +111,18 @@ impl<const VALUES: bool> Root<VALUES> {
             → Takes 2 arena.old arena.new }
         ensures space { HasRootSpace VALUES arena.new.blocks self.new.reference }
     {
-        let answer = node::insert(VALUES, alloc, arena, self.reference, key, value)?;
-        self.reference = answer.root;
-        Ok(answer)
+        match node::insert(VALUES, alloc, arena, self.reference, key, value) {
+            Added::Done(root) => {
+                self.reference = root;
+                Ok(Inserted { root, before: None })
+            }
+            Added::Present(found) => {
+                let root = self.reference;
+                let before = Some(found);
+                Ok(Inserted { root, before })
+            }
+            Added::NoMemory => Err(NoMemory),
+        }
     }
 
     /// Writes the value of a present key.

@@ -1,36 +1,35 @@
-use Rattle.std.proofs.Common.{◌≡◌, Some, subst, sym, ap, ◌∙◌}
-use Rattle.judy_model.specs.Contents.{word_order, value_of}
-use Rattle.judy_branch.specs.Children.{IsLaid, children_in}
-use Rattle.judy_branch.proofs.Branches.{has-shape, is-shaped, children-are, found-reference, child-reference}
+use Rattle.std.proofs.Common.{subst, sym, ◌∙◌}
+use Rattle.std.specs.Prelude.{IfSome, IsTrue}
+use Rattle.judy_refs.specs.References.{is_reference}
+use Rattle.judy_branch.specs.declared.shape.Shape.TheVariants.{Full}
+use Rattle.judy_branch.proofs.Branches.{has-shape, full-shape, laid-words, child-words, found-some}
 use Rattle.judy_branch.proofs.read.child.Goals as goal
 
-pub read_shape-shape-requires : goal.read_shape-shape-requires
-read_shape-shape-requires c = has-shape c.args.arena.now.blocks c.args.branch c.requires
-
-pub child_in-requires : goal.child_in-requires
-child_in-requires c = subst (IsLaid c.read_shape-shape.result) (sym c.look-words.ensures.words)
-    (is-shaped c.args.arena.now.blocks c.args.branch c.requires c.read_shape-shape.result c.read_shape-shape.ensures).laid
+pub child-requires : goal.child-requires
+child-requires c = laid-words c.args.arena.now.blocks c.args.branch Full c.look-words.result.now
+    (full-shape c.args.branch (sym c.leads_to.ensures ∙ c.if-leads_to.true)) c.look-words.ensures.words c.requires
 
 pub known-requires : goal.known-requires
-known-requires c =
-    let laid = subst (IsLaid c.read_shape-shape.result) (sym c.look-words.ensures.words)
-    (is-shaped c.args.arena.now.blocks c.args.branch c.requires c.read_shape-shape.result c.read_shape-shape.ensures).laid in
-    child-reference c.in-Some.word (found-reference c.read_shape-shape.result c.look-words.result.now c.args.byte c.in-Some.word
-    laid (sym c.child_in.ensures ∙ c.in-Some.is))
+known-requires c = subst (λ o. IfSome o (λ r. IsTrue (is_reference r))) (sym c.child.ensures)
+    (found-some c.args.arena.now.blocks c.args.branch Full c.look-words.result.now
+    (full-shape c.args.branch (sym c.leads_to.ensures ∙ c.if-leads_to.true)) c.look-words.ensures.words c.requires c.args.byte)
 
-pub returns-in-Some : goal.returns-in-Some
-returns-in-Some c =
-    let e = children-are c.args.arena.now.blocks c.args.branch c.read_shape-shape.result c.read_shape-shape.ensures in
-    let f = c.look-words.ensures.words in
-    let g : value_of word_order (children_in c.read_shape-shape.result c.look-words.result.now) c.args.byte ≡ Some
-    c.in-Some.word = sym c.child_in.ensures ∙ c.in-Some.is in
-    let r : c.known.result ≡ c.in-Some.word = c.known.ensures in
-    ap Some r ∙ sym g ∙ ap (λ ws. value_of word_order (children_in c.read_shape-shape.result ws) c.args.byte) f
-    ∙ ap (λ es. value_of word_order es c.args.byte) (sym e)
+pub returns-then-leads_to : goal.returns-then-leads_to
+returns-then-leads_to c = c.known.ensures ∙ c.child.ensures ∙ sym (child-words c.args.arena.now.blocks c.args.branch Full c.look-words.result.now
+    (full-shape c.args.branch (sym c.leads_to.ensures ∙ c.if-leads_to.true)) c.look-words.ensures.words c.args.byte)
 
-pub returns-in-None : goal.returns-in-None
-returns-in-None c =
-    let e = children-are c.args.arena.now.blocks c.args.branch c.read_shape-shape.result c.read_shape-shape.ensures in
-    let f = c.look-words.ensures.words in
-    sym c.in-None.is ∙ c.child_in.ensures ∙ ap (λ ws. value_of word_order (children_in c.read_shape-shape.result ws) c.args.byte)
-    f ∙ ap (λ es. value_of word_order es c.args.byte) (sym e)
+pub read_shape-requires : goal.read_shape-requires
+read_shape-requires c = has-shape c.args.arena.now.blocks c.args.branch c.requires
+
+pub child_in-requires : goal.child_in-requires
+child_in-requires c = laid-words c.args.arena.now.blocks c.args.branch c.read_shape.result c.look-words.result.now
+    c.read_shape.ensures c.look-words.ensures.words c.requires
+
+pub known-requires-2 : goal.known-requires-2
+known-requires-2 c = subst (λ o. IfSome o (λ r. IsTrue (is_reference r))) (sym c.child_in.ensures)
+    (found-some c.args.arena.now.blocks c.args.branch c.read_shape.result c.look-words.result.now
+    c.read_shape.ensures c.look-words.ensures.words c.requires c.args.byte)
+
+pub returns : goal.returns
+returns c = c.known-2.ensures ∙ c.child_in.ensures ∙ sym (child-words c.args.arena.now.blocks c.args.branch c.read_shape.result c.look-words.result.now
+    c.read_shape.ensures c.look-words.ensures.words c.args.byte)
