@@ -16,7 +16,7 @@ use judy_model::{
 #[derive(Clone, Copy, Debug, PartialEq, Eq)]
 pub struct Syntax;
 
-/// The numbers that the fields of a text write: at most two.
+/// The numbers that the fields of a text write: at most three.
 #[inline(always)]
 fn numbers_in(text: &[u8]) -> Option<Numbers>
     ensures { result ≡ numbers_of_fields (fields_of text.now) }
@@ -27,9 +27,12 @@ fn numbers_in(text: &[u8]) -> Option<Numbers>
     let Some((second, after_second)) = next_field(after_first) else {
         return Some(Numbers::One(number(first)?));
     };
-    match next_field(after_second) {
+    let Some((third, after_third)) = next_field(after_second) else {
+        return Some(Numbers::Two(number(first)?, number(second)?));
+    };
+    match next_field(after_third) {
         Some(_) => None,
-        None => Some(Numbers::Two(number(first)?, number(second)?)),
+        None => Some(Numbers::Three(number(first)?, number(second)?, number(third)?)),
     }
 }
 
