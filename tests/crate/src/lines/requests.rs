@@ -4,8 +4,8 @@ use crate::checks::{holds, holds_at, same, same_at};
 use crate::lines::asks::name;
 use arrayvec::ArrayVec;
 use judy_model::{
-    BytesCall, COMMANDS, Call, Given, KEY_LIMIT, Key, Line, LongCall, Name, OneCall,
-    StrCall, Token, command_word,
+    BytesCall, COMMANDS, Call, Given, KEY_LIMIT, Key, Line, LongCall, Name, OneCall, StrCall,
+    Token, command_word,
 };
 use judy_protocol::{Syntax, read_line};
 use std::alloc::{AllocError, Global};
@@ -44,12 +44,7 @@ fn compare(rt: &impl Abort, alloc: Global, line: &str, want: Call<'_>) -> Result
         line,
     );
     let more = format!(in alloc; "{line} 7 7")?;
-    same_at(
-        rt,
-        read_line(more.as_bytes(), &mut room),
-        Err(Syntax),
-        line,
-    );
+    same_at(rt, read_line(more.as_bytes(), &mut room), Err(Syntax), line);
     Ok(())
 }
 
@@ -61,7 +56,10 @@ fn array() -> Name {
 #[test]
 fn each_request_of_a_set(rt: HostRuntime) -> Result<(), Fail> {
     for row in &OF_SETS {
-        let fields = Fields { stores: false, ..FIELDS };
+        let fields = Fields {
+            stores: false,
+            ..FIELDS
+        };
         let call = one(row.1, fields).ok_or("a call of a set")?;
         let line = line_of(rt.alloc(), *row, fields, "5")?;
         compare(&rt, rt.alloc(), line.as_str(), Call::One(array(), call))?;

@@ -58,7 +58,11 @@ impl Arrays {
         let (reply, place) = answer(alloc, &mut self.arena, Sha256Hash, place, call, &mut found)?;
         let reply = OwnedReply::of(&reply);
         if !matches!(reply.reply(), Reply::ValueKey(_, _)) {
-            holds_at(rt, found.is_empty(), "what an empty answer leaves in the buffer");
+            holds_at(
+                rt,
+                found.is_empty(),
+                "what an empty answer leaves in the buffer",
+            );
         }
         match which {
             Which::First => self.first = place,

@@ -4,9 +4,7 @@ use crate::checks::{holds_at, same, same_at};
 use crate::strings::arrays::{Arrays, Which};
 use arrayvec::ArrayVec;
 use judy_arena::NoMemory;
-use judy_model::{
-    Call, LongCall, Name, Operation, OwnedReply, Quota, Reply, Right, StrCall,
-};
+use judy_model::{Call, LongCall, Name, Operation, OwnedReply, Quota, Reply, Right, StrCall};
 use judy_reference::Store;
 use std::alloc::{AllocError, Global};
 use std::process::Abort;
@@ -95,7 +93,11 @@ fn ask_store(alloc: Global, store: &mut Store, call: &Call<'_>) -> Result<OwnedR
 fn fields(operation: Operation, seed: u64) -> Fields {
     let number = WORDS[(seed >> 32) as usize % 8];
     Fields {
-        index: if operation == Operation::Nth { number % 16 } else { WORDS[(seed >> 24) as usize % 8] },
+        index: if operation == Operation::Nth {
+            number % 16
+        } else {
+            WORDS[(seed >> 24) as usize % 8]
+        },
         key: STRINGS[(seed >> 24) as usize % 16],
         number,
         stores: (seed >> 28) % 3 > 0,
@@ -106,7 +108,10 @@ fn fields(operation: Operation, seed: u64) -> Fields {
 fn string_call(seed: u64) -> Result<StrCall<'static>, Fail> {
     let operation = drawn(&OF_STRINGS, seed >> 40);
     let number = seed >> 8;
-    let fields = Fields { number, ..fields(operation, seed) };
+    let fields = Fields {
+        number,
+        ..fields(operation, seed)
+    };
     Ok(calls::string(operation, fields).ok_or("a call of a JudySL")?)
 }
 

@@ -1,6 +1,8 @@
 //! Random calls, the same for the same seed.
 
-use crate::calls::{Fields, OF_KEYS, OF_SETS, OF_STRINGS, OF_WORDS, bytes, drawn, long, one, string};
+use crate::calls::{
+    Fields, OF_KEYS, OF_SETS, OF_STRINGS, OF_WORDS, bytes, drawn, long, one, string,
+};
 use judy_model::{Call, Name, Operation};
 use std::test::Fail;
 
@@ -95,7 +97,11 @@ impl Dice {
         let word = WORDS[self.roll(16) as usize];
         let rank = self.roll(16);
         Fields {
-            index: if operation == Operation::Nth { rank } else { word },
+            index: if operation == Operation::Nth {
+                rank
+            } else {
+                word
+            },
             key: keys[self.roll(keys.len() as u64) as usize],
             number: self.number(operation),
             stores: self.roll(4) > 0,

@@ -245,7 +245,11 @@ fn word(seed: u64) -> u64 {
 fn fields(operation: Operation, seed: u64) -> Fields {
     let number = word(seed >> 32);
     Fields {
-        index: if operation == Operation::Nth { number % 16 } else { word(seed >> 24) },
+        index: if operation == Operation::Nth {
+            number % 16
+        } else {
+            word(seed >> 24)
+        },
         key: b"",
         number,
         stores: (seed >> 28) % 3 > 0,
