@@ -20,6 +20,8 @@ from judyd.wording import CALLS, OTHERS  # noqa: E402
 from oracle import INSERTS, LOOKS, OPERATIONS  # noqa: E402
 
 LETTERS = {"name": "", "key": "K", "i": "W", "k": "W", "n": "W", "v": "W"}
+NAMES = {"Set": "Insert", "Unset": "Remove", "Test": "Look", "Delete": "Remove", "Get": "Look", "ByCount": "Nth", "addition": "Add", "FreeArray": "Free"}
+PREFIXES = {"One": "J1", "Long": "JL", "Str": "JSL", "Bytes": "JHS"}
 REFUSALS = {"ERR JOURNAL", "ERR READONLY", "ERR FROZEN", "FULL", "ERR MEMORY"}
 COLUMNS = 100
 
@@ -70,6 +72,15 @@ def formats():
     return forms, replies
 
 
+def meanings():
+    """What docs/FORMATS.md calls each command: the first names of operations in its row, in the order of its words."""
+    found = {}
+    for cells in rows("docs/FORMATS.md", "Requests and replies"):
+        names = [NAMES.get(name, name) for name in re.findall(r"\w+", cells[1])]
+        found.update(zip(shown(cells[0]), [name for name in names if name in OPERATIONS]))
+    return found
+
+
 def readme():
     """The calls of README.md, and for the calls of each row what they reply."""
     forms, replies = {}, []
@@ -108,6 +119,12 @@ def faults():
         for word in sorted(forms.keys() | found.keys()):
             if forms.get(word) != found.get(word):
                 yield "%s and %s do not agree on the fields of %s: %s, %s" % (what, CODE, word, sorted(found.get(word, ())), sorted(forms.get(word, ())))
+    named = meanings()
+    for word, (kind, operation) in COMMANDS.items():
+        if named.get(word) != operation:
+            yield "docs/FORMATS.md says that %s does %s, and %s that it does %s" % (word, named.get(word), CODE, operation)
+        if not word.startswith(PREFIXES[kind]):
+            yield "%s has %s as a command of a %s, whose words begin with %s" % (CODE, word, KINDS[kind], PREFIXES[kind])
     for word in sorted(forms.keys() ^ manual()):
         yield "man/judyd.1 and %s do not agree on %s" % (CODE, word)
     for word in sorted(forms.keys() & replies.keys()):

@@ -3,8 +3,8 @@ dictionaries.
 
 It was written only from docs/FORMATS.md, and shares no code with the server or the client. If two
 such programs agree on a million lines, they do not have the same fault. Which word does what to which
-kind of array is read from the table of the commands; tests/rows, clients/vectors.txt and
-docs/FORMATS.md have the words by hand. It is never out of memory, so it never replies `ERR MEMORY`.
+kind of array is read from the table of commands, which tests/pages compares with docs/FORMATS.md. It is
+never out of memory, so it never replies `ERR MEMORY`.
 
     store = Store([Tenant("alice", "abc", quota=4)])
     connection = store.connect()
