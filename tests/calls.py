@@ -271,8 +271,30 @@ def roff(text):
     return lines
 
 
+# Which methods of the Python client are in one row of its page; those of other operations come last.
+METHODS = [["Insert", "Remove", "Look"], ["Count", "Nth"], ["First", "Next", "Last", "Prev"], ["FirstEmpty", "NextEmpty", "LastEmpty", "PrevEmpty"], ["Free"]]
+
+
+def methods_table(text):
+    """The manual's calls in the table of methods of the Python client's page. Additions are Python's own there."""
+    grouped = {operation for group in METHODS for operation in group} | {"Add"}
+    lines = []
+    for group in [*METHODS, [operation for operation in OPERATIONS if operation not in grouped]]:
+        cells = [" ".join("`%s`" % method_of(word) for word, it in COMMANDS.items() if it.kind == kind and it.operation in group) for kind in KINDS]
+        if any(cells):
+            lines.append("| %s | %s |" % ("" if lines else "the manual's", " | ".join(cells)))
+    return with_part(text, "|---|---|---|---|---|", "| in order |", [re.sub(" +", " ", line) for line in lines])
+
+
+def method_of(word):
+    """The method of the Python client that makes a call."""
+    name = re.sub("Judy(1|L|SL|HS)", "", CALLS[word].name)
+    return {"Ins": "insert", "Del": "delete"}.get(name) or re.sub(r"(?<=[a-z])(?=[A-Z])", "_", name).lower()
+
+
 WRITTEN = {
     "clients/python/judyd/words.py": client_words,
+    "clients/python/README.md": methods_table,
     "clients/completion/judy.bash": bash,
     "clients/completion/_judy": zsh,
     "bench/judy_lines.c": libjudy,
