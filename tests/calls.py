@@ -16,7 +16,7 @@ TOP = os.path.dirname(os.path.dirname(os.path.abspath(__file__)))
 sys.path.insert(0, os.path.join(TOP, "clients", "python"))
 
 from commands import CODE, COMMANDS, FORMS, KINDS, usage  # noqa: E402
-from judyd.wording import CALLS, OTHERS  # noqa: E402
+from judyd.wording import CALLS, OTHERS, said_of  # noqa: E402
 from oracle import INSERTS, LOOKS, OPERATIONS  # noqa: E402
 
 LETTERS = {"name": "", "key": "K", "i": "W", "k": "W", "n": "W", "v": "W"}
@@ -288,7 +288,7 @@ def methods_table(text):
 
 def method_of(word):
     """The method of the Python client that makes a call."""
-    name = re.sub("Judy(1|L|SL|HS)", "", CALLS[word].name)
+    name, _ = said_of(KINDS[COMMANDS[word].kind], COMMANDS[word].operation)
     return {"Ins": "insert", "Del": "delete"}.get(name) or re.sub(r"(?<=[a-z])(?=[A-Z])", "_", name).lower()
 
 

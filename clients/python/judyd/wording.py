@@ -58,12 +58,16 @@ _OPERATIONS = {
 _THINGS = {"Judy1": ("index", "indexes", "i"), "JudyL": ("index", "indexes", "i"), "JudySL": ("string", "strings", "key"), "JudyHS": ("key", "keys", "key")}
 
 
+def said_of(kind: str, operation: str) -> Tuple[str, str]:
+    """The name of an operation of a kind in the manual, without the kind, and what it does."""
+    return (_OF_SETS if kind == "Judy1" and operation in _OF_SETS else _OPERATIONS)[operation]
+
+
 def _call_of(word: str, command: Command) -> Call:
     """The call of a command."""
-    is_set = command.kind == "Judy1"
-    name, what = (_OF_SETS if is_set and command.operation in _OF_SETS else _OPERATIONS)[command.operation]
+    name, what = said_of(command.kind, command.operation)
     thing, plural, field = _THINGS[command.kind]
-    found = _EMPTY if is_set else "V v %s, or NULL if there is none" % field
+    found = _EMPTY if command.kind == "Judy1" else "V v %s, or NULL if there is none" % field
     fields = ("name", *command.fields.split())
     least = sum(not it.startswith("[") for it in fields)
     return Call(word, command.kind + name, tuple(it.strip("[]") for it in fields), least, what.format(thing=thing, plural=plural, found=found))
