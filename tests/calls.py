@@ -1,4 +1,3 @@
-#!/usr/bin/env python3
 """The calls of the protocol: whether the tables of the pages and of the client agree with the table of commands,
 and what is written of it.
 
@@ -253,6 +252,18 @@ def manual_page(text):
     return with_part(text, MANUAL[0], MANUAL[1], lines)
 
 
+def c_manual(text):
+    """The functions of each kind of array in the manual page of the C library are those of judyd.h."""
+    header, titles = read("clients/c/judyd.h"), [*KINDS.values(), None]
+    for kind, following in zip(titles, titles[1:]):
+        part = header.partition("/* %s: " % kind)[2].partition("\n\n")[0]
+        lines = []
+        for name, given in re.findall(r"(?m)^int (\w+)\((.*)\);$", part):
+            lines += [".Ft int", ".Fn %s %s" % (name, " ".join('"%s"' % it for it in given.replace("*connection", "*c").split(", ")))]
+        text = with_part(text, ".Ss %s" % kind, ".Ss %s\n" % following if following else ".Sh DESCRIPTION", lines)
+    return text
+
+
 MANUAL = ('.\\" The calls, written of docs/FORMATS.md by python3 tests/calls.py --write', '.\\" The end of the calls')
 
 
@@ -300,6 +311,7 @@ WRITTEN = {
     "bench/judy_lines.c": libjudy,
     "README.md": short_table,
     "man/judyd.1": manual_page,
+    "man/judyd.3": c_manual,
 }
 
 
