@@ -25,7 +25,7 @@
 
 enum { LINE_LIMIT = 4096, KEY_LIMIT = 1000, FIELDS = 6 };
 enum kind { ONE, LONG, STRING, BYTES };
-enum call { SET, INSERT, ADD, REMOVE, FREE, TEST, GET, COUNT, NTH, FIRST, NEXT, LAST, PREV, FIRST_EMPTY, NEXT_EMPTY, LAST_EMPTY, PREV_EMPTY };
+enum call { INSERT, ADD, REMOVE, FREE, LOOK, COUNT, NTH, FIRST, NEXT, LAST, PREV, FIRST_EMPTY, NEXT_EMPTY, LAST_EMPTY, PREV_EMPTY };
 
 struct array {
     Pvoid_t root;
@@ -59,22 +59,51 @@ struct request {
     uint8_t key[KEY_LIMIT + 1];
 };
 
+/* python3 tests/calls.py --write writes these rows */
 static const struct command COMMANDS[] = {
-    {"J1S", ONE, SET, 1, 0},          {"J1U", ONE, REMOVE, 1, 0},       {"J1T", ONE, TEST, 1, 0},
-    {"J1C", ONE, COUNT, 2, 0},        {"J1BC", ONE, NTH, 1, 0},         {"J1F", ONE, FIRST, 1, 0},
-    {"J1N", ONE, NEXT, 1, 0},         {"J1L", ONE, LAST, 1, 0},         {"J1P", ONE, PREV, 1, 0},
-    {"J1FE", ONE, FIRST_EMPTY, 1, 0}, {"J1NE", ONE, NEXT_EMPTY, 1, 0},  {"J1LE", ONE, LAST_EMPTY, 1, 0},
-    {"J1PE", ONE, PREV_EMPTY, 1, 0},  {"J1FA", ONE, FREE, 0, 0},        {"JLI", LONG, INSERT, 1, 1},
-    {"JLD", LONG, REMOVE, 1, 0},      {"JLG", LONG, GET, 1, 0},         {"JLC", LONG, COUNT, 2, 0},
-    {"JLBC", LONG, NTH, 1, 0},        {"JLF", LONG, FIRST, 1, 0},       {"JLN", LONG, NEXT, 1, 0},
-    {"JLL", LONG, LAST, 1, 0},        {"JLP", LONG, PREV, 1, 0},        {"JLFE", LONG, FIRST_EMPTY, 1, 0},
-    {"JLNE", LONG, NEXT_EMPTY, 1, 0}, {"JLLE", LONG, LAST_EMPTY, 1, 0}, {"JLPE", LONG, PREV_EMPTY, 1, 0},
-    {"JLFA", LONG, FREE, 0, 0},       {"JSLI", STRING, INSERT, 1, 1},   {"JSLD", STRING, REMOVE, 1, 0},
-    {"JSLG", STRING, GET, 1, 0},      {"JSLF", STRING, FIRST, 1, 0},    {"JSLN", STRING, NEXT, 1, 0},
-    {"JSLL", STRING, LAST, 1, 0},     {"JSLP", STRING, PREV, 1, 0},     {"JSLFA", STRING, FREE, 0, 0},
-    {"JHSI", BYTES, INSERT, 1, 1},    {"JHSD", BYTES, REMOVE, 1, 0},    {"JHSG", BYTES, GET, 1, 0},
-    {"JHSFA", BYTES, FREE, 0, 0},     {"JLA", LONG, ADD, 2, 0},         {"JSLA", STRING, ADD, 2, 0},
+    {"J1S", ONE, INSERT, 1, 0},
+    {"J1U", ONE, REMOVE, 1, 0},
+    {"J1T", ONE, LOOK, 1, 0},
+    {"J1C", ONE, COUNT, 2, 0},
+    {"J1BC", ONE, NTH, 1, 0},
+    {"J1F", ONE, FIRST, 1, 0},
+    {"J1N", ONE, NEXT, 1, 0},
+    {"J1L", ONE, LAST, 1, 0},
+    {"J1P", ONE, PREV, 1, 0},
+    {"J1FE", ONE, FIRST_EMPTY, 1, 0},
+    {"J1NE", ONE, NEXT_EMPTY, 1, 0},
+    {"J1LE", ONE, LAST_EMPTY, 1, 0},
+    {"J1PE", ONE, PREV_EMPTY, 1, 0},
+    {"J1FA", ONE, FREE, 0, 0},
+    {"JLI", LONG, INSERT, 1, 1},
+    {"JLA", LONG, ADD, 2, 0},
+    {"JLD", LONG, REMOVE, 1, 0},
+    {"JLG", LONG, LOOK, 1, 0},
+    {"JLC", LONG, COUNT, 2, 0},
+    {"JLBC", LONG, NTH, 1, 0},
+    {"JLF", LONG, FIRST, 1, 0},
+    {"JLN", LONG, NEXT, 1, 0},
+    {"JLL", LONG, LAST, 1, 0},
+    {"JLP", LONG, PREV, 1, 0},
+    {"JLFE", LONG, FIRST_EMPTY, 1, 0},
+    {"JLNE", LONG, NEXT_EMPTY, 1, 0},
+    {"JLLE", LONG, LAST_EMPTY, 1, 0},
+    {"JLPE", LONG, PREV_EMPTY, 1, 0},
+    {"JLFA", LONG, FREE, 0, 0},
+    {"JSLI", STRING, INSERT, 1, 1},
+    {"JSLA", STRING, ADD, 2, 0},
+    {"JSLD", STRING, REMOVE, 1, 0},
+    {"JSLG", STRING, LOOK, 1, 0},
+    {"JSLF", STRING, FIRST, 1, 0},
+    {"JSLN", STRING, NEXT, 1, 0},
+    {"JSLL", STRING, LAST, 1, 0},
+    {"JSLP", STRING, PREV, 1, 0},
+    {"JSLFA", STRING, FREE, 0, 0},
+    {"JHSI", BYTES, INSERT, 1, 1},
     {"JHSA", BYTES, ADD, 2, 0},
+    {"JHSD", BYTES, REMOVE, 1, 0},
+    {"JHSG", BYTES, LOOK, 1, 0},
+    {"JHSFA", BYTES, FREE, 0, 0},
 };
 
 static struct tenant tenants[64];
@@ -383,15 +412,13 @@ static void make_call(struct tenant *t, const struct request *r)
     if (!a)
         a = &none;
     switch (r->command->call) {
-    case SET:
-        if (!add(t, r))
-            say("FULL");
-        else
-            say(t->used > entries ? "1" : "0");
-        break;
     case INSERT:
         if (!(value = add(t, r))) {
             say("FULL");
+            break;
+        }
+        if (kind == ONE) {
+            say(t->used > entries ? "1" : "0");
             break;
         }
         say("V %lu", *value);
@@ -406,9 +433,11 @@ static void make_call(struct tenant *t, const struct request *r)
         break;
     case REMOVE: say(remove_entry(t, a, r) ? "1" : "0"); break;
     case FREE: say("N %lu", free_array(t, a, kind)); break;
-    case TEST: say(find(a, r) ? "1" : "0"); break;
-    case GET:
-        if ((value = find(a, r)))
+    case LOOK:
+        value = find(a, r);
+        if (kind == ONE)
+            say(value ? "1" : "0");
+        else if (value)
             say("V %lu", *value);
         else
             say("NULL");

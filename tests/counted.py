@@ -116,8 +116,8 @@ class Lines:
 
     def call(self):
         """A call, each with the same chance."""
-        command = self.draw.choice(sorted(COMMANDS))
-        return b" ".join([command, self.draw.choice((b"a", b"b")), *map(self.hostile.walk.keys.field, COMMANDS[command][2])])
+        word = self.draw.choice(sorted(COMMANDS))
+        return b" ".join([word, self.draw.choice((b"a", b"b")), *map(self.hostile.walk.keys.field, COMMANDS[word].must)])
 
     def line(self):
         """The next line. It does not end the connection."""

@@ -1,6 +1,6 @@
 """Lines of requests from a seed: long walks of well-formed calls, and hostile lines."""
 
-from oracle import COMMANDS, GREATEST, Tenant, read_bytes, read_string, read_word
+from oracle import COMMANDS, FREES, GREATEST, INSERTS, LOOKS, REMOVES, Tenant, read_bytes, read_string, read_word
 
 TENANTS = [
     Tenant("alice", "abc", 40000, read_token="look"),
@@ -11,8 +11,6 @@ TENANTS = [
 ]
 TABLE = "".join(tenant.toml() for tenant in TENANTS).encode()
 NAMES = [b"a", b"b", b"a.b-c_D9", b"n" * 32]
-INSERTS = {"set", "insert", "add"}
-REMOVALS = {"remove"}
 EDGES = sorted({(1 << k) + d & GREATEST for k in range(65) for d in (-2, -1, 0, 1)})
 
 
@@ -73,16 +71,16 @@ class Walk:
         self.keys = Keys(random)
         self.wanders = wanders
         self.run = []
-        self.commands = sorted(command for command, (_, call, _, _) in COMMANDS.items() if call != "free")
-        self.frees = sorted(set(COMMANDS) - set(self.commands))
+        self.frees = sorted(word for word, command in COMMANDS.items() if command.operation.does == FREES)
+        self.commands = sorted(set(COMMANDS) - set(self.frees))
         self.enter_a_time()
 
     def enter_a_time(self):
         """Draws for how many lines the arrays grow or shrink, and how fast."""
         self.left = self.random.choice((500, 5000, 20000))
         grows = self.random.random() < 0.6
-        weights = {call: 8 if grows else 2 for call in INSERTS} | {call: 1 if grows else 6 for call in REMOVALS}
-        self.weights = [weights.get(COMMANDS[command][1], 0.5) for command in self.commands]
+        weights = {INSERTS: 8 if grows else 2, REMOVES: 1 if grows else 6, LOOKS: 0.5}
+        self.weights = [weights[COMMANDS[word].operation.does] for word in self.commands]
 
     def log_in(self):
         """A line that logs a tenant in with one of its tokens."""
@@ -94,12 +92,12 @@ class Walk:
 
     def call(self):
         """A line that calls an array."""
-        (command,) = self.random.choices(self.commands, self.weights)
+        (word,) = self.random.choices(self.commands, self.weights)
         if self.random.random() < 0.0002:
-            command = self.random.choice(self.frees)
-        _, _, must, may = COMMANDS[command]
-        fields = [command, self.random.choice(NAMES), *map(self.keys.field, must)]
-        if may and self.random.random() < 0.7:
+            word = self.random.choice(self.frees)
+        command = COMMANDS[word]
+        fields = [word, self.random.choice(NAMES), *map(self.keys.field, command.must)]
+        if command.may and self.random.random() < 0.7:
             fields.append(b"%d" % self.random.getrandbits(self.random.choice((4, 64))))
         return b" ".join(fields)
 

@@ -2,8 +2,9 @@
 dictionaries.
 
 It was written only from docs/FORMATS.md, and shares no code with the server or the client. If two
-such programs agree on a million lines, they do not have the same fault. It is never out of memory,
-so it never replies `ERR MEMORY`.
+such programs agree on a million lines, they do not have the same fault. Which word does what to which
+kind of array is read from the table of commands, which tests/pages compares with docs/FORMATS.md. It is
+never out of memory, so it never replies `ERR MEMORY`.
 
     store = Store([Tenant("alice", "abc", quota=4)])
     connection = store.connect()
@@ -14,7 +15,9 @@ so it never replies `ERR MEMORY`.
 import hashlib
 import re
 from bisect import bisect_left, bisect_right, insort
-from itertools import chain
+from typing import Callable, NamedTuple
+
+import commands
 
 GREATEST = 2**64 - 1
 LINE_LIMIT = 4096
@@ -237,38 +240,135 @@ def read_string(field):
     return key
 
 
-def grammar():
-    """Each command word of an array, with its kind, its call, and the readers of the fields after
-    the name: the required ones, and the optional ones."""
-    searches = {"F": "first", "N": "next", "L": "last", "P": "prev"}
-    gaps = {"FE": "first_empty", "NE": "next_empty", "LE": "last_empty", "PE": "prev_empty"}
-    words = {"C": ("count", 2), "BC": ("nth", 1), **{c: (call, 1) for c, call in chain(searches.items(), gaps.items())}}
-    table = {}
+# ---- what the operations do ----
 
-    def command(kind, letters, call, fields, more=()):
-        table[(kind + letters).encode()] = (kind, call, tuple(fields), tuple(more))
-
-    command("J1", "S", "set", [read_word])
-    command("J1", "U", "remove", [read_word])
-    command("J1", "T", "test", [read_word])
-    for kind in ("J1", "JL"):
-        for letters, (call, count) in words.items():
-            command(kind, letters, call, [read_word] * count)
-    for letters, call in searches.items():
-        command("JS", "L" + letters, call, [read_string])
-    for kind, letters, read in (("JL", "", read_word), ("JS", "L", read_string), ("JH", "S", read_bytes)):
-        command(kind, letters + "I", "insert", [read], [read_word])
-        command(kind, letters + "A", "add", [read, read_word])
-        command(kind, letters + "D", "remove", [read])
-        command(kind, letters + "G", "get", [read])
-    for kind, letters in (("J1", ""), ("JL", ""), ("JS", "L"), ("JH", "S")):
-        command(kind, letters + "FA", "free", [])
-    return table
+SET = "One"  # the kind of array whose entries have no value
+INSERTS, REMOVES, FREES, LOOKS = "inserts", "removes", "frees", "looks"  # what an operation may do to the entries
 
 
-COMMANDS = grammar()
-CHANGES = {"set", "insert", "add", "remove", "free"}
-GAPS = {"first_empty", "next_empty", "last_empty", "prev_empty"}
+def insert(owner, kind, name, key, value=None):
+    """An insertion. Of a set: whether the index is new. Otherwise the value before, 0 for a new key; then
+    the given value is stored."""
+    is_new = key not in owner.array(kind, name).values
+    if is_new:
+        owner.add(kind, name, key)
+    if kind == SET:
+        return b"%d" % is_new
+    values = owner.array(kind, name).values
+    before = values[key]
+    if value is not None:
+        values[key] = value
+    return b"V %d" % before
+
+
+def add(owner, kind, name, key, number):
+    """An addition: the new value, modulo 2^64. A new key counts as 0."""
+    if key not in owner.array(kind, name).values:
+        owner.add(kind, name, key)
+    values = owner.array(kind, name).values
+    values[key] = values[key] + number & GREATEST
+    return b"V %d" % values[key]
+
+
+def remove(owner, kind, name, key):
+    """A removal: whether the key was present."""
+    return b"1" if owner.remove(kind, name, key) else b"0"
+
+
+def free(owner, kind, name):
+    """The removal of all keys: how many there were."""
+    return b"N %d" % owner.free(kind, name)
+
+
+def look(owner, kind, name, key):
+    """Whether an index is in a set; the value of a key of another array."""
+    values = owner.array(kind, name).values
+    if kind == SET:
+        return b"1" if key in values else b"0"
+    return b"V %d" % values[key] if key in values else b"NULL"
+
+
+def count(owner, kind, name, low, high):
+    """How many keys there are from `low` to `high`."""
+    return b"N %d" % owner.array(kind, name).count(low, high)
+
+
+def finds(search):
+    """A search for a key that is present: the key of a set, otherwise the value and the key."""
+
+    def step(owner, kind, name, field):
+        array = owner.array(kind, name)
+        key = search(array, field)
+        if kind == SET:
+            return index(key)
+        return b"NULL" if key is None else b"V %d %s" % (array.values[key], text_of(key))
+
+    return step
+
+
+def misses(search):
+    """A search for an absent index."""
+    return lambda owner, kind, name, field: index(search(owner.array(kind, name), field))
+
+
+def index(found):
+    """The reply of an index that a search found, or of none."""
+    return b"0" if found is None else b"1 %d" % found
+
+
+class Operation(NamedTuple):
+    """An operation: its step; its fields after the name, k for a key of the kind and w for a word; those that
+    may follow, but for a set; and what it does to the entries."""
+
+    step: Callable
+    must: str
+    may: str = ""
+    does: str = LOOKS
+
+
+OPERATIONS = {
+    "Insert": Operation(insert, "k", "w", INSERTS),
+    "Add": Operation(add, "kw", "", INSERTS),
+    "Remove": Operation(remove, "k", "", REMOVES),
+    "Look": Operation(look, "k"),
+    "Count": Operation(count, "kk"),
+    "Nth": Operation(finds(Entries.nth), "w"),
+    "First": Operation(finds(Entries.first), "k"),
+    "Next": Operation(finds(Entries.next), "k"),
+    "Last": Operation(finds(Entries.last), "k"),
+    "Prev": Operation(finds(Entries.prev), "k"),
+    "FirstEmpty": Operation(misses(Entries.first_empty), "k"),
+    "NextEmpty": Operation(misses(Entries.next_empty), "k"),
+    "LastEmpty": Operation(misses(Entries.last_empty), "k"),
+    "PrevEmpty": Operation(misses(Entries.prev_empty), "k"),
+    "Free": Operation(free, "", "", FREES),
+}
+
+
+class Command(NamedTuple):
+    """What a word stands for: the kind of the array, the operation, and the readers of the fields after the
+    name: the required ones, and the optional ones."""
+
+    kind: str
+    operation: Operation
+    must: tuple
+    may: tuple
+
+
+def command_of(word, kind, name):
+    """The command of a word."""
+    if name not in OPERATIONS:
+        raise ValueError("tests/oracle.py has no step of the operation %s, which %s makes" % (name, word))
+    operation = OPERATIONS[name]
+    readers = {"k": {"Str": read_string, "Bytes": read_bytes}.get(kind, read_word), "w": read_word}
+    may = "" if kind == SET else operation.may
+    return Command(kind, operation, tuple(map(readers.get, operation.must)), tuple(map(readers.get, may)))
+
+
+COMMANDS = {word.encode(): command_of(word, *it) for word, it in commands.COMMANDS.items()}
+
+
+# ---- lines ----
 
 
 def read_line(line):
@@ -280,11 +380,11 @@ def read_line(line):
         return b"AUTH", (read_name(fields[1]), read_token(fields[2]))
     if len(fields) < 2 or fields[0] not in COMMANDS:
         raise Syntax
-    _, _, must, may = COMMANDS[fields[0]]
-    given = fields[2:]
-    if not len(must) <= len(given) <= len(must) + len(may):
+    command, given = COMMANDS[fields[0]], fields[2:]
+    readers = command.must + command.may
+    if not len(command.must) <= len(given) <= len(readers):
         raise Syntax
-    return fields[0], (read_name(fields[1]), *(read(field) for read, field in zip(must + may, given)))
+    return fields[0], (read_name(fields[1]), *(read(field) for read, field in zip(readers, given)))
 
 
 def text_of(key):
@@ -323,10 +423,11 @@ class Connection:
         owner, may_change = self.speaker
         if command == b"USED":
             return b"Q %d %d %d %d" % (owner.used, owner.tenant.quota, owner.pieces, owner.tenant.most)
-        if COMMANDS[command][1] in CHANGES and not may_change:
+        kind, operation, _, _ = COMMANDS[command]
+        if operation.does != LOOKS and not may_change:
             return b"ERR READONLY"
         try:
-            return answer_call(owner, command, *fields)
+            return operation.step(owner, kind, *fields)
         except Full:
             return b"FULL"
 
@@ -339,57 +440,3 @@ class Connection:
                 break
             written.append(self.answer(line) + b"\n")
         return b"".join(written)
-
-
-def answer_call(owner, command, name, *fields):
-    """The reply to a call of one of the owner's arrays. It may change the array."""
-    kind, call, _, _ = COMMANDS[command]
-    if call == "set":
-        return set_index(owner, kind, name, *fields)
-    if call == "insert":
-        return insert(owner, kind, name, *fields)
-    if call == "add":
-        return add(owner, kind, name, *fields)
-    if call == "remove":
-        return b"1" if owner.remove(kind, name, *fields) else b"0"
-    if call == "free":
-        return b"N %d" % owner.free(kind, name)
-    array = owner.array(kind, name)
-    if call == "test":
-        return b"1" if fields[0] in array.values else b"0"
-    if call == "get":
-        return b"V %d" % array.values[fields[0]] if fields[0] in array.values else b"NULL"
-    if call == "count":
-        return b"N %d" % array.count(*fields)
-    found = getattr(array, call)(*fields)
-    if kind == "J1" or call in GAPS:
-        return b"0" if found is None else b"1 %d" % found
-    return b"NULL" if found is None else b"V %d %s" % (array.values[found], text_of(found))
-
-
-def set_index(owner, kind, name, index):
-    """The reply to a Set of Judy1."""
-    if index in owner.array(kind, name).values:
-        return b"0"
-    owner.add(kind, name, index)
-    return b"1"
-
-
-def insert(owner, kind, name, key, value=None):
-    """The reply to an Insert: the value before, 0 for a new key. Then the given value is stored."""
-    if key not in owner.array(kind, name).values:
-        owner.add(kind, name, key)
-    values = owner.array(kind, name).values
-    before = values[key]
-    if value is not None:
-        values[key] = value
-    return b"V %d" % before
-
-
-def add(owner, kind, name, key, number):
-    """The reply to an addition: the new value, modulo 2^64. A new key counts as 0."""
-    if key not in owner.array(kind, name).values:
-        owner.add(kind, name, key)
-    values = owner.array(kind, name).values
-    values[key] = values[key] + number & GREATEST
-    return b"V %d" % values[key]

@@ -6,6 +6,7 @@ import sys
 from bisect import bisect_left
 from collections import namedtuple
 
+from commands import COMMANDS
 from disks import after, renumbered
 
 WORD = 2**64
@@ -40,16 +41,17 @@ class Arrays:
 
     def play(self, record):
         """Runs the line of a record."""
-        tenant, call, name, key, *more = record.split(b" ")
-        kind, letter, number = call[:-1], call[-1:], int(more[0]) if more else 0
-        if kind in (b"J1", b"JL"):
+        tenant, word, name, key, *more = record.split(b" ")
+        kind, operation = COMMANDS.get(word.decode(), (None, None))
+        number = int(more[0]) if more else 0
+        if kind in ("One", "Long"):
             key = int(key)
         place = (tenant, kind, name, key)
-        if letter in (b"U", b"D"):
+        if operation == "Remove":
             self.put(place, None)
-        elif letter == b"A":
+        elif operation == "Add":
             self.put(place, (self.entries.get(place, 0) + number) % WORD)
-        elif letter in (b"S", b"I"):
+        elif operation == "Insert":
             self.put(place, number)
         else:
             raise ValueError("a record of an unknown call: %r" % record[:100])

@@ -14,10 +14,12 @@ HERE = os.path.dirname(os.path.abspath(__file__))
 TOP = os.path.join(HERE, "..", "..")
 sys.path[:0] = [HERE, os.path.join(TOP, "tests")]
 
+import commands  # noqa: E402
 import harness  # noqa: E402
 import judyd  # noqa: E402
 from judyd import Client, Pool, Visitor, aio  # noqa: E402
 from judyd.calls import Judy1Calls, JudyHSCalls, JudyLCalls, JudySLCalls, is_query, is_same_twice  # noqa: E402
+from oracle import Store, Tenant  # noqa: E402
 
 
 class Hints(unittest.TestCase):
@@ -92,28 +94,63 @@ class Recorder:
         self.lines.append(line)
 
 
+class Answerer(Recorder):
+    """Answers each call as tests/oracle.py does, of arrays with a few entries, and keeps the lines, the replies and
+    what the client reads in them."""
+
+    ENTRIES = (b"J1S a 3", b"J1S a 7", b"JLI a 3 9", b"JLI a 7 0", b"JSLI a x6b 9", b"JSLI a x6b6b 0", b"JHSI a x6b 9", b"JHSI a x 0")
+
+    def __init__(self):
+        super().__init__()
+        self.read = []
+
+    def _ask(self, line, read, is_quiet=False):
+        connection = Store([Tenant("alice", "abc", 100)]).connect()
+        *_, reply = (connection.answer(it) for it in (b"AUTH alice abc", *self.ENTRIES, line))
+        self.lines.append(line)
+        self.read.append((reply, read(reply)))
+
+
+def meant(reply):
+    """What a reply means, as a method may return it. `1` and `0` are a truth, but `0` of a search is nothing."""
+    fields = [bytes.fromhex(it[1:].decode()) if it.startswith(b"x") else it if it.isalpha() else int(it) for it in reply.split(b" ")]
+    if fields[0] == b"NULL":
+        return (None,)
+    if fields[0] in (b"V", b"N"):
+        return ((fields[2], fields[1]) if len(fields) == 3 else fields[1],)
+    return (fields[1],) if len(fields) == 2 else (True,) if fields == [1] else (False, None)
+
+
 class Commands(unittest.TestCase):
     """The calls that the client makes, and those of the protocol."""
 
-    def made(self):
-        """A line of each method."""
-        recorder = Recorder()
-        for kind, key in ((Judy1Calls, None), (JudyLCalls, 1), (JudySLCalls, b"k"), (JudyHSCalls, b"k")):
-            array = kind(recorder, "a")
+    def made(self, asker, number=1, key=b"k"):
+        """The lines of each method, once more for each parameter that may be left out."""
+        for kind in (Judy1Calls, JudyLCalls, JudySLCalls, JudyHSCalls):
+            array = kind(asker, "a")
             for name, method in inspect.getmembers(array, inspect.ismethod):
                 if not name.startswith("_"):
-                    needed = [it.name for it in inspect.signature(method).parameters.values() if it.default is it.empty]
-                    method(*(key if it == "key" else 1 for it in needed))
-        return recorder.lines
+                    known = inspect.signature(method).parameters.values()
+                    fields = [key if it.name == "key" and kind in (JudySLCalls, JudyHSCalls) else number for it in known]
+                    for count in range(sum(it.default is it.empty for it in known), len(fields) + 1):
+                        method(*fields[:count])
+        return asker.lines
 
     def test_each_call_of_the_protocol_has_a_method(self):
-        with open(os.path.join(TOP, "crates", "judy_model", "specs", "Commands.antt"), encoding="utf-8") as file:
-            known = set(re.findall(r'\(codes "(J[A-Z0-9]+)", to ', file.read()))
-        self.assertGreaterEqual(len(known), 40)
-        self.assertEqual({line.split()[0].decode() for line in self.made()}, known)
+        self.assertEqual({line.split()[0].decode() for line in self.made(Recorder())}, set(commands.COMMANDS))
+
+    def test_each_method_reads_its_reply(self):
+        asker = Answerer()
+        for number, key in ((0, b""), (3, b"k"), (5, b"kj"), (7, b"kk"), (2**64 - 1, b"z")):
+            self.made(asker, number, key)
+        for line, (reply, result) in zip(asker.lines, asker.read):
+            wanted = [(type(it), it) for it in meant(reply)]
+            self.assertIn((type(result), result), wanted, (line, reply))
+        forms = {(line.split()[0].decode(), re.sub(rb"\d", b"", reply)[:2], reply[:1]) for line, (reply, _) in zip(asker.lines, asker.read)}
+        self.assertGreater(len(forms), 1.5 * len(commands.COMMANDS), "most words get each of their replies")
 
     def test_what_may_be_sent_twice(self):
-        for line in self.made():
+        for line in self.made(Recorder()):
             letters = re.sub("^(J1|JL|JSL|JHS)", "", line.split()[0].decode())
             self.assertEqual((line, is_query(line)), (line, letters not in ("S", "U", "I", "D", "A", "FA")))
             self.assertEqual((line, is_same_twice(line)), (line, letters != "A"))

@@ -19,6 +19,7 @@ from .fields import (
     plain_steps, plain_words, step_field, value_of, value_or_none, word_field,
 )  # fmt: skip
 from .lines import FormedLines, Lines
+from .words import COMMANDS
 
 K = TypeVar("K")
 Yes = TypeVar("Yes", covariant=True)
@@ -29,8 +30,10 @@ Item = TypeVar("Item", covariant=True)
 Plain = Callable[[Sequence[Any]], Optional[Sequence[int]]]
 """Checks many numbers at once."""
 
-_QUERY = re.compile(rb"(?:J1|JL|JSL|JHS)(?:T|G|C|BC|[FNLP]E?) |(?:USED|PING|HELLO)$|AUTH ")
-_CHANGE = re.compile(rb"(?:J1|JL|JSL|JHS)(?:S|U|I|D|FA) ")
+_LOOKS = "|".join(word for word, command in COMMANDS.items() if command.does == "looks")
+_SAME_TWICE = "|".join(word for word, command in COMMANDS.items() if command.operation in ("Insert", "Remove", "Free"))
+_QUERY = re.compile(("(?:%s) |(?:USED|PING|HELLO)$|AUTH " % _LOOKS).encode())
+_CHANGE = re.compile(("(?:%s) " % _SAME_TWICE).encode())
 
 
 def is_query(line: bytes) -> bool:

@@ -6,6 +6,8 @@ from difflib import get_close_matches
 from typing import Dict, List, Match, NamedTuple, Optional, Tuple
 
 from .fields import KEY_LIMIT, LINE_LIMIT, MAX
+from .words import COMMANDS as COMMANDS_OF_ARRAYS
+from .words import Command
 
 _QUOTED = re.compile(r'(?<!\S)"((?:[^"\\]|\\.)*)"(?!\S)')
 _ESCAPE = re.compile(rb"\\(x[0-9A-Fa-f]{2}|.)", re.DOTALL)
@@ -30,68 +32,73 @@ class Call(NamedTuple):
         return " ".join([self.word, *self.fields[: self.least], *optional])
 
 
-_INDEX = {
-    "First": ("F", "the least %s from this one on"),
-    "Next": ("N", "the least %s above this one"),
-    "Last": ("L", "the greatest %s up to this one"),
-    "Prev": ("P", "the greatest %s below this one"),
+_EMPTY = "1 i, or 0 if there is none"
+_OF_SETS = {
+    "Insert": ("Set", "inserts an index: 1 if it was absent, 0 if present; FULL if the quota has no room"),
+    "Remove": ("Unset", "removes an index: 1 if it was present, 0 if not"),
+    "Look": ("Test", "1 if the index is present, 0 if not"),
 }
-_KINDS = (("Judy1", "J1", "i"), ("JudyL", "JL", "i"), ("JudySL", "JSL", "key"), ("JudyHS", "JHS", "key"))
-_THING = {"J1": "index", "JL": "index", "JSL": "string", "JHS": "key"}
+_OPERATIONS = {
+    "Insert": ("Ins", "inserts a {thing} and stores v, if given: V and the value before, 0 for a new {thing}; FULL if the quota has no room"),
+    "Remove": ("Del", "removes a {thing}: 1 if it was present, 0 if not"),
+    "Look": ("Get", "V and the value, or NULL if the {thing} is absent"),
+    "Add": ("Add", "adds n to the value, modulo 2^64: V and the value afterwards; an absent {thing} counts as 0 and becomes new; FULL if the quota has no room"),
+    "Count": ("Count", "N and the number of {plural} from the first to the second, both included"),
+    "Nth": ("ByCount", "the n-th {thing}, counted from 1: {found}"),
+    "First": ("First", "the least {thing} from this one on: {found}"),
+    "Next": ("Next", "the least {thing} above this one: {found}"),
+    "Last": ("Last", "the greatest {thing} up to this one: {found}"),
+    "Prev": ("Prev", "the greatest {thing} below this one: {found}"),
+    "FirstEmpty": ("FirstEmpty", "the least absent {thing} from this one on: " + _EMPTY),
+    "NextEmpty": ("NextEmpty", "the least absent {thing} above this one: " + _EMPTY),
+    "LastEmpty": ("LastEmpty", "the greatest absent {thing} up to this one: " + _EMPTY),
+    "PrevEmpty": ("PrevEmpty", "the greatest absent {thing} below this one: " + _EMPTY),
+    "Free": ("FreeArray", "empties the array: N and the number of entries it had"),
+}
+_THINGS = {"Judy1": ("index", "indexes", "i"), "JudyL": ("index", "indexes", "i"), "JudySL": ("string", "strings", "key"), "JudyHS": ("key", "keys", "key")}
 
 
-def _calls_of(kind: str, prefix: str, key: str) -> List[Call]:
-    """The calls of a kind of array."""
-    thing = _THING[prefix]
-    found = "1 i, or 0 if there is none" if prefix == "J1" else "V v %s, or NULL if there is none" % key
-    calls = []
-
-    def call(name: str, letters: str, fields: str, what: str, optional: int = 0) -> None:
-        all_fields = ("name", *fields.split())
-        calls.append(Call(prefix + letters, kind + name, all_fields, len(all_fields) - optional, what))
-
-    if prefix == "J1":
-        call("Set", "S", "i", "inserts an index: 1 if it was absent, 0 if present; FULL if the quota has no room")
-        call("Unset", "U", "i", "removes an index: 1 if it was present, 0 if not")
-        call("Test", "T", "i", "1 if the index is present, 0 if not")
-    else:
-        what = "inserts a %s and stores v, if given: V and the value before, 0 for a new %s; FULL if the quota has no room"
-        call("Ins", "I", key + " v", what % (thing, thing), optional=1)
-        call("Del", "D", key, "removes a %s: 1 if it was present, 0 if not" % thing)
-        call("Get", "G", key, "V and the value, or NULL if the %s is absent" % thing)
-        more = "adds n to the value, modulo 2^64: V and the value afterwards; an absent %s counts as 0 and becomes new; FULL if the quota has no room"
-        call("Add", "A", key + " n", more % thing)
-    if key == "i":
-        call("Count", "C", "i i", "N and the number of indexes from the first to the second, both included")
-        call("ByCount", "BC", "n", "the n-th index, counted from 1: " + found)
-    if prefix != "JHS":
-        for name, (letters, what) in _INDEX.items():
-            call(name, letters, key, what % thing + ": " + found)
-    if key == "i":
-        for name, (letters, what) in _INDEX.items():
-            call(name + "Empty", letters + "E", "i", what % "absent index" + ": 1 i, or 0 if there is none")
-    call("FreeArray", "FA", "", "empties the array: N and the number of entries it had")
-    return calls
+def said_of(kind: str, operation: str) -> Tuple[str, str]:
+    """The name of an operation of a kind in the manual, without the kind, and what it does."""
+    return (_OF_SETS if kind == "Judy1" and operation in _OF_SETS else _OPERATIONS)[operation]
 
 
-_OTHERS = [
+def _call_of(word: str, command: Command) -> Call:
+    """The call of a command."""
+    name, what = said_of(command.kind, command.operation)
+    thing, plural, field = _THINGS[command.kind]
+    found = _EMPTY if command.kind == "Judy1" else "V v %s, or NULL if there is none" % field
+    fields = ("name", *command.fields.split())
+    least = sum(not it.startswith("[") for it in fields)
+    return Call(word, command.kind + name, tuple(it.strip("[]") for it in fields), least, what.format(thing=thing, plural=plural, found=found))
+
+
+def _help_of_kind(kind: str) -> str:
+    """The letters of the calls of a kind, by their fields."""
+    prefix = re.sub("udy", "", kind)
+    by_fields: Dict[str, List[str]] = {}
+    for word, command in COMMANDS_OF_ARRAYS.items():
+        if command.kind == kind:
+            by_fields.setdefault(command.fields, []).append(word[len(prefix) :])
+    return "%-4s" % prefix + "  ".join("%s (%s)" % (" ".join(letters), ("name " + fields).rstrip()) for fields, letters in by_fields.items())
+
+
+OTHERS = [
     Call("AUTH", "", ("tenant", "token"), 2, "logs in: OK, or ERR AUTH or ERR CLIENTS, after which nobody is logged in"),
     Call("USED", "", (), 0, "Q used quota pieces most: entries and pieces, each with its quota"),
     Call("QUIT", "", (), 0, "BYE, and the connection ends"),
     Call("PING", "", (), 0, "OK, without a log-in too"),
     Call("HELLO", "", (), 0, "JUDYD, the version of the protocol, and the most bytes of a line, a reply, a name, a token and a key"),
 ]
-CALLS: Dict[str, Call] = {call.word: call for kind in _KINDS for call in _calls_of(*kind)}
-WORDS: Dict[str, Call] = {**CALLS, **{call.word: call for call in _OTHERS}}
+CALLS: Dict[str, Call] = {word: _call_of(word, command) for word, command in COMMANDS_OF_ARRAYS.items()}
+WORDS: Dict[str, Call] = {**CALLS, **{call.word: call for call in OTHERS}}
 LONG_NAMES = {call.name: call.word for call in CALLS.values()}
 COMMANDS = sorted([*LONG_NAMES, *WORDS])
 HELP = """Lines of the protocol, one reply each; help and a word describes one, as help J1S:
-  J1  S U T (name index)  C (name low high)  BC (name n)  F N L P FE NE LE PE (name index)  FA (name)
-  JL  I (name index [value])  A (name index n)  D G (name index)  C BC F N L P FE NE LE PE FA as above
-  JSL I (name key [value])  A (name key n)  D G F N L P (name key)  FA        JHS I A D G FA
+%s
   USED   AUTH tenant token   QUIT   PING   HELLO
 A word is a decimal number up to 18446744073709551615, or -1 for that number. A key is x and hexadecimal digits, or a "text".
-The manual's names work too, as Judy1Set for J1S. At a terminal Tab completes, and help, ?, exit and quit work."""
+The manual's names work too, as Judy1Set for J1S. At a terminal Tab completes, and help, ?, exit and quit work.""" % "\n".join("  " + _help_of_kind(kind) for kind in _THINGS)
 
 
 def help_of(word: str) -> str:

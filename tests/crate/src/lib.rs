@@ -2,6 +2,8 @@
 //! checks of `rt try`, and runs each. A module has the tests of some crates.
 
 #[cfg(test)]
+mod calls;
+#[cfg(test)]
 mod checks;
 #[cfg(test)]
 mod journal;

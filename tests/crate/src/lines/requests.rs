@@ -1,119 +1,156 @@
 //! Lines of each request, and lines that are no request.
-use crate::checks::{holds, same, same_at};
-use crate::lines::asks::{Ask, call_of, name};
+use crate::calls::{Fields, OF_KEYS, OF_SETS, OF_STRINGS, OF_WORDS, Row, bytes, long, one, string};
+use crate::checks::{holds, holds_at, same, same_at};
+use crate::lines::asks::name;
 use arrayvec::ArrayVec;
-use judy_model::{Call, Given, KEY_LIMIT, Line, LongCall, OneCall, Token};
+use judy_model::{
+    BytesCall, COMMANDS, Call, Given, KEY_LIMIT, Key, Line, LongCall, Name, OneCall, StrCall,
+    Token, command_word,
+};
 use judy_protocol::{Syntax, read_line};
+use std::alloc::{AllocError, Global};
 use std::process::Abort;
 use std::test::Fail;
 
-/// A line, and the call that it asks for.
-type Row = (&'static [u8], Ask);
+/// The fields of the lines below: an index and a number, or a key and a number.
+const FIELDS: Fields = Fields {
+    index: 5,
+    key: b"\x61\xff",
+    number: 7,
+    stores: true,
+};
 
-/// Reads the line of each row, whose call is of the array of this name.
-fn compare(rt: &impl Abort, array: &str, rows: &[Row]) {
-    let mut room = [0; KEY_LIMIT];
-    for (line, ask) in rows {
-        let want = Line::Call(call_of(array, *ask));
-        same_at(rt, read_line(line, &mut room), Ok(want), line);
+/// The line of a command, of the array `A_b-9.z`, whose fields are these.
+fn line_of(
+    alloc: Global,
+    (word, operation, _): Row,
+    fields: Fields,
+    key: &str,
+) -> Result<String, AllocError> {
+    match fields.count(operation) {
+        0 => format!(in alloc; "{word} A_b-9.z"),
+        1 => format!(in alloc; "{word} A_b-9.z {key}"),
+        _ => format!(in alloc; "{word} A_b-9.z {key} 7"),
     }
 }
 
-static OF_A_SET: [Row; 14] = [
-    (b"J1S a 5", Ask::Set(OneCall::Set(5))),
-    (b"J1U a 5", Ask::Set(OneCall::Unset(5))),
-    (b"J1T a 005", Ask::Set(OneCall::Test(5))),
-    (b"J1C a 0 -1", Ask::Set(OneCall::Count(0, u64::MAX))),
-    (b"J1BC a 0", Ask::Set(OneCall::ByCount(0))),
-    (b"J1F a 1", Ask::Set(OneCall::First(1))),
-    (b"J1N a 1", Ask::Set(OneCall::Next(1))),
-    (
-        b"J1L a 18446744073709551615",
-        Ask::Set(OneCall::Last(u64::MAX)),
-    ),
-    (b"J1P a 00000000000000000001", Ask::Set(OneCall::Prev(1))),
-    (b"J1FE a 1", Ask::Set(OneCall::FirstEmpty(1))),
-    (b"J1NE a 1", Ask::Set(OneCall::NextEmpty(1))),
-    (b"J1LE a 1", Ask::Set(OneCall::LastEmpty(1))),
-    (b"J1PE  a   1 ", Ask::Set(OneCall::PrevEmpty(1))),
-    (b"   J1FA a", Ask::Set(OneCall::Free)),
-];
-
-#[test]
-fn each_request_of_a_set(rt: HostRuntime) {
-    compare(&rt, "a", &OF_A_SET);
+/// The line of a command is read as its call, and with a field more it is no request.
+fn compare(rt: &impl Abort, alloc: Global, line: &str, want: Call<'_>) -> Result<(), Fail> {
+    let mut room = [0; KEY_LIMIT];
+    same_at(
+        rt,
+        read_line(line.as_bytes(), &mut room),
+        Ok(Line::Call(want)),
+        line,
+    );
+    let more = format!(in alloc; "{line} 7 7")?;
+    same_at(rt, read_line(more.as_bytes(), &mut room), Err(Syntax), line);
+    Ok(())
 }
 
-static OF_A_WORD_MAP: [Row; 16] = [
-    (
-        b"JLI A_b-9.z 5",
-        Ask::Map(LongCall::Insert(5, Given::Nothing)),
-    ),
-    (
-        b"JLI A_b-9.z 5 7",
-        Ask::Map(LongCall::Insert(5, Given::Value(7))),
-    ),
-    (
-        b"JLA A_b-9.z 5 -1",
-        Ask::Map(LongCall::Insert(5, Given::Plus(u64::MAX))),
-    ),
-    (b"JLD A_b-9.z 5", Ask::Map(LongCall::Delete(5))),
-    (b"JLG A_b-9.z 5", Ask::Map(LongCall::Get(5))),
-    (b"JLC A_b-9.z 5 6", Ask::Map(LongCall::Count(5, 6))),
-    (b"JLBC A_b-9.z 5", Ask::Map(LongCall::ByCount(5))),
-    (b"JLF A_b-9.z 5", Ask::Map(LongCall::First(5))),
-    (b"JLN A_b-9.z 5", Ask::Map(LongCall::Next(5))),
-    (b"JLL A_b-9.z 5", Ask::Map(LongCall::Last(5))),
-    (b"JLP A_b-9.z 5", Ask::Map(LongCall::Prev(5))),
-    (b"JLFE A_b-9.z 5", Ask::Map(LongCall::FirstEmpty(5))),
-    (b"JLNE A_b-9.z 5", Ask::Map(LongCall::NextEmpty(5))),
-    (b"JLLE A_b-9.z 5", Ask::Map(LongCall::LastEmpty(5))),
-    (b"JLPE A_b-9.z 5", Ask::Map(LongCall::PrevEmpty(5))),
-    (b"JLFA A_b-9.z", Ask::Map(LongCall::Free)),
-];
-
-#[test]
-fn each_request_of_a_word_map(rt: HostRuntime) {
-    compare(&rt, "A_b-9.z", &OF_A_WORD_MAP);
+/// The name of the arrays.
+fn array() -> Name {
+    name("A_b-9.z")
 }
 
-const KEY: &[u8] = b"\x61\xff";
+#[test]
+fn each_request_of_a_set(rt: HostRuntime) -> Result<(), Fail> {
+    for row in &OF_SETS {
+        let fields = Fields {
+            stores: false,
+            ..FIELDS
+        };
+        let call = one(row.1, fields).ok_or("a call of a set")?;
+        let line = line_of(rt.alloc(), *row, fields, "5")?;
+        compare(&rt, rt.alloc(), line.as_str(), Call::One(array(), call))?;
+    }
+    Ok(())
+}
 
-static OF_STRINGS: [Row; 10] = [
-    (b"JSLI s x61fF", Ask::InsertString(KEY, Given::Nothing)),
-    (b"JSLI s x61FF 8", Ask::InsertString(KEY, Given::Value(8))),
-    (b"JSLA s x61FF 8", Ask::InsertString(KEY, Given::Plus(8))),
-    (b"JSLD s x61ff", Ask::DeleteString(KEY)),
-    (b"JSLG s x61ff", Ask::GetString(KEY)),
-    (b"JSLF s x", Ask::FirstString(b"")),
-    (b"JSLN s x61ff", Ask::NextString(KEY)),
-    (b"JSLL s x61ff", Ask::LastString(KEY)),
-    (b"JSLP s x61ff", Ask::PrevString(KEY)),
-    (b"JSLFA s", Ask::FreeStrings),
-];
+#[test]
+fn each_request_of_a_word_map(rt: HostRuntime) -> Result<(), Fail> {
+    for row in &OF_WORDS {
+        for stores in [false, true] {
+            let fields = Fields { stores, ..FIELDS };
+            let call = long(row.1, fields).ok_or("a call of a JudyL")?;
+            let line = line_of(rt.alloc(), *row, fields, "5")?;
+            compare(&rt, rt.alloc(), line.as_str(), Call::Long(array(), call))?;
+        }
+    }
+    Ok(())
+}
 
-static OF_BYTE_KEYS: [Row; 6] = [
-    (
-        b"JHSI s x00fe",
-        Ask::InsertBytes(b"\x00\xfe", Given::Nothing),
-    ),
-    (
-        b"JHSI s x00fe 8",
-        Ask::InsertBytes(b"\x00\xfe", Given::Value(8)),
-    ),
-    (
-        b"JHSA s x00fe 8",
-        Ask::InsertBytes(b"\x00\xfe", Given::Plus(8)),
-    ),
-    (b"JHSD s x00fe", Ask::DeleteBytes(b"\x00\xfe")),
-    (b"JHSG s x", Ask::GetBytes(b"")),
-    (b"JHSFA s", Ask::FreeBytes),
+#[test]
+fn each_request_of_keys(rt: HostRuntime) -> Result<(), Fail> {
+    for stores in [false, true] {
+        let fields = Fields { stores, ..FIELDS };
+        for row in &OF_STRINGS {
+            let call = string(row.1, fields).ok_or("a call of a JudySL")?;
+            let line = line_of(rt.alloc(), *row, fields, "x61fF")?;
+            compare(&rt, rt.alloc(), line.as_str(), Call::Str(array(), call))?;
+        }
+        for row in &OF_KEYS {
+            let call = bytes(row.1, fields).ok_or("a call of a JudyHS")?;
+            let line = line_of(rt.alloc(), *row, fields, "x61FF")?;
+            compare(&rt, rt.alloc(), line.as_str(), Call::Bytes(array(), call))?;
+        }
+    }
+    Ok(())
+}
+
+/// Whether the rows have this word.
+fn has(rows: &[Row], word: &str) -> bool {
+    rows.iter().any(|row| row.0 == word)
+}
+
+#[test]
+fn each_command_has_a_row(rt: HostRuntime) {
+    for place in 0..COMMANDS {
+        let word = command_word(place);
+        holds_at(
+            &rt,
+            has(&OF_SETS, word)
+                || has(&OF_WORDS, word)
+                || has(&OF_STRINGS, word)
+                || has(&OF_KEYS, word),
+            word,
+        );
+    }
+    let rows = OF_SETS.len() + OF_WORDS.len() + OF_STRINGS.len() + OF_KEYS.len();
+    same(&rt, rows, COMMANDS);
+}
+
+/// Other spellings of numbers, and spaces.
+static OF_A_SET: [(&[u8], OneCall); 7] = [
+    (b"J1T a 005", OneCall::Test(5)),
+    (b"J1C a 0 -1", OneCall::Count(0, u64::MAX)),
+    (b"J1BC a 0", OneCall::ByCount(0)),
+    (b"J1L a 18446744073709551615", OneCall::Last(u64::MAX)),
+    (b"J1P a 00000000000000000001", OneCall::Prev(1)),
+    (b"J1PE  a   1 ", OneCall::PrevEmpty(1)),
+    (b"   J1FA a", OneCall::Free),
 ];
 
 #[test]
-fn each_request_of_keys(rt: HostRuntime) {
-    compare(&rt, "s", &OF_STRINGS);
-    compare(&rt, "s", &OF_BYTE_KEYS);
+fn spellings_of_requests(rt: HostRuntime) -> Result<(), Fail> {
+    let mut room = [0; KEY_LIMIT];
+    for (line, call) in &OF_A_SET {
+        let want = Line::Call(Call::One(name("a"), *call));
+        same_at(&rt, read_line(line, &mut room), Ok(want), line);
+    }
+    let plus = LongCall::Insert(5, Given::Plus(u64::MAX));
+    let want = Line::Call(Call::Long(name("a"), plus));
+    same(&rt, read_line(b"JLA a 5 -1", &mut room), Ok(want));
+    let string = StrCall::First(Key::of(b""));
+    let want = Line::Call(Call::Str(name("s"), string));
+    same(&rt, read_line(b"JSLF s x", &mut room), Ok(want));
+    let bytes = BytesCall::Insert(Key::of(b"\x00\xfe"), Given::Nothing);
+    let want = Line::Call(Call::Bytes(name("s"), bytes));
+    same(&rt, read_line(b"JHSI s x00fe", &mut room), Ok(want));
+    let bytes = BytesCall::Get(Key::of(b""));
+    let want = Line::Call(Call::Bytes(name("s"), bytes));
+    same(&rt, read_line(b"JHSG s x", &mut room), Ok(want));
+    Ok(())
 }
 
 #[test]
@@ -207,7 +244,8 @@ const LONGEST_KEY: &[u8] = &[10; 1000];
 #[test]
 fn the_longest_key(rt: HostRuntime) {
     let mut room = [0; KEY_LIMIT];
-    let want = Line::Call(call_of("s", Ask::GetBytes(LONGEST_KEY)));
+    let longest = BytesCall::Get(Key::of(LONGEST_KEY));
+    let want = Line::Call(Call::Bytes(name("s"), longest));
     let line = line_of_key(&rt, 1000);
     same(&rt, read_line(line.as_slice(), &mut room), Ok(want));
 }

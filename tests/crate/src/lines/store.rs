@@ -1,13 +1,12 @@
 //! Worked rows: calls of one tenant, each with the reply that it should give.
 use crate::checks::{same, same_at};
-use crate::lines::asks::{Ask, Want, call_of, reply_of};
+use crate::lines::asks::{Want, call_of, name, reply_of};
 use arrayvec::ArrayVec;
-use judy_model::{
-    Call, ENTRY_PIECES_LIMIT, Given, KEY_LIMIT, LongCall, OneCall, Quota, Reply, Right,
-};
+use judy_model::{Call, ENTRY_PIECES_LIMIT, KEY_LIMIT, OneCall, Quota, Reply, Right};
 use judy_reference::Store;
 use std::alloc::Global;
 use std::process::Abort;
+use std::test::Fail;
 
 const MAX: u64 = 18446744073709551615;
 
@@ -50,300 +49,255 @@ impl Tenant {
     }
 }
 
-/// Asks for each row in turn under a right, and compares the reply.
-fn compare_under(rt: &impl Abort, tenant: &mut Tenant, right: Right, rows: &[(Ask, Want)]) {
-    for (ask, want) in rows {
-        let call = call_of("a", *ask);
+/// Asks for the line of each row in turn under a right, and compares the reply.
+fn compare_under(
+    rt: &impl Abort,
+    tenant: &mut Tenant,
+    right: Right,
+    rows: &[(&str, Want)],
+) -> Result<(), Fail> {
+    for (line, want) in rows {
+        let mut room = [0; KEY_LIMIT];
+        let call = call_of(line, &mut room)?;
         same_at(rt, tenant.ask(right, &call), reply_of(*want), call);
     }
+    Ok(())
 }
 
 /// The same with the right to change.
-fn compare(rt: &impl Abort, tenant: &mut Tenant, rows: &[(Ask, Want)]) {
-    compare_under(rt, tenant, Right::Change, rows);
+fn compare(rt: &impl Abort, tenant: &mut Tenant, rows: &[(&str, Want)]) -> Result<(), Fail> {
+    compare_under(rt, tenant, Right::Change, rows)
 }
 
-static OF_EMPTY_ARRAYS: [(Ask, Want); 4] = [
-    (Ask::Set(OneCall::Count(0, MAX)), Want::Count(0)),
-    (Ask::Set(OneCall::FirstEmpty(0)), Want::Index(0)),
-    (Ask::Map(LongCall::Get(0)), Want::Null),
-    (Ask::Set(OneCall::Free), Want::Count(0)),
+static OF_EMPTY_ARRAYS: [(&str, Want); 4] = [
+    ("J1C a 0 -1", Want::Count(0)),
+    ("J1FE a 0", Want::Index(0)),
+    ("JLG a 0", Want::Null),
+    ("J1FA a", Want::Count(0)),
 ];
 
 #[test]
-fn empty_arrays(rt: HostRuntime) {
-    compare(&rt, &mut Tenant::new(rt.alloc(), 4), &OF_EMPTY_ARRAYS);
+fn empty_arrays(rt: HostRuntime) -> Result<(), Fail> {
+    compare(&rt, &mut Tenant::new(rt.alloc(), 4), &OF_EMPTY_ARRAYS)?;
+    Ok(())
 }
 
-static AT_ENDS_OF_THE_RANGE: [(Ask, Want); 9] = [
-    (Ask::Set(OneCall::Set(0)), Want::Int(true)),
-    (Ask::Set(OneCall::Set(MAX)), Want::Int(true)),
-    (
-        Ask::Set(OneCall::Next(0)),
-        Want::Index(18446744073709551615),
-    ),
-    (Ask::Set(OneCall::Next(MAX)), Want::Int(false)),
-    (Ask::Set(OneCall::Prev(0)), Want::Int(false)),
-    (
-        Ask::Set(OneCall::LastEmpty(MAX)),
-        Want::Index(18446744073709551614),
-    ),
-    (Ask::Set(OneCall::PrevEmpty(0)), Want::Int(false)),
-    (Ask::Set(OneCall::NextEmpty(MAX)), Want::Int(false)),
-    (Ask::Set(OneCall::Count(0, MAX)), Want::Count(2)),
+static AT_ENDS_OF_THE_RANGE: [(&str, Want); 9] = [
+    ("J1S a 0", Want::Int(true)),
+    ("J1S a -1", Want::Int(true)),
+    ("J1N a 0", Want::Index(18446744073709551615)),
+    ("J1N a -1", Want::Int(false)),
+    ("J1P a 0", Want::Int(false)),
+    ("J1LE a -1", Want::Index(18446744073709551614)),
+    ("J1PE a 0", Want::Int(false)),
+    ("J1NE a -1", Want::Int(false)),
+    ("J1C a 0 -1", Want::Count(2)),
 ];
 
 #[test]
-fn ends_of_the_range(rt: HostRuntime) {
-    compare(&rt, &mut Tenant::new(rt.alloc(), 4), &AT_ENDS_OF_THE_RANGE);
+fn ends_of_the_range(rt: HostRuntime) -> Result<(), Fail> {
+    compare(&rt, &mut Tenant::new(rt.alloc(), 4), &AT_ENDS_OF_THE_RANGE)?;
+    Ok(())
 }
 
-static AT_EDGE_OF_THE_QUOTA: [(Ask, Want); 10] = [
-    (Ask::Set(OneCall::Set(1)), Want::Int(true)),
-    (Ask::Set(OneCall::Set(2)), Want::Int(true)),
-    (Ask::Set(OneCall::Set(3)), Want::Int(true)),
-    (Ask::Set(OneCall::Set(4)), Want::Int(true)),
-    (Ask::Set(OneCall::Set(9)), Want::Full),
-    (Ask::Set(OneCall::Set(1)), Want::Int(false)),
-    (Ask::Map(LongCall::Insert(1, Given::Value(7))), Want::Full),
-    (Ask::Set(OneCall::Unset(1)), Want::Int(true)),
-    (
-        Ask::Map(LongCall::Insert(1, Given::Value(7))),
-        Want::Value(0),
-    ),
-    (Ask::Used, Want::Used(4, 4, 4, 504)),
+static AT_EDGE_OF_THE_QUOTA: [(&str, Want); 10] = [
+    ("J1S a 1", Want::Int(true)),
+    ("J1S a 2", Want::Int(true)),
+    ("J1S a 3", Want::Int(true)),
+    ("J1S a 4", Want::Int(true)),
+    ("J1S a 9", Want::Full),
+    ("J1S a 1", Want::Int(false)),
+    ("JLI a 1 7", Want::Full),
+    ("J1U a 1", Want::Int(true)),
+    ("JLI a 1 7", Want::Value(0)),
+    ("USED", Want::Used(4, 4, 4, 504)),
 ];
 
 #[test]
-fn edge_of_the_quota(rt: HostRuntime) {
+fn edge_of_the_quota(rt: HostRuntime) -> Result<(), Fail> {
     let mut alice = Tenant::new(rt.alloc(), 4);
-    compare(&rt, &mut alice, &AT_EDGE_OF_THE_QUOTA);
+    compare(&rt, &mut alice, &AT_EDGE_OF_THE_QUOTA)?;
     same(&rt, alice.store.used(), 4);
+    Ok(())
 }
 
-static WITH_QUOTA_ZERO: [(Ask, Want); 4] = [
-    (Ask::Set(OneCall::Set(1)), Want::Full),
-    (Ask::Set(OneCall::Unset(1)), Want::Int(false)),
-    (Ask::Set(OneCall::FirstEmpty(0)), Want::Index(0)),
-    (Ask::Used, Want::Used(0, 0, 0, 0)),
+static WITH_QUOTA_ZERO: [(&str, Want); 4] = [
+    ("J1S a 1", Want::Full),
+    ("J1U a 1", Want::Int(false)),
+    ("J1FE a 0", Want::Index(0)),
+    ("USED", Want::Used(0, 0, 0, 0)),
 ];
 
 #[test]
-fn quota_zero(rt: HostRuntime) {
-    compare(&rt, &mut Tenant::new(rt.alloc(), 0), &WITH_QUOTA_ZERO);
+fn quota_zero(rt: HostRuntime) -> Result<(), Fail> {
+    compare(&rt, &mut Tenant::new(rt.alloc(), 0), &WITH_QUOTA_ZERO)?;
+    Ok(())
 }
 
-static RANKS: [(Ask, Want); 9] = [
-    (Ask::Set(OneCall::Set(9)), Want::Int(true)),
-    (Ask::Set(OneCall::Set(3)), Want::Int(true)),
-    (Ask::Set(OneCall::Set(5)), Want::Int(true)),
-    (Ask::Set(OneCall::Count(9, 3)), Want::Count(0)),
-    (Ask::Set(OneCall::Count(3, 9)), Want::Count(3)),
-    (Ask::Set(OneCall::ByCount(0)), Want::Int(false)),
-    (Ask::Set(OneCall::ByCount(1)), Want::Index(3)),
-    (Ask::Set(OneCall::ByCount(3)), Want::Index(9)),
-    (Ask::Set(OneCall::ByCount(4)), Want::Int(false)),
+static RANKS: [(&str, Want); 9] = [
+    ("J1S a 9", Want::Int(true)),
+    ("J1S a 3", Want::Int(true)),
+    ("J1S a 5", Want::Int(true)),
+    ("J1C a 9 3", Want::Count(0)),
+    ("J1C a 3 9", Want::Count(3)),
+    ("J1BC a 0", Want::Int(false)),
+    ("J1BC a 1", Want::Index(3)),
+    ("J1BC a 3", Want::Index(9)),
+    ("J1BC a 4", Want::Int(false)),
 ];
 
 #[test]
-fn ranks(rt: HostRuntime) {
-    compare(&rt, &mut Tenant::new(rt.alloc(), 4), &RANKS);
+fn ranks(rt: HostRuntime) -> Result<(), Fail> {
+    compare(&rt, &mut Tenant::new(rt.alloc(), 4), &RANKS)?;
+    Ok(())
 }
 
-static OF_SHARED_BYTES: [(Ask, Want); 4] = [
-    (Ask::Set(OneCall::Test(31)), Want::Int(false)),
-    (Ask::Set(OneCall::First(0)), Want::Index(4096)),
-    (Ask::Set(OneCall::Count(0, 4111)), Want::Count(16)),
-    (Ask::Set(OneCall::Last(4095)), Want::Int(false)),
+static OF_SHARED_BYTES: [(&str, Want); 4] = [
+    ("J1T a 31", Want::Int(false)),
+    ("J1F a 0", Want::Index(4096)),
+    ("J1C a 0 4111", Want::Count(16)),
+    ("J1L a 4095", Want::Int(false)),
 ];
 
 #[test]
-fn shared_bytes(rt: HostRuntime) {
+fn shared_bytes(rt: HostRuntime) -> Result<(), Fail> {
     let mut bob = Tenant::new(rt.alloc(), 1000);
     for index in 4096..4128 {
-        compare(
-            &rt,
-            &mut bob,
-            &[(Ask::Set(OneCall::Set(index)), Want::Int(true))],
-        );
+        let reply = bob.ask(Right::Change, &Call::One(name("a"), OneCall::Set(index)));
+        same_at(&rt, reply, Reply::Int(true), index);
     }
-    compare(&rt, &mut bob, &OF_SHARED_BYTES);
+    compare(&rt, &mut bob, &OF_SHARED_BYTES)?;
+    Ok(())
 }
 
-static AT_TOP_OF_THE_RANGE: [(Ask, Want); 4] = [
-    (Ask::Set(OneCall::Count(0, MAX)), Want::Count(256)),
-    (
-        Ask::Set(OneCall::FirstEmpty(18446744073709551360)),
-        Want::Int(false),
-    ),
-    (
-        Ask::Set(OneCall::NextEmpty(18446744073709551359)),
-        Want::Int(false),
-    ),
-    (
-        Ask::Set(OneCall::LastEmpty(MAX)),
-        Want::Index(18446744073709551359),
-    ),
+static AT_TOP_OF_THE_RANGE: [(&str, Want); 4] = [
+    ("J1C a 0 -1", Want::Count(256)),
+    ("J1FE a 18446744073709551360", Want::Int(false)),
+    ("J1NE a 18446744073709551359", Want::Int(false)),
+    ("J1LE a -1", Want::Index(18446744073709551359)),
 ];
 
 #[test]
-fn top_of_the_range(rt: HostRuntime) {
+fn top_of_the_range(rt: HostRuntime) -> Result<(), Fail> {
     let mut bob = Tenant::new(rt.alloc(), 1000);
     for below in 0..256 {
-        compare(
-            &rt,
-            &mut bob,
-            &[(Ask::Set(OneCall::Set(MAX - below)), Want::Int(true))],
-        );
+        let call = Call::One(name("a"), OneCall::Set(MAX - below));
+        same_at(&rt, bob.ask(Right::Change, &call), Reply::Int(true), call);
     }
-    compare(&rt, &mut bob, &AT_TOP_OF_THE_RANGE);
+    compare(&rt, &mut bob, &AT_TOP_OF_THE_RANGE)?;
+    Ok(())
 }
 
-static VALUES: [(Ask, Want); 11] = [
-    (
-        Ask::Map(LongCall::Insert(5, Given::Value(8))),
-        Want::Value(0),
-    ),
-    (
-        Ask::Map(LongCall::Insert(5, Given::Nothing)),
-        Want::Value(8),
-    ),
-    (
-        Ask::Map(LongCall::Insert(5, Given::Value(9))),
-        Want::Value(8),
-    ),
-    (
-        Ask::Map(LongCall::Insert(5, Given::Plus(MAX))),
-        Want::Value(8),
-    ),
-    (
-        Ask::Map(LongCall::Insert(5, Given::Plus(1))),
-        Want::Value(9),
-    ),
-    (Ask::Map(LongCall::Get(5)), Want::Value(9)),
-    (Ask::Map(LongCall::ByCount(1)), Want::ValueAt(9, 5)),
-    (Ask::Map(LongCall::Next(5)), Want::Null),
-    (Ask::Map(LongCall::FirstEmpty(5)), Want::Index(6)),
-    (Ask::Map(LongCall::Delete(5)), Want::Int(true)),
-    (Ask::Map(LongCall::Delete(5)), Want::Int(false)),
+static VALUES: [(&str, Want); 11] = [
+    ("JLI a 5 8", Want::Value(0)),
+    ("JLI a 5", Want::Value(8)),
+    ("JLI a 5 9", Want::Value(8)),
+    ("JLA a 5 -1", Want::Value(8)),
+    ("JLA a 5 1", Want::Value(9)),
+    ("JLG a 5", Want::Value(9)),
+    ("JLBC a 1", Want::ValueAt(9, 5)),
+    ("JLN a 5", Want::Null),
+    ("JLFE a 5", Want::Index(6)),
+    ("JLD a 5", Want::Int(true)),
+    ("JLD a 5", Want::Int(false)),
 ];
 
 #[test]
-fn values(rt: HostRuntime) {
-    compare(&rt, &mut Tenant::new(rt.alloc(), 4), &VALUES);
+fn values(rt: HostRuntime) -> Result<(), Fail> {
+    compare(&rt, &mut Tenant::new(rt.alloc(), 4), &VALUES)?;
+    Ok(())
 }
 
-static OF_ONE_NAME_AND_TWO_KINDS: [(Ask, Want); 7] = [
-    (
-        Ask::Map(LongCall::Insert(1, Given::Nothing)),
-        Want::Value(0),
-    ),
-    (
-        Ask::Map(LongCall::Insert(2, Given::Value(9))),
-        Want::Value(0),
-    ),
-    (Ask::Set(OneCall::Count(0, MAX)), Want::Count(0)),
-    (Ask::Map(LongCall::Last(MAX)), Want::ValueAt(9, 2)),
-    (Ask::Map(LongCall::Prev(1)), Want::Null),
-    (Ask::Map(LongCall::Free), Want::Count(2)),
-    (Ask::Map(LongCall::Count(0, MAX)), Want::Count(0)),
+static OF_ONE_NAME_AND_TWO_KINDS: [(&str, Want); 7] = [
+    ("JLI a 1", Want::Value(0)),
+    ("JLI a 2 9", Want::Value(0)),
+    ("J1C a 0 -1", Want::Count(0)),
+    ("JLL a -1", Want::ValueAt(9, 2)),
+    ("JLP a 1", Want::Null),
+    ("JLFA a", Want::Count(2)),
+    ("JLC a 0 -1", Want::Count(0)),
 ];
 
 #[test]
-fn one_name_two_kinds(rt: HostRuntime) {
+fn one_name_two_kinds(rt: HostRuntime) -> Result<(), Fail> {
     compare(
         &rt,
         &mut Tenant::new(rt.alloc(), 1000),
         &OF_ONE_NAME_AND_TWO_KINDS,
-    );
+    )?;
+    Ok(())
 }
 
-static OF_UNSIGNED_BYTES: [(Ask, Want); 7] = [
-    (Ask::InsertString(b"\x7f", Given::Value(1)), Want::Value(0)),
-    (Ask::InsertString(b"\x80", Given::Value(2)), Want::Value(0)),
-    (
-        Ask::InsertString(b"\x7f\x01", Given::Value(3)),
-        Want::Value(0),
-    ),
-    (Ask::FirstString(b""), Want::ValueKey(1, b"\x7f")),
-    (Ask::NextString(b"\x7f"), Want::ValueKey(3, b"\x7f\x01")),
-    (Ask::LastString(b"\xff"), Want::ValueKey(2, b"\x80")),
-    (Ask::PrevString(b"\x7f"), Want::Null),
+static OF_UNSIGNED_BYTES: [(&str, Want); 7] = [
+    ("JSLI a x7f 1", Want::Value(0)),
+    ("JSLI a x80 2", Want::Value(0)),
+    ("JSLI a x7f01 3", Want::Value(0)),
+    ("JSLF a x", Want::ValueKey(1, b"\x7f")),
+    ("JSLN a x7f", Want::ValueKey(3, b"\x7f\x01")),
+    ("JSLL a xff", Want::ValueKey(2, b"\x80")),
+    ("JSLP a x7f", Want::Null),
 ];
 
 #[test]
-fn unsigned_bytes(rt: HostRuntime) {
-    compare(&rt, &mut Tenant::new(rt.alloc(), 4), &OF_UNSIGNED_BYTES);
+fn unsigned_bytes(rt: HostRuntime) -> Result<(), Fail> {
+    compare(&rt, &mut Tenant::new(rt.alloc(), 4), &OF_UNSIGNED_BYTES)?;
+    Ok(())
 }
 
-static ORDER_OF_STRINGS: [(Ask, Want); 12] = [
-    (Ask::InsertString(b"", Given::Value(1)), Want::Value(0)),
-    (
-        Ask::InsertString(b"abcdefg", Given::Value(2)),
-        Want::Value(0),
-    ),
-    (
-        Ask::InsertString(b"abcdefgh", Given::Value(3)),
-        Want::Value(0),
-    ),
-    (
-        Ask::InsertString(b"abcdefghi", Given::Value(4)),
-        Want::Value(0),
-    ),
-    (Ask::FirstString(b""), Want::ValueKey(1, b"")),
-    (Ask::NextString(b""), Want::ValueKey(2, b"abcdefg")),
-    (Ask::NextString(b"abcdefg"), Want::ValueKey(3, b"abcdefgh")),
-    (
-        Ask::NextString(b"abcdefgh"),
-        Want::ValueKey(4, b"abcdefghi"),
-    ),
-    (Ask::NextString(b"abcdefghi"), Want::Null),
-    (Ask::DeleteString(b"abcdefgh"), Want::Int(true)),
-    (Ask::NextString(b"abcdefg"), Want::ValueKey(4, b"abcdefghi")),
-    (Ask::FreeStrings, Want::Count(3)),
+static ORDER_OF_STRINGS: [(&str, Want); 12] = [
+    ("JSLI a x 1", Want::Value(0)),
+    ("JSLI a x61626364656667 2", Want::Value(0)),
+    ("JSLI a x6162636465666768 3", Want::Value(0)),
+    ("JSLI a x616263646566676869 4", Want::Value(0)),
+    ("JSLF a x", Want::ValueKey(1, b"")),
+    ("JSLN a x", Want::ValueKey(2, b"abcdefg")),
+    ("JSLN a x61626364656667", Want::ValueKey(3, b"abcdefgh")),
+    ("JSLN a x6162636465666768", Want::ValueKey(4, b"abcdefghi")),
+    ("JSLN a x616263646566676869", Want::Null),
+    ("JSLD a x6162636465666768", Want::Int(true)),
+    ("JSLN a x61626364656667", Want::ValueKey(4, b"abcdefghi")),
+    ("JSLFA a", Want::Count(3)),
 ];
 
 #[test]
-fn order_of_strings(rt: HostRuntime) {
-    compare(&rt, &mut Tenant::new(rt.alloc(), 1000), &ORDER_OF_STRINGS);
+fn order_of_strings(rt: HostRuntime) -> Result<(), Fail> {
+    compare(&rt, &mut Tenant::new(rt.alloc(), 1000), &ORDER_OF_STRINGS)?;
+    Ok(())
 }
 
-static BYTE_KEYS: [(Ask, Want); 7] = [
-    (Ask::InsertBytes(b"", Given::Value(1)), Want::Value(0)),
-    (Ask::InsertBytes(b"\0", Given::Value(2)), Want::Value(0)),
-    (Ask::InsertBytes(b"\0", Given::Plus(3)), Want::Value(5)),
-    (Ask::GetBytes(b""), Want::Value(1)),
-    (Ask::GetBytes(b"\0\0"), Want::Null),
-    (Ask::DeleteBytes(b""), Want::Int(true)),
-    (Ask::FreeBytes, Want::Count(1)),
+static BYTE_KEYS: [(&str, Want); 7] = [
+    ("JHSI a x 1", Want::Value(0)),
+    ("JHSI a x00 2", Want::Value(0)),
+    ("JHSA a x00 3", Want::Value(5)),
+    ("JHSG a x", Want::Value(1)),
+    ("JHSG a x0000", Want::Null),
+    ("JHSD a x", Want::Int(true)),
+    ("JHSFA a", Want::Count(1)),
 ];
 
 #[test]
-fn byte_keys(rt: HostRuntime) {
-    compare(&rt, &mut Tenant::new(rt.alloc(), 4), &BYTE_KEYS);
+fn byte_keys(rt: HostRuntime) -> Result<(), Fail> {
+    compare(&rt, &mut Tenant::new(rt.alloc(), 4), &BYTE_KEYS)?;
+    Ok(())
 }
 
-const EIGHT: &[u8] = b"abcdefgh";
-
-const NINE: &[u8] = b"abcdefghi";
-
-static WITHIN_A_QUOTA_OF_PIECES: [(Ask, Want); 12] = [
-    (Ask::InsertString(EIGHT, Given::Value(1)), Want::Value(0)),
-    (Ask::Set(OneCall::Set(1)), Want::Int(true)),
-    (Ask::Set(OneCall::Set(2)), Want::Full),
-    (Ask::InsertString(EIGHT, Given::Value(9)), Want::Value(1)),
-    (Ask::InsertString(EIGHT, Given::Plus(9)), Want::Value(18)),
-    (Ask::InsertString(b"", Given::Plus(9)), Want::Full),
-    (Ask::Used, Want::Used(2, 4, 3, 3)),
-    (Ask::DeleteString(EIGHT), Want::Int(true)),
-    (Ask::InsertString(NINE, Given::Value(5)), Want::Value(0)),
-    (Ask::Used, Want::Used(2, 4, 3, 3)),
-    (Ask::FreeStrings, Want::Count(1)),
-    (Ask::Used, Want::Used(1, 4, 1, 3)),
+static WITHIN_A_QUOTA_OF_PIECES: [(&str, Want); 12] = [
+    ("JSLI a x6162636465666768 1", Want::Value(0)),
+    ("J1S a 1", Want::Int(true)),
+    ("J1S a 2", Want::Full),
+    ("JSLI a x6162636465666768 9", Want::Value(1)),
+    ("JSLA a x6162636465666768 9", Want::Value(18)),
+    ("JSLA a x 9", Want::Full),
+    ("USED", Want::Used(2, 4, 3, 3)),
+    ("JSLD a x6162636465666768", Want::Int(true)),
+    ("JSLI a x616263646566676869 5", Want::Value(0)),
+    ("USED", Want::Used(2, 4, 3, 3)),
+    ("JSLFA a", Want::Count(1)),
+    ("USED", Want::Used(1, 4, 1, 3)),
 ];
 
 #[test]
-fn a_quota_of_pieces(rt: HostRuntime) {
+fn a_quota_of_pieces(rt: HostRuntime) -> Result<(), Fail> {
     let quota = Quota {
         entries: 4,
         pieces: 3,
@@ -352,25 +306,28 @@ fn a_quota_of_pieces(rt: HostRuntime) {
         &rt,
         &mut Tenant::within(rt.alloc(), quota),
         &WITHIN_A_QUOTA_OF_PIECES,
-    );
+    )?;
+    Ok(())
 }
 
 #[test]
-fn a_right_to_look(rt: HostRuntime) {
+fn a_right_to_look(rt: HostRuntime) -> Result<(), Fail> {
     let mut alice = Tenant::new(rt.alloc(), 0);
-    let set = Ask::Set(OneCall::Set(1));
-    let test = Ask::Set(OneCall::Test(1));
-    compare_under(&rt, &mut alice, Right::Look, &[(set, Want::ReadOnly)]);
-    compare_under(&rt, &mut alice, Right::Change, &[(set, Want::Full)]);
-    compare_under(&rt, &mut alice, Right::Look, &[(test, Want::Int(false))]);
+    let set = "J1S a 1";
+    let test = "J1T a 1";
+    compare_under(&rt, &mut alice, Right::Look, &[(set, Want::ReadOnly)])?;
+    compare_under(&rt, &mut alice, Right::Change, &[(set, Want::Full)])?;
+    compare_under(&rt, &mut alice, Right::Look, &[(test, Want::Int(false))])?;
+    Ok(())
 }
 
 #[test]
-fn a_frozen_tenant(rt: HostRuntime) {
+fn a_frozen_tenant(rt: HostRuntime) -> Result<(), Fail> {
     let mut alice = Tenant::new(rt.alloc(), 0);
-    let set = Ask::Set(OneCall::Set(1));
-    let test = Ask::Set(OneCall::Test(1));
-    compare_under(&rt, &mut alice, Right::Frozen, &[(set, Want::Frozen)]);
-    compare_under(&rt, &mut alice, Right::Change, &[(set, Want::Full)]);
-    compare_under(&rt, &mut alice, Right::Frozen, &[(test, Want::Int(false))]);
+    let set = "J1S a 1";
+    let test = "J1T a 1";
+    compare_under(&rt, &mut alice, Right::Frozen, &[(set, Want::Frozen)])?;
+    compare_under(&rt, &mut alice, Right::Change, &[(set, Want::Full)])?;
+    compare_under(&rt, &mut alice, Right::Frozen, &[(test, Want::Int(false))])?;
+    Ok(())
 }

@@ -1,10 +1,13 @@
-//! Two JudySL arrays and a JudyL in one arena.
+//! Two JudySL arrays and a JudyL in one arena. The JudySL arrays are called by judy_kinds, which picks the
+//! method of each call; `held` calls the methods themselves.
 
 use crate::checks::{holds, holds_at};
 use arrayvec::ArrayVec;
 use judy_arena::{Arena, NoMemory};
-use judy_model::{KEY_LIMIT, Key, LongCall, Reply, StrCall};
-use judy_string::{JudySL, is_string};
+use judy_bytes::Sha256Hash;
+use judy_directory::Place;
+use judy_kinds::{answer, is_callable};
+use judy_model::{Call, LongCall, OwnedReply, Reply};
 use judy_words::JudyL;
 use std::alloc::Global;
 use std::process::Abort;
@@ -20,39 +23,52 @@ pub(crate) enum Which {
 #[derive(Drop)]
 pub(crate) struct Arrays {
     arena: Arena,
-    first: JudySL,
-    second: JudySL,
+    first: Place,
+    second: Place,
     words: JudyL,
 }
 
 impl Arrays {
     /// Three empty arrays.
     pub(crate) fn new(alloc: Global) -> Arrays {
-        judy_string::laws::only_nothing_is_empty();
-        judy_tree::laws::only_nothing_is_empty();
         Arrays {
             arena: Arena::new(alloc),
-            first: JudySL::new(),
-            second: JudySL::new(),
+            first: Place::nothing(),
+            second: Place::nothing(),
             words: JudyL::new(),
         }
     }
 
-    /// Answers a call of one of the JudySL arrays. Its string has no byte 0.
-    pub(crate) fn string<'a>(
+    /// Answers a call of one of the JudySL arrays. Its string has no byte 0. A reply without a key leaves the
+    /// buffer of keys empty.
+    pub(crate) fn string(
         &mut self,
         rt: &impl Abort,
         alloc: Global,
         which: Which,
-        call: &StrCall<'_>,
-        found: &'a mut ArrayVec<u8, KEY_LIMIT>,
-    ) -> Result<Reply<'a>, NoMemory> {
-        judy_string::laws::others_stay();
-        judy_tree::laws::others_stay();
-        match which {
-            Which::First => answer(rt, alloc, &mut self.first, &mut self.arena, call, found),
-            Which::Second => answer(rt, alloc, &mut self.second, &mut self.arena, call, found),
+        call: &Call<'_>,
+    ) -> Result<OwnedReply, NoMemory> {
+        let place = match which {
+            Which::First => self.first,
+            Which::Second => self.second,
+        };
+        holds(rt, matches!(call, Call::Str(_, _)) && is_callable(call));
+        holds(rt, place.pieces < 1_000_000);
+        let mut found = ArrayVec::new();
+        let (reply, place) = answer(alloc, &mut self.arena, Sha256Hash, place, call, &mut found)?;
+        let reply = OwnedReply::of(&reply);
+        if !matches!(reply.reply(), Reply::ValueKey(_, _)) {
+            holds_at(
+                rt,
+                found.is_empty(),
+                "what an empty answer leaves in the buffer",
+            );
         }
+        match which {
+            Which::First => self.first = place,
+            Which::Second => self.second = place,
+        }
+        Ok(reply)
     }
 
     /// Answers a call of the JudyL.
@@ -61,88 +77,11 @@ impl Arrays {
         alloc: Global,
         call: LongCall,
     ) -> Result<Reply<'static>, NoMemory> {
-        judy_string::laws::others_stay();
-        judy_tree::laws::others_stay();
         self.words.answer(alloc, &mut self.arena, call)
     }
 
     /// The words of all live blocks.
     pub(crate) fn live_words(&self) -> u64 {
         self.arena.live_words()
-    }
-}
-
-/// Answers a call of a JudySL.
-fn answer<'a>(
-    rt: &impl Abort,
-    alloc: Global,
-    map: &mut JudySL,
-    arena: &mut Arena,
-    call: &StrCall<'_>,
-    found: &'a mut ArrayVec<u8, KEY_LIMIT>,
-) -> Result<Reply<'a>, NoMemory> {
-    match call {
-        StrCall::Insert(key, given) => {
-            holds(rt, is_string(key.as_bytes()));
-            let answer = map.insert(alloc, arena, key.as_bytes(), *given)?;
-            let before = answer.before.unwrap_or(0);
-            Ok(Reply::Value(given.value_replied(before)))
-        }
-        StrCall::Delete(key) => {
-            holds(rt, is_string(key.as_bytes()));
-            Ok(Reply::Int(map.delete(arena, key.as_bytes())))
-        }
-        StrCall::Free => Ok(Reply::Count(map.clear(arena))),
-        _ => {
-            judy_string::laws::nothing_changes();
-            Ok(look(rt, map, arena, call, found))
-        }
-    }
-}
-
-/// Answers a call that changes nothing.
-fn look<'a>(
-    rt: &impl Abort,
-    map: &JudySL,
-    arena: &Arena,
-    call: &StrCall<'_>,
-    buffer: &'a mut ArrayVec<u8, KEY_LIMIT>,
-) -> Reply<'a> {
-    let found = match call {
-        StrCall::Get(key) => {
-            holds(rt, is_string(key.as_bytes()));
-            return match map.get(arena, key.as_bytes()) {
-                Some(value) => Reply::Value(value),
-                None => Reply::Null,
-            };
-        }
-        StrCall::First(key) => {
-            holds(rt, is_string(key.as_bytes()));
-            map.first(arena, key.as_bytes(), buffer)
-        }
-        StrCall::Next(key) => {
-            holds(rt, is_string(key.as_bytes()));
-            map.next(arena, key.as_bytes(), buffer)
-        }
-        StrCall::Last(key) => {
-            holds(rt, is_string(key.as_bytes()));
-            map.last(arena, key.as_bytes(), buffer)
-        }
-        StrCall::Prev(key) => {
-            holds(rt, is_string(key.as_bytes()));
-            map.prev(arena, key.as_bytes(), buffer)
-        }
-        StrCall::Insert(_, _) | StrCall::Delete(_) | StrCall::Free => None,
-    };
-    match found {
-        Some(value) => Reply::ValueKey(value, Key::of(buffer.as_slice())),
-        None => {
-            holds_at(
-                rt,
-                buffer.is_empty(),
-                "what an empty answer leaves in the buffer",
-            );
-            Reply::Null
-        }
     }
 }

@@ -1,9 +1,10 @@
 //! A walk of mixed calls compared with the plain store.
+use crate::calls::{self, Fields, OF_STRINGS, OF_WORDS, drawn};
 use crate::checks::{holds_at, same, same_at};
 use crate::strings::arrays::{Arrays, Which};
 use arrayvec::ArrayVec;
 use judy_arena::NoMemory;
-use judy_model::{Call, Given, Key, LongCall, Name, OwnedReply, Quota, Reply, Right, StrCall};
+use judy_model::{Call, LongCall, Name, Operation, OwnedReply, Quota, Reply, Right, StrCall};
 use judy_reference::Store;
 use std::alloc::{AllocError, Global};
 use std::process::Abort;
@@ -41,19 +42,6 @@ const STRINGS: [&[u8]; 16] = [
 /// The words of the walk.
 const WORDS: [u64; 8] = [0, 1, 255, 256, 65_536, 4_294_967_296, MAX - 1, MAX];
 
-/// The reply of a JudySL.
-fn try_strings(
-    rt: &impl Abort,
-    alloc: Global,
-    arrays: &mut Arrays,
-    which: Which,
-    call: &StrCall<'_>,
-) -> Result<OwnedReply, NoMemory> {
-    let mut found = ArrayVec::new();
-    let reply = arrays.string(rt, alloc, which, call, &mut found)?;
-    Ok(OwnedReply::of(&reply))
-}
-
 /// The reply of a JudySL. If memory is refused, nothing has changed, and a second try
 /// succeeds.
 fn ask_strings(
@@ -61,14 +49,14 @@ fn ask_strings(
     alloc: Global,
     arrays: &mut Arrays,
     which: Which,
-    call: &StrCall<'_>,
+    call: &Call<'_>,
 ) -> Result<OwnedReply, NoMemory> {
     let words = arrays.live_words();
-    if let Ok(reply) = try_strings(rt, alloc, arrays, which, call) {
+    if let Ok(reply) = arrays.string(rt, alloc, which, call) {
         return Ok(reply);
     }
     same_at(rt, arrays.live_words(), words, "words after a refusal");
-    try_strings(rt, alloc, arrays, which, call)
+    arrays.string(rt, alloc, which, call)
 }
 
 /// The reply of the JudyL, in the same way.
@@ -101,38 +89,36 @@ fn ask_store(alloc: Global, store: &mut Store, call: &Call<'_>) -> Result<OwnedR
     }
 }
 
-fn string(seed: u64) -> Result<Key<'static>, Fail> {
-    Ok(Key::read(STRINGS[(seed % 16) as usize]).ok_or("a key")?)
+/// The fields of a call of this operation. A third of the insertions has no value.
+fn fields(operation: Operation, seed: u64) -> Fields {
+    let number = WORDS[(seed >> 32) as usize % 8];
+    Fields {
+        index: if operation == Operation::Nth {
+            number % 16
+        } else {
+            WORDS[(seed >> 24) as usize % 8]
+        },
+        key: STRINGS[(seed >> 24) as usize % 16],
+        number,
+        stores: (seed >> 28) % 3 > 0,
+    }
 }
 
-/// A call of a JudySL. Half of the calls insert; few free the map.
-fn string_call<'a>(choice: u64, key: Key<'a>, value: u64) -> StrCall<'a> {
-    match choice % 64 {
-        0..=4 => StrCall::Insert(key, Given::Nothing),
-        5..=13 => StrCall::Insert(key, Given::Plus(value)),
-        14..=29 => StrCall::Insert(key, Given::Value(value)),
-        30..=41 => StrCall::Delete(key),
-        42..=44 => StrCall::Get(key),
-        45..=48 => StrCall::First(key),
-        49..=53 => StrCall::Next(key),
-        54..=57 => StrCall::Last(key),
-        58..=62 => StrCall::Prev(key),
-        _ => StrCall::Free,
-    }
+/// A call of a JudySL. Its value is a number of many digits.
+fn string_call(seed: u64) -> Result<StrCall<'static>, Fail> {
+    let operation = drawn(&OF_STRINGS, seed >> 40);
+    let number = seed >> 8;
+    let fields = Fields {
+        number,
+        ..fields(operation, seed)
+    };
+    Ok(calls::string(operation, fields).ok_or("a call of a JudySL")?)
 }
 
 /// A call of the JudyL.
-fn word_call(choice: u64, a: u64, b: u64) -> LongCall {
-    match choice % 64 {
-        0..=9 => LongCall::Insert(a, Given::Plus(b)),
-        10..=29 => LongCall::Insert(a, Given::Value(b)),
-        30..=41 => LongCall::Delete(a),
-        42..=46 => LongCall::Get(a),
-        47..=51 => LongCall::Count(a, b),
-        52..=56 => LongCall::Next(a),
-        57..=62 => LongCall::LastEmpty(a),
-        _ => LongCall::Free,
-    }
+fn word_call(seed: u64) -> Result<LongCall, Fail> {
+    let operation = drawn(&OF_WORDS, seed >> 40);
+    Ok(calls::long(operation, fields(operation, seed)).ok_or("a call of a JudyL")?)
 }
 
 fn name(text: &[u8]) -> Result<Name, Fail> {
@@ -152,9 +138,8 @@ fn both_strings(
     } else {
         (Which::Second, b"b")
     };
-    let call = string_call(seed >> 40, string(seed >> 24)?, seed >> 8);
-    let wanted = string_call(seed >> 40, string(seed >> 24)?, seed >> 8);
-    let want = ask_store(alloc, store, &Call::Str(name(text)?, wanted))?;
+    let call = Call::Str(name(text)?, string_call(seed)?);
+    let want = ask_store(alloc, store, &call)?;
     let reply = ask_strings(rt, alloc, arrays, which, &call)?;
     same_at(rt, reply.reply(), want.reply(), (call, "of", which));
     Ok(())
@@ -168,11 +153,7 @@ fn both_words(
     store: &mut Store,
     seed: u64,
 ) -> Result<(), Fail> {
-    let (a, b) = (
-        WORDS[(seed >> 24) as usize % 8],
-        WORDS[(seed >> 32) as usize % 8],
-    );
-    let call = word_call(seed >> 40, a, b);
+    let call = word_call(seed)?;
     let want = ask_store(alloc, store, &Call::Long(name(b"a")?, call))?;
     let reply = ask_words(rt, alloc, arrays, call)?;
     same_at(rt, reply, want.reply(), call);
@@ -201,7 +182,8 @@ fn five_thousand_calls(rt: HostRuntime) -> Result<(), Fail> {
         );
     }
     for which in [Which::First, Which::Second] {
-        let _ = try_strings(&rt, alloc, &mut arrays, which, &StrCall::Free)?;
+        let free = Call::Str(name(b"a")?, StrCall::Free);
+        let _ = arrays.string(&rt, alloc, which, &free)?;
     }
     let _ = arrays.word(alloc, LongCall::Free)?;
     same(&rt, arrays.live_words(), 0);

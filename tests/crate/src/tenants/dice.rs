@@ -1,6 +1,9 @@
 //! Random calls, the same for the same seed.
 
-use judy_model::{BytesCall, Call, Given, Key, LongCall, Name, OneCall, StrCall};
+use crate::calls::{
+    Fields, OF_KEYS, OF_SETS, OF_STRINGS, OF_WORDS, bytes, drawn, long, one, string,
+};
+use judy_model::{Call, Name, Operation};
 use std::test::Fail;
 
 const MAX: u64 = 18_446_744_073_709_551_615;
@@ -79,104 +82,68 @@ impl Dice {
         (self.seed >> 33) % sides
     }
 
-    fn word(&mut self) -> u64 {
-        WORDS[self.roll(16) as usize]
-    }
-
-    /// What an insertion does to its value. Some sums are past the greatest word.
-    fn given(&mut self) -> Given {
-        match self.roll(6) {
-            0 => Given::Nothing,
-            1 => Given::Plus(MAX.wrapping_sub(self.roll(1_000_000))),
-            2 => Given::Plus(self.roll(1_000_000)),
-            _ => Given::Value(self.roll(1_000_000)),
+    /// The number after the key: the end of a count, what is added, or a value. Some sums are past the greatest
+    /// word.
+    fn number(&mut self, operation: Operation) -> u64 {
+        match (operation, self.roll(2)) {
+            (Operation::Count, _) => WORDS[self.roll(16) as usize],
+            (Operation::Add, 0) => MAX.wrapping_sub(self.roll(1_000_000)),
+            _ => self.roll(1_000_000),
         }
     }
 
-    fn string(&mut self) -> Result<Key<'static>, Fail> {
-        Ok(Key::read(STRINGS[self.roll(16) as usize]).ok_or("a string")?)
-    }
-
-    fn key(&mut self) -> Result<Key<'static>, Fail> {
-        Ok(Key::read(KEYS[self.roll(8) as usize]).ok_or("a key")?)
-    }
-
-    /// A call of a set. Most calls set or unset an index; few free the set.
-    fn one(&mut self) -> OneCall {
-        let a = self.word();
-        match self.roll(80) {
-            0..=29 => OneCall::Set(a),
-            30..=41 => OneCall::Unset(a),
-            42..=44 => OneCall::Test(a),
-            45..=48 => OneCall::Count(a, self.word()),
-            49..=51 => OneCall::ByCount(self.roll(16)),
-            52..=54 => OneCall::First(a),
-            55..=57 => OneCall::Next(a),
-            58..=60 => OneCall::Last(a),
-            61..=63 => OneCall::Prev(a),
-            64..=67 => OneCall::FirstEmpty(a),
-            68..=71 => OneCall::NextEmpty(a),
-            72..=75 => OneCall::LastEmpty(a),
-            76..=78 => OneCall::PrevEmpty(a),
-            _ => OneCall::Free,
+    /// The fields of a call of this operation. A fourth of the insertions has no value.
+    fn fields(&mut self, operation: Operation, keys: &[&'static [u8]]) -> Fields {
+        let word = WORDS[self.roll(16) as usize];
+        let rank = self.roll(16);
+        Fields {
+            index: if operation == Operation::Nth {
+                rank
+            } else {
+                word
+            },
+            key: keys[self.roll(keys.len() as u64) as usize],
+            number: self.number(operation),
+            stores: self.roll(4) > 0,
         }
     }
 
-    /// A call of a JudyL, with similar odds.
-    fn long(&mut self) -> LongCall {
-        let a = self.word();
-        match self.roll(80) {
-            0..=29 => LongCall::Insert(a, self.given()),
-            30..=41 => LongCall::Delete(a),
-            42..=44 => LongCall::Get(a),
-            45..=48 => LongCall::Count(a, self.word()),
-            49..=51 => LongCall::ByCount(self.roll(16)),
-            52..=54 => LongCall::First(a),
-            55..=57 => LongCall::Next(a),
-            58..=60 => LongCall::Last(a),
-            61..=63 => LongCall::Prev(a),
-            64..=67 => LongCall::FirstEmpty(a),
-            68..=71 => LongCall::NextEmpty(a),
-            72..=75 => LongCall::LastEmpty(a),
-            76..=78 => LongCall::PrevEmpty(a),
-            _ => LongCall::Free,
-        }
+    /// A call of a set of this name.
+    fn one(&mut self, name: Name) -> Result<Call<'static>, Fail> {
+        let operation = drawn(&OF_SETS, self.roll(1 << 20));
+        let call = one(operation, self.fields(operation, &KEYS));
+        Ok(Call::One(name, call.ok_or("a call of a set")?))
     }
 
-    /// A call of a JudySL, with similar odds.
-    fn strings(&mut self) -> Result<StrCall<'static>, Fail> {
-        let key = self.string()?;
-        Ok(match self.roll(64) {
-            0..=29 => StrCall::Insert(key, self.given()),
-            30..=41 => StrCall::Delete(key),
-            42..=44 => StrCall::Get(key),
-            45..=48 => StrCall::First(key),
-            49..=53 => StrCall::Next(key),
-            54..=57 => StrCall::Last(key),
-            58..=62 => StrCall::Prev(key),
-            _ => StrCall::Free,
-        })
+    /// Of a JudyL.
+    fn long(&mut self, name: Name) -> Result<Call<'static>, Fail> {
+        let operation = drawn(&OF_WORDS, self.roll(1 << 20));
+        let call = long(operation, self.fields(operation, &KEYS));
+        Ok(Call::Long(name, call.ok_or("a call of a JudyL")?))
     }
 
-    /// A call of a JudyHS, with similar odds.
-    fn bytes(&mut self) -> Result<BytesCall<'static>, Fail> {
-        let key = self.key()?;
-        Ok(match self.roll(64) {
-            0..=29 => BytesCall::Insert(key, self.given()),
-            30..=45 => BytesCall::Delete(key),
-            46..=62 => BytesCall::Get(key),
-            _ => BytesCall::Free,
-        })
+    /// Of a JudySL.
+    fn strings(&mut self, name: Name) -> Result<Call<'static>, Fail> {
+        let operation = drawn(&OF_STRINGS, self.roll(1 << 20));
+        let call = string(operation, self.fields(operation, &STRINGS));
+        Ok(Call::Str(name, call.ok_or("a call of a JudySL")?))
+    }
+
+    /// Of a JudyHS.
+    fn bytes(&mut self, name: Name) -> Result<Call<'static>, Fail> {
+        let operation = drawn(&OF_KEYS, self.roll(1 << 20));
+        let call = bytes(operation, self.fields(operation, &KEYS));
+        Ok(Call::Bytes(name, call.ok_or("a call of a JudyHS")?))
     }
 
     /// A call of an array of this name.
     pub(crate) fn call(&mut self, name: Name) -> Result<Call<'static>, Fail> {
-        Ok(match self.roll(20) {
-            0..=4 => Call::One(name, self.one()),
-            5..=9 => Call::Long(name, self.long()),
-            10..=14 => Call::Str(name, self.strings()?),
-            15..=18 => Call::Bytes(name, self.bytes()?),
-            _ => Call::Used,
-        })
+        match self.roll(20) {
+            0..=4 => self.one(name),
+            5..=9 => self.long(name),
+            10..=14 => self.strings(name),
+            15..=18 => self.bytes(name),
+            _ => Ok(Call::Used),
+        }
     }
 }

@@ -1,9 +1,10 @@
 //! Many calls made at once, compared with the same calls one after another and with the plain store
 //! of each tenant.
+use crate::calls::frees;
 use crate::checks::{holds_at, same, same_at};
 use crate::tenants::dice::Dice;
 use crate::tenants::house::{House, room_for};
-use crate::tenants::walk::{TABLE, Tenant, five, frees, name};
+use crate::tenants::walk::{TABLE, Tenant, five, name};
 use judy_model::Reply;
 use judy_tenants::Event;
 use std::alloc::Global;

@@ -1,10 +1,11 @@
 //! A walk of mixed calls by five tenants. Each call is compared with the plain store of its tenant.
 
+use crate::calls::frees;
 use crate::checks::{holds_at, same, same_at};
 use crate::tenants::dice::Dice;
 use crate::tenants::house::House;
 use arrayvec::ArrayVec;
-use judy_model::{BytesCall, Call, LongCall, Name, OneCall, OwnedReply, Quota, Right, StrCall};
+use judy_model::{Call, Name, OwnedReply, Quota, Right};
 use judy_reference::Store;
 use judy_tenants::Speaker;
 use std::alloc::{AllocError, Global};
@@ -141,16 +142,6 @@ impl Tenant {
         }
         Ok(())
     }
-}
-
-/// The calls that free the arrays of this name.
-pub(crate) fn frees(name: &Name) -> [Call<'static>; 4] {
-    [
-        Call::One(name.copied(), OneCall::Free),
-        Call::Long(name.copied(), LongCall::Free),
-        Call::Str(name.copied(), StrCall::Free),
-        Call::Bytes(name.copied(), BytesCall::Free),
-    ]
 }
 
 /// The names of a tenant's arrays. The first two tenants use the same names.

@@ -1,11 +1,14 @@
 //! Worked rows, and a walk of mixed calls compared with the plain store.
 
+use crate::calls::{self, Fields, OF_SETS, OF_WORDS, drawn};
 use crate::checks::{holds, same, same_at};
 use crate::words::arrays::{Arrays, Which};
 use crate::words::asked::{ask_map, ask_set, long, one};
 use arrayvec::ArrayVec;
 use judy_arena::{Arena, NoMemory};
-use judy_model::{Call, Given, LongCall, Name, OneCall, OwnedReply, Quota, Reply, Right};
+use judy_model::{
+    Call, Given, LongCall, Name, OneCall, Operation, OwnedReply, Quota, Reply, Right,
+};
 use judy_reference::Store;
 use judy_words::JudyL;
 use std::alloc::{AllocError, Global};
@@ -238,46 +241,31 @@ fn word(seed: u64) -> u64 {
     WORDS[(seed % 16) as usize]
 }
 
-/// A call of a set. Most calls set an index; few free the set.
-fn one_call(choice: u64, a: u64, b: u64) -> OneCall {
-    match choice % 80 {
-        0..=29 => OneCall::Set(a),
-        30..=41 => OneCall::Unset(a),
-        42..=44 => OneCall::Test(a),
-        45..=48 => OneCall::Count(a, b),
-        49..=51 => OneCall::ByCount(b % 16),
-        52..=54 => OneCall::First(a),
-        55..=57 => OneCall::Next(a),
-        58..=60 => OneCall::Last(a),
-        61..=63 => OneCall::Prev(a),
-        64..=67 => OneCall::FirstEmpty(a),
-        68..=71 => OneCall::NextEmpty(a),
-        72..=75 => OneCall::LastEmpty(a),
-        76..=78 => OneCall::PrevEmpty(a),
-        _ => OneCall::Free,
+/// The fields of a call of this operation. A third of the insertions has no value.
+fn fields(operation: Operation, seed: u64) -> Fields {
+    let number = word(seed >> 32);
+    Fields {
+        index: if operation == Operation::Nth {
+            number % 16
+        } else {
+            word(seed >> 24)
+        },
+        key: b"",
+        number,
+        stores: (seed >> 28) % 3 > 0,
     }
 }
 
-/// A call of a map. Most calls insert an index; few free the map.
-fn long_call(choice: u64, a: u64, b: u64) -> LongCall {
-    match choice % 80 {
-        0..=4 => LongCall::Insert(a, Given::Nothing),
-        5..=13 => LongCall::Insert(a, Given::Plus(b)),
-        14..=29 => LongCall::Insert(a, Given::Value(b)),
-        30..=41 => LongCall::Delete(a),
-        42..=44 => LongCall::Get(a),
-        45..=48 => LongCall::Count(a, b),
-        49..=51 => LongCall::ByCount(b % 16),
-        52..=54 => LongCall::First(a),
-        55..=57 => LongCall::Next(a),
-        58..=60 => LongCall::Last(a),
-        61..=63 => LongCall::Prev(a),
-        64..=67 => LongCall::FirstEmpty(a),
-        68..=71 => LongCall::NextEmpty(a),
-        72..=75 => LongCall::LastEmpty(a),
-        76..=78 => LongCall::PrevEmpty(a),
-        _ => LongCall::Free,
-    }
+/// A call of a set.
+fn one_call(seed: u64) -> Result<OneCall, Fail> {
+    let operation = drawn(&OF_SETS, seed >> 40);
+    Ok(calls::one(operation, fields(operation, seed)).ok_or("a call of a set")?)
+}
+
+/// A call of a map.
+fn long_call(seed: u64) -> Result<LongCall, Fail> {
+    let operation = drawn(&OF_WORDS, seed >> 40);
+    Ok(calls::long(operation, fields(operation, seed)).ok_or("a call of a map")?)
 }
 
 fn name(which: Which) -> Result<Name, Fail> {
@@ -301,14 +289,13 @@ fn both(
     } else {
         Which::Second
     };
-    let (a, b) = (word(seed >> 24), word(seed >> 32));
     if (seed >> 21) % 2 == 0 {
-        let call = one_call(seed >> 40, a, b);
+        let call = one_call(seed)?;
         let want = ask_store(alloc, store, &Call::One(name(which)?, call))?;
         let reply = ask_set(rt, alloc, arrays, which, call)?;
         same_at(rt, reply, want.reply(), (call, "of", which));
     } else {
-        let call = long_call(seed >> 40, a, b);
+        let call = long_call(seed)?;
         let want = ask_store(alloc, store, &Call::Long(name(which)?, call))?;
         let reply = ask_map(rt, alloc, arrays, which, call)?;
         same_at(rt, reply, want.reply(), (call, "of", which));

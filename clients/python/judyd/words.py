@@ -1,0 +1,60 @@
+"""The words of the calls of arrays. `python3 tests/calls.py --write` writes this file."""
+
+from typing import Dict, NamedTuple
+
+
+class Command(NamedTuple):
+    """What a word stands for: the kind of the array, the operation, the fields after the name, and whether it
+    inserts, removes, frees or looks."""
+
+    kind: str
+    operation: str
+    fields: str
+    does: str
+
+
+COMMANDS: Dict[str, Command] = {
+    "J1S": Command("Judy1", "Insert", "i", "inserts"),
+    "J1U": Command("Judy1", "Remove", "i", "removes"),
+    "J1T": Command("Judy1", "Look", "i", "looks"),
+    "J1C": Command("Judy1", "Count", "i k", "looks"),
+    "J1BC": Command("Judy1", "Nth", "n", "looks"),
+    "J1F": Command("Judy1", "First", "i", "looks"),
+    "J1N": Command("Judy1", "Next", "i", "looks"),
+    "J1L": Command("Judy1", "Last", "i", "looks"),
+    "J1P": Command("Judy1", "Prev", "i", "looks"),
+    "J1FE": Command("Judy1", "FirstEmpty", "i", "looks"),
+    "J1NE": Command("Judy1", "NextEmpty", "i", "looks"),
+    "J1LE": Command("Judy1", "LastEmpty", "i", "looks"),
+    "J1PE": Command("Judy1", "PrevEmpty", "i", "looks"),
+    "J1FA": Command("Judy1", "Free", "", "frees"),
+    "JLI": Command("JudyL", "Insert", "i [v]", "inserts"),
+    "JLA": Command("JudyL", "Add", "i n", "inserts"),
+    "JLD": Command("JudyL", "Remove", "i", "removes"),
+    "JLG": Command("JudyL", "Look", "i", "looks"),
+    "JLC": Command("JudyL", "Count", "i k", "looks"),
+    "JLBC": Command("JudyL", "Nth", "n", "looks"),
+    "JLF": Command("JudyL", "First", "i", "looks"),
+    "JLN": Command("JudyL", "Next", "i", "looks"),
+    "JLL": Command("JudyL", "Last", "i", "looks"),
+    "JLP": Command("JudyL", "Prev", "i", "looks"),
+    "JLFE": Command("JudyL", "FirstEmpty", "i", "looks"),
+    "JLNE": Command("JudyL", "NextEmpty", "i", "looks"),
+    "JLLE": Command("JudyL", "LastEmpty", "i", "looks"),
+    "JLPE": Command("JudyL", "PrevEmpty", "i", "looks"),
+    "JLFA": Command("JudyL", "Free", "", "frees"),
+    "JSLI": Command("JudySL", "Insert", "key [v]", "inserts"),
+    "JSLA": Command("JudySL", "Add", "key n", "inserts"),
+    "JSLD": Command("JudySL", "Remove", "key", "removes"),
+    "JSLG": Command("JudySL", "Look", "key", "looks"),
+    "JSLF": Command("JudySL", "First", "key", "looks"),
+    "JSLN": Command("JudySL", "Next", "key", "looks"),
+    "JSLL": Command("JudySL", "Last", "key", "looks"),
+    "JSLP": Command("JudySL", "Prev", "key", "looks"),
+    "JSLFA": Command("JudySL", "Free", "", "frees"),
+    "JHSI": Command("JudyHS", "Insert", "key [v]", "inserts"),
+    "JHSA": Command("JudyHS", "Add", "key n", "inserts"),
+    "JHSD": Command("JudyHS", "Remove", "key", "removes"),
+    "JHSG": Command("JudyHS", "Look", "key", "looks"),
+    "JHSFA": Command("JudyHS", "Free", "", "frees"),
+}

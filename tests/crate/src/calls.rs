@@ -1,0 +1,203 @@
+//! Every command and the call that it makes, in one place. A new command has its row and its arm here. The
+//! tests of the reader and the random walks make it then, each beside what it tests.
+
+use judy_model::{BytesCall, Call, Given, Key, LongCall, Name, OneCall, Operation, StrCall};
+
+/// A command: its word, what it does, and its share of a walk over arrays of its kind.
+pub type Row = (&'static str, Operation, u64);
+
+/// The commands of a set. Most calls of a walk set or unset an index; few free the set.
+pub static OF_SETS: [Row; 14] = [
+    ("J1S", Operation::Insert, 30),
+    ("J1U", Operation::Remove, 12),
+    ("J1T", Operation::Look, 3),
+    ("J1C", Operation::Count, 4),
+    ("J1BC", Operation::Nth, 3),
+    ("J1F", Operation::First, 3),
+    ("J1N", Operation::Next, 3),
+    ("J1L", Operation::Last, 3),
+    ("J1P", Operation::Prev, 3),
+    ("J1FE", Operation::FirstEmpty, 4),
+    ("J1NE", Operation::NextEmpty, 4),
+    ("J1LE", Operation::LastEmpty, 4),
+    ("J1PE", Operation::PrevEmpty, 3),
+    ("J1FA", Operation::Free, 1),
+];
+
+/// The commands of a JudyL, with similar shares.
+pub static OF_WORDS: [Row; 15] = [
+    ("JLI", Operation::Insert, 20),
+    ("JLA", Operation::Add, 10),
+    ("JLD", Operation::Remove, 12),
+    ("JLG", Operation::Look, 3),
+    ("JLC", Operation::Count, 4),
+    ("JLBC", Operation::Nth, 3),
+    ("JLF", Operation::First, 3),
+    ("JLN", Operation::Next, 3),
+    ("JLL", Operation::Last, 3),
+    ("JLP", Operation::Prev, 3),
+    ("JLFE", Operation::FirstEmpty, 4),
+    ("JLNE", Operation::NextEmpty, 4),
+    ("JLLE", Operation::LastEmpty, 4),
+    ("JLPE", Operation::PrevEmpty, 3),
+    ("JLFA", Operation::Free, 1),
+];
+
+/// The commands of a JudySL.
+pub static OF_STRINGS: [Row; 9] = [
+    ("JSLI", Operation::Insert, 20),
+    ("JSLA", Operation::Add, 10),
+    ("JSLD", Operation::Remove, 12),
+    ("JSLG", Operation::Look, 3),
+    ("JSLF", Operation::First, 4),
+    ("JSLN", Operation::Next, 5),
+    ("JSLL", Operation::Last, 4),
+    ("JSLP", Operation::Prev, 5),
+    ("JSLFA", Operation::Free, 1),
+];
+
+/// The commands of a JudyHS.
+pub static OF_KEYS: [Row; 5] = [
+    ("JHSI", Operation::Insert, 20),
+    ("JHSA", Operation::Add, 10),
+    ("JHSD", Operation::Remove, 16),
+    ("JHSG", Operation::Look, 17),
+    ("JHSFA", Operation::Free, 1),
+];
+
+/// What this number draws of these rows, each by its share.
+pub fn drawn(rows: &[Row], number: u64) -> Operation {
+    let mut shares: u64 = 0;
+    for (_, _, share) in rows {
+        shares = shares.saturating_add(*share);
+    }
+    let mut left = number % shares;
+    for (_, operation, share) in rows {
+        if left < *share {
+            return *operation;
+        }
+        left = left.saturating_sub(*share);
+    }
+    Operation::Look
+}
+
+/// The fields of a call after the name. A call takes those that it has.
+#[derive(Clone, Copy)]
+pub struct Fields {
+    /// The index of a set or a JudyL, or a rank.
+    pub index: u64,
+    /// The key of a JudySL or a JudyHS.
+    pub key: &'static [u8],
+    /// The end of a count, a value, or what is added.
+    pub number: u64,
+    /// Whether an insertion has a value.
+    pub stores: bool,
+}
+
+impl Fields {
+    /// What an insertion does to its value.
+    fn given(self) -> Given {
+        if self.stores {
+            return Given::Value(self.number);
+        }
+        Given::Nothing
+    }
+
+    /// How many fields a line of a command has after the name.
+    pub fn count(self, operation: Operation) -> u8 {
+        match operation {
+            Operation::Free => 0,
+            Operation::Insert => 1 + u8::from(self.stores),
+            Operation::Add | Operation::Count => 2,
+            _ => 1,
+        }
+    }
+}
+
+/// The call of a set. None: there is no such command.
+pub fn one(operation: Operation, fields: Fields) -> Option<OneCall> {
+    let i = fields.index;
+    let call = match operation {
+        Operation::Insert => OneCall::Set(i),
+        Operation::Remove => OneCall::Unset(i),
+        Operation::Look => OneCall::Test(i),
+        Operation::Count => OneCall::Count(i, fields.number),
+        Operation::Nth => OneCall::ByCount(i),
+        Operation::First => OneCall::First(i),
+        Operation::Next => OneCall::Next(i),
+        Operation::Last => OneCall::Last(i),
+        Operation::Prev => OneCall::Prev(i),
+        Operation::FirstEmpty => OneCall::FirstEmpty(i),
+        Operation::NextEmpty => OneCall::NextEmpty(i),
+        Operation::LastEmpty => OneCall::LastEmpty(i),
+        Operation::PrevEmpty => OneCall::PrevEmpty(i),
+        Operation::Free => OneCall::Free,
+        _ => return None,
+    };
+    Some(call)
+}
+
+/// The call of a JudyL.
+pub fn long(operation: Operation, fields: Fields) -> Option<LongCall> {
+    let i = fields.index;
+    let call = match operation {
+        Operation::Insert => LongCall::Insert(i, fields.given()),
+        Operation::Add => LongCall::Insert(i, Given::Plus(fields.number)),
+        Operation::Remove => LongCall::Delete(i),
+        Operation::Look => LongCall::Get(i),
+        Operation::Count => LongCall::Count(i, fields.number),
+        Operation::Nth => LongCall::ByCount(i),
+        Operation::First => LongCall::First(i),
+        Operation::Next => LongCall::Next(i),
+        Operation::Last => LongCall::Last(i),
+        Operation::Prev => LongCall::Prev(i),
+        Operation::FirstEmpty => LongCall::FirstEmpty(i),
+        Operation::NextEmpty => LongCall::NextEmpty(i),
+        Operation::LastEmpty => LongCall::LastEmpty(i),
+        Operation::PrevEmpty => LongCall::PrevEmpty(i),
+        Operation::Free => LongCall::Free,
+    };
+    Some(call)
+}
+
+/// The call of a JudySL. None too: the key is too long.
+pub fn string(operation: Operation, fields: Fields) -> Option<StrCall<'static>> {
+    let key = Key::read(fields.key)?;
+    let call = match operation {
+        Operation::Insert => StrCall::Insert(key, fields.given()),
+        Operation::Add => StrCall::Insert(key, Given::Plus(fields.number)),
+        Operation::Remove => StrCall::Delete(key),
+        Operation::Look => StrCall::Get(key),
+        Operation::First => StrCall::First(key),
+        Operation::Next => StrCall::Next(key),
+        Operation::Last => StrCall::Last(key),
+        Operation::Prev => StrCall::Prev(key),
+        Operation::Free => StrCall::Free,
+        _ => return None,
+    };
+    Some(call)
+}
+
+/// The call of a JudyHS. None too: the key is too long.
+pub fn bytes(operation: Operation, fields: Fields) -> Option<BytesCall<'static>> {
+    let key = Key::read(fields.key)?;
+    let call = match operation {
+        Operation::Insert => BytesCall::Insert(key, fields.given()),
+        Operation::Add => BytesCall::Insert(key, Given::Plus(fields.number)),
+        Operation::Remove => BytesCall::Delete(key),
+        Operation::Look => BytesCall::Get(key),
+        Operation::Free => BytesCall::Free,
+        _ => return None,
+    };
+    Some(call)
+}
+
+/// The calls that free the arrays of this name.
+pub fn frees(name: &Name) -> [Call<'static>; 4] {
+    [
+        Call::One(name.copied(), OneCall::Free),
+        Call::Long(name.copied(), LongCall::Free),
+        Call::Str(name.copied(), StrCall::Free),
+        Call::Bytes(name.copied(), BytesCall::Free),
+    ]
+}
