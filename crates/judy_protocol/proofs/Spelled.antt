@@ -1,9 +1,9 @@
 -- The request of a line, from its fields.
-use Rattle.std.proofs.Common.{◌≡◌, Bool, true, false, cond, List, ℕ, [], ◌∷◌, Some, None, sym, ◌∙◌, ap, refl}
+use Rattle.std.proofs.Common.{◌≡◌, ◌≢◌, Bool, true, false, cond, List, ℕ, [], ◌∷◌, Some, None, sym, ◌∙◌, ap, refl}
 use Rattle.std.specs.Prelude.{codes}
 use Rattle.std.specs.Ordering.{eq_by_cmp}
 use Rattle.judy_model.specs.Contents.{string_order}
-use Rattle.judy_model.specs.Grammar.{fields_of, is_name}
+use Rattle.judy_model.specs.Grammar.{fields_of, is_name, number_of_field, numbers_of_fields}
 use Rattle.judy_model.specs.Reading.{auth_of, named_request, request_of, request_of_fields}
 
 -- the value read where a test passes
@@ -25,3 +25,11 @@ pub no_login : (word name : List ℕ) (fields : List (List ℕ)) → eq_by_cmp s
 no_login word name [] other = refl
 no_login word name (token ∷ []) other = rw other refl
 no_login word name (token ∷ more ∷ fields) other = refl
+
+-- fields whose second is no number
+pub second_none : (fields later : List (List ℕ)) (first : List ℕ) (i : ℕ) → fields ≡ first ∷ later → number_of_field first ≡ Some i
+    → later ≢ [] → ((field : List ℕ) (more : List (List ℕ)) → later ≡ field ∷ more → number_of_field field ≡ None)
+    → numbers_of_fields fields ≡ None
+second_none fields [] first i is one some none = absurd (some refl)
+second_none fields (g ∷ []) first i is one some none = ap numbers_of_fields is ∙ rw (one, none g [] refl) refl
+second_none fields (g ∷ h ∷ more) first i is one some none = ap numbers_of_fields is
