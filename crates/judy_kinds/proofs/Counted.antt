@@ -120,11 +120,11 @@ module _ (old new : ℕ → Entries (List ℕ)) (p : Stand) (w x : ℕ) (k s : L
   moved q y e f to is counts = subst (λ z. HasCounts string_pieces (new z) q) (sym (ap (λ z. z.root) is ∙ to)) counts
 
   -- the map after an insertion, which found the value `before`
-  module _ (given : Given) (r : Reply) (step : insert string_order true (old w) s given ≡ (r, new x)) (before : Option ℕ)
+  module _ (given : Given) (r : Reply) (step : insert string_order true (old w) s given ReportsValue ≡ (r, new x)) (before : Option ℕ)
       (told : before ≡ value_of string_order (old w) s) where
-    left : (insert string_order true (old p.root) k given).1 ≡ new x
+    left : (insert string_order true (old p.root) k given ReportsValue).1 ≡ new x
     left =
-        ap (λ z. (insert string_order true (old z) k given).1) (sym from) ∙ ap (λ z. (insert string_order true (old w) z given).1) (sym key)
+        ap (λ z. (insert string_order true (old z) k given ReportsValue).1) (sym from) ∙ ap (λ z. (insert string_order true (old w) z given ReportsValue).1) (sym key)
         ∙ ap (λ z. z.1) step
 
     was : before ≡ value_of string_order (old p.root) k

@@ -183,7 +183,8 @@ fn exchange<H: KeyHash>(
     ensures counts { HasCounts string_pieces (bytes_in arena.new.blocks result.1.root) result.1 }
     ensures step { BytesAnswers arena.old place.root (bytes.Exchange key.now from to) result.0
         arena.new result.1.root }
-    ensures memory { TakesNothing arena.old arena.new }
+    ensures quiet { arena.new.refusals ≡ arena.old.refusals }
+    ensures memory { Takes 0 arena.old arena.new }
 {
     judy_bytes::laws::blocks_are_live();
     let Some(value) = JudyHS::from_reference(hash, place.root).get(arena, key.as_bytes()) else {

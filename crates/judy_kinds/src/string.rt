@@ -197,7 +197,8 @@ fn exchange(
     ensures counts { HasCounts string_pieces (string_in arena.new.blocks result.1.root) result.1 }
     ensures step { StringAnswers arena.old place.root (str.Exchange key.now from to) result.0
         arena.new result.1.root }
-    ensures memory { TakesNothing arena.old arena.new }
+    ensures quiet { arena.new.refusals ≡ arena.old.refusals }
+    ensures memory { Takes 0 arena.old arena.new }
 {
     judy_string::laws::blocks_are_live();
     let Some(value) = JudySL::from_reference(place.root).get(arena, string_of(key)) else {

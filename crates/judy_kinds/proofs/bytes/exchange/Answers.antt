@@ -1,0 +1,20 @@
+use Rattle.std.proofs.Common.{refl}
+use Rattle.judy_bytes.specs.BytesArrays.{bytes_numbers}
+use Rattle.judy_arena.proofs.lemmas.FrameLaws.{frame-same}
+use Rattle.judy_kinds.proofs.bytes.exchange.Goals as goal
+
+pub returns-in_default-clause-array : goal.returns-in_default-clause-array
+returns-in_default-clause-array g c = record {
+  sound = c.requires.array;
+  frame = frame-same c.args.arena.now.blocks (bytes_numbers c.args.arena.now.blocks c.args.place.root)
+      (c.blocks_are_live.ensures g.H.KeyHash.hashed c.args.arena.now.blocks c.args.place.root _ _
+      (record { sound = c.requires.array; content = refl; blocks = refl })).0;
+}
+
+pub returns-then-value-from-clause-array : goal.returns-then-value-from-clause-array
+returns-then-value-from-clause-array g c = record {
+  sound = c.requires.array;
+  frame = frame-same c.args.arena.now.blocks (bytes_numbers c.args.arena.now.blocks c.args.place.root)
+      (c.blocks_are_live.ensures g.H.KeyHash.hashed c.args.arena.now.blocks c.args.place.root _ _
+      (record { sound = c.requires.array; content = refl; blocks = refl })).0;
+}
