@@ -28,7 +28,7 @@ use Rattle.judy_model.specs.declared.quotas.Quota.{Quota}
 use Rattle.judy_model.specs.declared.quotas.Right.TheVariants as right
 use Rattle.judy_model.specs.declared.replies.Reply.{Reply}
 use Rattle.judy_model.specs.declared.replies.Reply.TheVariants.{Full}
-use Rattle.judy_model.specs.Contents.{Entries, string_order}
+use Rattle.judy_model.specs.Contents.{Entries, word_order, string_order}
 use Rattle.judy_tenants.specs.Growth.{KindLaws}
 use Rattle.judy_model.specs.Pieces.{word_pieces, string_pieces, pieces_of}
 use Rattle.judy_model.specs.Tenant.{Arrays, State, no_arrays, content_of, with_content, one_effect, long_effect, string_effect, bytes_effect, used, pieces, one_step, long_step, string_step, bytes_step}
