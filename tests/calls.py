@@ -18,8 +18,9 @@ from commands import CODE, COMMANDS, FORMS, KINDS, usage  # noqa: E402
 from judyd.wording import CALLS, OTHERS, said_of  # noqa: E402
 from oracle import INSERTS, LOOKS, OPERATIONS  # noqa: E402
 
-LETTERS = {"name": "", "key": "K", "i": "W", "k": "W", "n": "W", "v": "W"}
-NAMES = {"Set": "Insert", "Unset": "Remove", "Test": "Look", "Delete": "Remove", "Get": "Look", "ByCount": "Nth", "addition": "Add", "FreeArray": "Free"}
+LETTERS = {"name": "", "key": "K", "i": "W", "k": "W", "n": "W", "v": "W", "old": "W", "new": "W"}
+NAMES = {"Set": "Insert", "Unset": "Remove", "Test": "Look", "Delete": "Remove", "Get": "Look", "ByCount": "Nth", "FreeArray": "Free"}
+NAMES.update({"addition": "Add", "keep": "Keep", "exchange": "Exchange", "take": "Take"})
 PREFIXES = {"One": "J1", "Long": "JL", "Str": "JSL", "Bytes": "JHS"}
 REFUSALS = {"ERR JOURNAL", "ERR READONLY", "ERR FROZEN", "FULL", "ERR MEMORY"}
 COLUMNS = 100
@@ -176,7 +177,7 @@ from typing import Dict, NamedTuple
 
 class Command(NamedTuple):
     """What a word stands for: the kind of the array, the operation, the fields after the name, and whether it
-    inserts, removes, frees or looks."""
+    inserts, exchanges, removes, frees or looks."""
 
     kind: str
     operation: str
