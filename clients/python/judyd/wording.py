@@ -40,7 +40,10 @@ _OF_SETS = {
 }
 _OPERATIONS = {
     "Insert": ("Ins", "inserts a {thing} and stores v, if given: V and the value before, 0 for a new {thing}; FULL if the quota has no room"),
-    "Remove": ("Del", "removes a {thing}: 1 if it was present, 0 if not"),
+    "Keep": ("Keep", "inserts a {thing} with the value v if it is absent: NULL; a present one keeps its value: V and this value; FULL if the quota has no room"),
+    "Exchange": ("Exchange", "stores new if the value is old: V and the value before, which is old exactly if new is stored, or NULL if the {thing} is absent"),
+    "Remove": ("Del", "removes a {thing}, with v only if it has the value v: 1 if it was removed, 0 if not"),
+    "Take": ("Take", "removes a {thing}: V and the value it had, or NULL if it was absent"),
     "Look": ("Get", "V and the value, or NULL if the {thing} is absent"),
     "Add": ("Add", "adds n to the value, modulo 2^64: V and the value afterwards; an absent {thing} counts as 0 and becomes new; FULL if the quota has no room"),
     "Count": ("Count", "N and the number of {plural} from the first to the second, both included"),
@@ -226,11 +229,13 @@ def told(request: str, reply: str) -> Tuple[str, str, str]:
     name = re.sub("Judy(1|L|SL|HS)", "", call.name)
     if name in ("Set", "Unset", "Test", "Del"):
         words = {"Set": ("was there", "new"), "Unset": ("was absent", "removed"), "Del": ("was absent", "removed"), "Test": ("absent", "present")}
+        if name == "Del" and len(request.split()) > 3:
+            return "removed" if reply == "1" else "not removed", "", ""
         return words[name][reply == "1"], "", ""
     if fields[0] == "N":
         return "%s %s" % (fields[1], "freed" if name == "FreeArray" else "counted"), "", ""
     if reply in ("0", "NULL"):
-        return "none", "", ""
+        return "new" if name == "Keep" else "none", "", ""
     if fields[0] == "V":
-        return {"Ins": "before", "Add": "now"}.get(name, "found"), "".join(map(shown_key, fields[2:])), fields[1]
+        return {"Ins": "before", "Add": "now", "Keep": "kept", "Exchange": "before", "Take": "taken"}.get(name, "found"), "".join(map(shown_key, fields[2:])), fields[1]
     return "found", fields[1] if len(fields) > 1 else "", ""
