@@ -1,8 +1,10 @@
 -- The first field of a line, found by its place.
-use Rattle.std.proofs.Common.{◌≡◌, ◌≢◌, ℕ, zero, suc, ◌<◌, ◌≤◌, ◌⊎◌, Bool, true, not, List, [], ◌∷◌, length, take, drop}
+use Rattle.std.proofs.Common.{◌≡◌, ◌≢◌, ℕ, zero, suc, ◌<◌, ◌≤◌, ◌⊎◌, Bool, true, false, not, List, [], ◌∷◌, length, take, drop}
 use Rattle.std.proofs.Common.{get_or, sym, ◌∙◌, ap, arith, refl, inl, inr, length-drop, get_or-drop, take-append-drop}
 use Rattle.std.proofs.Math.Seq.{take-length}
-use Rattle.std.specs.List.{list_all}
+use Rattle.std.specs.List.{list_all, prefix_len}
+use Rattle.std.proofs.Math.Nat.{eq-or-lt_of_le}
+use Rattle.std.proofs.lemmas.List.Sums.{prefix_len-le-length, prefix_len_passes, prefix_len_stops}
 use Rattle.std.proofs.lemmas.List.{length-take-le}
 use Rattle.std.proofs.lemmas.Bool.Decides.{nat_tests}
 use Rattle.judy_model.specs.Grammar.{is_space, EndsField, fields_of}
@@ -62,3 +64,32 @@ no_field line h =
     HasFields-fields_of line []
     (rw (← take-length line) (list_all-take is_space line (length line) (omega arith)
     (λ k lt. space_test (get_or line k 0) (h k lt))))
+
+-- the first field begins where the spaces end
+pub to_first : (line from : List ℕ) (start : ℕ) → from ≡ drop start line → start < length line
+    → ((k : ℕ) → k < start → get_or line k 0 ≡ 32) → get_or line start 0 ≢ 32
+    → (fields_of from ≡ fields_of line) × (fields_of line ≢ [])
+to_first line from start is_from within spaces ne =
+    let test : ℕ → Bool = λ b. not (is_space b) in
+    let len : ℕ = prefix_len test from in
+    let fits : len ≤ length from = prefix_len-le-length test from in
+    let field : (k : ℕ) → k < len → get_or from k 0 ≢ 32 = λ k lt.
+    no_space (get_or from k 0) (prefix_len_passes test from k 0 lt) in
+    let end : (length from ≡ len) ⊎ (get_or from len 0 ≡ 32) = by (eq-or-lt_of_le fits) in
+    let whole = first_field line from start len is_from within spaces ne fits field end in
+    let some : 0 < length from = omega (arith, ap length is_from, length-drop start line) in
+    let first : get_or from 0 0 ≢ 32 = λ h. ne
+    (sym (ap (λ v. get_or v 0 0) is_from ∙ get_or-drop start line 0 0 ∙ ap (λ v. get_or line v 0) (omega arith)) ∙ h) in
+    let again = first_field from from 0 len refl some (λ k lt. absurd (omega (arith, lt))) first fits field end in
+    (again ∙ sym whole, λ e. let bad : take len from ∷ fields_of (drop len from) ≡ [] = sym whole ∙ e in cc)
+  where
+    no_space : (b : ℕ) → not (is_space b) ≡ true → b ≢ 32
+    no_space b h = grind (arith, nat_tests)
+
+    a_space : (b : ℕ) → not (is_space b) ≡ false → b ≡ 32
+    a_space b h = grind (arith, nat_tests)
+
+    by : (prefix_len (λ b. not (is_space b)) from ≡ length from) ⊎ (prefix_len (λ b. not (is_space b)) from < length from)
+        → (length from ≡ prefix_len (λ b. not (is_space b)) from) ⊎ (get_or from (prefix_len (λ b. not (is_space b)) from) 0 ≡ 32)
+    by (inl e) = inl (sym e)
+    by (inr lt) = inr (a_space _ (prefix_len_stops (λ b. not (is_space b)) from 0 lt))

@@ -24,13 +24,16 @@ told_apart : (test : List ℕ → Bool) (x p : List ℕ) → test p ≡ true →
 told_apart test x p hp hx false e = refl
 told_apart test x p hp hx true e = absurd (false≢true (sym hx ∙ ap test ((bytes_eq-Decides x p).0 e) ∙ hp))
 
+pub not_the_text : (test : List ℕ → Bool) (x p : List ℕ) → test p ≡ true → test x ≡ false → eq_by_cmp string_order x p ≡ false
+not_the_text test x p hp hx = sym (texts_ties x p) ∙ told_apart test x p hp hx (pointwise nat_eq x p) refl
+
 -- a table has no entry for a text that fails a test which all its words pass
 pub none_passes : {A : Type 0} (test : List ℕ → Bool) (x : List ℕ) (table : List (List ℕ × A)) → list_all (λ e. test e.0) table ≡ true → test x ≡ false
     → find string_order x table ≡ None
 none_passes test x [] all fails = refl
 none_passes test x (e ∷ table) all fails =
     let (this, others) = and_parts _ _ all in
-    rw (sym (texts_ties x e.0) ∙ told_apart test x e.0 this fails (pointwise nat_eq x e.0) refl) (none_passes test x table others fails)
+    rw (not_the_text test x e.0 this fails) (none_passes test x table others fails)
 
 -- a table of longer words
 pub too_short : {A : Type 0} (n : ℕ) (x : List ℕ) (table : List (List ℕ × A)) → list_all (λ e. nat_le n (length e.0)) table ≡ true

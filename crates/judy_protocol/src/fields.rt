@@ -1,6 +1,7 @@
 //! Cuts a line into its fields.
 ghost use Rattle.std.specs.Prelude.{◌≡◌, ◌≢◌, ◌≤◌, ◌<◌, ◌⊎◌, ℕ, [], ◌∷◌, MatchOption, length, slice_index};
 ghost use Rattle.judy_model.specs.Grammar.{fields_of};
+ghost use Rattle.judy_protocol.specs.Digits.{may_follow};
 
 /// The place of the first byte that is not a space.
 fn field_start(line: &[u8]) -> Option<usize>
@@ -9,6 +10,26 @@ fn field_start(line: &[u8]) -> Option<usize>
         × (slice_index line.now start ≢ 32)) }
 {
     line.iter().position(|b| *b != b' ')
+}
+
+/// The text from its first field on.
+pub fn to_field(text: &[u8]) -> Option<&[u8]>
+    ensures { MatchOption result (fields_of text.now ≡ [])
+        (λ from. (fields_of from.now ≡ fields_of text.now) × (fields_of text.now ≢ [])) }
+{
+    let start = field_start(text)?;
+    let (_, from) = text.split_at(start);
+    Some(from)
+}
+
+/// Whether a text may come after a field: it is empty or begins with a space.
+pub fn ends_field(text: &[u8]) -> bool
+    ensures { result ≡ may_follow text.now }
+{
+    match text {
+        [] => true,
+        [first, ..] => *first == b' ',
+    }
 }
 
 /// How many bytes come before the first space.

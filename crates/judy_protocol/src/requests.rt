@@ -5,8 +5,8 @@ ghost use Rattle.judy_model.specs.Grammar.{bytes_call, call_by, fields_of, is_to
 ghost use Rattle.judy_model.specs.Reading.{auth_of, named_request, request_of, request_of_fields};
 
 use crate::commands::{bytes_with, command_of, long_with, one_with, string_with};
-use crate::fields::next_field;
-use crate::numbers::{key, number, string};
+use crate::fields::{next_field, to_field};
+use crate::numbers::{key, next_number, string};
 use judy_model::{
     BytesCall, Call, Command, KEY_LIMIT, Kind, Line, Name, Numbers, Operation, StrCall,
     TOKEN_LIMIT, Token,
@@ -21,18 +21,21 @@ pub struct Syntax;
 fn numbers_in(text: &[u8]) -> Option<Numbers>
     ensures { result ≡ numbers_of_fields (fields_of text.now) }
 {
-    let Some((first, after_first)) = next_field(text) else {
+    let Some(from) = to_field(text) else {
         return Some(Numbers::Nothing);
     };
-    let Some((second, after_second)) = next_field(after_first) else {
-        return Some(Numbers::One(number(first)?));
+    let (first, after) = next_number(from)?;
+    let Some(from) = to_field(after) else {
+        return Some(Numbers::One(first));
     };
-    let Some((third, after_third)) = next_field(after_second) else {
-        return Some(Numbers::Two(number(first)?, number(second)?));
+    let (second, after) = next_number(from)?;
+    let Some(from) = to_field(after) else {
+        return Some(Numbers::Two(first, second));
     };
-    match next_field(after_third) {
+    let (third, after) = next_number(from)?;
+    match to_field(after) {
         Some(_) => None,
-        None => Some(Numbers::Three(number(first)?, number(second)?, number(third)?)),
+        None => Some(Numbers::Three(first, second, third)),
     }
 }
 

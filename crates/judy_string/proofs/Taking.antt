@@ -4,7 +4,7 @@ use Rattle.judy_arena.specs.Blocks.{ArenaState}
 use Rattle.judy_arena.specs.Takes.{Takes}
 use Rattle.judy_arena.specs.declared.blocks.NoMemory.{NoMemory}
 use Rattle.judy_arena.proofs.lemmas.TakeLaws.{takes-more}
-use Rattle.judy_tree.specs.Calls.{most_blocks}
+use Rattle.judy_string.specs.Changes.{most_blocks}
 use Rattle.judy_tree.specs.declared.answers.Inserted.{Inserted}
 
 -- a call takes nothing for a present key, and otherwise at most n blocks, and so at most m

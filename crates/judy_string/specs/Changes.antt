@@ -1,7 +1,8 @@
 -- How a call changes one node, and the rest of a string at that node.
-use Rattle.std.specs.Prelude.{◌≡◌, ◌≢◌, ℕ, ◌*◌, ◌≤◌, true, false, Some, None, List, [], ◌∷◌, length, Option, unwrap_or}
+use Rattle.std.specs.Prelude.{◌≡◌, ◌≢◌, ℕ, ◌*◌, ◌≤◌, true, false, Some, None, List, [], ◌∷◌, length, Option, unwrap_or, is_some, if◌then◌else◌, Result, Ok, Err}
 use Rattle.judy_arena.specs.Blocks.{Blocks, ArenaState, count_up}
 use Rattle.judy_arena.specs.Frame.{Frame}
+use Rattle.judy_arena.specs.declared.blocks.NoMemory.{NoMemory}
 use Rattle.judy_model.specs.Contents.{Order, Entries, string_order, word_order, value_of, has_key, with_entry, without_key}
 use Rattle.judy_model.specs.declared.calls.Given.{Given}
 use Rattle.judy_model.specs.Tenant.{value_after}
@@ -89,6 +90,11 @@ pub record HasEntered (m : ℕ) (a c : ArenaState) (w : ℕ) (s : List ℕ) (giv
 -- present before
 abbrev pub Enters : ℕ → ArenaState → ArenaState → ℕ → List ℕ → Given → Inserted → Type 0
 Enters m a c w s given it = HasEntered m a c w s given it.root it.before
+
+-- how many blocks an insertion takes, if one of an absent string takes at most n
+abbrev pub most_blocks : ℕ → Result Inserted NoMemory → ℕ
+most_blocks n (Ok it) = if is_some it.before then 0 else n
+most_blocks n (Err refused) = n
 
 -- a block was refused: the string was absent, the count of refusals rose by one, and no block
 -- changed

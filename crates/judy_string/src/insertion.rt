@@ -5,10 +5,9 @@ ghost use Rattle.judy_arena.specs.Takes.{Takes};
 ghost use Rattle.judy_words.specs.LongArrays.{long_in, CountsRefusals};
 ghost use Rattle.judy_packing.specs.Packing.{pack};
 ghost use Rattle.judy_model.specs.Contents.{word_order, has_key};
-ghost use Rattle.judy_string.specs.Changes.{IsRest, IsHung, IsForkedArray, Enters, IsTurnedAway};
+ghost use Rattle.judy_string.specs.Changes.{IsRest, IsHung, IsForkedArray, Enters, IsTurnedAway, most_blocks};
 ghost use Rattle.judy_string.specs.Strings.{IsNestedAt};
 ghost use Rattle.judy_string.specs.Suffixes.{is_suffix};
-ghost use Rattle.judy_tree.specs.Calls.{most_blocks};
 
 use crate::nodes::{clear, tail};
 use crate::{suffix, words};
