@@ -121,10 +121,21 @@ def is_request(word: str) -> bool:
 
 def _near(word: str) -> str:
     """The request that is meant, by a manual's name if the word looks like one, otherwise by its word in
-    the protocol."""
-    known = list(LONG_NAMES) if word.lower().startswith("judy") else list(WORDS)
-    close = get_close_matches(word, known, 1, 0.5) or get_close_matches(word.upper(), known, 1, 0.5)
+    the protocol: the longest that it begins with, or one that is close, of the same kind of array if there is one."""
+    if word.lower().startswith("judy"):
+        close = get_close_matches(word, list(LONG_NAMES), 1, 0.5) or get_close_matches(word.upper(), list(LONG_NAMES), 1, 0.5)
+    else:
+        upper = word.upper()
+        alike = [it for it in WORDS if _letters(it) == _letters(upper)]
+        begun = sorted((it for it in WORDS if upper.startswith(it)), key=len)
+        close = begun[-1:] or get_close_matches(upper, alike, 1, 0.5) or get_close_matches(upper, list(WORDS), 1, 0.5)
     return "; is it %s?" % close[0] if close else ""
+
+
+def _letters(word: str) -> str:
+    """The letters of a word that tell the kind of array."""
+    found = re.match("J1|JSL|JHS|JL|", word)
+    return found[0] if found else ""
 
 
 def hexed(match: Match[str]) -> str:
