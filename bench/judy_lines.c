@@ -25,7 +25,7 @@
 
 enum { LINE_LIMIT = 4096, KEY_LIMIT = 1000, FIELDS = 6 };
 enum kind { ONE, LONG, STRING, BYTES };
-enum call { INSERT, ADD, REMOVE, FREE, LOOK, COUNT, NTH, FIRST, NEXT, LAST, PREV, FIRST_EMPTY, NEXT_EMPTY, LAST_EMPTY, PREV_EMPTY };
+enum call { INSERT, ADD, KEEP, EXCHANGE, REMOVE, TAKE, FREE, LOOK, COUNT, NTH, FIRST, NEXT, LAST, PREV, FIRST_EMPTY, NEXT_EMPTY, LAST_EMPTY, PREV_EMPTY };
 
 struct array {
     Pvoid_t root;
@@ -53,7 +53,7 @@ struct command {
 struct request {
     const struct command *command;
     char name[40]; /* a letter for the kind, and the name */
-    Word_t words[2];
+    Word_t words[3];
     int given; /* how many words were given */
     size_t key_len;
     uint8_t key[KEY_LIMIT + 1];
@@ -77,7 +77,10 @@ static const struct command COMMANDS[] = {
     {"J1FA", ONE, FREE, 0, 0},
     {"JLI", LONG, INSERT, 1, 1},
     {"JLA", LONG, ADD, 2, 0},
-    {"JLD", LONG, REMOVE, 1, 0},
+    {"JLK", LONG, KEEP, 2, 0},
+    {"JLX", LONG, EXCHANGE, 3, 0},
+    {"JLD", LONG, REMOVE, 1, 1},
+    {"JLT", LONG, TAKE, 1, 0},
     {"JLG", LONG, LOOK, 1, 0},
     {"JLC", LONG, COUNT, 2, 0},
     {"JLBC", LONG, NTH, 1, 0},
@@ -92,7 +95,10 @@ static const struct command COMMANDS[] = {
     {"JLFA", LONG, FREE, 0, 0},
     {"JSLI", STRING, INSERT, 1, 1},
     {"JSLA", STRING, ADD, 2, 0},
-    {"JSLD", STRING, REMOVE, 1, 0},
+    {"JSLK", STRING, KEEP, 2, 0},
+    {"JSLX", STRING, EXCHANGE, 3, 0},
+    {"JSLD", STRING, REMOVE, 1, 1},
+    {"JSLT", STRING, TAKE, 1, 0},
     {"JSLG", STRING, LOOK, 1, 0},
     {"JSLF", STRING, FIRST, 1, 0},
     {"JSLN", STRING, NEXT, 1, 0},
@@ -101,7 +107,10 @@ static const struct command COMMANDS[] = {
     {"JSLFA", STRING, FREE, 0, 0},
     {"JHSI", BYTES, INSERT, 1, 1},
     {"JHSA", BYTES, ADD, 2, 0},
-    {"JHSD", BYTES, REMOVE, 1, 0},
+    {"JHSK", BYTES, KEEP, 2, 0},
+    {"JHSX", BYTES, EXCHANGE, 3, 0},
+    {"JHSD", BYTES, REMOVE, 1, 1},
+    {"JHST", BYTES, TAKE, 1, 0},
     {"JHSG", BYTES, LOOK, 1, 0},
     {"JHSFA", BYTES, FREE, 0, 0},
 };
@@ -223,6 +232,42 @@ static int read_call(const struct field *fields, int count, struct request *r)
     return 1;
 }
 
+/* ---- replies ---- */
+
+static char reply[LINE_LIMIT];
+static size_t reply_len;
+static int is_silent;
+
+static void say(const char *format, ...)
+{
+    va_list given;
+    if (is_silent)
+        return;
+    va_start(given, format);
+    reply_len = (size_t)vsnprintf(reply, sizeof reply, format, given);
+    va_end(given);
+}
+
+/* Says the value of an entry, or that there is none. */
+static void say_value(const Word_t *value)
+{
+    if (value)
+        say("V %lu", *value);
+    else
+        say("NULL");
+}
+
+static void say_string(Word_t value, const uint8_t *key)
+{
+    if (is_silent)
+        return;
+    reply_len = (size_t)snprintf(reply, sizeof reply, "V %lu x", value);
+    for (; *key; key++) {
+        reply[reply_len++] = "0123456789abcdef"[*key / 16];
+        reply[reply_len++] = "0123456789abcdef"[*key % 16];
+    }
+}
+
 /* ---- calls ---- */
 
 static struct array *array_of(struct tenant *t, const char *name, int make)
@@ -283,6 +328,40 @@ static int remove_entry(struct tenant *t, struct array *a, const struct request 
         a->pieces -= pieces, t->pieces -= pieces;
     }
     return removed;
+}
+
+/* Keeps the value of an entry that is present, and otherwise inserts it with the value of the request. */
+static void keep(struct tenant *t, const struct array *a, const struct request *r)
+{
+    Word_t *value = find(a, r);
+    if (value) {
+        say_value(value);
+    } else if ((value = add(t, r))) {
+        *value = r->words[r->given - 1];
+        say("NULL");
+    } else {
+        say("FULL");
+    }
+}
+
+/* Stores the second value of the request if the entry has the first. */
+static void exchange(const struct array *a, const struct request *r)
+{
+    Word_t *value = find(a, r);
+    say_value(value);
+    if (value && *value == r->words[r->given - 2])
+        *value = r->words[r->given - 1];
+}
+
+/* Removes the entry of a request. If the request has a value, the entry must have it. */
+static int remove_if(struct tenant *t, struct array *a, const struct request *r)
+{
+    if (r->given > (r->command->kind <= LONG)) {
+        const Word_t *value = find(a, r);
+        if (!value || *value != r->words[r->given - 1])
+            return 0;
+    }
+    return remove_entry(t, a, r);
 }
 
 static Word_t free_array(struct tenant *t, struct array *a, enum kind kind)
@@ -347,33 +426,6 @@ static Word_t *find_string(const struct array *a, enum call call, uint8_t *key)
     }
 }
 
-/* ---- replies ---- */
-
-static char reply[LINE_LIMIT];
-static size_t reply_len;
-static int is_silent;
-
-static void say(const char *format, ...)
-{
-    va_list given;
-    if (is_silent)
-        return;
-    va_start(given, format);
-    reply_len = (size_t)vsnprintf(reply, sizeof reply, format, given);
-    va_end(given);
-}
-
-static void say_string(Word_t value, const uint8_t *key)
-{
-    if (is_silent)
-        return;
-    reply_len = (size_t)snprintf(reply, sizeof reply, "V %lu x", value);
-    for (; *key; key++) {
-        reply[reply_len++] = "0123456789abcdef"[*key / 16];
-        reply[reply_len++] = "0123456789abcdef"[*key % 16];
-    }
-}
-
 /* A search of a request in an array. */
 static void search(const struct array *a, const struct request *r)
 {
@@ -431,16 +483,20 @@ static void make_call(struct tenant *t, const struct request *r)
         else
             say("V %lu", *value += r->words[r->given - 1]);
         break;
-    case REMOVE: say(remove_entry(t, a, r) ? "1" : "0"); break;
+    case KEEP: keep(t, a, r); break;
+    case EXCHANGE: exchange(a, r); break;
+    case REMOVE: say(remove_if(t, a, r) ? "1" : "0"); break;
+    case TAKE:
+        say_value(find(a, r));
+        remove_entry(t, a, r);
+        break;
     case FREE: say("N %lu", free_array(t, a, kind)); break;
     case LOOK:
         value = find(a, r);
         if (kind == ONE)
             say(value ? "1" : "0");
-        else if (value)
-            say("V %lu", *value);
         else
-            say("NULL");
+            say_value(value);
         break;
     case COUNT:
         say("N %lu", kind == ONE ? Judy1Count(a->root, r->words[0], r->words[1], PJE0) : JudyLCount(a->root, r->words[0], r->words[1], PJE0));

@@ -18,8 +18,9 @@ from commands import CODE, COMMANDS, FORMS, KINDS, usage  # noqa: E402
 from judyd.wording import CALLS, OTHERS, said_of  # noqa: E402
 from oracle import INSERTS, LOOKS, OPERATIONS  # noqa: E402
 
-LETTERS = {"name": "", "key": "K", "i": "W", "k": "W", "n": "W", "v": "W"}
-NAMES = {"Set": "Insert", "Unset": "Remove", "Test": "Look", "Delete": "Remove", "Get": "Look", "ByCount": "Nth", "addition": "Add", "FreeArray": "Free"}
+LETTERS = {"name": "", "key": "K", "i": "W", "k": "W", "n": "W", "v": "W", "old": "W", "new": "W"}
+NAMES = {"Set": "Insert", "Unset": "Remove", "Test": "Look", "Delete": "Remove", "Get": "Look", "ByCount": "Nth", "FreeArray": "Free"}
+NAMES.update({"addition": "Add", "keep": "Keep", "exchange": "Exchange", "take": "Take"})
 PREFIXES = {"One": "J1", "Long": "JL", "Str": "JSL", "Bytes": "JHS"}
 REFUSALS = {"ERR JOURNAL", "ERR READONLY", "ERR FROZEN", "FULL", "ERR MEMORY"}
 COLUMNS = 100
@@ -46,12 +47,23 @@ def codes(cell):
 
 
 def shown(cell):
-    """The calls of a cell, and the forms of their fields. An unknown field is a letter that no form has."""
-    fields = [token for code in codes(cell) for token in code.split()]
-    words = [token for token in fields if re.fullmatch(r"J[0-9A-Z]+", token)]
-    rest = [token for token in fields if token not in words]
-    forms = {"".join(LETTERS.get(token.strip("[]"), "?") for token in rest[:count]) for count in range(len([it for it in rest if not it.startswith("[")]), len(rest) + 1)}
-    return {word: forms for word in words} if rest[:1] == ["name"] else dict.fromkeys(words, {"?"})
+    """The calls of a cell, and the forms of their fields, which are those of all words before them. An unknown field
+    is a letter that no form has."""
+    found, words = {}, []
+    for code in codes(cell):
+        tokens = code.split()
+        words += [token for token in tokens if re.fullmatch(r"J[0-9A-Z]+", token)]
+        rest = [token for token in tokens if token not in words]
+        if rest:
+            found.update(dict.fromkeys(words, forms_of(rest) if rest[0] == "name" else {"?"}))
+            words = []
+    return {**found, **dict.fromkeys(words, {"?"})}
+
+
+def forms_of(fields):
+    """The forms of these fields; those in brackets may be left out."""
+    least = len([it for it in fields if not it.startswith("[")])
+    return {"".join(LETTERS.get(field.strip("[]"), "?") for field in fields[:count]) for count in range(least, len(fields) + 1)}
 
 
 def rows(page, title):
@@ -176,7 +188,7 @@ from typing import Dict, NamedTuple
 
 class Command(NamedTuple):
     """What a word stands for: the kind of the array, the operation, the fields after the name, and whether it
-    inserts, removes, frees or looks."""
+    inserts, exchanges, removes, frees or looks."""
 
     kind: str
     operation: str

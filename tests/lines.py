@@ -1,6 +1,6 @@
 """Lines of requests from a seed: long walks of well-formed calls, and hostile lines."""
 
-from oracle import COMMANDS, FREES, GREATEST, INSERTS, LOOKS, REMOVES, Tenant, read_bytes, read_string, read_word
+from oracle import COMMANDS, EXCHANGES, FREES, GREATEST, INSERTS, LOOKS, REMOVES, Tenant, read_bytes, read_string, read_word
 
 TENANTS = [
     Tenant("alice", "abc", 40000, read_token="look"),
@@ -79,7 +79,7 @@ class Walk:
         """Draws for how many lines the arrays grow or shrink, and how fast."""
         self.left = self.random.choice((500, 5000, 20000))
         grows = self.random.random() < 0.6
-        weights = {INSERTS: 8 if grows else 2, REMOVES: 1 if grows else 6, LOOKS: 0.5}
+        weights = {INSERTS: 8 if grows else 2, EXCHANGES: 2, REMOVES: 1 if grows else 6, LOOKS: 0.5}
         self.weights = [weights[COMMANDS[word].operation.does] for word in self.commands]
 
     def log_in(self):
@@ -96,10 +96,16 @@ class Walk:
         if self.random.random() < 0.0002:
             word = self.random.choice(self.frees)
         command = COMMANDS[word]
-        fields = [word, self.random.choice(NAMES), *map(self.keys.field, command.must)]
-        if command.may and self.random.random() < 0.7:
-            fields.append(b"%d" % self.random.getrandbits(self.random.choice((4, 64))))
+        does, must = command.operation.does, command.must
+        fields = [word, self.random.choice(NAMES), *map(self.keys.field, must if does == LOOKS else must[:1])]
+        fields += [self.value() for _ in must[len(fields) - 2 :]]
+        if command.may and self.random.random() < (0.7 if does == INSERTS else 0.4):
+            fields.append(self.value())
         return b" ".join(fields)
+
+    def value(self):
+        """The field of a value. Few values recur often, so that many entries have a value that a line names."""
+        return b"%d" % self.random.getrandbits(self.random.choice((1, 1, 4, 64)))
 
     def march(self):
         """Lines of one call on consecutive words, or on words as far apart as the children of a

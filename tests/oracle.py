@@ -243,7 +243,8 @@ def read_string(field):
 # ---- what the operations do ----
 
 SET = "One"  # the kind of array whose entries have no value
-INSERTS, REMOVES, FREES, LOOKS = "inserts", "removes", "frees", "looks"  # what an operation may do to the entries
+# What an operation may do to the entries.
+INSERTS, EXCHANGES, REMOVES, FREES, LOOKS = "inserts", "exchanges", "removes", "frees", "looks"
 
 
 def insert(owner, kind, name, key, value=None):
@@ -270,9 +271,36 @@ def add(owner, kind, name, key, number):
     return b"V %d" % values[key]
 
 
-def remove(owner, kind, name, key):
-    """A removal: whether the key was present."""
+def keep(owner, kind, name, key, value):
+    """An insertion of an absent key: NULL. A present key keeps its value, which is the reply."""
+    values = owner.array(kind, name).values
+    if key in values:
+        return b"V %d" % values[key]
+    insert(owner, kind, name, key, value)
+    return b"NULL"
+
+
+def exchange(owner, kind, name, key, old, new):
+    """The value of a key, or NULL. If it is the old one, the new one is stored."""
+    values = owner.array(kind, name).values
+    before = look(owner, kind, name, key)
+    if values.get(key) == old:
+        values[key] = new
+    return before
+
+
+def remove(owner, kind, name, key, value=None):
+    """A removal of a key, with a value only if the key has it: whether the key was removed."""
+    if value is not None and owner.array(kind, name).values.get(key) != value:
+        return b"0"
     return b"1" if owner.remove(kind, name, key) else b"0"
+
+
+def take(owner, kind, name, key):
+    """The removal of a key: its value, or NULL."""
+    before = look(owner, kind, name, key)
+    owner.remove(kind, name, key)
+    return before
 
 
 def free(owner, kind, name):
@@ -329,7 +357,10 @@ class Operation(NamedTuple):
 OPERATIONS = {
     "Insert": Operation(insert, "k", "w", INSERTS),
     "Add": Operation(add, "kw", "", INSERTS),
-    "Remove": Operation(remove, "k", "", REMOVES),
+    "Keep": Operation(keep, "kw", "", INSERTS),
+    "Exchange": Operation(exchange, "kww", "", EXCHANGES),
+    "Remove": Operation(remove, "k", "w", REMOVES),
+    "Take": Operation(take, "k", "", REMOVES),
     "Look": Operation(look, "k"),
     "Count": Operation(count, "kk"),
     "Nth": Operation(finds(Entries.nth), "w"),

@@ -43,17 +43,20 @@ class Arrays:
         """Runs the line of a record."""
         tenant, word, name, key, *more = record.split(b" ")
         kind, operation = COMMANDS.get(word.decode(), (None, None))
-        number = int(more[0]) if more else 0
+        numbers = list(map(int, more)) or [0]
         if kind in ("One", "Long"):
             key = int(key)
         place = (tenant, kind, name, key)
-        if operation == "Remove":
+        before = self.entries.get(place)
+        if operation == "Take" or (operation == "Remove" and (not more or before == numbers[0])):
             self.put(place, None)
         elif operation == "Add":
-            self.put(place, (self.entries.get(place, 0) + number) % WORD)
-        elif operation == "Insert":
-            self.put(place, number)
-        else:
+            self.put(place, ((before or 0) + numbers[0]) % WORD)
+        elif operation == "Insert" or (operation == "Keep" and before is None):
+            self.put(place, numbers[0])
+        elif operation == "Exchange" and before == numbers[0]:
+            self.put(place, numbers[1])
+        elif operation not in ("Remove", "Keep", "Exchange"):
             raise ValueError("a record of an unknown call: %r" % record[:100])
 
 

@@ -39,7 +39,7 @@ struct fields {
     const void *key;
     size_t length;
     int words;
-    uint64_t word[2];
+    uint64_t word[3];
 };
 
 /* The first call of a queue with a code of some kind. */
@@ -375,11 +375,17 @@ static int call_key(jd *c, const char *word, const char *name, const void *key, 
     return call(c, word, name, &fields, &(struct result){.form = form, .value = value});
 }
 
-/* An insertion with a value, or an addition. */
-static int store_key(jd *c, const char *word, const char *name, const void *key, size_t length, uint64_t given, uint64_t *value)
+/* A call with a key and a number. */
+static int give_key(jd *c, const char *word, const char *name, const void *key, size_t length, uint64_t given, enum form form, uint64_t *value)
 {
     struct fields fields = {.has_key = true, .key = key, .length = length, .words = 1, .word = {given}};
-    return call(c, word, name, &fields, &(struct result){.form = VALUE, .value = value});
+    return call(c, word, name, &fields, &(struct result){.form = form, .value = value});
+}
+
+static int exchange_key(jd *c, const char *word, const char *name, const void *key, size_t length, uint64_t old, uint64_t given, uint64_t *before)
+{
+    struct fields fields = {.has_key = true, .key = key, .length = length, .words = 2, .word = {old, given}};
+    return call(c, word, name, &fields, &(struct result){.form = FOUND, .value = before});
 }
 
 static int count(jd *c, const char *word, const char *name, uint64_t low, uint64_t high, uint64_t *count)
@@ -627,6 +633,22 @@ int jd_jl_add(jd *c, const char *name, uint64_t index, uint64_t n, uint64_t *val
     return call(c, "JLA", name, &(struct fields){.words = 2, .word = {index, n}}, &(struct result){.form = VALUE, .value = value});
 }
 
+int jd_jl_keep(jd *c, const char *name, uint64_t index, uint64_t given, uint64_t *value)
+{
+    return call(c, "JLK", name, &(struct fields){.words = 2, .word = {index, given}}, &(struct result){.form = FOUND, .value = value});
+}
+
+int jd_jl_exchange(jd *c, const char *name, uint64_t index, uint64_t old, uint64_t given, uint64_t *before)
+{
+    return call(c, "JLX", name, &(struct fields){.words = 3, .word = {index, old, given}}, &(struct result){.form = FOUND, .value = before});
+}
+
+int jd_jl_del_if(jd *c, const char *name, uint64_t index, uint64_t value)
+{
+    return call(c, "JLD", name, &(struct fields){.words = 2, .word = {index, value}}, &(struct result){.form = FLAG});
+}
+
+int jd_jl_take(jd *c, const char *name, uint64_t index, uint64_t *value) { return call_word(c, "JLT", name, index, FOUND, NULL, value); }
 int jd_jl_ensure(jd *c, const char *name, uint64_t index, uint64_t *value) { return call_word(c, "JLI", name, index, VALUE, NULL, value); }
 int jd_jl_get(jd *c, const char *name, uint64_t index, uint64_t *value) { return call_word(c, "JLG", name, index, FOUND, NULL, value); }
 int jd_jl_del(jd *c, const char *name, uint64_t index) { return call_word(c, "JLD", name, index, FLAG, NULL, NULL); }
@@ -651,12 +673,32 @@ int jd_jl_free_array(jd *c, const char *name, uint64_t *count) { return free_arr
 
 int jd_js_ins(jd *c, const char *name, const char *key, uint64_t value, uint64_t *before)
 {
-    return store_key(c, "JSLI", name, key, length_of(key), value, before);
+    return give_key(c, "JSLI", name, key, length_of(key), value, VALUE, before);
 }
 
 int jd_js_add(jd *c, const char *name, const char *key, uint64_t n, uint64_t *value)
 {
-    return store_key(c, "JSLA", name, key, length_of(key), n, value);
+    return give_key(c, "JSLA", name, key, length_of(key), n, VALUE, value);
+}
+
+int jd_js_keep(jd *c, const char *name, const char *key, uint64_t given, uint64_t *value)
+{
+    return give_key(c, "JSLK", name, key, length_of(key), given, FOUND, value);
+}
+
+int jd_js_exchange(jd *c, const char *name, const char *key, uint64_t old, uint64_t given, uint64_t *before)
+{
+    return exchange_key(c, "JSLX", name, key, length_of(key), old, given, before);
+}
+
+int jd_js_del_if(jd *c, const char *name, const char *key, uint64_t value)
+{
+    return give_key(c, "JSLD", name, key, length_of(key), value, FLAG, NULL);
+}
+
+int jd_js_take(jd *c, const char *name, const char *key, uint64_t *value)
+{
+    return call_key(c, "JSLT", name, key, length_of(key), FOUND, value);
 }
 
 int jd_js_ensure(jd *c, const char *name, const char *key, uint64_t *value) { return call_key(c, "JSLI", name, key, length_of(key), VALUE, value); }
@@ -672,12 +714,32 @@ int jd_js_free_array(jd *c, const char *name, uint64_t *count) { return free_arr
 
 int jd_jh_ins(jd *c, const char *name, const void *key, size_t length, uint64_t value, uint64_t *before)
 {
-    return store_key(c, "JHSI", name, key, length, value, before);
+    return give_key(c, "JHSI", name, key, length, value, VALUE, before);
 }
 
 int jd_jh_add(jd *c, const char *name, const void *key, size_t length, uint64_t n, uint64_t *value)
 {
-    return store_key(c, "JHSA", name, key, length, n, value);
+    return give_key(c, "JHSA", name, key, length, n, VALUE, value);
+}
+
+int jd_jh_keep(jd *c, const char *name, const void *key, size_t length, uint64_t given, uint64_t *value)
+{
+    return give_key(c, "JHSK", name, key, length, given, FOUND, value);
+}
+
+int jd_jh_exchange(jd *c, const char *name, const void *key, size_t length, uint64_t old, uint64_t given, uint64_t *before)
+{
+    return exchange_key(c, "JHSX", name, key, length, old, given, before);
+}
+
+int jd_jh_del_if(jd *c, const char *name, const void *key, size_t length, uint64_t value)
+{
+    return give_key(c, "JHSD", name, key, length, value, FLAG, NULL);
+}
+
+int jd_jh_take(jd *c, const char *name, const void *key, size_t length, uint64_t *value)
+{
+    return call_key(c, "JHST", name, key, length, FOUND, value);
 }
 
 int jd_jh_ensure(jd *c, const char *name, const void *key, size_t length, uint64_t *value)

@@ -112,12 +112,19 @@ int jd_j1_prev_empty(jd *connection, const char *name, uint64_t *index);
 int jd_j1_free_array(jd *connection, const char *name, uint64_t *count);
 int jd_j1_scan(jd *connection, const char *name, uint64_t from, jd_j1_visit *visit, void *context);
 
-/* JudyL: maps from words to words. */
+/* JudyL: maps from words to words.
+ * These look and change in one step, of a JudySL and a JudyHS too. keep stores a value if there is none: 0; a
+ * value that is there stays, and is told: 1. exchange tells the value before, and stores the given one if that
+ * was `old`. take removes, and tells the value. del_if removes if this is the value. */
 int jd_jl_ins(jd *connection, const char *name, uint64_t index, uint64_t value, uint64_t *before);
 int jd_jl_ensure(jd *connection, const char *name, uint64_t index, uint64_t *value);
 int jd_jl_add(jd *connection, const char *name, uint64_t index, uint64_t n, uint64_t *value);
+int jd_jl_keep(jd *connection, const char *name, uint64_t index, uint64_t given, uint64_t *value);
+int jd_jl_exchange(jd *connection, const char *name, uint64_t index, uint64_t old, uint64_t given, uint64_t *before);
+int jd_jl_take(jd *connection, const char *name, uint64_t index, uint64_t *value);
 int jd_jl_get(jd *connection, const char *name, uint64_t index, uint64_t *value);
 int jd_jl_del(jd *connection, const char *name, uint64_t index);
+int jd_jl_del_if(jd *connection, const char *name, uint64_t index, uint64_t value);
 int jd_jl_count(jd *connection, const char *name, uint64_t low, uint64_t high, uint64_t *count);
 int jd_jl_by_count(jd *connection, const char *name, uint64_t nth, uint64_t *index, uint64_t *value);
 int jd_jl_first(jd *connection, const char *name, uint64_t *index, uint64_t *value);
@@ -135,8 +142,12 @@ int jd_jl_scan(jd *connection, const char *name, uint64_t from, jd_jl_visit *vis
 int jd_js_ins(jd *connection, const char *name, const char *key, uint64_t value, uint64_t *before);
 int jd_js_ensure(jd *connection, const char *name, const char *key, uint64_t *value);
 int jd_js_add(jd *connection, const char *name, const char *key, uint64_t n, uint64_t *value);
+int jd_js_keep(jd *connection, const char *name, const char *key, uint64_t given, uint64_t *value);
+int jd_js_exchange(jd *connection, const char *name, const char *key, uint64_t old, uint64_t given, uint64_t *before);
+int jd_js_take(jd *connection, const char *name, const char *key, uint64_t *value);
 int jd_js_get(jd *connection, const char *name, const char *key, uint64_t *value);
 int jd_js_del(jd *connection, const char *name, const char *key);
+int jd_js_del_if(jd *connection, const char *name, const char *key, uint64_t value);
 int jd_js_first(jd *connection, const char *name, char *key, uint64_t *value);
 int jd_js_next(jd *connection, const char *name, char *key, uint64_t *value);
 int jd_js_last(jd *connection, const char *name, char *key, uint64_t *value);
@@ -148,8 +159,12 @@ int jd_js_scan(jd *connection, const char *name, const char *from, jd_js_visit *
 int jd_jh_ins(jd *connection, const char *name, const void *key, size_t length, uint64_t value, uint64_t *before);
 int jd_jh_ensure(jd *connection, const char *name, const void *key, size_t length, uint64_t *value);
 int jd_jh_add(jd *connection, const char *name, const void *key, size_t length, uint64_t n, uint64_t *value);
+int jd_jh_keep(jd *connection, const char *name, const void *key, size_t length, uint64_t given, uint64_t *value);
+int jd_jh_exchange(jd *connection, const char *name, const void *key, size_t length, uint64_t old, uint64_t given, uint64_t *before);
+int jd_jh_take(jd *connection, const char *name, const void *key, size_t length, uint64_t *value);
 int jd_jh_get(jd *connection, const char *name, const void *key, size_t length, uint64_t *value);
 int jd_jh_del(jd *connection, const char *name, const void *key, size_t length);
+int jd_jh_del_if(jd *connection, const char *name, const void *key, size_t length, uint64_t value);
 int jd_jh_free_array(jd *connection, const char *name, uint64_t *count);
 
 #ifdef __GNUC__

@@ -5,8 +5,8 @@ _judy_commands="add status top stop reload kick thaw wait dump load check backup
 # python3 tests/calls.py --write writes these words
 _judy_calls="\
 AUTH HELLO J1BC J1C J1F J1FA J1FE J1L J1LE J1N J1NE J1P J1PE J1S J1T J1U JHSA JHSD JHSFA JHSG JHSI \
-JLA JLBC JLC JLD JLF JLFA JLFE JLG JLI JLL JLLE JLN JLNE JLP JLPE JSLA JSLD JSLF JSLFA JSLG JSLI \
-JSLL JSLN JSLP PING QUIT USED"
+JHSK JHST JHSX JLA JLBC JLC JLD JLF JLFA JLFE JLG JLI JLK JLL JLLE JLN JLNE JLP JLPE JLT JLX JSLA \
+JSLD JSLF JSLFA JSLG JSLI JSLK JSLL JSLN JSLP JSLT JSLX PING QUIT USED"
 _judy_options="-s --socket -t --tcp --tls --ca -u --user --token-file --timeout --pretty --hold"
 
 # The command among the words before the one to complete.

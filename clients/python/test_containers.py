@@ -34,14 +34,18 @@ class Containers(WithClient):
             array.clear()
         super().tearDown()
 
-    def before_next(self, job, letters):
-        """Another client does a job after the next call of the client with these letters, once."""
+    def before_next(self, job, letters, is_ahead=False):
+        """Another client does a job after the next call of the client with these letters, or right ahead of
+        it, once."""
         ask, left = self.client._ask, [job]
 
         def asked(line, read, is_quiet=False):
+            jobs = [left.pop()] if left and line.split()[0].endswith(letters) else []
+            for it in jobs if is_ahead else ():
+                it()
             result = ask(line, read, is_quiet)
-            if left and line.split()[0].endswith(letters):
-                left.pop()()
+            for it in () if is_ahead else jobs:
+                it()
             return result
 
         self.client._ask = asked
@@ -117,27 +121,32 @@ class Races(Containers):
                 array.pop(key)
             self.assertEqual(caught.exception.args, (key,))
             array[key] = 7
-            self.before_next(lambda other=other, key=key: other.pop(key), b"G")
+            self.before_next(lambda other=other, key=key: other.delete(key), b"T", True)
             self.assertEqual(array.pop(key, 9), 9)  # the other has it
             array[key] = 7
-            self.before_next(lambda other=other, key=key: (other.pop(key), other.insert(key, 8)), b"G")
-            self.assertEqual(array.pop(key, 9), 7)  # it was removed, and stored anew: then it is taken all the same
+            self.before_next(lambda other=other, key=key: other.insert(key, 8), b"T", True)
+            self.assertEqual((array.pop(key, 9), array.get(key)), (8, None))  # what another client stored is not lost
 
     def test_popitem(self):
         for array, key, other in self.arrays()[:2]:
             later = key + 1 if array is self.m else key + b"1"
             array.update({key: 7, later: 8})
-            self.before_next(lambda other=other, key=key: other.pop(key), b"F")
+            self.before_next(lambda other=other, key=key: other.delete(key), b"F")
             self.assertEqual(array.popitem(), (later, 8))
             array[key] = 7
-            self.before_next(lambda other=other, key=key: other.pop(key), b"F")
+            self.before_next(lambda other=other, key=key: other.insert(key, 9), b"F")
+            self.assertEqual(array.popitem(), (key, 9))
+            array[key] = 7
+            self.before_next(lambda other=other, key=key: other.delete(key), b"F")
             self.assertRaisesRegex(KeyError, "empty", array.popitem)
 
     def test_setdefault(self):
         for array, key, other in self.arrays():
             self.assertEqual((array.setdefault(key, 4), array.setdefault(key, 5), array[key]), (4, 4, 4))
-            self.before_next(lambda other=other, key=key: other.pop(key), b"G")
-            self.assertEqual(array.setdefault(key, 6), 4)
+            self.before_next(lambda other=other, key=key: other.insert(key, 8), b"K", True)
+            self.assertEqual((array.setdefault(key, 6), array.pop(key)), (8, 8))
+            self.before_next(lambda other=other, key=key: other.insert(key, 8), b"K", True)
+            self.assertEqual((array.setdefault(key, 6), array.pop(key)), (8, 8))  # what another client stored stays
             self.assertEqual((array.setdefault(key, 0), array.setdefault(key, 3), array[key]), (0, 0, 0))
             self.assertRaises(TypeError, array.setdefault, b"l" if key == b"k" else 6, None)
             array.clear()

@@ -151,9 +151,9 @@ class Commands(unittest.TestCase):
 
     def test_what_may_be_sent_twice(self):
         for line in self.made(Recorder()):
-            letters = re.sub("^(J1|JL|JSL|JHS)", "", line.split()[0].decode())
-            self.assertEqual((line, is_query(line)), (line, letters not in ("S", "U", "I", "D", "A", "FA")))
-            self.assertEqual((line, is_same_twice(line)), (line, letters != "A"))
+            operation = commands.COMMANDS[line.split()[0].decode()].operation
+            self.assertEqual((line, is_query(line)), (line, operation not in ("Insert", "Add", "Keep", "Exchange", "Remove", "Take", "Free")))
+            self.assertEqual((line, is_same_twice(line)), (line, operation != "Add"))
         for line in (b"USED", b"PING", b"HELLO", b"AUTH alice abc"):
             self.assertTrue(is_query(line), line)
         for line in (b"QUIT", b"", b"PING 1", b"HELLOS", b"J1X a 1", b"J1TT a 1", b"j1t a 1", b"AUTHX a b", b"USED 1"):

@@ -79,6 +79,18 @@ def word_maps(client: judyd.Client) -> None:
     m.add("5")  # wrong
     m.add(5, "1")  # wrong
     none: None = m.add(5, n=-1)  # wrong
+    kept: Optional[int] = m.keep(5, 6)
+    before: Optional[int] = m.exchange(5, 6, 7)
+    was_there: bool = m.delete_if(5, 6)
+    taken: Optional[int] = m.take(5)
+    m.keep(5)  # wrong
+    m.keep(5, None)  # wrong
+    m.exchange(5, 6)  # wrong
+    m.exchange("5", 6, 7)  # wrong
+    m.delete_if(5)  # wrong
+    m.take("5")  # wrong
+    certain: int = m.take(5)  # wrong
+    print(kept, before, was_there, taken, certain)
     other: int = m.get(5)  # wrong
     text: str = m[5]  # wrong
     first: Tuple[int, int] = m.first()  # wrong
@@ -135,6 +147,9 @@ def pipelines(client: judyd.Client) -> None:
         used: judyd.Later[judyd.Used] = pipe.used()
         pipe.judy1("ids").add("5")  # wrong
         hits: int = pipe.judyl("m").add(5)  # wrong
+        kept: judyd.Later[Optional[int]] = pipe.judyl("m").keep(5, 6)
+        was_there: bool = pipe.judyl("m").delete_if(5, 6)  # wrong
+        print(kept, was_there)
         pipe.judyl("m")[5] = "6"  # wrong
         pipe.judysl("s")["tree"] = 6  # wrong
         is_new: bool = pipe.judy1("ids").set(5)  # wrong
@@ -170,6 +185,9 @@ async def tasks(client: aio.Client) -> None:
     number: int = await client.judyl("m").get(5)  # wrong
     number = await client.judyl("m").add(5)
     hits: int = client.judyl("m").add(5)  # wrong
+    kept: Optional[int] = await client.judyl("m").keep(5, 6)
+    taken: Optional[int] = client.judyl("m").take(5)  # wrong
+    print(kept, taken)
     for index in client.judy1("ids").walk():  # wrong
         print(index)
     async for key, value in client.judysl("s").walk(b"a"):  # wrong

@@ -9,7 +9,7 @@
  *                                  (token abc, 2 entries, 4 pieces)
  *        faults restart PATH       a judyd that is restarted when this program has printed a line; then
  *                                  it gets a line
- *        faults adds PATH          the same judyd: additions
+ *        faults adds PATH          the same judyd: additions, and calls that decide by a value
  *        faults flood PATH CALLS   many calls with long lines and long replies in flight */
 #define _POSIX_C_SOURCE 200809L
 
@@ -651,6 +651,44 @@ static void check_adds(const char *path)
     jd_close(c);
 }
 
+/* ---- calls that decide by a value ---- */
+
+static void check_decisions(const char *path)
+{
+    jd *c = log_in(path, "small", "abc");
+    char key[JD_KEY_LIMIT + 2];
+    uint64_t value = UNTOUCHED;
+    memset(key, 'k', sizeof key);
+    key[JD_KEY_LIMIT + 1] = 0;
+    CHECK(JD_KEY, jd_js_keep(c, "a", key, 1, &value));
+    CHECK(JD_KEY, jd_jh_exchange(c, "a", key, JD_KEY_LIMIT + 1, 1, 2, &value));
+    CHECK(JD_NAME, jd_jl_take(c, "", 1, &value));
+    CHECK(JD_NAME, jd_jl_del_if(c, "/", 1, 1));
+    CHECK(0, jd_jl_keep(c, "a", 1, 5, &value)); /* a new entry */
+    CHECK(0, jd_jl_exchange(c, "a", 2, 0, 5, &value)); /* an absent index has no value */
+    CHECK(0, jd_jl_take(c, "a", 2, &value));
+    CHECK(UNTOUCHED, (int)value);
+    CHECK(1, jd_jl_keep(c, "a", 1, 6, &value));
+    CHECK(5, (int)value);
+    CHECK(0, jd_jh_keep(c, "a", "k", 1, 7, NULL));
+    CHECK(JD_FULL, jd_js_keep(c, "a", "k", 1, &value));
+    CHECK(1, jd_jh_exchange(c, "a", "k", 1, 7, UINT64_MAX, NULL));
+    CHECK(1, jd_jh_exchange(c, "a", "k", 1, 7, 1, &value)); /* it is another one by now */
+    CHECK(1, value == UINT64_MAX);
+    CHECK(0, jd_jh_del_if(c, "a", "k", 1, 7));
+    CHECK(1, jd_jh_del_if(c, "a", "k", 1, UINT64_MAX));
+    CHECK(1, jd_jl_take(c, "a", 1, &value));
+    CHECK(5, (int)value);
+    CHECK(0, jd_jl_take(c, "a", 1, NULL));
+    jd_close(c);
+    c = log_in(path, "alice", "look");
+    CHECK(JD_READONLY, jd_js_keep(c, "a", "k", 1, &value));
+    CHECK(JD_READONLY, jd_js_exchange(c, "a", "k", 1, 2, &value));
+    CHECK(JD_READONLY, jd_js_take(c, "a", "k", &value));
+    CHECK(JD_READONLY, jd_js_del_if(c, "a", "k", 1));
+    jd_close(c);
+}
+
 /* ---- a server that is restarted ---- */
 
 static void check_restart(const char *path)
@@ -715,7 +753,7 @@ int main(int count, char **words)
     else if (!strcmp(what, "refusals"))
         check_refusals(words[2]);
     else if (!strcmp(what, "adds"))
-        check_adds(words[2]);
+        check_adds(words[2]), check_decisions(words[2]);
     else if (!strcmp(what, "restart"))
         check_restart(words[2]);
     else if (!strcmp(what, "flood") && count == 4)

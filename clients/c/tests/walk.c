@@ -4,7 +4,7 @@
  * usage: walk PATH SEED CALLS BATCH THREADS [add]
  *     PATH is the socket; tenant alice with token abc. Each thread has its own connection, and arrays
  *     of its own. A BATCH of 0 makes plain calls. Otherwise up to BATCH calls are queued at a time. With `add` the
- *     calls that add to a value are made too: judyd has them, libjudy has not. */
+ *     calls that add to a value, or decide by one, are made too: judyd has them, libjudy has not. */
 #include <Judy.h>
 #include <pthread.h>
 #include <stdio.h>
@@ -44,7 +44,7 @@ struct walker {
     struct key roots[ROOTS];
     uint64_t bases[ROOTS];
     int grows; /* of ten changes, how many insert */
-    int adds;  /* whether additions are made */
+    int adds;  /* whether calls are made that libjudy has not */
 };
 
 /* ---- drawing ---- */
@@ -121,6 +121,35 @@ static void want_change(struct check *k, enum change change, Word_t *place, uint
         *place = v;
     if (change == ADD)
         k->wanted_value = *place += v;
+}
+
+/* A call that decides by the value at `place`, which is NULL if there is none. */
+enum decision { KEEP, EXCHANGE, TAKE, DELETE_IF };
+
+static enum decision draw_decision(struct walker *w)
+{
+    return (enum decision)below(w, 4);
+}
+
+/* The value that a call asks for: in one half of the calls the one that is there. */
+static uint64_t draw_old(struct walker *w, const Word_t *place)
+{
+    return place && below(w, 2) ? *place : below(w, 3);
+}
+
+/* Exchanges the value here, and says what the server should give. Returns whether the caller is to remove the
+ * entry, or with KEEP to insert it. */
+static int want_decision(struct check *k, enum decision decision, Word_t *place, uint64_t old, uint64_t v)
+{
+    int has_old = place && *place == old;
+    if (decision == DELETE_IF) {
+        want_flag(k, has_old);
+        return has_old;
+    }
+    want_value(k, place);
+    if (decision == EXCHANGE && has_old)
+        *place = v;
+    return decision == KEEP ? !place : decision == TAKE && place;
 }
 
 /* ---- Judy1 and JudyL ---- */
@@ -237,6 +266,25 @@ static int ask_long(struct walker *w, struct array *a, struct check *k)
     }
 }
 
+static int decide_long(struct walker *w, struct array *a, uint64_t x, uint64_t v, struct check *k)
+{
+    Word_t *place = (Word_t *)JudyLGet(a->root, x, PJE0);
+    enum decision decision = draw_decision(w);
+    uint64_t old = draw_old(w, place);
+    if (want_decision(k, decision, place, old, v)) {
+        if (decision == KEEP)
+            *(Word_t *)JudyLIns(&a->root, x, PJE0) = v;
+        else
+            JudyLDel(&a->root, x, PJE0);
+    }
+    switch (decision) {
+    case KEEP: k->what = "jd_jl_keep"; return jd_jl_keep(w->connection, a->name, x, v, &k->value);
+    case EXCHANGE: k->what = "jd_jl_exchange"; return jd_jl_exchange(w->connection, a->name, x, old, v, &k->value);
+    case TAKE: k->what = "jd_jl_take"; return jd_jl_take(w->connection, a->name, x, &k->value);
+    default: k->what = "jd_jl_del_if"; return jd_jl_del_if(w->connection, a->name, x, old);
+    }
+}
+
 static int call_long(struct walker *w, struct check *k)
 {
     struct array *a = &w->l[below(w, NAMES)];
@@ -248,6 +296,8 @@ static int call_long(struct walker *w, struct check *k)
     }
     if (below(w, 2))
         return ask_long(w, a, k);
+    if (w->adds && below(w, 3) == 0)
+        return decide_long(w, a, x, v, k);
     if ((int)below(w, 10) >= w->grows) {
         k->what = "jd_jl_del";
         want_flag(k, JudyLDel(&a->root, x, PJE0));
@@ -297,6 +347,26 @@ static int ask_string(struct walker *w, struct array *a, const struct key *key, 
     return STRING_SEARCHES[which].call(w->connection, a->name, k->key, &k->value);
 }
 
+static int decide_string(struct walker *w, struct array *a, const struct key *key, uint64_t v, struct check *k)
+{
+    Word_t *place = (Word_t *)JudySLGet(a->root, key->bytes, PJE0);
+    enum decision decision = draw_decision(w);
+    uint64_t old = draw_old(w, place);
+    if (want_decision(k, decision, place, old, v)) {
+        if (decision == KEEP)
+            *(Word_t *)JudySLIns(&a->root, key->bytes, PJE0) = v;
+        else
+            JudySLDel(&a->root, key->bytes, PJE0);
+        a->entries += decision == KEEP ? 1 : (Word_t)-1;
+    }
+    switch (decision) {
+    case KEEP: k->what = "jd_js_keep"; return jd_js_keep(w->connection, a->name, (const char *)key->bytes, v, &k->value);
+    case EXCHANGE: k->what = "jd_js_exchange"; return jd_js_exchange(w->connection, a->name, (const char *)key->bytes, old, v, &k->value);
+    case TAKE: k->what = "jd_js_take"; return jd_js_take(w->connection, a->name, (const char *)key->bytes, &k->value);
+    default: k->what = "jd_js_del_if"; return jd_js_del_if(w->connection, a->name, (const char *)key->bytes, old);
+    }
+}
+
 static int call_string(struct walker *w, struct check *k)
 {
     struct array *a = &w->string[below(w, NAMES)];
@@ -310,6 +380,8 @@ static int call_string(struct walker *w, struct check *k)
     }
     if (below(w, 2))
         return ask_string(w, a, &key, k);
+    if (w->adds && below(w, 3) == 0)
+        return decide_string(w, a, &key, v, k);
     if ((int)below(w, 10) >= w->grows) {
         k->what = "jd_js_del";
         want_flag(k, JudySLDel(&a->root, key.bytes, PJE0));
@@ -331,6 +403,26 @@ static int call_string(struct walker *w, struct check *k)
     return jd_js_ins(w->connection, a->name, text, v, &k->value);
 }
 
+static int decide_bytes(struct walker *w, struct array *a, const struct key *key, uint64_t v, struct check *k)
+{
+    Word_t *place = (Word_t *)JudyHSGet(a->root, (void *)key->bytes, key->length);
+    enum decision decision = draw_decision(w);
+    uint64_t old = draw_old(w, place);
+    if (want_decision(k, decision, place, old, v)) {
+        if (decision == KEEP)
+            *(Word_t *)JudyHSIns(&a->root, (void *)key->bytes, key->length, PJE0) = v;
+        else
+            JudyHSDel(&a->root, (void *)key->bytes, key->length, PJE0);
+        a->entries += decision == KEEP ? 1 : (Word_t)-1;
+    }
+    switch (decision) {
+    case KEEP: k->what = "jd_jh_keep"; return jd_jh_keep(w->connection, a->name, key->bytes, key->length, v, &k->value);
+    case EXCHANGE: k->what = "jd_jh_exchange"; return jd_jh_exchange(w->connection, a->name, key->bytes, key->length, old, v, &k->value);
+    case TAKE: k->what = "jd_jh_take"; return jd_jh_take(w->connection, a->name, key->bytes, key->length, &k->value);
+    default: k->what = "jd_jh_del_if"; return jd_jh_del_if(w->connection, a->name, key->bytes, key->length, old);
+    }
+}
+
 static int call_bytes(struct walker *w, struct check *k)
 {
     struct array *a = &w->bytes[below(w, NAMES)];
@@ -346,6 +438,8 @@ static int call_bytes(struct walker *w, struct check *k)
         want_value(k, JudyHSGet(a->root, key.bytes, key.length));
         return jd_jh_get(w->connection, a->name, key.bytes, key.length, &k->value);
     }
+    if (w->adds && below(w, 3) == 0)
+        return decide_bytes(w, a, &key, v, k);
     if ((int)below(w, 10) >= w->grows) {
         k->what = "jd_jh_del";
         want_flag(k, JudyHSDel(&a->root, key.bytes, key.length, PJE0));

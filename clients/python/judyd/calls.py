@@ -14,6 +14,7 @@ from itertools import chain
 from typing import Any, Callable, Generic, List, Optional, Sequence, Tuple, TypeVar
 
 from .bound import Bound
+from .errors import JudyError
 from .fields import (
     KEY_LIMIT, MAX, bytes_item_of, bytes_of, count_of, flag, index_of, item_of, key_field, name_field, no_zeros, plain_keys,
     plain_steps, plain_words, step_field, value_of, value_or_none, word_field,
@@ -31,7 +32,7 @@ Plain = Callable[[Sequence[Any]], Optional[Sequence[int]]]
 """Checks many numbers at once."""
 
 _LOOKS = "|".join(word for word, command in COMMANDS.items() if command.does == "looks")
-_SAME_TWICE = "|".join(word for word, command in COMMANDS.items() if command.operation in ("Insert", "Remove", "Free"))
+_SAME_TWICE = "|".join(word for word, command in COMMANDS.items() if command.does != "looks" and command.operation != "Add")
 _QUERY = re.compile(("(?:%s) |(?:USED|PING|HELLO)$|AUTH " % _LOOKS).encode())
 _CHANGE = re.compile(("(?:%s) " % _SAME_TWICE).encode())
 
@@ -164,7 +165,7 @@ class Judy1Calls(Empties[Number, Found], Generic[Yes, Number, Found]):
 
 
 class MapCalls(Calls[Number], Generic[K, Yes, Number, Found]):
-    """Insert, Delete and Get, which the three kinds of map share."""
+    """Insert, Delete, Get, and the calls that decide by a value, which the three kinds of map share."""
 
     def _key(self, key: K) -> bytes:
         raise NotImplementedError
@@ -209,9 +210,27 @@ class MapCalls(Calls[Number], Generic[K, Yes, Number, Found]):
     def _add(self, key: K, n: int) -> Any:
         return self._put(b"A", value_of, self._key(key), step_field(n))
 
+    def keep(self, key: K, value: int) -> Found:
+        """Stores a value if the key is absent, and returns None. A present key keeps its value, which is
+        returned."""
+        return self._put(b"K", value_or_none, self._key(key), word_field(given(value)))
+
+    def exchange(self, key: K, old: int, new: int) -> Found:
+        """Stores `new` if the value of a key is `old`. Returns the value before, which is `old` exactly if
+        `new` is stored; None if the key is absent, and then nothing is stored."""
+        return self._ask(b"X", value_or_none, self._key(key), word_field(given(old)), word_field(given(new)))
+
     def delete(self, key: K) -> Yes:
         """Delete: removes a key, and returns whether it was present."""
         return self._ask(b"D", flag, self._key(key))
+
+    def delete_if(self, key: K, value: int) -> Yes:
+        """Delete with a value: removes a key if it has this value, and returns whether it had."""
+        return self._ask(b"D", flag, self._key(key), word_field(given(value)))
+
+    def take(self, key: K) -> Found:
+        """Removes a key, and returns the value it had; None if it was absent."""
+        return self._ask(b"T", value_or_none, self._key(key))
 
     def get(self, key: K) -> Found:
         """Get: the value of a key, or None."""
@@ -336,13 +355,41 @@ class JudyHSCalls(KeyCalls[K, Yes, Number, Found], Generic[K, Yes, Number, Found
         with self._asker._catalogue.key_of(self._asker, self.name, self._plain(key)):
             return super()._add(key, n)
 
+    def keep(self, key: K, value: int) -> Found:
+        """Stores a value if the key is absent, and returns None. A present key keeps its value, which is
+        returned."""
+        if self._asker._catalogue is None:
+            return super().keep(key, value)
+        with self._asker._catalogue.key_of(self._asker, self.name, self._plain(key)):
+            return super().keep(key, value)
+
     def delete(self, key: K) -> Yes:
         """Delete: removes a key, and returns whether it was present."""
+        return self._forgotten(key, super().delete)
+
+    def take(self, key: K) -> Found:
+        """Removes a key, and returns the value it had; None if it was absent."""
+        return self._forgotten(key, super().take)
+
+    def _forgotten(self, key: K, remove: Callable[[K], Any]) -> Any:
+        """The result of a call after which a key is absent."""
         if self._asker._catalogue is None:
-            return super().delete(key)
+            return remove(key)
         with self._asker._held():
-            was = super().delete(key)
+            was = remove(key)
             self._asker._catalogue.forget(self._asker, self.name, self._plain(key))
+            return was
+
+    def delete_if(self, key: K, value: int) -> Yes:
+        """Delete with a value: removes a key if it has this value, and returns whether it had."""
+        if self._asker._catalogue is None:
+            return super().delete_if(key, value)
+        if self._asker._is_late:
+            raise JudyError("an entry of a JudyHS with a catalogue is removed by its value outside of a pipeline")
+        with self._asker._held():
+            was = super().delete_if(key, value)
+            if was:
+                self._asker._catalogue.forget(self._asker, self.name, self._plain(key))
             return was
 
 

@@ -83,11 +83,15 @@ class MapBase(Many, MapCalls[K, bool, int, Optional[int]], Generic[K]):
 
     def _removed(self, key: K) -> bool:
         """Whether a key was present, which is no longer there. One that is out of range never is."""
+        return self._is_in_range(key) and self.delete(key)
+
+    def _is_in_range(self, key: K) -> bool:
+        """Whether a key of this type may be in the array."""
         try:
             self._key(key)
         except ValueError:
             return False
-        return self.delete(key)
+        return True
 
     def _entries(self) -> Dict[K, int]:
         """All entries."""
@@ -136,26 +140,17 @@ class MapBase(Many, MapCalls[K, bool, int, Optional[int]], Generic[K]):
 
     def pop(self, key: K, default: Any = _NOTHING) -> Any:
         """Removes a key, and returns its value; the default if it is absent, and KeyError without one.
-        If several clients pop a key, one of them gets its value. They are two lines, so a value that
-        another client stores between them is lost."""
-        value = self.get(key)
-        while value is not None and not self.delete(key):
-            value = self.get(key)
+        It is one line: if several clients pop a key, one of them gets its value."""
+        value = self.take(key) if self._is_in_range(key) else None
         if value is None and default is _NOTHING:
             raise KeyError(key)
         return default if value is None else value
 
     def setdefault(self, key: K, default: int) -> int:
-        """The value of a key. If it is absent, stores the default, and returns it. They are two lines, so
-        the default takes the place of a value that another client stores between them. With the default
-        0 it is one line, and exact."""
-        if default == 0:
-            return self.insert(key)
-        value = self.get(key)
-        if value is None:
-            self.insert(key, given(default))
-            return default
-        return value
+        """The value of a key. If it is absent, stores the default, and returns it. It is one line: if
+        several clients do this, all get the value that one of them stored."""
+        value = self.keep(key, default)
+        return default if value is None else value
 
     def get_many(self, keys: Iterable[K]) -> Iterator[Tuple[K, Optional[int]]]:
         """Each of these keys with its value, or with None, with many lines in flight at once. A key
@@ -204,11 +199,12 @@ class WalkedMap(MapBase[K], MutableMapping[K, int]):  # type: ignore[misc]
         """Removes the least key, and returns it with its value. If several clients pop, each gets a key
         of its own. Raises KeyError if the map is empty."""
         item = self._least()
-        while item is not None and not self.delete(item[0]):
+        while item is not None:
+            value = self.take(item[0])
+            if value is not None:
+                return item[0], value
             item = self._least()
-        if item is None:
-            raise KeyError("the map is empty")
-        return item
+        raise KeyError("the map is empty")
 
     def _entries(self) -> Dict[K, int]:
         return dict(self.items())

@@ -26,7 +26,8 @@ class Retry(Enum):
     Twice in a row such a call leaves what it leaves once. Beside other writers it may not: what another
     client does between the two runs is undone by the second. A repeated `discard` takes back an id or a
     lock that another client has acquired since, and a repeated `m[k] = v` stores an old value over a
-    newer one. So it is for arrays, or keys, that one client at a time writes to.
+    newer one. A repeated `keep`, `exchange` or `delete_if` of a quiet pipeline does so only if the value
+    that it names has come again meanwhile, and a repeated `take` takes what was stored since. So it is for arrays, or keys, that one client at a time writes to.
     """
 
     QUERIES = "queries"

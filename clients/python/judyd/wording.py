@@ -40,7 +40,10 @@ _OF_SETS = {
 }
 _OPERATIONS = {
     "Insert": ("Ins", "inserts a {thing} and stores v, if given: V and the value before, 0 for a new {thing}; FULL if the quota has no room"),
-    "Remove": ("Del", "removes a {thing}: 1 if it was present, 0 if not"),
+    "Keep": ("Keep", "inserts a {thing} with the value v if it is absent: NULL; a present one keeps its value: V and this value; FULL if the quota has no room"),
+    "Exchange": ("Exchange", "stores new if the value is old: V and the value before, which is old exactly if new is stored, or NULL if the {thing} is absent"),
+    "Remove": ("Del", "removes a {thing}, with v only if it has the value v: 1 if it was removed, 0 if not"),
+    "Take": ("Take", "removes a {thing}: V and the value it had, or NULL if it was absent"),
     "Look": ("Get", "V and the value, or NULL if the {thing} is absent"),
     "Add": ("Add", "adds n to the value, modulo 2^64: V and the value afterwards; an absent {thing} counts as 0 and becomes new; FULL if the quota has no room"),
     "Count": ("Count", "N and the number of {plural} from the first to the second, both included"),
@@ -118,10 +121,21 @@ def is_request(word: str) -> bool:
 
 def _near(word: str) -> str:
     """The request that is meant, by a manual's name if the word looks like one, otherwise by its word in
-    the protocol."""
-    known = list(LONG_NAMES) if word.lower().startswith("judy") else list(WORDS)
-    close = get_close_matches(word, known, 1, 0.5) or get_close_matches(word.upper(), known, 1, 0.5)
+    the protocol: the longest that it begins with, or one that is close, of the same kind of array if there is one."""
+    if word.lower().startswith("judy"):
+        close = get_close_matches(word, list(LONG_NAMES), 1, 0.5) or get_close_matches(word.upper(), list(LONG_NAMES), 1, 0.5)
+    else:
+        upper = word.upper()
+        alike = [it for it in WORDS if _letters(it) == _letters(upper)]
+        begun = sorted((it for it in WORDS if upper.startswith(it)), key=len)
+        close = begun[-1:] or get_close_matches(upper, alike, 1, 0.5) or get_close_matches(upper, list(WORDS), 1, 0.5)
     return "; is it %s?" % close[0] if close else ""
+
+
+def _letters(word: str) -> str:
+    """The letters of a word that tell the kind of array."""
+    found = re.match("J1|JSL|JHS|JL|", word)
+    return found[0] if found else ""
 
 
 def hexed(match: Match[str]) -> str:
@@ -226,11 +240,13 @@ def told(request: str, reply: str) -> Tuple[str, str, str]:
     name = re.sub("Judy(1|L|SL|HS)", "", call.name)
     if name in ("Set", "Unset", "Test", "Del"):
         words = {"Set": ("was there", "new"), "Unset": ("was absent", "removed"), "Del": ("was absent", "removed"), "Test": ("absent", "present")}
+        if name == "Del" and len(request.split()) > 3:
+            return "removed" if reply == "1" else "not removed", "", ""
         return words[name][reply == "1"], "", ""
     if fields[0] == "N":
         return "%s %s" % (fields[1], "freed" if name == "FreeArray" else "counted"), "", ""
     if reply in ("0", "NULL"):
-        return "none", "", ""
+        return "new" if name == "Keep" else "none", "", ""
     if fields[0] == "V":
-        return {"Ins": "before", "Add": "now"}.get(name, "found"), "".join(map(shown_key, fields[2:])), fields[1]
+        return {"Ins": "before", "Add": "now", "Keep": "kept", "Exchange": "before", "Take": "taken"}.get(name, "found"), "".join(map(shown_key, fields[2:])), fields[1]
     return "found", fields[1] if len(fields) > 1 else "", ""

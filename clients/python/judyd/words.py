@@ -5,7 +5,7 @@ from typing import Dict, NamedTuple
 
 class Command(NamedTuple):
     """What a word stands for: the kind of the array, the operation, the fields after the name, and whether it
-    inserts, removes, frees or looks."""
+    inserts, exchanges, removes, frees or looks."""
 
     kind: str
     operation: str
@@ -30,7 +30,10 @@ COMMANDS: Dict[str, Command] = {
     "J1FA": Command("Judy1", "Free", "", "frees"),
     "JLI": Command("JudyL", "Insert", "i [v]", "inserts"),
     "JLA": Command("JudyL", "Add", "i n", "inserts"),
-    "JLD": Command("JudyL", "Remove", "i", "removes"),
+    "JLK": Command("JudyL", "Keep", "i v", "inserts"),
+    "JLX": Command("JudyL", "Exchange", "i old new", "exchanges"),
+    "JLD": Command("JudyL", "Remove", "i [v]", "removes"),
+    "JLT": Command("JudyL", "Take", "i", "removes"),
     "JLG": Command("JudyL", "Look", "i", "looks"),
     "JLC": Command("JudyL", "Count", "i k", "looks"),
     "JLBC": Command("JudyL", "Nth", "n", "looks"),
@@ -45,7 +48,10 @@ COMMANDS: Dict[str, Command] = {
     "JLFA": Command("JudyL", "Free", "", "frees"),
     "JSLI": Command("JudySL", "Insert", "key [v]", "inserts"),
     "JSLA": Command("JudySL", "Add", "key n", "inserts"),
-    "JSLD": Command("JudySL", "Remove", "key", "removes"),
+    "JSLK": Command("JudySL", "Keep", "key v", "inserts"),
+    "JSLX": Command("JudySL", "Exchange", "key old new", "exchanges"),
+    "JSLD": Command("JudySL", "Remove", "key [v]", "removes"),
+    "JSLT": Command("JudySL", "Take", "key", "removes"),
     "JSLG": Command("JudySL", "Look", "key", "looks"),
     "JSLF": Command("JudySL", "First", "key", "looks"),
     "JSLN": Command("JudySL", "Next", "key", "looks"),
@@ -54,7 +60,10 @@ COMMANDS: Dict[str, Command] = {
     "JSLFA": Command("JudySL", "Free", "", "frees"),
     "JHSI": Command("JudyHS", "Insert", "key [v]", "inserts"),
     "JHSA": Command("JudyHS", "Add", "key n", "inserts"),
-    "JHSD": Command("JudyHS", "Remove", "key", "removes"),
+    "JHSK": Command("JudyHS", "Keep", "key v", "inserts"),
+    "JHSX": Command("JudyHS", "Exchange", "key old new", "exchanges"),
+    "JHSD": Command("JudyHS", "Remove", "key [v]", "removes"),
+    "JHST": Command("JudyHS", "Take", "key", "removes"),
     "JHSG": Command("JudyHS", "Look", "key", "looks"),
     "JHSFA": Command("JudyHS", "Free", "", "frees"),
 }

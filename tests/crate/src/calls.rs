@@ -25,10 +25,13 @@ pub static OF_SETS: [Row; 14] = [
 ];
 
 /// The commands of a JudyL, with similar shares.
-pub static OF_WORDS: [Row; 15] = [
-    ("JLI", Operation::Insert, 20),
-    ("JLA", Operation::Add, 10),
+pub static OF_WORDS: [Row; 18] = [
+    ("JLI", Operation::Insert, 16),
+    ("JLA", Operation::Add, 8),
+    ("JLK", Operation::Keep, 8),
+    ("JLX", Operation::Exchange, 6),
     ("JLD", Operation::Remove, 12),
+    ("JLT", Operation::Take, 5),
     ("JLG", Operation::Look, 3),
     ("JLC", Operation::Count, 4),
     ("JLBC", Operation::Nth, 3),
@@ -44,10 +47,13 @@ pub static OF_WORDS: [Row; 15] = [
 ];
 
 /// The commands of a JudySL.
-pub static OF_STRINGS: [Row; 9] = [
-    ("JSLI", Operation::Insert, 20),
-    ("JSLA", Operation::Add, 10),
+pub static OF_STRINGS: [Row; 12] = [
+    ("JSLI", Operation::Insert, 16),
+    ("JSLA", Operation::Add, 8),
+    ("JSLK", Operation::Keep, 8),
+    ("JSLX", Operation::Exchange, 6),
     ("JSLD", Operation::Remove, 12),
+    ("JSLT", Operation::Take, 5),
     ("JSLG", Operation::Look, 3),
     ("JSLF", Operation::First, 4),
     ("JSLN", Operation::Next, 5),
@@ -57,10 +63,13 @@ pub static OF_STRINGS: [Row; 9] = [
 ];
 
 /// The commands of a JudyHS.
-pub static OF_KEYS: [Row; 5] = [
-    ("JHSI", Operation::Insert, 20),
-    ("JHSA", Operation::Add, 10),
+pub static OF_KEYS: [Row; 8] = [
+    ("JHSI", Operation::Insert, 16),
+    ("JHSA", Operation::Add, 8),
+    ("JHSK", Operation::Keep, 8),
+    ("JHSX", Operation::Exchange, 6),
     ("JHSD", Operation::Remove, 16),
+    ("JHST", Operation::Take, 5),
     ("JHSG", Operation::Look, 17),
     ("JHSFA", Operation::Free, 1),
 ];
@@ -90,7 +99,9 @@ pub struct Fields {
     pub key: &'static [u8],
     /// The end of a count, a value, or what is added.
     pub number: u64,
-    /// Whether an insertion has a value.
+    /// The value that an exchange stores.
+    pub other: u64,
+    /// Whether an insertion or a removal has a value.
     pub stores: bool,
 }
 
@@ -107,8 +118,9 @@ impl Fields {
     pub fn count(self, operation: Operation) -> u8 {
         match operation {
             Operation::Free => 0,
-            Operation::Insert => 1 + u8::from(self.stores),
-            Operation::Add | Operation::Count => 2,
+            Operation::Insert | Operation::Remove => 1 + u8::from(self.stores),
+            Operation::Add | Operation::Keep | Operation::Count => 2,
+            Operation::Exchange => 3,
             _ => 1,
         }
     }
@@ -143,7 +155,11 @@ pub fn long(operation: Operation, fields: Fields) -> Option<LongCall> {
     let call = match operation {
         Operation::Insert => LongCall::Insert(i, fields.given()),
         Operation::Add => LongCall::Insert(i, Given::Plus(fields.number)),
+        Operation::Keep => LongCall::Keep(i, fields.number),
+        Operation::Exchange => LongCall::Exchange(i, fields.number, fields.other),
+        Operation::Remove if fields.stores => LongCall::DeleteIf(i, fields.number),
         Operation::Remove => LongCall::Delete(i),
+        Operation::Take => LongCall::Take(i),
         Operation::Look => LongCall::Get(i),
         Operation::Count => LongCall::Count(i, fields.number),
         Operation::Nth => LongCall::ByCount(i),
@@ -166,7 +182,11 @@ pub fn string(operation: Operation, fields: Fields) -> Option<StrCall<'static>> 
     let call = match operation {
         Operation::Insert => StrCall::Insert(key, fields.given()),
         Operation::Add => StrCall::Insert(key, Given::Plus(fields.number)),
+        Operation::Keep => StrCall::Keep(key, fields.number),
+        Operation::Exchange => StrCall::Exchange(key, fields.number, fields.other),
+        Operation::Remove if fields.stores => StrCall::DeleteIf(key, fields.number),
         Operation::Remove => StrCall::Delete(key),
+        Operation::Take => StrCall::Take(key),
         Operation::Look => StrCall::Get(key),
         Operation::First => StrCall::First(key),
         Operation::Next => StrCall::Next(key),
@@ -184,7 +204,11 @@ pub fn bytes(operation: Operation, fields: Fields) -> Option<BytesCall<'static>>
     let call = match operation {
         Operation::Insert => BytesCall::Insert(key, fields.given()),
         Operation::Add => BytesCall::Insert(key, Given::Plus(fields.number)),
+        Operation::Keep => BytesCall::Keep(key, fields.number),
+        Operation::Exchange => BytesCall::Exchange(key, fields.number, fields.other),
+        Operation::Remove if fields.stores => BytesCall::DeleteIf(key, fields.number),
         Operation::Remove => BytesCall::Delete(key),
+        Operation::Take => BytesCall::Take(key),
         Operation::Look => BytesCall::Get(key),
         Operation::Free => BytesCall::Free,
         _ => return None,

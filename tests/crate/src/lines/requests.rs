@@ -12,11 +12,12 @@ use std::alloc::{AllocError, Global};
 use std::process::Abort;
 use std::test::Fail;
 
-/// The fields of the lines below: an index and a number, or a key and a number.
+/// The fields of the lines below: an index or a key, and two numbers.
 const FIELDS: Fields = Fields {
     index: 5,
     key: b"\x61\xff",
     number: 7,
+    other: 9,
     stores: true,
 };
 
@@ -30,7 +31,8 @@ fn line_of(
     match fields.count(operation) {
         0 => format!(in alloc; "{word} A_b-9.z"),
         1 => format!(in alloc; "{word} A_b-9.z {key}"),
-        _ => format!(in alloc; "{word} A_b-9.z {key} 7"),
+        2 => format!(in alloc; "{word} A_b-9.z {key} 7"),
+        _ => format!(in alloc; "{word} A_b-9.z {key} 7 9"),
     }
 }
 

@@ -89,7 +89,8 @@ fn ask_store(alloc: Global, store: &mut Store, call: &Call<'_>) -> Result<OwnedR
     }
 }
 
-/// The fields of a call of this operation. A third of the insertions has no value.
+/// The fields of a call of this operation. A third of the insertions has no value, and a third of the removals
+/// has one.
 fn fields(operation: Operation, seed: u64) -> Fields {
     let number = WORDS[(seed >> 32) as usize % 8];
     Fields {
@@ -100,18 +101,18 @@ fn fields(operation: Operation, seed: u64) -> Fields {
         },
         key: STRINGS[(seed >> 24) as usize % 16],
         number,
-        stores: (seed >> 28) % 3 > 0,
+        other: WORDS[(seed >> 36) as usize % 8],
+        stores: (seed >> 28) % 3 > u64::from(operation == Operation::Remove),
     }
 }
 
-/// A call of a JudySL. Its value is a number of many digits.
+/// A call of a JudySL. Half of the values are numbers of many digits, and the others recur.
 fn string_call(seed: u64) -> Result<StrCall<'static>, Fail> {
     let operation = drawn(&OF_STRINGS, seed >> 40);
-    let number = seed >> 8;
-    let fields = Fields {
-        number,
-        ..fields(operation, seed)
-    };
+    let mut fields = fields(operation, seed);
+    if (seed >> 27) % 2 == 0 {
+        fields.number = seed >> 8;
+    }
     Ok(calls::string(operation, fields).ok_or("a call of a JudySL")?)
 }
 

@@ -83,16 +83,18 @@ impl Dice {
     }
 
     /// The number after the key: the end of a count, what is added, or a value. Some sums are past the greatest
-    /// word.
+    /// word, and half of the values recur.
     fn number(&mut self, operation: Operation) -> u64 {
         match (operation, self.roll(2)) {
             (Operation::Count, _) => WORDS[self.roll(16) as usize],
             (Operation::Add, 0) => MAX.wrapping_sub(self.roll(1_000_000)),
+            (_, 0) => self.roll(3),
             _ => self.roll(1_000_000),
         }
     }
 
-    /// The fields of a call of this operation. A fourth of the insertions has no value.
+    /// The fields of a call of this operation. A fourth of the insertions has no value, and a fourth of the
+    /// removals has one.
     fn fields(&mut self, operation: Operation, keys: &[&'static [u8]]) -> Fields {
         let word = WORDS[self.roll(16) as usize];
         let rank = self.roll(16);
@@ -104,7 +106,8 @@ impl Dice {
             },
             key: keys[self.roll(keys.len() as u64) as usize],
             number: self.number(operation),
-            stores: self.roll(4) > 0,
+            other: self.roll(3),
+            stores: (self.roll(4) > 0) != (operation == Operation::Remove),
         }
     }
 

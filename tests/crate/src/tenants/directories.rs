@@ -1,8 +1,8 @@
 //! Directories of many names. Each request for memory may be refused once.
 use crate::checks::{holds, holds_at, same, same_at};
 use judy_arena::NoMemory;
-use judy_directory::{ArrayKind, Directory, Place, Spot};
-use judy_model::Name;
+use judy_directory::{Directory, Place, Spot};
+use judy_model::{Kind, Name};
 use judy_refs::Ref;
 use std::alloc::Global;
 use std::process::Abort;
@@ -61,7 +61,7 @@ fn digit(n: u64) -> u8 {
 }
 
 /// The spot of the n-th name of a thousand.
-fn spot(tenant: u8, kind: ArrayKind, n: u64) -> Result<Spot, Fail> {
+fn spot(tenant: u8, kind: Kind, n: u64) -> Result<Spot, Fail> {
     let text = [b'n', digit(n / 100), digit(n / 10), digit(n)];
     let name = Name::read(&text).ok_or("a name")?;
     Ok(Spot::new(tenant, kind, name))
@@ -72,7 +72,7 @@ fn keep_all(
     rt: &impl Abort,
     directory: &mut Directory,
     tenant: u8,
-    kind: ArrayKind,
+    kind: Kind,
     names: u64,
 ) -> Result<(), Fail> {
     for n in 0..names {
@@ -87,7 +87,7 @@ fn compare_all(
     rt: &impl Abort,
     directory: &Directory,
     tenant: u8,
-    kind: ArrayKind,
+    kind: Kind,
     names: u64,
     is_kept: bool,
 ) -> Result<(), Fail> {
@@ -104,7 +104,7 @@ fn clear_all(
     rt: &impl Abort,
     directory: &mut Directory,
     tenant: u8,
-    kind: ArrayKind,
+    kind: Kind,
     names: u64,
 ) -> Result<(), Fail> {
     for n in 0..names {
@@ -118,27 +118,27 @@ fn clear_all(
 #[test]
 fn many_names_are_found_again(rt: HostRuntime) -> Result<(), Fail> {
     let mut directory = empty(rt.alloc())?;
-    keep_all(&rt, &mut directory, 3, ArrayKind::Long, 600)?;
+    keep_all(&rt, &mut directory, 3, Kind::Long, 600)?;
     same(&rt, directory.count(), 600);
-    compare_all(&rt, &directory, 3, ArrayKind::Long, 600, true)?;
-    clear_all(&rt, &mut directory, 3, ArrayKind::Long, 600)?;
+    compare_all(&rt, &directory, 3, Kind::Long, 600, true)?;
+    clear_all(&rt, &mut directory, 3, Kind::Long, 600)?;
     same(&rt, directory.count(), 0);
     Ok(())
 }
 
 /// Names beside the seventh of sets of the first tenant: of another tenant or kind, or other names.
-static OTHERS: [(u8, ArrayKind, u64); 5] = [
-    (1, ArrayKind::One, 7),
-    (0, ArrayKind::Long, 7),
-    (0, ArrayKind::Str, 7),
-    (0, ArrayKind::Bytes, 7),
-    (0, ArrayKind::One, 8),
+static OTHERS: [(u8, Kind, u64); 5] = [
+    (1, Kind::One, 7),
+    (0, Kind::Long, 7),
+    (0, Kind::Str, 7),
+    (0, Kind::Bytes, 7),
+    (0, Kind::One, 8),
 ];
 
 #[test]
 fn tenants_and_kinds_have_their_own_names(rt: HostRuntime) -> Result<(), Fail> {
     let mut directory = empty(rt.alloc())?;
-    let mine = spot(0, ArrayKind::One, 7)?;
+    let mine = spot(0, Kind::One, 7)?;
     keep(&rt, &mut directory, &mine, place(7)?)?;
     holds(&rt, found(&directory, &mine.copied()).is_some());
     for (tenant, kind, n) in &OTHERS {
@@ -153,9 +153,9 @@ fn tenants_and_kinds_have_their_own_names(rt: HostRuntime) -> Result<(), Fail> {
 /// A directory of 200 names of each of three owners.
 fn of_three_owners(rt: &impl Abort, alloc: Global) -> Result<Directory, Fail> {
     let mut directory = empty(alloc)?;
-    keep_all(rt, &mut directory, 63, ArrayKind::Str, 200)?;
-    keep_all(rt, &mut directory, 127, ArrayKind::Bytes, 200)?;
-    keep_all(rt, &mut directory, 127, ArrayKind::Long, 200)?;
+    keep_all(rt, &mut directory, 63, Kind::Str, 200)?;
+    keep_all(rt, &mut directory, 127, Kind::Bytes, 200)?;
+    keep_all(rt, &mut directory, 127, Kind::Long, 200)?;
     same(rt, directory.count(), 600);
     Ok(directory)
 }
@@ -182,7 +182,7 @@ fn names_are_forgotten(rt: HostRuntime) -> Result<(), Fail> {
     gone[127] = true;
     directory.forget_gone(gone.as_slice());
     same(&rt, directory.count(), 200);
-    compare_all(&rt, &directory, 63, ArrayKind::Str, 200, true)?;
-    compare_all(&rt, &directory, 127, ArrayKind::Bytes, 200, false)?;
-    compare_all(&rt, &directory, 127, ArrayKind::Long, 200, false)
+    compare_all(&rt, &directory, 63, Kind::Str, 200, true)?;
+    compare_all(&rt, &directory, 127, Kind::Bytes, 200, false)?;
+    compare_all(&rt, &directory, 127, Kind::Long, 200, false)
 }

@@ -6,20 +6,20 @@ use crate::tenants::spelled::{call_of, compare};
 use arrayvec::ArrayVec;
 use judy_arena::{Arena, NoMemory};
 use judy_bytes::{KeyHash, Sha256Hash};
-use judy_directory::{ArrayKind, Place};
-use judy_kinds::{answer, array_of, asks, is_callable, is_insertion};
-use judy_model::{Call, KEY_LIMIT, Key, Name, OwnedReply, StrCall};
+use judy_directory::Place;
+use judy_kinds::{answer, array_of, asks, is_callable};
+use judy_model::{Call, KEY_LIMIT, Key, Kind, Name, OwnedReply, StrCall};
 use std::alloc::Global;
 use std::process::Abort;
 use std::test::Fail;
 
 /// Whether the call is of an array of this kind.
-fn is_of(call: &Call<'_>, kind: ArrayKind) -> bool {
+fn is_of(call: &Call<'_>, kind: Kind) -> bool {
     match (call, kind) {
-        (Call::One(..), ArrayKind::One) => true,
-        (Call::Long(..), ArrayKind::Long) => true,
-        (Call::Str(..), ArrayKind::Str) => true,
-        (Call::Bytes(..), ArrayKind::Bytes) => true,
+        (Call::One(..), Kind::One) => true,
+        (Call::Long(..), Kind::Long) => true,
+        (Call::Str(..), Kind::Str) => true,
+        (Call::Bytes(..), Kind::Bytes) => true,
         _ => false,
     }
 }
@@ -29,13 +29,13 @@ fn is_of(call: &Call<'_>, kind: ArrayKind) -> bool {
 struct Held<H: KeyHash> {
     arena: Arena,
     hash: H,
-    kind: ArrayKind,
+    kind: Kind,
     place: Place,
 }
 
 impl<H: KeyHash> Held<H> {
     /// No array, of this kind.
-    fn new(alloc: Global, hash: H, kind: ArrayKind) -> Held<H> {
+    fn new(alloc: Global, hash: H, kind: Kind) -> Held<H> {
         Held {
             arena: Arena::new(alloc),
             hash,
@@ -98,11 +98,11 @@ fn ask<H: KeyHash>(
     call: &Call<'_>,
 ) -> Result<OwnedReply, NoMemory> {
     let asked = held.asks(rt, call);
-    holds(rt, is_insertion(call) || !asked);
+    holds(rt, call.inserts() || !asked);
     let before = (held.counts(), held.words());
     if let Ok(reply) = held.call(rt, alloc, call) {
         let is_new = before.0.0 < held.counts().0;
-        holds(rt, !is_insertion(call) || is_new == asked);
+        holds(rt, !call.inserts() || is_new == asked);
         return Ok(reply);
     }
     holds_at(rt, asked, "only a new entry is refused");
@@ -115,7 +115,7 @@ fn ask<H: KeyHash>(
 fn check(
     rt: &impl Abort,
     alloc: Global,
-    kind: ArrayKind,
+    kind: Kind,
     rows: &[(&str, &str, u64, u64)],
 ) -> Result<(), Fail> {
     let mut held = Held::new(alloc, Sha256Hash, kind);
@@ -142,23 +142,31 @@ static OF_A_SET: [(&str, &str, u64, u64); 6] = [
 
 #[test]
 fn a_set(rt: HostRuntime) -> Result<(), Fail> {
-    check(&rt, rt.alloc(), ArrayKind::One, &OF_A_SET)
+    check(&rt, rt.alloc(), Kind::One, &OF_A_SET)
 }
 
-static OF_A_WORD_MAP: [(&str, &str, u64, u64); 5] = [
+static OF_A_WORD_MAP: [(&str, &str, u64, u64); 13] = [
     ("JLI visits 7 70", "V 0", 1, 1),
     ("JLI visits 7 70", "V 70", 1, 1),
     ("JLA visits 7 1", "V 71", 1, 1),
     ("JLF visits 0", "V 71 7", 1, 1),
-    ("JLFA visits", "N 1", 0, 0),
+    ("JLK visits 7 5", "V 71", 1, 1),
+    ("JLK visits 8 5", "NULL", 2, 2),
+    ("JLX visits 9 0 5", "NULL", 2, 2),
+    ("JLX visits 8 5 6", "V 5", 2, 2),
+    ("JLD visits 8 5", "0", 2, 2),
+    ("JLD visits 8 6", "1", 1, 1),
+    ("JLT visits 8", "NULL", 1, 1),
+    ("JLT visits 7", "V 71", 0, 0),
+    ("JLFA visits", "N 0", 0, 0),
 ];
 
 #[test]
 fn a_word_map(rt: HostRuntime) -> Result<(), Fail> {
-    check(&rt, rt.alloc(), ArrayKind::Long, &OF_A_WORD_MAP)
+    check(&rt, rt.alloc(), Kind::Long, &OF_A_WORD_MAP)
 }
 
-static OF_A_STRING_MAP: [(&str, &str, u64, u64); 9] = [
+static OF_A_STRING_MAP: [(&str, &str, u64, u64); 13] = [
     ("JSLI visits x3132333435363738 1", "V 0", 1, 2),
     ("JSLI visits x", "V 0", 2, 3),
     ("JSLI visits x", "V 0", 2, 3),
@@ -167,27 +175,35 @@ static OF_A_STRING_MAP: [(&str, &str, u64, u64); 9] = [
     ("JSLL visits x32", "V 1 x3132333435363738", 2, 3),
     ("JSLD visits x3132333435363738", "1", 1, 1),
     ("JSLD visits x3132333435363738", "0", 1, 1),
+    ("JSLK visits x3132333435363738 5", "NULL", 2, 3),
+    ("JSLX visits x3132333435363738 5 6", "V 5", 2, 3),
+    ("JSLD visits x3132333435363738 5", "0", 2, 3),
+    ("JSLT visits x3132333435363738", "V 6", 1, 1),
     ("JSLFA visits", "N 1", 0, 0),
 ];
 
 #[test]
 fn a_string_map(rt: HostRuntime) -> Result<(), Fail> {
-    check(&rt, rt.alloc(), ArrayKind::Str, &OF_A_STRING_MAP)
+    check(&rt, rt.alloc(), Kind::Str, &OF_A_STRING_MAP)
 }
 
-static OF_A_BYTE_MAP: [(&str, &str, u64, u64); 7] = [
+static OF_A_BYTE_MAP: [(&str, &str, u64, u64); 11] = [
     ("JHSI visits x0000000000000000 1", "V 0", 1, 2),
     ("JHSI visits x0000000000000000 2", "V 1", 1, 2),
     ("JHSA visits x0000000000000000 5", "V 7", 1, 2),
     ("JHSA visits x0000000000000000 5", "V 12", 1, 2),
     ("JHSG visits x00", "NULL", 1, 2),
     ("JHSD visits x00", "0", 1, 2),
+    ("JHSK visits x00 5", "NULL", 2, 3),
+    ("JHSX visits x00 5 6", "V 5", 2, 3),
+    ("JHSD visits x00 6", "1", 1, 2),
+    ("JHST visits x00", "NULL", 1, 2),
     ("JHSFA visits", "N 1", 0, 0),
 ];
 
 #[test]
 fn a_byte_map(rt: HostRuntime) -> Result<(), Fail> {
-    check(&rt, rt.alloc(), ArrayKind::Bytes, &OF_A_BYTE_MAP)
+    check(&rt, rt.alloc(), Kind::Bytes, &OF_A_BYTE_MAP)
 }
 
 fn name() -> Result<Name, Fail> {
@@ -203,10 +219,10 @@ fn what_calls_are_of(rt: HostRuntime) -> Result<(), Fail> {
     holds(&rt, array_of(&Call::Used).is_none());
     let call = Call::Str(name()?, StrCall::Get(key(b"a\0b")?));
     let (kind, named) = array_of(&call).ok_or("an array")?;
-    same(&rt, kind, ArrayKind::Str);
+    same(&rt, kind, Kind::Str);
     holds(&rt, *named == name()?);
     holds(&rt, !is_callable(&call));
     holds(&rt, is_callable(&Call::Used));
-    holds(&rt, !is_insertion(&call));
+    holds(&rt, !call.inserts());
     Ok(())
 }

@@ -241,7 +241,8 @@ fn word(seed: u64) -> u64 {
     WORDS[(seed % 16) as usize]
 }
 
-/// The fields of a call of this operation. A third of the insertions has no value.
+/// The fields of a call of this operation. A third of the insertions has no value, and a third of the removals
+/// has one.
 fn fields(operation: Operation, seed: u64) -> Fields {
     let number = word(seed >> 32);
     Fields {
@@ -252,7 +253,8 @@ fn fields(operation: Operation, seed: u64) -> Fields {
         },
         key: b"",
         number,
-        stores: (seed >> 28) % 3 > 0,
+        other: word(seed >> 36),
+        stores: (seed >> 28) % 3 > u64::from(operation == Operation::Remove),
     }
 }
 
