@@ -2,6 +2,7 @@
 --     inserts, inserts-none    the entry that a request makes, if it makes one
 --     given_at                 what was asked and what came of it, by other names
 --     rewrites                 a record was read once more
+--     passes, passes-stranger  one for which nothing is done
 --     rewritten-first, -none   one more record, before others, and no more
 --     map_ok, if_ok            what follows from what holds if a call did not fail, or of itself
 use Rattle.std.proofs.Common.{◌≡◌, ◌⊎◌, ℕ, List, ◌∷◌, ◌++◌, Option, Some, None, Result, Ok, Err, refl, sym, ◌∙◌, ap, subst}
@@ -13,7 +14,7 @@ use Rattle.judy_model.proofs.lemmas.LineLemmas.{IsOneLine, lines_of-bytes, lines
 use Rattle.judy_protocol.specs.Services.{Made}
 use Rattle.judy_upkeep.specs.Asking.{Gives}
 use Rattle.judy_upkeep.specs.Rewriting.{AreRewritten, Insertion, IsInsertion, Lacks, Moves, MovesBy, Rewrites, insertion_of}
-use Rattle.judy_upkeep.specs.Tenants.{IsAt, Names}
+use Rattle.judy_upkeep.specs.Tenants.{IsAt, Names, Stands}
 use Rattle.judy_upkeep.specs.declared.asking.Came.{Came}
 use Rattle.judy_upkeep.specs.declared.kinds.Array.{Array}
 use Rattle.judy_upkeep.specs.declared.output.Output.{Output}
@@ -55,6 +56,30 @@ rewrites who made speakers names text name request i tenant old output new outpu
   no_space = none;
   cut = cut;
   moves = subst (λ (o : Option Insertion). MovesBy who made speakers names name o old output new output') (sym is) (Some tenant, at, h);
+}
+
+-- a record whose request makes no entry
+pub passes : {S K F A D : Type 0} (who : K → Speaker) (made : Made S) (speakers : List K) (names : Names) (text name request : List ℕ)
+    (old : S) (output : Output F A D) → HasNoSpace name → text ≡ record_of name request → insertion_of request ≡ None
+    → Rewrites who made speakers names text old output old output
+passes who made speakers names text name request old output none cut is = record {
+  name = name;
+  request = request;
+  no_space = none;
+  cut = cut;
+  moves = subst (λ (o : Option Insertion). MovesBy who made speakers names name o old output old output) (sym is) (refl, refl);
+}
+
+-- a record of a tenant that nobody stands for
+pub passes-stranger : {S K F A D : Type 0} (who : K → Speaker) (made : Made S) (speakers : List K) (names : Names) (text name request : List ℕ)
+    (i : Insertion) (old : S) (output : Output F A D) → HasNoSpace name → text ≡ record_of name request → insertion_of request ≡ Some i
+    → Stands names name None → Rewrites who made speakers names text old output old output
+passes-stranger who made speakers names text name request i old output none cut is nobody = record {
+  name = name;
+  request = request;
+  no_space = none;
+  cut = cut;
+  moves = subst (λ (o : Option Insertion). MovesBy who made speakers names name o old output old output) (sym is) (None, nobody, (refl, refl));
 }
 
 pub map_ok : {T E P Q : Type 0} (r : Result T E) → (P → Q) → OnOk r P → OnOk r Q

@@ -2,7 +2,7 @@ use Rattle.std.proofs.Common.{◌≡◌, ◌∙◌, ap, codes, inl, inr, refl, s
 use Rattle.judy_upkeep.specs.Lines.{look_text}
 use Rattle.judy_upkeep.specs.Rewriting.{MovesAs, insertion_of}
 use Rattle.judy_upkeep.specs.declared.asking.Came.TheVariants as what
-use Rattle.judy_upkeep.proofs.Moved.{entry, given_at, inserts, map_ok, rewrites}
+use Rattle.judy_upkeep.proofs.Moved.{entry, given_at, inserts, inserts-none, map_ok, passes, passes-stranger, rewrites}
 use Rattle.judy_upkeep.proofs.rewriting.Rewriting.rewrite.Goals as goal
 
 pub returns-in-Value-clause-rewritten : goal.returns-in-Value-clause-rewritten
@@ -42,3 +42,18 @@ returns-in-Nothing-clause-rewritten g c =
           c.in-Nothing.is c.in_ok-value.ensures.asked.given;
       same = refl;
     }))
+
+pub returns-in_default-insertion_of-clause-rewritten : goal.returns-in_default-insertion_of-clause-rewritten
+returns-in_default-insertion_of-clause-rewritten g c =
+    passes g.S.Served.who g.S.Served.made c.args.self.now.playing.entries.speakers.items c.args.self.now.playing.tenants.names.items
+    c.args.text.now c.in-Some.name.now c.in-Some.request.now c.args.self.now.playing.entries.service c.args.self.now.output
+    c.in-Some.ensures.0 c.in-Some.ensures.1
+    (inserts-none (insertion_of c.in-Some.request.now) c.insertion_of.new.text.items c.in_default-insertion_of.ensures)
+
+pub returns-in_default-find-clause-rewritten : goal.returns-in_default-find-clause-rewritten
+returns-in_default-find-clause-rewritten g c =
+    passes-stranger g.S.Served.who g.S.Served.made c.args.self.now.playing.entries.speakers.items c.args.self.now.playing.tenants.names.items
+    c.args.text.now c.in-Some.name.now c.in-Some.request.now (entry c.in-Some-insertion_of.array c.insertion_of.new.text.items)
+    c.args.self.now.playing.entries.service c.args.self.now.output c.in-Some.ensures.0 c.in-Some.ensures.1
+    (inserts (insertion_of c.in-Some.request.now) c.in-Some-insertion_of.array c.insertion_of.new.text.items c.in-Some-insertion_of.ensures)
+    c.in_default-find.ensures
