@@ -63,7 +63,7 @@ START = [
 ]
 
 # What is left of a machine A that is lost, what the operator does with it at a machine B, and which lines are there then.
-# docs/OPERATING.md, "A machine is lost", has the same in words.
+# docs/OPERATE.md, "Take over by hand", has the same in words.
 LEFT = [
     ("A's disk is left", ("B gets A's table and journal", "the journal's files: user judyd", "start judyd: it plays the journal", "clients or haproxy: B's address"), ("There: all that was synced,", "with --sync round all answered"), GREEN),
     ("a copy of the journal is left", ("B gets A's table and the copy", "the journal's files: user judyd", "start judyd: it plays the copy", "clients or haproxy: B's address"), ("There: all up to the copy.", "Lost: what was answered since"), SAND),

@@ -274,7 +274,7 @@ class OnePlace(RestoreTest):
 
 
 class LostMachines(RestoreTest):
-    """A machine is lost, and another one takes its place, as docs/OPERATING.md, "A machine is lost", has it."""
+    """A machine is lost, and another one takes its place, as docs/OPERATE.md, "Take over by hand", has it."""
 
     def setUp(self):
         self.journal = self.folder_of_its_own()
