@@ -178,22 +178,31 @@ def shown(number):
 
 
 def table(found):
-    """The rows of all loads that were measured."""
-    rows = ["| resident bytes an entry | | %s |" % " | ".join(format(count, ",") for count in COUNTS), "|---" * (2 + len(COUNTS)) + "|"]
+    """The rows of all loads that were measured: in a cell the figures of all counts."""
+    rows = ["| resident bytes an entry | %s |" % " | ".join(SUBJECTS), "|---" * (1 + len(SUBJECTS)) + "|"]
     for load in LOADS:
+        cells = []
         for subject in SUBJECTS:
             grown = found.get(load, {}).get(subject, {})
-            cells = [shown(grown[str(count)] / count) if str(count) in grown else "-" for count in COUNTS]
-            name = "redis, %s" % ("set" if load.startswith("Judy1") else "hash") if subject == "redis" else subject
-            rows.append("| %s | %s | %s |" % (load, name, " | ".join(cells)))
+            cells.append(", ".join(shown(grown[str(count)] / count) if str(count) in grown else "-" for count in COUNTS))
+        rows.append("| %s | %s |" % (load, " | ".join(cells)))
     return "\n".join(rows)
 
 
 def rest_table(rows):
-    """The rows of all else: what it is, how many of them, and the bytes that they take."""
-    lines = ["| what | bytes | each |", "|---|---|---|"]
+    """The rows of all else, and the bytes of each: one row for several numbers of the same things, and for different
+    things that take the same."""
+    found, same = {}, {}
     for what, count, size in rows:
-        lines.append("| %s | %s | %s |" % (what, format(size, ","), format(round(size / count), ",") if count > 1 else ""))
+        number = "%s " % format(count, ",")
+        name, part = (what[len(number) :], number.strip()) if count > 1 and what.startswith(number) else (what, "")
+        found.setdefault(name, []).append((part, format(round(size / count), ",")))
+    for name, sizes in found.items():
+        same.setdefault(tuple(sizes), []).append(name)
+    lines = ["| what | bytes of each |", "|---|---|"]
+    for sizes, alike in same.items():
+        parts, told = ("; ".join(it for it in column if it) for column in zip(*sizes))
+        lines.append("| %s%s | %s |" % ("; ".join(alike), parts and " (%s)" % parts, told))
     return "\n".join(lines)
 
 
@@ -220,7 +229,7 @@ def names(kind, line, new):
             for at in range(done, count, 256):
                 ask(client, b"".join(line % it for it in range(at, at + 256)), new * 256)
             done = count
-            yield "%s names of %ss with one entry" % (format(count, ","), kind), count, pages(process) - empty
+            yield "%s names of %ss" % (format(count, ","), kind), count, pages(process) - empty
 
 
 def clients():
@@ -238,13 +247,13 @@ def clients():
         yield row("connected")
         for other in others:
             ask(other, b"AUTH bench bench\n" + ASKED * 100, b"OK\n" + TOLD * 100)
-        yield row("logged in, and 100 lines answered")
+        yield row("100 lines answered")
         for other in others:
             other.setblocking(False)
             with suppress(BlockingIOError):
                 for _ in range(100):
                     other.send(b"HELLO\n" * 1000)
-        yield row("lines wait, since no reply is read")
+        yield row("lines wait")
         for other in others:
             other.close()
         yield row("gone")
@@ -259,8 +268,8 @@ def journal():
             for at in range(0, 100000, PART):
                 ask(client, b"".join(b"J1S a %d\n" % it for it in range(at, at + PART)), b"1\n" * PART)
             told[-1].append(pages(process))
-    yield "a journal, at the start", 1, told[1][0] - told[0][0]
-    yield "a journal, after 100,000 stores", 1, told[1][1] - told[0][1]
+    yield "a journal: at the start", 1, told[1][0] - told[0][0]
+    yield "a journal: after 100,000 stores", 1, told[1][1] - told[0][1]
 
 
 def statuses():
@@ -275,8 +284,8 @@ def statuses():
                     asker.sendall(b"STATUS\n")
                     while asker.recv(65536):
                         pass
-            yield "a status of %d tenant%s, asked for" % (len(tenants), "s"[: len(tenants) > 1]), 1, pages(process) - told[-1]
-    yield "63 tenants more in the table", 63, told[1] - told[0]
+            yield "a status of %d tenant%s" % (len(tenants), "s"[: len(tenants) > 1]), 1, pages(process) - told[-1]
+    yield "63 tenants more", 63, told[1] - told[0]
 
 
 def rest():
@@ -285,8 +294,8 @@ def rest():
     resource.setrlimit(resource.RLIMIT_NOFILE, (min(max(soft, 4096), hard), hard))
     with judyd() as (process, _, _):
         empty = pages(process)
-        yield "a server with one client and one entry, its program's pages among them", 1, pages(process, "Rss:")
-        yield "the same without the pages of files", 1, empty
+        yield "a server, its program's pages among them", 1, pages(process, "Rss:")
+        yield "the same without pages of files", 1, empty
     yield from names("Judy1", b"J1S n%d 1\n", b"1\n")
     yield from names("JudySL", b"JSLI n%d x61 1\n", b"V 0\n")
     yield from clients()

@@ -1,8 +1,8 @@
 #!/usr/bin/env python3
 """Draws the pictures of the pages into a folder, by default docs: architecture.svg, the crates of crates.txt in their
 layers; line.svg, the way of a line; lost.svg, what is left of a machine that is lost; memory.svg, the bytes for each
-entry, from the table of bench/README.md; memory_entries.svg, the memory of judyd, redis and libjudy, from
-bench/memory.json; restart.svg, what a start with a journal does, with the times of docs/SPEED.md.
+entry, from bench/words.txt; memory_entries.svg, the memory of judyd, redis and libjudy, from bench/memory.json;
+restart.svg, what a start with a journal does, with the times of docs/SPEED.md.
 
 usage: docs/pictures.py [FOLDER]
 
@@ -151,11 +151,11 @@ def way():
 
 
 def measured():
-    """The rows of the published table: keys, and bytes for each in Judy1, libjudy's Judy1, JudyL and libjudy's JudyL."""
-    part = read("bench/README.md").split("\n## Bytes for each entry\n")[1].split("\n## ")[0]
-    rows = [[float(cell.replace(",", "")) for cell in row] for row in re.findall(r"(?m)^\| ([\d,]+) \| ([\d.]+) \| ([\d.]+) \| ([\d.]+) \| ([\d.]+) \|", part)]
+    """The rows of the first table of bench/words.txt: keys, and bytes for each in Judy1, libjudy's Judy1, JudyL and
+    libjudy's JudyL."""
+    rows = [[float(cell) for cell in row.split()[:5]] for row in read("bench/words.txt").splitlines() if re.match(r" *\d", row)]
     if len(rows) < 5:
-        sys.exit("pictures: the table of bench/README.md was not read")
+        sys.exit("pictures: the first table of bench/words.txt was not read")
     return rows
 
 

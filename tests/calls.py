@@ -93,13 +93,8 @@ def meanings():
 
 
 def readme():
-    """The calls of README.md, and for the calls of each row what they reply."""
-    forms, replies = {}, []
-    for cells in rows("README.md", "The protocol"):
-        found = {word: form for cell in cells[1:5] for word, form in shown(cell).items()}
-        forms.update(found)
-        replies += [(sorted(found), set(codes(cells[5])))] if found else []
-    return forms, replies
+    """The words of README.md."""
+    return {word for cells in rows("README.md", "The protocol") for cell in cells[1:] for word in shown(cell)}
 
 
 def client():
@@ -125,8 +120,7 @@ def faults():
     """What does not agree with the definition."""
     forms, refusals = source()
     listed, replies = formats()
-    short, in_rows = readme()
-    for what, found in (("docs/FORMATS.md", listed), ("README.md", short), ("the client's wording.py", client())):
+    for what, found in (("docs/FORMATS.md", listed), ("the client's wording.py", client())):
         for word in sorted(forms.keys() | found.keys()):
             if forms.get(word) != found.get(word):
                 yield "%s and %s do not agree on the fields of %s: %s, %s" % (what, CODE, word, sorted(found.get(word, ())), sorted(forms.get(word, ())))
@@ -136,8 +130,9 @@ def faults():
             yield "docs/FORMATS.md says that %s does %s, and %s that it does %s" % (word, named.get(word), CODE, operation)
         if not word.startswith(PREFIXES[kind]):
             yield "%s has %s as a command of a %s, whose words begin with %s" % (CODE, word, KINDS[kind], PREFIXES[kind])
-    for word in sorted(forms.keys() ^ manual()):
-        yield "man/judyd.1 and %s do not agree on %s" % (CODE, word)
+    for page, words in (("man/judyd.1", manual()), ("README.md", readme())):
+        for word in sorted(forms.keys() ^ words):
+            yield "%s and %s do not agree on %s" % (page, CODE, word)
     for word in sorted(forms.keys() & replies.keys()):
         if replies[word] & REFUSALS != refusals[word]:
             yield "docs/FORMATS.md: the refusals of %s are %s" % (word, ", ".join(sorted(refusals[word])) or "none")
@@ -147,10 +142,6 @@ def faults():
         first, wanted = alike.setdefault(letters, (word, given))
         if {reply.replace("key", "i") for reply in wanted} != {reply.replace("key", "i") for reply in given}:
             yield "docs/FORMATS.md: %s replies %s, and %s %s" % (word, sorted(given), first, sorted(wanted))
-    for words, given in in_rows:
-        wanted = {reply for word in words for reply in replies.get(word, ())} - REFUSALS
-        if given != wanted:
-            yield "README.md and docs/FORMATS.md do not agree on the replies to %s: %s, %s" % (" ".join(words), sorted(given), sorted(wanted))
     for other in OTHERS:
         for page in ("README.md", "docs/FORMATS.md"):
             if "`%s`" % other.usage() not in read(page):
@@ -242,12 +233,9 @@ def short_table(text):
 
 
 def short_cell(kind, operations):
-    """The commands of a kind that do this, by their fields."""
-    found = {}
-    for word, command in COMMANDS.items():
-        if command.kind == kind and command.operation in operations:
-            found.setdefault(usage(word), []).append(word)
-    return ", ".join("`%s`" % " ".join([*words, "name", fields]).rstrip() for fields, words in found.items())
+    """The commands of a kind that do this."""
+    words = [word for word, command in COMMANDS.items() if command.kind == kind and command.operation in operations]
+    return "`%s`" % " ".join(words) if words else ""
 
 
 def manual_page(text):
