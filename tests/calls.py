@@ -23,6 +23,7 @@ LETTERS = {"name": "", "key": "K", "i": "W", "k": "W", "n": "W", "v": "W", "old"
 NAMES = {"Set": "Insert", "Unset": "Remove", "Test": "Look", "Delete": "Remove", "Get": "Look", "ByCount": "Nth", "FreeArray": "Free"}
 PREFIXES = {"One": "J1", "Long": "JL", "Str": "JSL", "Bytes": "JHS"}
 PAGE = "docs/PROTOCOL.md"
+REPLIES = {"1": "1", "0": "0", "1 i": r"1 \d+", "N k": r"N \d+", "NULL": "NULL", "V v": r"V \d+", "V v i": r"V \d+ \d+", "V v key": r"V \d+ x[0-9a-f]*"}
 COUNTS = "no one two three four five six seven eight nine ten".split()
 COLUMNS = 100
 
@@ -96,13 +97,8 @@ def calls():
 
 
 def readme():
-    """The calls of README.md, if it shows them, and for the calls of each row what they reply."""
-    forms, replies = {}, []
-    for cells in rows("README.md", "The protocol"):
-        found = {word: form for cell in cells[1:5] for word, form in shown(cell).items()}
-        forms.update(found)
-        replies += [(sorted(found), set(codes(cells[5])))] if found else []
-    return forms, replies
+    """The words of README.md."""
+    return {word for cells in rows("README.md", "The protocol") for cell in cells[1:] for word in shown(cell)}
 
 
 def client():
@@ -135,30 +131,46 @@ def wrong_rows(found):
         yield "%s does not say: %s" % (PAGE, said)
 
 
+def replied():
+    """What the lines of clients/vectors.txt get: the forms of each word's replies, without the refusals."""
+    found, lines = {}, [line for line in read("clients/vectors.txt").split("\n") if line[:2] in ("> ", "< ")]
+    for line, reply in zip(lines[::2], lines[1::2]):
+        for word in set(line.split()[1:2]) & COMMANDS.keys():
+            found.setdefault(word, set()).update(form for form, pattern in REPLIES.items() if re.fullmatch(pattern, reply[2:]))
+    return found
+
+
+def wrong_replies(found):
+    """Faults of what the page's table says of replies, beside those to the lines of clients/vectors.txt."""
+    there = replied()
+    for row in found:
+        for word in sorted(word for words in row.words.values() for word in words):
+            for form in sorted(there.get(word, set()) - set(codes(row.reply))):
+                yield "%s does not have the reply %s to %s" % (PAGE, form, word)
+        for form in sorted(set(codes(row.reply)).difference(*(there.get(word, ()) for words in row.words.values() for word in words))):
+            yield "%s has the reply %s to %s, and clients/vectors.txt never" % (PAGE, form, row.call)
+
+
 def faults():
     """What does not agree with the definition."""
     forms, found = source(), calls()
     listed = {word: forms_of(["name", *row.usage(kind)]) for row in found for kind, words in row.words.items() for word in words}
-    replies = {word: set(codes(row.reply)) for row in found for words in row.words.values() for word in words}
-    short, in_rows = readme()
-    shown_in = [(PAGE, listed), ("the client's wording.py", client())] + ([("README.md", short)] if short else [])
-    for what, there in shown_in:
+    for what, there in ((PAGE, listed), ("the client's wording.py", client())):
         for word in sorted(forms.keys() | there.keys()):
             if forms.get(word) != there.get(word):
                 yield "%s and %s do not agree on the fields of %s: %s, %s" % (what, CODE, word, sorted(there.get(word, ())), sorted(forms.get(word, ())))
     yield from wrong_rows(found)
+    yield from wrong_replies(found)
     for word, (kind, _) in COMMANDS.items():
         if not word.startswith(PREFIXES[kind]):
             yield "%s has %s as a command of a %s, whose words begin with %s" % (CODE, word, KINDS[kind], PREFIXES[kind])
-    for word in sorted(forms.keys() ^ manual()):
-        yield "man/judyd.1 and %s do not agree on %s" % (CODE, word)
-    for words, given in in_rows:
-        wanted = {reply for word in words for reply in replies.get(word, ())}
-        if given != wanted:
-            yield "README.md and %s do not agree on the replies to %s: %s, %s" % (PAGE, " ".join(words), sorted(given), sorted(wanted))
+    for page, words in (("man/judyd.1", manual()), ("README.md", readme())):
+        for word in sorted(forms.keys() ^ words):
+            yield "%s and %s do not agree on %s" % (page, CODE, word)
     for other in OTHERS:
-        if "`%s`" % other.usage() not in read(PAGE):
-            yield "%s does not show `%s`" % (PAGE, other.usage())
+        for page in ("README.md", PAGE):
+            if "`%s`" % other.usage() not in read(page):
+                yield "%s does not show `%s`" % (page, other.usage())
     for path, make in WRITTEN.items():
         if make(read(path)) != read(path):
             yield "%s is not what `python3 tests/calls.py --write` makes of the table of commands" % path
