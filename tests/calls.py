@@ -10,6 +10,7 @@ import os
 import re
 import sys
 import textwrap
+from typing import NamedTuple
 
 TOP = os.path.dirname(os.path.dirname(os.path.abspath(__file__)))
 sys.path.insert(0, os.path.join(TOP, "clients", "python"))
@@ -20,9 +21,9 @@ from oracle import INSERTS, LOOKS, OPERATIONS  # noqa: E402
 
 LETTERS = {"name": "", "key": "K", "i": "W", "k": "W", "n": "W", "v": "W", "old": "W", "new": "W"}
 NAMES = {"Set": "Insert", "Unset": "Remove", "Test": "Look", "Delete": "Remove", "Get": "Look", "ByCount": "Nth", "FreeArray": "Free"}
-NAMES.update({"addition": "Add", "keep": "Keep", "exchange": "Exchange", "take": "Take"})
 PREFIXES = {"One": "J1", "Long": "JL", "Str": "JSL", "Bytes": "JHS"}
-REFUSALS = {"ERR JOURNAL", "ERR READONLY", "ERR FROZEN", "FULL", "ERR MEMORY"}
+PAGE = "docs/PROTOCOL.md"
+COUNTS = "no one two three four five six seven eight nine ten".split()
 COLUMNS = 100
 
 
@@ -33,12 +34,8 @@ def read(path):
 
 
 def source():
-    """Each command: the forms of its fields after the name, K for a key and W for a word, and the
-    refusals that it may get beyond those of every line."""
-    forms = {word: {"".join(map(LETTERS.get, form)) for form in FORMS[word]} for word in COMMANDS}
-    does = {word: OPERATIONS[command.operation].does for word, command in COMMANDS.items()}
-    refusals = {word: (set() if it == LOOKS else {"ERR JOURNAL", "ERR READONLY", "ERR FROZEN"}) | ({"FULL", "ERR MEMORY"} if it == INSERTS else set()) for word, it in does.items()}
-    return forms, refusals
+    """Each command: the forms of its fields after the name, K for a key and W for a word."""
+    return {word: {"".join(map(LETTERS.get, form)) for form in FORMS[word]} for word in COMMANDS}
 
 
 def codes(cell):
@@ -67,28 +64,34 @@ def forms_of(fields):
 
 
 def rows(page, title):
-    """The cells of the rows of the table below a title."""
-    part = read(page).split("\n## %s\n" % title)[1].split("\n## ")[0]
+    """The cells of the rows of the table below a title. None without the title."""
+    part = read(page).partition("\n## %s\n" % title)[2].split("\n## ")[0]
     return [re.split(r"(?<!\\)\|", line)[1:-1] for line in part.split("\n") if line.startswith("|")]
 
 
-def formats():
-    """The calls of docs/FORMATS.md, and what they reply."""
-    forms, replies = {}, {}
-    for cells in rows("docs/FORMATS.md", "Requests and replies"):
-        if len(cells) == 3:
-            found = shown(cells[0])
-            forms.update(found)
-            replies.update(dict.fromkeys(found, set(codes(cells[2]))))
-    return forms, replies
+class Row(NamedTuple):
+    """A row of the page's table: what it says of the calls, their operations in the order of their words, the words of
+    each kind, the fields after the name, and what it says of the replies."""
+
+    call: str
+    operations: list
+    words: dict
+    fields: list
+    reply: str
+
+    def usage(self, kind):
+        """The fields of a kind's words: a key for the index of strings and bytes, and no value in a set."""
+        fields = [field for field in self.fields if kind != "One" or not field.startswith("[")]
+        return ["key" if field == "i" and kind in ("Str", "Bytes") else field for field in fields]
 
 
-def meanings():
-    """What docs/FORMATS.md calls each command: the first names of operations in its row, in the order of its words."""
-    found = {}
-    for cells in rows("docs/FORMATS.md", "Requests and replies"):
-        names = [NAMES.get(name, name) for name in re.findall(r"\w+", cells[1])]
-        found.update(zip(shown(cells[0]), [name for name in names if name in OPERATIONS]))
+def calls():
+    """The rows of the page's table of calls."""
+    found = []
+    for call, *words, fields, reply in (map(str.strip, cells) for cells in rows(PAGE, "Calls of arrays") if "`" in cells[-1]):
+        operations = [NAMES.get(name, name) for name in re.findall(r"\w+", call)]
+        operations = list(dict.fromkeys(name for name in operations if name in OPERATIONS))
+        found.append(Row(call, operations, dict(zip(KINDS, (cell.strip("`").split() for cell in words))), fields.strip("`").split(), reply))
     return found
 
 
@@ -102,53 +105,50 @@ def client():
     return {word: {"".join(LETTERS[field] for field in call.fields[:count]) for count in range(call.least, len(call.fields) + 1)} for word, call in CALLS.items()}
 
 
-def from_judy():
-    """The lines of docs/FROM_JUDY.md: for each word the forms of its fields."""
-    found = {}
-    for code in re.findall(r"`(J[0-9A-Z]+ name[^`]*)`", read("docs/FROM_JUDY.md")):
-        for word, forms in shown("`%s`" % code).items():
-            found.setdefault(word, set()).update(forms)
-    return found
-
-
 def manual():
     """The words of the manual page."""
     return {word for line in re.findall(r"(?m)^\.It Cm (.*)$", read("man/judyd.1")) for word in re.findall(r"\bJ[0-9A-Z]+\b", line)}
 
 
+def wrong_rows(found):
+    """Faults of the page's table: words in the column of another kind or in the row of another operation, and a
+    sentence that does not say which calls insert and which change."""
+    for row in found:
+        for kind, words in row.words.items():
+            if len(words) not in (0, len(row.operations)):
+                yield "%s: %d words of a %s for %s" % (PAGE, len(words), KINDS[kind], " ".join(row.operations))
+            for word, operation in zip(words, row.operations):
+                if COMMANDS.get(word) != (kind, operation):
+                    yield "%s says that %s does %s to a %s, and %s that it does %s" % (PAGE, word, operation, KINDS[kind], CODE, COMMANDS.get(word))
+    classes = [{OPERATIONS[operation].does for operation in row.operations} for row in found]
+    inserts, looks = classes.count({INSERTS}), classes.count({LOOKS})
+    changes = len(classes) - inserts - looks
+    if classes[:inserts] != [{INSERTS}] * inserts or classes[len(classes) - looks :] != [{LOOKS}] * looks:
+        yield "%s: the calls that insert are not the first, and those that change nothing not the last" % PAGE
+    said = "The first %s calls are *inserts*, the next %s *changes*." % (COUNTS[inserts], COUNTS[changes])
+    if said not in " ".join(read(PAGE).split()):
+        yield "%s does not say: %s" % (PAGE, said)
+
+
 def faults():
     """What does not agree with the definition."""
-    forms, refusals = source()
-    listed, replies = formats()
-    for what, found in (("docs/FORMATS.md", listed), ("the client's wording.py", client())):
-        for word in sorted(forms.keys() | found.keys()):
-            if forms.get(word) != found.get(word):
-                yield "%s and %s do not agree on the fields of %s: %s, %s" % (what, CODE, word, sorted(found.get(word, ())), sorted(forms.get(word, ())))
-    named = meanings()
-    for word, (kind, operation) in COMMANDS.items():
-        if named.get(word) != operation:
-            yield "docs/FORMATS.md says that %s does %s, and %s that it does %s" % (word, named.get(word), CODE, operation)
+    forms, found = source(), calls()
+    listed = {word: forms_of(["name", *row.usage(kind)]) for row in found for kind, words in row.words.items() for word in words}
+    shown_in = [(PAGE, listed), ("the client's wording.py", client())]
+    for what, there in shown_in:
+        for word in sorted(forms.keys() | there.keys()):
+            if forms.get(word) != there.get(word):
+                yield "%s and %s do not agree on the fields of %s: %s, %s" % (what, CODE, word, sorted(there.get(word, ())), sorted(forms.get(word, ())))
+    yield from wrong_rows(found)
+    for word, (kind, _) in COMMANDS.items():
         if not word.startswith(PREFIXES[kind]):
             yield "%s has %s as a command of a %s, whose words begin with %s" % (CODE, word, KINDS[kind], PREFIXES[kind])
     for page, words in (("man/judyd.1", manual()), ("README.md", readme())):
         for word in sorted(forms.keys() ^ words):
             yield "%s and %s do not agree on %s" % (page, CODE, word)
-    for word in sorted(forms.keys() & replies.keys()):
-        if replies[word] & REFUSALS != refusals[word]:
-            yield "docs/FORMATS.md: the refusals of %s are %s" % (word, ", ".join(sorted(refusals[word])) or "none")
-    alike = {}
-    for word, given in sorted(replies.items()):
-        letters = re.sub("^J(L|SL|HS)", "", word)
-        first, wanted = alike.setdefault(letters, (word, given))
-        if {reply.replace("key", "i") for reply in wanted} != {reply.replace("key", "i") for reply in given}:
-            yield "docs/FORMATS.md: %s replies %s, and %s %s" % (word, sorted(given), first, sorted(wanted))
     for other in OTHERS:
-        for page in ("README.md", "docs/FORMATS.md"):
-            if "`%s`" % other.usage() not in read(page):
-                yield "%s does not show `%s`" % (page, other.usage())
-    for word, found in sorted(from_judy().items()):
-        if not found <= forms.get(word, set()):
-            yield "docs/FROM_JUDY.md and %s do not agree on the fields of %s: %s, %s" % (CODE, word, sorted(found), sorted(forms.get(word, ())))
+        if "`%s`" % other.usage() not in read(PAGE):
+            yield "%s does not show `%s`" % (PAGE, other.usage())
     for path, make in WRITTEN.items():
         if make(read(path)) != read(path):
             yield "%s is not what `python3 tests/calls.py --write` makes of the table of commands" % path
@@ -239,16 +239,16 @@ def short_cell(kind, operations):
 
 
 def manual_page(text):
-    """The calls of the manual page are those of docs/FORMATS.md, without the refusals."""
+    """The calls of the manual page are those of the page."""
     lines = []
-    for cells in rows("docs/FORMATS.md", "Requests and replies"):
-        words = list(shown(cells[0])) if len(cells) == 3 else []
-        if words:
-            fields = re.sub(r" ?\[(\w+)\]", r" Op Ar \1", usage(words[0]))
-            lines.append(".It Cm %s Ar %s" % (" | ".join(words), ("name " + fields).rstrip()))
-            replies = re.sub(r"[,;]? ?`(?:%s)`" % "|".join(sorted(REFUSALS)), "", cells[2]).strip()
-            call = cells[1].strip()
-            lines += roff("%s%s: %s." % (call[0].upper(), call[1:], replies))
+    for row in calls():
+        shown_words = []
+        for kind, words in row.words.items():
+            fields = [re.sub(r"\[(\w+)\]", r"Oo Ar \1 Oc", field) for field in row.usage(kind)]
+            if words:
+                shown_words.append("Cm %s Ar %s" % (" | ".join(words), " ".join(["name", *fields])))
+        lines.append(".It " + " , ".join(shown_words))
+        lines += [*roff("%s." % row.call), *roff("Reply: %s." % row.reply)]
     return with_part(text, MANUAL[0], MANUAL[1], lines)
 
 
@@ -264,7 +264,7 @@ def c_manual(text):
     return text
 
 
-MANUAL = ('.\\" The calls, written of docs/FORMATS.md by python3 tests/calls.py --write', '.\\" The end of the calls')
+MANUAL = ('.\\" The calls, written of docs/PROTOCOL.md by python3 tests/calls.py --write', '.\\" The end of the calls')
 
 
 def roff(text):

@@ -1,4 +1,4 @@
-"""Journals as docs/FORMATS.md has them, written and read by a program that shares no code with the
+"""Journals as docs/FORMAT.md has them, written and read by a program that shares no code with the
 server; and a library that kills a process at a step."""
 
 import os
@@ -207,7 +207,7 @@ def contents(folder):
 
 def records_of(folder):
     """The records of all whole commits of a journal, and how many bytes follow the last. Ends with an
-    AssertionError if the journal is not as docs/FORMATS.md says."""
+    AssertionError if the journal is not as docs/FORMAT.md says."""
     files = contents(folder)
     snapshots = sorted(name for name in files if re.fullmatch(r"\d{12}\.snapshot", name))
     checksum, first, records, torn = ZEROS, 1, [], 0

@@ -1,9 +1,9 @@
 """The replies that the line protocol requires, computed by a plain program over sorted lists and
 dictionaries.
 
-It was written only from docs/FORMATS.md, and shares no code with the server or the client. If two
+It was written only from docs/PROTOCOL.md, and shares no code with the server or the client. If two
 such programs agree on a million lines, they do not have the same fault. Which word does what to which
-kind of array is read from the table of commands, which tests/pages compares with docs/FORMATS.md. It is
+kind of array is read from the table of commands, which tests/pages compares with docs/PROTOCOL.md. It is
 never out of memory, so it never replies `ERR MEMORY`.
 
     store = Store([Tenant("alice", "abc", quota=4)])

@@ -1,4 +1,4 @@
-"""The fields of requests and of replies. docs/FORMATS.md has the protocol."""
+"""The fields of requests and of replies. docs/PROTOCOL.md has the protocol."""
 
 import operator
 import re
