@@ -1,29 +1,26 @@
 """A crate's wrong bodies as copies of its functions.
 
-The compiler gives a verdict for each function and goes on after one that is not proved. So each
-wrong body becomes one more function beside the real one: a copy under another name, with the same
-contract, the edit in its text, and a copy of the real one's proof. Nothing calls it, so the crate
-stays as it was. A copy without an edit is the control: it must be proved. The only wrong body of a
-function is put in the function's place: that needs no control, since the proof is the real one. A
-function that calls itself is copied with its cycle, into a module of its own; a method of a trait's
-impl, or a cycle that uses private items, can't be copied. It is edited in its place, one edit of
-each such function at a time. All other functions keep their contracts and lose their proofs: these
-are holes, which the compiler takes as proved, so that only what is tried is checked
-(`--allow-holes`, `--only`). Their bodies become endless loops: a proof sees only their contracts. A
-program is checked as a library, without its `main`, so that the code of the crates below is not
-linked.
+The compiler gives a verdict for each function and goes on after one that is not proved. So each wrong
+body becomes one more function beside the real one: a copy under another name, with the same contract,
+the edit in its text, and a copy of the real one's proof. Nothing calls it, so the crate stays as it
+was. A copy without an edit is the control: it must be proved. The only wrong body of a function is put in
+the function's place: that needs no control, since the proof is the real one. A function that calls
+itself is copied with its cycle, into a module of its own; a method of a trait's impl, or a cycle that uses
+private items, can't be copied. It is edited in its place, one edit of each such function at a time. All other functions keep their contracts and lose their proofs: these are holes, which the
+compiler takes as proved, so that only what is tried is checked (`--allow-holes`, `--only`). Their bodies
+become endless loops: a proof sees of them the contracts alone. A program is checked as a library, without its
+`main`, so that the code of the crates below is not linked.
 
-A copy that is made without tactics (`#[tactic(none)]`) has its written answers checked, and the
-check names the goals that are left. That is quick, and most wrong bodies fall there: an answer that
-the control has too is refused. The others are copied again with their tactics. Where an edit names
-the goal that refuses it, all other goals that were left are holes, so that this one alone is
-searched: by an answer that tries what the compiler tries of itself. So the compiler prints neither
-the goal nor a file to begin with, which takes as long as the search. For a copy the answer has
-`STEPS` of the 10,000,000 steps that the compiler allows: goals of the control are proved in less,
-and a search that finds nothing would use up all. If the control is not proved in this way, the
-compiler's own tactics are tried, unless wrong/GOALS says that its goal takes a long search. A wrong
-body in the function's place has no control, so its answer finds all that the compiler's tactics
-find (`LIKE_THE_COMPILER`), and counts only if it says that its search failed."""
+A copy that is made without tactics (`#[tactic(none)]`) has its written answers checked, and the check
+names the goals that are left. That is quick, and most wrong bodies fall there: an answer that the
+control has too is refused. The others are copied again with their tactics. Where an edit names the goal
+that refuses it, all other goals that were left are holes, so that this one alone is searched: by an answer
+that tries what the compiler tries of itself. So the compiler prints neither the goal nor a file to begin with,
+which takes as long as the search. For a copy the answer has `STEPS` of the 10,000,000 steps that the compiler
+allows: goals of the control are proved in less, and a search that finds nothing would use up all. If the control
+is not proved so, the compiler's own tactics are tried, unless wrong/GOALS says that its goal takes a long search. A wrong body in the function's place has no control, so its
+answer finds all that the compiler's tactics find (`LIKE_THE_COMPILER`), and counts only if it says that its search
+failed."""
 
 import re
 
@@ -351,8 +348,8 @@ class Batch:
             self.stub(it)
 
     def stub(self, it):
-        """Gives a function a body that costs nothing. A cycle of calls stays one. A body stays if callers see more
-        of it than its contract, or if an edit changes its file."""
+        """Gives a function a body that costs nothing. A cycle of calls stays one. A body stays of which callers see
+        more than its contract, and one of a file that an edit changes."""
         text = self.sources.texts[it.file]
         has_body = text[it.body : it.end - 1].strip() and not NO_STUB.search(text[it.start : it.body])
         if has_body and not it.cycle and self.is_as_it_was(it.file):
@@ -363,7 +360,7 @@ class Batch:
         return self.texts[file] == self.sources.texts[file]
 
     def folder(self, it):
-        """The start of the names of everything in the folder of a function's proof."""
+        """The front of the names of all that stands in the folder of a function's proof."""
         return self.cited(it) + "."
 
     def cited(self, it):

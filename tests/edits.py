@@ -1,11 +1,10 @@
-"""The wrong bodies of the crates: the files crates/NAME/wrong/*.edit and
-crates/NAME/must-fail/*.edit. Their lines are `file: PATH`, `old: TEXT` and `new: TEXT`: each text
-is one line, since the kit reads only one. The old text is in the file once; in wrong/ it may also
-be the only line that is equal to it. A line `by: FUNCTION` or `by: proofs/FILE.antt` names a
-function of the crate, or a file of lemmas, that the prover refuses with the edit. Only an edit of a
-definition needs it, so that not all functions are tried. A line `goal: NAME` names the goal of the
-function that no tactic proves with the edit, or to which the written answer is refused.
-`tests/wrong --record` writes it, so that no other goal is searched."""
+"""The wrong bodies of the crates: the files crates/NAME/wrong/*.edit and crates/NAME/must-fail/*.edit. Its
+lines are `file: PATH`, `old: TEXT` and `new: TEXT`: each text is one line, since the kit reads no more
+of it. The old text stands once in the file; in wrong/ it may also be the one line that is equal to it. A line `by: FUNCTION` or `by: proofs/FILE.antt` names a function of the crate, or a file of
+lemmas, that the prover refuses with the edit. Only an edit of a definition needs it, so that not all
+functions are tried. A line `goal: NAME` names the goal of the function that no tactic proves with the
+edit, or to which the written answer is refused. `tests/wrong --record` writes it, so that no other goal
+is searched."""
 
 import os
 import re
@@ -30,7 +29,7 @@ def write(path, text):
 
 
 def place_in(text, old):
-    """Where an old text is: at its only place, or where it is a whole line. None if there are several, or none."""
+    """Where an old text stands: at its only place, or where it is a whole line. None if there are several, or none."""
     places = [it.start() for it in re.finditer(re.escape(old), text)]
     if len(places) > 1:
         places = [at for at in places if text[:at].endswith("\n") and text[at + len(old) :].startswith("\n")]

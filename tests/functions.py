@@ -1,5 +1,5 @@
 """The functions of a crate's sources, found by the layout of `rt fmt`: where each begins and ends, and
-where its proof is."""
+where its proof stands."""
 
 import os
 import re
@@ -121,7 +121,7 @@ def functions_of(file, text):
 
 
 def head_of(text):
-    """The front of a file: what comes before its first item, including its imports."""
+    """The front of a file: what stands before its first item, its imports among it."""
     return text[: re.search(r"^(?:///|#\[|(?:pub(?:\([a-z]+\))? )?(?:const|unsafe|fn|static|struct|enum|type|trait|impl)\b)", text, re.M).start()]
 
 
@@ -155,7 +155,7 @@ class Sources:
 
     def beside(self, one):
         """The items of its file that the cycle of a function uses; None if one is private, or if the functions can't
-        be in another module."""
+        stand in another module."""
         if one.owner or len(one.module()) == 0 or one.home != one.file:
             return None
         text, cycle = self.texts[one.file], self.cycle_of(one)

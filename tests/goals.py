@@ -1,10 +1,9 @@
-"""The goals of functions that no written answer proves: crates/NAME/wrong/GOALS. A wrong body names the
-goal that refuses it, so only that one of them is searched, and the others are holes. The file saves time
-and decides nothing: a goal that it lacks is searched, and a goal that no longer exists is an error of the
-copy, which is then tried with all of its goals. A line is `FUNCTION: GOAL..`, or `EDIT: GOAL..` of a
-wrong body with which its function has other goals. A line `LONG FUNCTION: GOAL..` names goals of the
-function itself that only the compiler's whole search proves. `tests/wrong --goals` writes the file,
-except these lines."""
+"""Which goals of functions no written answer proves: crates/NAME/wrong/GOALS. A wrong body names the goal
+that refuses it, so of these that one alone is searched, and the others are holes. The file saves time
+and decides nothing: a goal that it lacks is searched, and one that is gone is an error of the copy, which
+is tried then with all of its goals. A line is `FUNCTION: GOAL..`, or `EDIT: GOAL..` of a wrong body with
+which its function has other goals. A line `LONG FUNCTION: GOAL..` names goals that the function itself is
+proved to have only by the compiler's whole search. `tests/wrong --goals` writes it, but for those."""
 
 import os
 
@@ -42,8 +41,8 @@ class Goals:
                 it.choose(goals, self.of(it.function))
 
     def of_controls(self, tries):
-        """The holes of the control of each function of which some body has holes: all goals except those
-        that it must be proved to have."""
+        """The holes of the control of each function of which some body has holes: all goals but those that
+        it must be proved to have."""
         asked = {}
         for it in tries:
             if it.name and it.holes is not None:

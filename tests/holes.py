@@ -39,7 +39,7 @@ class Definition:
 
 
 def end_of_block(lines, at, indent):
-    """The line after those that belong to the one before: they are indented, close what it opened, or say what
+    """The line after those that belong to the one before: they stand deeper, close what it opened, or say what
     the definition opens. An empty line belongs to it if the next other one does."""
     belongs, end = re.compile(r"^%s(?:[ }\])]|unfolding )" % indent), at
     while at < len(lines):
@@ -102,7 +102,7 @@ def names_of_function(text, folder):
 
 
 def answers_with_holes(text, names, kept, crate):
-    """The answers of a function, and what is beside them. Those to other goals than these are holes;
+    """The answers of a function, and what stands beside them. Those to other goals than these are holes;
     with None, none is. What says nothing of the function is a hole too."""
     found = GOALS_AS.search(text)
     if not found:

@@ -1,10 +1,10 @@
 """The files of definitions and lemmas of a crate, and what they import: how an edit of a definition is
 tried as a copy.
 
-A wrong definition changes all that depends on it, so it can't be a copy of only one file. It is a copy of
-that file, of the file of lemmas that refuses it, and of all files between them, under other names that
-import each other. Nothing else imports them, so all such edits of a crate are tried in one check. The same
-copies without the edit are the control: they must have no error."""
+A wrong definition changes all that stands on it, so it can't be a copy of one file alone. It is a copy
+of that file, of the file of lemmas that refuses it, and of all files between them, under other names
+that import each other. Nothing else imports them, so all such edits of a crate are tried in one check. The
+same copies without the edit are the control: they must have no error."""
 
 import re
 
@@ -46,9 +46,8 @@ class Modules:
         return found
 
     def between(self, changed, by):
-        """The changed files and all that depend on them and that `by` imports, including `by` itself;
-        None if these can't be copied: they include a function's proof, or `by` does not depend on
-        them."""
+        """The changed files and all that stand on them and that `by` imports, itself too; None if these
+        can't be copied: they have a function's proof among them, or `by` does not stand on them."""
         those = {it for it in self.below(by) if self.below(it) & changed} | changed
         well = by in those and not those & self.proved and all(self.node(it) for it in those)
         return those if well else None

@@ -138,9 +138,9 @@ class Prover:
             return Ran(process.returncode, log.read(), time.monotonic() - began, used.ru_utime + used.ru_stime)
 
     def front_end(self, crate, folder):
-        """Reads and types a crate and those below it, from a folder. Returns the errors, with the files'
-        places in that folder. A planted error ends the compiler's run there, which saves most of its
-        time; it also shows that the run got that far."""
+        """Reads and types a crate and those below it, as they stand in a folder. Returns the errors, with
+        the files' places in that folder. A planted error ends the compiler's run there, which saves
+        most of its time; it also shows that it got so far."""
         root = os.path.join(crate, "src", "main.rt" if os.path.exists(os.path.join(folder, crate, "src", "main.rt")) else "lib.rt")
         planted = read(os.path.join(folder, root)).count("\n") + 3
         with open(os.path.join(folder, root), "a", encoding="utf-8") as file:
