@@ -1,6 +1,6 @@
 #!/usr/bin/env python3
-"""Prints docs/generated/WRONG_BODIES.md: the wrong bodies that the gate tries, as they stand in wrong/ and must-fail/
-of each crate. tests/pages compares the page with it.
+"""Prints docs/generated/WRONG_BODIES.md: the wrong bodies that the gate tries, from wrong/ and must-fail/ of each
+crate. tests/pages compares the page with it.
 
 usage: docs/generate.py [FOLDER]     with no folder: docs/generated
 """

@@ -1,13 +1,13 @@
 #!/usr/bin/env python3
 """Draws the pictures of the pages into a folder, by default docs: architecture.svg, the crates of crates.txt in their
-layers; line.svg, the way of a line; lost.svg, what is left of a machine that is lost; memory.svg, the bytes for each
-entry, from bench/words.txt; memory_entries.svg, the memory of judyd, redis and libjudy, from bench/memory.json;
-restart.svg, what a start with a journal does, with the times of docs/SPEED.md.
+layers; line.svg, the way of a line; lost.svg, what is left of a lost machine; memory.svg, the bytes for each entry,
+from bench/words.txt; memory_entries.svg, the memory of judyd, redis and libjudy, from bench/memory.json; restart.svg,
+what a start with a journal does, with the times of docs/SPEED.md.
 
 usage: docs/pictures.py [FOLDER]
 
-The same sources give the same bytes. Each text stands in a light box, or is of a grey that is read on white and on
-dark pages.
+The same sources give the same bytes. Each text has a light box, or a grey that is readable on white and on dark
+pages.
 """
 
 import json
@@ -51,7 +51,7 @@ WAY = [
     ("client", "reads its reply", SAND),
 ]
 
-# What a start with a journal does, in its order: with what, and what becomes of it. It waits for no client before the sockets.
+# What a start with a journal does, in its order: with what, and what becomes of it. It does not wait for clients before the sockets.
 START = [
     ("the table", "is read, and the memory of --reserve is taken", PALE),
     ("the directory", "is taken: no second server; the files of its manifest are there", SAND),
@@ -62,7 +62,7 @@ START = [
     ("the first round", "answers", PALE),
 ]
 
-# What is left of a machine A that is lost, what the operator does with it at a machine B, and which lines are there then.
+# What is left of a lost machine A, what the operator does with it at a machine B, and which lines are there then.
 # docs/OPERATE.md, "Take over by hand", has the same in words.
 LEFT = [
     ("A's disk is left", ("B gets A's table and journal", "the journal's files: user judyd", "start judyd: it plays the journal", "clients or haproxy: B's address"), ("There: all that was synced,", "with --sync round all answered"), GREEN),

@@ -1,9 +1,9 @@
 """The calls of the protocol: whether the tables of the pages and of the client agree with the table of commands,
-and what is written of it.
+and what is generated from it.
 
-usage: python3 tests/calls.py --write     writes the parts that are made of the table (WRITTEN below)
+usage: python3 tests/calls.py --write     writes the parts that are made from the table (WRITTEN below)
 
-tests/pages reports a part that is not as it would be written.
+tests/pages reports a part that differs from what would be written.
 """
 
 import os

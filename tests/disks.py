@@ -11,7 +11,7 @@ ZEROS = bytes(PAGE)
 MANY_ZEROS = (ZEROS,) * 256
 KINDS = ("new", "old", "between", "zeros", "noise", "lines", "stale")
 
-# What a file has: its pages, of which the last may be shorter, and its bytes.
+# What a file has: its pages, the last of which may be shorter, and its bytes.
 Content = namedtuple("Content", "pages size")
 EMPTY = Content((), 0)
 
@@ -48,7 +48,7 @@ def solid(content):
 
 
 def shortened(content, most):
-    """The content with at most so many pages of zeros at its end."""
+    """The content with at most this many pages of zeros at its end."""
     count = len(content.pages)
     while content.pages[max(0, count - len(MANY_ZEROS)) : count] == MANY_ZEROS:
         count -= len(MANY_ZEROS)
@@ -75,7 +75,7 @@ def written(content, at, text):
 
 
 def filled(content, at, count):
-    """The content after a write of so many zeros."""
+    """The content after a write of this many zeros."""
     edge = min(-at % PAGE, count)
     content = written(content, at, bytes(edge))
     whole = (count - edge) // PAGE
@@ -215,8 +215,8 @@ def sizes_of(file, draw):
 
 
 def mixture_of(file, draw, stale, chosen):
-    """A file each of whose pages that were changed has new bytes, old ones, zeros or others. Bytes that are
-    secured, and that no change has touched, stand."""
+    """A file each of whose pages that were changed has new bytes, old ones, zeros or others. Secured bytes
+    that no change has touched stay."""
     how = draw.choice(("front", "one", "any", "any"))
     if how == "front":
         chosen.add("front")
@@ -268,7 +268,7 @@ def page_of(content, number):
 
 
 def left_page(file, number, width, kind, draw, stale):
-    """What a loss leaves of a page, in so many bytes."""
+    """What a loss leaves of a page, in this many bytes."""
     old = page_of(file.secured, number)
     news = [page_of(content, number) for content in file.later]
     stands = min(common(old, new) for new in news)

@@ -73,7 +73,7 @@ def run(table, script, *words):
 
 
 def unlogged(told):
-    """What a server told on standard error, without the lines that tests/loglines checks."""
+    """What a server logged on standard error, without the lines that tests/loglines checks."""
     return LOGGED.sub(b"", told)
 
 
@@ -115,7 +115,7 @@ class Server:
     def start(self):
         """Starts the server and waits until it listens, at most half an hour. The program may have
         to be built first."""
-        # Clients of the tests may be silent for longer than the program has it unless it is told otherwise.
+        # Clients of the tests may be silent for longer than the program's default.
         patient = () if "--login" in self.words else ("--login", "3600")
         words = [program(), "serve", "--config", self.config, "--socket", self.path, *patient, *self.words]
         for word, folder in zip(self.words, self.words[1:]):
@@ -162,7 +162,7 @@ class Server:
         self._tell()
 
     def _tell(self):
-        """Prints what the server told on standard error, without the lines that tell nothing wrong."""
+        """Prints what the server logged on standard error, without the lines that report nothing wrong."""
         if self.said is not None:
             self.said.seek(0)
             sys.stderr.buffer.write(unlogged(self.said.read()))

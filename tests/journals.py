@@ -90,7 +90,7 @@ def mark(count, checksum):
 
 
 def note(number, place, sure):
-    """The note at a byte of a segment: so many bytes of the segment are synced for sure."""
+    """The note at a byte of a segment: this many bytes of the segment are certainly synced."""
     return b"@ %d %s" % (sure, sum_of("%0*x" % (SUM, number), b"%d %d" % (place, sure)).encode())
 
 
@@ -179,8 +179,8 @@ def write(folder, segments, first=1, checksum=ZEROS):
 
 
 def nearly_full(folder, tenant=b"alice", limit=SEGMENT):
-    """Writes a segment of nearly so many bytes, so that a few lines fill it: the same commit of a tenant again and
-    again. Returns how many bytes it has, and the checksum after it."""
+    """Writes a segment of nearly this many bytes, so that a few lines fill it: the same commit of a tenant again
+    and again. Returns how many bytes it has, and the checksum after it."""
     text, checksum = b"".join(b"%s %s %d\n" % (tenant, LONG, n) for n in range(8)), ZEROS
     parts, own = [b"judyd journal 1 1 %s\n" % checksum.encode()], int(sum_of("", text), 16)
     factor = pow(FACTOR, len(text), 2**64)

@@ -346,7 +346,7 @@ def index(found):
 
 class Operation(NamedTuple):
     """An operation: its step; its fields after the name, k for a key of the kind and w for a word; those that
-    may follow, but for a set; and what it does to the entries."""
+    may follow, except for a set; and what it does to the entries."""
 
     step: Callable
     must: str
@@ -463,8 +463,8 @@ class Connection:
             return b"FULL"
 
     def replies(self, stream):
-        """The replies to a stream of bytes. A rest without an LF gets no reply, and neither does
-        anything after QUIT."""
+        """The replies to a stream of bytes. A rest without an LF gets no reply, nor does anything
+        after QUIT."""
         written = []
         for line in stream.split(b"\n")[:-1]:
             if not self.is_open:

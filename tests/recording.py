@@ -9,7 +9,7 @@ from shim import compiled
 
 # What was asked. Numbers name a file or a socket.
 #   C name: made         W bytes, at: written   F at: cut to this size    S: synced     D: the directory synced
-#   Z count, at: so many zeros written, in one or several calls
+#   Z count, at: this many zeros written, in one or several calls
 #   R names: renamed     U name: removed        I bytes: received         O bytes: sent
 Event = namedtuple("Event", "kind number at text")
 

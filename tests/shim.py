@@ -1,6 +1,6 @@
-"""Counts a process's requests for memory, refuses one of them, and tells so by a byte: by a library that
-is loaded before the C library, or by an object that a program is linked with. It needs a C compiler: cc,
-or the one of the kit."""
+"""Counts a process's requests for memory, refuses one of them, and signals that with a byte: with a
+library that is loaded before the C library, or an object that a program is linked with. It needs a C
+compiler: cc, or the one of the kit."""
 
 import os
 import shutil
@@ -51,7 +51,7 @@ int posix_memalign(void **at, unsigned long to, unsigned long size) { return (*a
 
 # Replaces the kit's functions, by which a program asks for memory. One that is compiled with checks has
 # its own `malloc`, so that no library comes before it. A request of OFF bytes turns refusals off, and one
-# of ON bytes turns them on, counted anew: so a test says which of its requests are refused.
+# of ON bytes turns them on, counted again: so a test says which of its requests are refused.
 HEAP = (
     COUNT
     + r"""

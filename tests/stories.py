@@ -1,5 +1,5 @@
-"""What the clients of a recorded run asked and were told, beside its disk: which records there are, in which
-order, what arrays they make, and which of them must be there at each moment."""
+"""What the clients of a recorded run asked and were answered, beside its disk: which records there are, in
+which order, what arrays they make, and which of them must be there at each moment."""
 
 import functools
 import sys
@@ -100,7 +100,7 @@ class Story:
         self.last = arrays
 
     def arrays_after(self, count):
-        """The arrays after so many records."""
+        """The arrays after this many records."""
         arrays = Arrays(self.arrays)
         for record in self.records[:count]:
             arrays.play(record)
@@ -108,8 +108,8 @@ class Story:
 
     @functools.cached_property
     def answered(self):
-        """How many records must be there after each event: those of all lines that were answered, and those of
-        which an answer told."""
+        """How many records must be there after each event: those of all lines that were answered, and those
+        that an answer showed."""
         asked, tenants, must, found = {}, {}, 0, []
         for event in self.events:
             if event.kind == "I":
@@ -166,7 +166,7 @@ class Story:
         return found
 
     def left_out(self):
-        """The places of the syncs of each kind, by a name, but for those of files that were cut."""
+        """The places of the syncs of each kind, by a name, except those of files that were cut."""
         made = {event.number for event in self.events if event.kind == "C"}
         named = {event.number: at for at, event in enumerate(self.events) if event.kind == "R"}
         kinds, changes, before = {}, [], {}
@@ -180,7 +180,7 @@ class Story:
             if event.kind == "S" and at < named.get(number, -1):
                 kinds.setdefault("of a file before it is renamed", set()).add(at)
             elif event.kind == "S":
-                # A compaction makes the file of a segment at once. Without its first line it is begun anew.
+                # A compaction makes the file of a segment at once. Without its first line it is begun again.
                 if number not in made or number in named:
                     kinds.setdefault("of what was appended", set()).add(at)
             if event.kind == "D":

@@ -322,7 +322,7 @@ class Beside:
         return os.waitstatus_to_exitcode(status)
 
     def kill(self):
-        """Kills it, if it has not ended."""
+        """Kills it, if it still runs."""
         if self.pid is not None:
             os.kill(self.pid, signal.SIGKILL)
             self.wait()

@@ -4,7 +4,7 @@
 
     with Client("/run/judyd/socket").auth("alice", "abc") as client:
         ids = client.judy1("ids")           # a set of words
-        ids.add(5)                          # or ids.set(5), the manual's name, which tells whether 5 was new
+        ids.add(5)                          # or ids.set(5), the manual's name, which returns whether 5 was new
         5 in ids, len(ids), list(ids)       # True, 1, [5]
         ids.first_empty(0)                  # 0: the least id that is free
         ids.ranks[:10]                      # the ten least ids
@@ -22,10 +22,11 @@
 A call of the manual (Judy1Set, JudyLFirstEmpty, ..) is a method in lower case (`set`,
 `first_empty`). A word is an int from 0 to MAX. A key is bytes, bytearray or memoryview, or a str if
 the array has an encoding. A refusal of the server raises `Full`, `NoMemory`, `ReadOnly`, `Frozen`,
-`JournalFull`, `NotAuthorized`, `TooManyClients`, `Syntax` or `Long`, all of them `Refused`; then nothing has changed. A
-refusal that this client does not know is a `Refused` too. `NoServer` says that no server listens. A connection that is lost raises `ConnectionLost`, which says whether the
-call may have run. With `reconnect=True` a client repeats lost calls that change nothing. A walk or an
-`update` that meets a server that was started anew raises `Restarted`. All of these are a `JudyError`.
+`JournalFull`, `NotAuthorized`, `TooManyClients`, `Syntax` or `Long`, all of them `Refused`; then
+nothing has changed. A refusal that this client does not know is a plain `Refused`. `NoServer` means
+that no server listens. A lost connection raises `ConnectionLost`, which says whether the call may
+have run. With `reconnect=True` a client repeats lost calls that change nothing. A walk or an
+`update` that meets a restarted server raises `Restarted`. All of these are a `JudyError`.
 
 Threads may share a client, and a `Pool` gives each a connection of its own. A child process makes a
 connection of its own after a fork. `judyd.aio` has a client for asyncio. A client waits at most 30

@@ -14,19 +14,19 @@
         sum(answer.result() for answer in late)
 
 Many tasks may share a client, and `Pool` gives each a client of its own. Their lines go over one
-connection, each at once, in the order in which the calls are made; no task waits for the reply to
-another. At most 10,000 lines wait for their replies, and further calls wait to be sent. Each task
-gets its own reply. A call is a coroutine: `asyncio.create_task(ids.set(5))`. A task that is cancelled
-may have made its call; its reply is dropped, and no other task gets it. A cancelled opening closes
-its socket. A cancelled `auth` closes the connection, so that no call goes to an unknown tenant: the
-log-in is the one before, on the next connection.
+connection, each at once, in the order of the calls; no task waits for the reply to another. At most
+10,000 lines wait for their replies, and further calls wait to be sent. Each task gets its own reply.
+A call is a coroutine: `asyncio.create_task(ids.set(5))`. A cancelled task may have made its call; its
+reply is dropped, and no other task gets it. A cancelled opening closes its socket. A cancelled `auth`
+closes the connection, so that no call goes to an unknown tenant: the log-in is the one before, on the
+next connection.
 
 If the oldest line has waited for `timeout` seconds and no byte has come meanwhile, every waiting call
-raises `TimedOut`. What is sent later gives it no more time. If the connection is lost, every waiting
-call raises `ConnectionLost`, and so does each later call. With `reconnect=True` the next call makes a
-connection and logs in again, and waits up to `timeout` seconds for a server that starts again; lost
-calls that change nothing are repeated, and with `retry=IDEMPOTENT` also an `update` and others whose
-result nobody looks at (`help(judyd.Retry)`). A walk that meets a server that was started anew raises
+raises `TimedOut`. Lines that are sent later do not extend this time. If the connection is lost, every
+waiting call raises `ConnectionLost`, and so does each later call. With `reconnect=True` the next call
+makes a connection and logs in again, and waits up to `timeout` seconds for a server that starts
+again; lost calls that change nothing are repeated, and with `retry=IDEMPOTENT` also an `update` and
+others whose result is not used (`help(judyd.Retry)`). A walk that meets a restarted server raises
 `Restarted`.
 """
 

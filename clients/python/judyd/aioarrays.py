@@ -50,9 +50,8 @@ class Many:
         is_quiet: bool = False, is_ahead: bool = True,
     ) -> AsyncIterator[Tuple[List[T], bytes]]:  # fmt: skip
         """These things in windows, each with the replies to its calls. A refusal is raised after the
-        window that has it. A window is made ahead unless the caller has a part in what comes between two
-        of them. `lines_of` makes the lines of a window at once. Where it gives none, `call`
-        makes the call of each thing."""
+        window that has it. A window is made ahead unless the caller acts between two windows. `lines_of`
+        makes the lines of a window at once. If it makes none, `call` makes the call of each thing."""
         same = SameServer(self._asker._server)
         for window, lines in Ahead(things, lines_of, is_ahead):
             if lines is None:

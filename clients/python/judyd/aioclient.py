@@ -59,9 +59,9 @@ class Client(Bound):
         await self.close()
 
     async def auth(self, name: str, token: str) -> "Client":
-        """Logs in, and returns the client. Raises NotAuthorized if the tenant is unknown or the
-        token is wrong. Then nobody is logged in. If it is cancelled, the connection is closed, so that
-        no call goes to an unknown tenant; the next connection has the log-in before."""
+        """Logs in, and returns the client. Raises NotAuthorized if the tenant is unknown or the token
+        is wrong. Then nobody is logged in. If it is cancelled, the connection is closed, so that no
+        call goes to an unknown tenant; the next connection has the previous log-in."""
         (reply,) = await self._exchange_log_ins([b"AUTH %s %s" % (name_field(name), token_field(token))])
         checked(reply)
         return self
@@ -118,7 +118,7 @@ class Client(Bound):
 
     def pipeline(self, window: Optional[int] = 1000, raises: bool = True, is_quiet: bool = False) -> "Pipeline":
         """A `Pipeline` of calls, with up to `window` in flight at once; with None all of them. It is
-        quiet if nobody looks at the results: then a client with `retry=IDEMPOTENT` repeats those that
+        quiet if its results are not used: then a client with `retry=IDEMPOTENT` repeats those that
         store or remove."""
         return Pipeline(self, window, raises, is_quiet)
 
@@ -167,11 +167,11 @@ class Client(Bound):
         exchange.raise_lost()
 
     def _server(self) -> object:
-        """What tells the server of the connection from another."""
+        """What identifies the server of the connection."""
         return None if self._link is None else self._link.server
 
     async def _opened(self, at: int) -> Link:
-        """The connection. If there is none and there may be a new one, it is made, with the same
+        """The connection. If there is none and a new one is allowed, it is made, with the same
         log-in."""
         if self._process != os.getpid():
             raise JudyError("this client belongs to the parent process: make one in the child")
@@ -203,8 +203,7 @@ class Client(Bound):
             raise
 
     async def _made(self, at: int) -> Link:
-        """A new connection. When another was lost, a server that is started anew has the time of one
-        wait for that."""
+        """A new connection. After a lost one, a server that restarts has the time of one wait."""
         await asyncio.sleep(0.05 * max(at - 1, 0))
         loop, is_first = asyncio.get_running_loop(), self._link is None
         until = None if self._timeout is None else loop.time() + self._timeout
@@ -221,9 +220,9 @@ class Pipeline(LateArrays):
     """Calls, with many in flight at once: `async with client.pipeline() as pipe:`.
 
     Its calls are not awaited: each returns a `Later` at once. `await pipe.flush()` and the end of the
-    block send them, in their order, in windows of `window` calls, or with `window=None` at once. In all
-    else it is as the pipeline of `judyd.Client`: a refused call stops no other, and the end of the block
-    raises the first refusal, unless `raises=False`.
+    block send them, in their order, in windows of `window` calls, or with `window=None` at once.
+    Otherwise it is like the pipeline of `judyd.Client`: a refused call does not stop the others, and the
+    end of the block raises the first refusal, unless `raises=False`.
     """
 
     _catalogue = None

@@ -14,7 +14,7 @@ from .lines import Lines, cut, joined
 from .many import windows
 
 MOST_LINES = 10000
-"""How many lines of a connection wait for their replies at most. Further calls wait until they are sent."""
+"""The most lines of a connection that wait for their replies. Further calls wait to be sent."""
 
 
 class Window:
@@ -104,7 +104,7 @@ class Link(asyncio.Protocol):
         return b"".join(replies)
 
     async def _place(self, count: int) -> None:
-        """Waits until so many more lines may wait for replies."""
+        """Waits until this many more lines may wait for replies."""
         if not self.is_open:
             raise lost(EOFError("it ended at once"), False, self._timeout)
         if not self._turns and self._lines + count <= MOST_LINES:
@@ -123,7 +123,7 @@ class Link(asyncio.Protocol):
             raise
 
     def _leave(self, count: int) -> None:
-        """So many lines wait no longer. Those whose turn it is get their place."""
+        """This many lines no longer wait. The next ones get their places."""
         self._lines -= count
         while self._turns and self._lines + self._turns[0][1] <= MOST_LINES:
             turn, more = self._turns.popleft()
@@ -162,8 +162,8 @@ class Link(asyncio.Protocol):
             self._timer = self._loop.call_later(self._timeout, self._check_time, self._timeout)
 
     def _check_time(self, timeout: float) -> None:
-        """Gives up if the oldest line has waited for so long, and no byte has come meanwhile. What is sent
-        later gives it no more time."""
+        """Gives up if the oldest line has waited too long, and no byte has come meanwhile. Lines that are
+        sent later do not extend this time."""
         self._timer = None
         if not self._waiting:
             return

@@ -16,10 +16,10 @@ class Pool(AnyPool[Client]):
             async with pool.client() as client:
                 await client.judy1("ids").set(5)
 
-    Tasks may share one client, so a pool is for those that hold the speaker or fill the connection.
-    A block has its client alone. If all are in use, `client()` waits up to `wait` seconds for one, in
-    its turn, and then raises `PoolEmpty`; with None it waits as long as it takes. A connection that was
-    lost is not given out again. It is for one event loop.
+    Tasks may share one client, so a pool is for those that hold the speaker or fill the connection. A
+    block has its client to itself. If all are in use, `client()` waits up to `wait` seconds for one, in
+    its turn, and then raises `PoolEmpty`; with None it waits without a limit. A lost connection is not
+    given out again. It is for one event loop.
     """
 
     _client_type = Client

@@ -1,4 +1,4 @@
-"""`judy backup`: a dump of each tenant of a list. Each is whole and on the disk, or as it was before.
+"""`judy backup`: a dump of each tenant of a list. Each is whole and on the disk, or as before.
 
     # tenant  token  arrays
     alice     look   J1:ids JL:hits JHS:keys=/etc/judyd/keys
@@ -95,7 +95,7 @@ def alone(folder: str) -> Iterator[None]:
 
 
 def dump_of(server: Server, row: Row, path: str) -> str:
-    """Dumps a tenant, and tells how many of its entries that are."""
+    """Dumps a tenant, and returns a line with how many of its entries the dump has."""
     names = row.arrays
     if not names:
         with server.client(row.tenant, row.token) as client:
@@ -111,8 +111,8 @@ def dump_of(server: Server, row: Row, path: str) -> str:
 
 
 def backup(server: Server, path: str, folder: str) -> int:
-    """Dumps each tenant of a list into a folder, and returns the status. A fault of one does not keep the
-    others from being dumped."""
+    """Dumps each tenant of a list into a folder, and returns the status. If one fails, the others are
+    dumped all the same."""
     rows, faults = rows_in(path)
     failed, told = [], []
     for fault in faults:

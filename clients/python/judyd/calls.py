@@ -1,9 +1,9 @@
 """The calls of the four kinds of array, by the manual's names in lower case.
 
-Who is asked decides what a call returns: a client gives the result itself, a pipeline a `Later` of
-it, and an asyncio client an awaitable of it. So the result types are parameters: `Yes` stands for a
-bool, `Number` for an int, `Found` for an int or None, and `Item` for a pair of key and value or
-None. `K` is the type of keys: int, bytes, or str.
+What a call returns depends on who is asked: a client returns the result itself, a pipeline a
+`Later` of it, and an asyncio client an awaitable of it. So the result types are parameters: `Yes`
+stands for a bool, `Number` for an int, `Found` for an int or None, and `Item` for a pair of key and
+value or None. `K` is the type of keys: int, bytes, or str.
 """
 
 # mypy: no-warn-return-any
@@ -44,12 +44,12 @@ def is_query(line: bytes) -> bool:
 
 def is_same_twice(line: bytes) -> bool:
     """Whether a line that runs twice in a row leaves the arrays as it leaves them once. The second
-    reply may be another."""
+    reply may differ."""
     return is_query(line) or _CHANGE.match(line) is not None
 
 
 def given(value: Optional[int]) -> int:
-    """A value to store. `None` is no value."""
+    """A value to store. `None` is not a value."""
     if value is None:
         raise TypeError("a value is a word, and not None")
     return value
@@ -73,16 +73,16 @@ class Calls(Bound, Generic[Number]):
         return b" ".join((self._prefix + letters, self._field, *fields))
 
     def _formed(self, keys: Sequence[Any]) -> Optional[Sequence[Any]]:
-        """Many keys, as `_form` takes them; None if one of them needs a look of its own."""
+        """Many keys, as `_form` takes them; None if one of them must be checked by itself."""
         return plain_words(keys)
 
     def _lines(self, letters: bytes, keys: Sequence[Any]) -> Optional[Lines]:
-        """The lines of a call for many keys, made at once; None if a key needs a look of its own."""
+        """The lines of a call for many keys, made at once; None if a key must be checked by itself."""
         formed = self._formed(keys)
         return None if formed is None else FormedLines(self._line(letters, self._form), formed, len(keys))
 
     def _ask(self, letters: bytes, read: Callable[[bytes], object], *fields: bytes, is_quiet: bool = False) -> Any:
-        """The result of a call. It is quiet if nobody looks at the result."""
+        """The result of a call. It is quiet if its result is not used."""
         return self._asker._ask(self._line(letters, *fields), read, is_quiet)
 
     def _put(self, letters: bytes, read: Callable[[bytes], object], *fields: bytes, is_quiet: bool = False) -> Any:
@@ -185,11 +185,11 @@ class MapCalls(Calls[Number], Generic[K, Yes, Number, Found]):
         return self._add(key, n)
 
     def _insert_lines(self, entries: Sequence[Any]) -> Optional[Lines]:
-        """The lines that store many entries, made at once; None if an entry needs a look of its own."""
+        """The lines that store many entries, made at once; None if an entry must be checked by itself."""
         return self._pair_lines(b"I", plain_words, entries)
 
     def _add_lines(self, steps: Sequence[Any]) -> Optional[Lines]:
-        """The lines that add to many keys, made at once; None if a pair needs a look of its own."""
+        """The lines that add to many keys, made at once; None if a pair must be checked by itself."""
         return self._pair_lines(b"A", plain_steps, steps)
 
     def _pair_lines(self, letters: bytes, plain: Plain, pairs: Sequence[Any]) -> Optional[Lines]:
@@ -200,7 +200,7 @@ class MapCalls(Calls[Number], Generic[K, Yes, Number, Found]):
         return None if fields is None else FormedLines(self._line(letters, self._form, b"%d"), fields, len(pairs))
 
     def _pair_fields(self, fields: List[Any], plain: Plain) -> Optional[Sequence[Any]]:
-        """Keys and numbers in turns, as lines have them; None if one of them needs a look of its own."""
+        """Keys and numbers in turns, as lines have them; None if one of them must be checked by itself."""
         keys, numbers = self._formed(fields[::2]), plain(fields[1::2])
         if keys is None or numbers is None:
             return None
@@ -284,7 +284,7 @@ class KeyCalls(MapCalls[K, Yes, Number, Found], Generic[K, Yes, Number, Found]):
         return bytes_of(key, self.encoding)
 
     def _plain_many(self, keys: Sequence[Any]) -> Optional[List[bytes]]:
-        """The bytes of many keys; None if one of them needs a look of its own."""
+        """The bytes of many keys; None if one of them must be checked by itself."""
         return plain_keys(keys, self.encoding)
 
     def _formed(self, keys: Sequence[Any]) -> Optional[List[Any]]:

@@ -6,10 +6,11 @@ A string has no byte 0, so a byte 0 of the key is written as the bytes 1 1, and 
 a key has room for fewer than 1,000 bytes there, and a longer one raises ValueError. Each entry has
 the value 1, and counts towards the tenant's quota like any other.
 
-A key is inserted into the catalogue before the array, and removed after it, so the catalogue has
-each key of the array. It may have more, if a connection ended in the middle or a call of a pipeline
-was refused; a reader of the catalogue checks each key in the array. A client without the option,
-and lines that are sent as they are, do not keep the catalogue.
+A key is inserted into the catalogue before the array, and removed after it, so the catalogue has each
+key of the array. It may have more, if a connection ended in the middle or a call of a pipeline was
+refused; a reader of the catalogue checks each key in the array. If two clients insert and remove the
+same key at the same moment, the catalogue may lose it. A client without the option, and lines that are
+sent as they are, do not update the catalogue.
 """
 
 from contextlib import contextmanager

@@ -79,7 +79,7 @@ class Arrays(Bound):
 
     def pipeline(self, window: Optional[int] = 1000, raises: bool = True, is_quiet: bool = False) -> Pipeline:
         """A `Pipeline` of calls, with up to `window` in flight at once; with None all of them. It is
-        quiet if nobody looks at the results: then a client with `retry=IDEMPOTENT` repeats those that
+        quiet if its results are not used: then a client with `retry=IDEMPOTENT` repeats those that
         store or remove."""
         return Pipeline(self, window, raises, is_quiet)
 
@@ -99,7 +99,7 @@ class Arrays(Bound):
         raise NotImplementedError
 
     def _server(self) -> object:
-        """What tells the server of the latest exchange from another."""
+        """What identifies the server of the latest exchange."""
         raise NotImplementedError
 
     def _pause(self) -> None:
@@ -115,17 +115,17 @@ class Client(Arrays):
     over the connection. After a fork the child process makes a connection of its own at its next
     call, with the same log-in.
 
-    `timeout` is how many seconds the client waits while no byte goes either way, by default 30;
-    then it raises `TimedOut`. With None it waits as long as it takes. A server that serves as many
-    clients as it may lets the others wait.
+    `timeout` is how many seconds the client waits while no byte goes either way, by default 30; then
+    it raises `TimedOut`. With None it waits without a limit. A server that serves `--clients` clients
+    lets the others wait.
 
-    With `reconnect=True` the client connects and logs in anew when the connection was lost, and
-    waits up to `timeout` seconds for a server that starts again. It repeats a lost call if none of
-    it was sent, or if the call changes nothing. All other calls raise `ConnectionLost`, whose
-    `may_have_run` is true: it is not known whether they have run. `retry=IDEMPOTENT` repeats more,
-    which is safe only where no other client writes: see `help(judyd.Retry)`. After a restart of the
-    server the arrays are empty. So what takes several windows, as a walk, an `update` or a pipeline,
-    raises `Restarted` if it met two servers, and is begun again by its caller.
+    With `reconnect=True` the client connects and logs in again when the connection was lost, and waits
+    up to `timeout` seconds for a server that starts again. It repeats a lost call if none of it was
+    sent, or if the call changes nothing. All other calls raise `ConnectionLost`, whose `may_have_run`
+    is true: it is not known whether they have run. `retry=IDEMPOTENT` repeats more, which is safe only
+    where no other client writes: see `help(judyd.Retry)`. After a restart of the server the arrays are
+    empty. So a job of several windows, as a walk, an `update` or a pipeline, raises `Restarted` if it
+    met two servers, and its caller begins it again.
 
     With `catalogue=True` the client keeps the names of the arrays that it writes to, and the keys of
     the JudyHS arrays, in two arrays of the tenant: see `help(judyd.catalogue)`.

@@ -331,7 +331,7 @@ def read_options(words: List[str]) -> argparse.Namespace:
 
 
 def unknown(word: str) -> str:
-    """What is wrong with a word that is no command, no call and no file."""
+    """What is wrong with a word that is not a command, a call or a file."""
     close = get_close_matches(word, SUBCOMMANDS, 1)
     return "no such command: %s; is it %s?" % (word, close[0]) if close else help_of(word)
 

@@ -1,7 +1,7 @@
-"""`judy compact`: runs `judyd compact`, once a journal has grown by so much since its last snapshot.
+"""`judy compact`: runs `judyd compact`, once a journal has grown enough since its last snapshot.
 
-A server goes on meanwhile: `judyd compact` leaves it the last segment. So what counts here are the bytes of
-the closed segments, which are all others that the snapshot does not stand for.
+A server may run meanwhile: `judyd compact` leaves it the last segment. So only the bytes of the closed
+segments count here, those that the snapshot does not cover.
 """
 
 import os
@@ -21,7 +21,7 @@ _FACTORS = {"": 1, "K": 1 << 10, "M": 1 << 20, "G": 1 << 30, "T": 1 << 40}
 
 
 class Sizes(NamedTuple):
-    """The last segment that a journal's snapshot stands for, or 0, the bytes of the snapshot, and how many
+    """The last segment that a journal's snapshot covers, or 0, the bytes of the snapshot, and how many
     closed segments come after it, with how many bytes."""
 
     covered: int
@@ -42,13 +42,13 @@ class Growth(NamedTuple):
     is_percent: bool
 
     def is_reached(self, sizes: Sizes) -> bool:
-        """Whether closed segments have so much. Without any there is nothing to compact."""
+        """Whether closed segments have that much. Without any there is nothing to compact."""
         most = sizes.snapshot * self.number if self.is_percent else self.number * 100
         return sizes.segments > 0 and sizes.closed * 100 >= most
 
 
 def growth(text: str) -> Growth:
-    """The growth that a word says, as 100% or 1G. Raises ValueError if it says none."""
+    """The growth that a word spells, as 100% or 1G. Raises ValueError if it spells none."""
     found = _GROWTH.fullmatch(text)
     if not found:
         raise ValueError("a growth is a number with %, K, M, G or T, as 100% or 1G, or a number of bytes")
@@ -69,8 +69,8 @@ def sizes_in(folder: str) -> Sizes:
 
 
 def files_read(folder: str, covered: int) -> List[str]:
-    """The files that a compaction reads: the snapshot, the segments after it but the last, and that one too if no
-    server writes it. Behind the end of one that is written are zeros."""
+    """The files that a compaction reads: the snapshot, the segments after it except the last, and also that one
+    if no server writes it. Behind the end of one that is written are zeros."""
     numbers = sorted(int(name[:12]) for name in os.listdir(folder) if re.fullmatch(r"[0-9]{12}\.journal", name))
     paths = [os.path.join(folder, "%012d.journal" % number) for number in numbers if number > covered]
     if covered:
@@ -89,8 +89,8 @@ def last_byte(path: str) -> bytes:
 
 
 def most_of(path: str) -> int:
-    """The most bytes that what a file has can take in a snapshot. A line there may be longer by a value, which is 0
-    if a line names none, and by 18 bytes for each -1, which stands for the greatest word."""
+    """The most bytes that the contents of a file can take in a snapshot. A line there may be longer by a value,
+    which is 0 if a line names none, and by 18 bytes for each -1, which stands for the greatest word."""
     most = 0
     with suppress(FileNotFoundError), open(path, "rb", buffering=0) as file:
         for piece in iter(lambda: file.read(PIECE), b""):
@@ -104,7 +104,7 @@ def most_room(folder: str, sizes: Sizes) -> int:
 
 
 def lacks_room(folder: str, sizes: Sizes) -> bool:
-    """Whether there may be too little room for a compaction. It is told."""
+    """Whether there may be too little room for a compaction. If so, a line reports it."""
     found = os.statvfs(folder)
     most, free = most_room(folder, sizes), found.f_bavail * found.f_frsize
     if most <= free:
@@ -114,7 +114,7 @@ def lacks_room(folder: str, sizes: Sizes) -> bool:
 
 
 def compact(folder: str, least: Optional[Growth]) -> int:
-    """Compacts a journal, if it has grown by so much, and says in one line what was done. Returns the status."""
+    """Compacts a journal, if it has grown enough, and reports in one line what was done. Returns the status."""
     before = sizes_in(folder)
     if least is not None and not least.is_reached(before):
         print("%s: nothing done below %s: %s" % (folder, least.text, before))

@@ -56,7 +56,7 @@ class Connection:
         return self._sock is not None and not select.select([self._sock], [], [], 0)[0]
 
     def exchange(self, lines: Lines) -> bytes:
-        """Sends lines and reads as many replies. Where the buffers take all lines at once, it then
+        """Sends lines and reads as many replies. If the buffers take all lines at once, it then
         only reads. Otherwise it reads while it writes, so neither side ever waits for the other to
         read, however many lines there are. If the connection is lost, the exception has the replies
         that came."""
@@ -79,7 +79,7 @@ class Connection:
             raise
 
     def _replies(self, count: int) -> bytes:
-        """So many replies of those that came. What came after them is held."""
+        """This many of the replies that came. Later ones are kept."""
         data = b"".join(self._pieces)
         self._pieces = []
         if not data.endswith(b"\n") or data.count(b"\n") > count:
@@ -172,15 +172,15 @@ class Connection:
 
 
 def ready_of(sock: socket.socket, events: int) -> Ready:
-    """A function that waits for one of these events of a socket, for so many milliseconds at most, and tells
-    whether one came."""
+    """A function that waits for one of these events of a socket, for at most so many milliseconds, and
+    returns whether one came."""
     ready = select.poll()
     ready.register(sock, events)
     return ready.poll
 
 
 def server_of(sock: socket.socket) -> Optional[int]:
-    """The number of the server's process; None where the system does not tell it, as over TCP."""
+    """The number of the server's process; None if the system does not report it, as over TCP."""
     if sock.family == socket.AF_UNIX and hasattr(socket, "SO_PEERCRED"):
         number, _, _ = struct.unpack("3i", sock.getsockopt(socket.SOL_SOCKET, socket.SO_PEERCRED, 12))
         return number or None
@@ -188,8 +188,8 @@ def server_of(sock: socket.socket) -> Optional[int]:
 
 
 class SameServer:
-    """Checks that one server does a job of several windows. `server` tells which one did the latest
-    window."""
+    """Checks that one server does a job of several windows. `server` returns which one did the
+    latest window."""
 
     def __init__(self, server: Callable[[], object]) -> None:
         self._server = server
@@ -217,7 +217,7 @@ def checked_address(address: Address) -> Address:
 
 
 def checked_timeout(timeout: Optional[float]) -> Optional[float]:
-    """How many seconds a client waits; None is for ever."""
+    """How many seconds a client waits; None is forever."""
     if timeout is None:
         return None
     if not isinstance(timeout, (int, float)):

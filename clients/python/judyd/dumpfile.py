@@ -5,10 +5,10 @@
     JLI hits 20261125 3
     # end 2 sha256 5f0c..
 
-The first line has the version of the format, the date, and the kind and name of each array. Then
-comes a line for each entry: the request that inserts it. The last line has the number of entries and
-the SHA-256 of all bytes before that line. Nothing follows it. So a dump that is torn, cut, changed or
-joined to another one is recognized.
+The first line has the version of the format, the date, and the kind and name of each array. Each
+entry has a line: the request that inserts it. The last line has the number of entries and the SHA-256
+of all bytes before that line. Nothing follows it. So a dump that is torn, cut, changed or joined to
+another one is detected.
 """
 
 import hashlib
@@ -36,7 +36,7 @@ Write = Callable[[bytes], None]
 
 
 class NoDump(ValueError):
-    """A file is no whole dump. The text names the file and the line."""
+    """A file is not a whole dump. The text names the file and the line."""
 
 
 def first_line(arrays: Iterable[object]) -> bytes:
@@ -198,11 +198,10 @@ def write_all(file: int, data: bytes) -> None:
 
 @contextmanager
 def replaced(path: str, before: Optional[str] = None) -> Iterator[int]:
-    """A new file beside a path, open for writing. When the block ends it is synced and takes the
-    place of the path; if the block raises an exception it is removed, and the path stays as it was. A
-    path that is new gets a file that only this user may read; if root makes it, it is the folder's owner's. With
-    `before` the file that was there goes to that path. At each moment both paths that had a file have a whole
-    one."""
+    """A new file beside a path, open for writing. When the block ends it is synced and takes the place of the
+    path; if the block raises an exception it is removed, and the path stays as it was. A new path gets a file
+    that only this user may read; if root makes it, it belongs to the folder's owner. With `before` the old file
+    moves to that path. At each moment both paths that had a file have a whole one."""
     place = os.path.realpath(path)
     old = os.stat(place) if os.path.exists(place) else None
     if old is not None and not stat.S_ISREG(old.st_mode):
@@ -251,7 +250,7 @@ def _own(file: int, old: os.stat_result) -> None:
 
 
 def sync_folder(folder: str) -> None:
-    """Makes a rename in a folder last."""
+    """Makes a rename in a folder durable."""
     file = os.open(folder, os.O_RDONLY | os.O_DIRECTORY)
     try:
         os.fsync(file)

@@ -12,7 +12,7 @@ __all__ = [
 
 
 class JudyError(Exception):
-    """Whatever goes wrong between a client and a server."""
+    """Any fault between a client and a server."""
 
 
 Error = JudyError
@@ -30,9 +30,9 @@ class NoServer(Closed):
 
 class ConnectionLost(Closed):
     """The connection ended before the reply came. If `may_have_run` is false, no call without a
-    reply has run. If it is true, each of them may have run, or not. A server that was started anew
-    has empty arrays; with a journal it has what each call with a reply left, and perhaps what calls
-    without one did."""
+    reply has run. If it is true, each of them may have run, or not. A restarted server has empty
+    arrays; with a journal it has the effect of each call with a reply, and perhaps of calls without
+    one. `replies` has the replies that came to the lost window."""
 
     def __init__(self, text: str, may_have_run: bool = True) -> None:
         super().__init__(text)
@@ -46,8 +46,8 @@ class TimedOut(ConnectionLost):
 
 class Restarted(ConnectionLost):
     """A walk, an `update` or another job of several windows met two servers: the one that it began on
-    ended, and another took its place. Without a journal, what the first one had is lost. The job is not
-    done: begin it again."""
+    ended, and another took its place. Without a journal, the arrays of the first one are lost. The job
+    is not done: begin it again."""
 
     def __init__(self, replies: Sequence[bytes] = ()) -> None:
         super().__init__("the server was started anew in the middle of this job: without a journal its arrays were lost, so begin the job again")
@@ -109,7 +109,7 @@ class NotAuthorized(Refused):
 
 
 class Syntax(Refused):
-    """The line spells no request."""
+    """The line is not a request."""
 
     meaning = "the line spells no request of this server"
 

@@ -29,8 +29,8 @@ class Used(NamedTuple):
 
 
 class Hello(NamedTuple):
-    """What a server says of its protocol: the version, and the most bytes of a line, of a reply, of a name, of a
-    token and of a key."""
+    """What a server reports about its protocol: the version, and the most bytes of a line, of a reply, of a
+    name, of a token and of a key."""
 
     version: int
     line: int
@@ -96,27 +96,27 @@ def is_word(thing: Any) -> bool:
 
 
 def plain_words(things: Sequence[Any]) -> Optional[Sequence[int]]:
-    """Many words, checked at once; None if one of the things is no word."""
+    """Many words, checked at once; None if one of the things is not a word."""
     if not set(map(type, things)) <= {int}:
         return _plain_numbers(things, 0)
     try:
-        array("Q", things)  # which takes words alone
+        array("Q", things)  # which takes only words
     except OverflowError:
         return None
     return things
 
 
 def plain_steps(things: Sequence[Any]) -> Optional[Sequence[int]]:
-    """What many additions add, modulo 2^64, checked at once; None if one of the things is no step."""
+    """What many additions add, modulo 2^64, checked at once; None if one of the things is not a step."""
     steps = _plain_numbers(things, -MAX)
     return steps if steps is None or min(steps, default=0) >= 0 else [step % (MAX + 1) for step in steps]
 
 
 def _plain_numbers(things: Sequence[Any], low: int) -> Optional[List[int]]:
-    """Many ints from `low` to MAX, checked at once; None if one of the things is none."""
+    """Many ints from `low` to MAX, checked at once; None if one of the things is not such an int."""
     try:
         numbers = list(map(operator.index, things))
-    except Exception:  # `_number` raises what there is to say of it
+    except Exception:  # `_number` raises the error
         return None
     return numbers if min(numbers, default=0) >= low and max(numbers, default=0) <= MAX else None
 
@@ -134,7 +134,7 @@ def stop_of(stop: Optional[SupportsIndex], is_back: bool) -> int:
 
 
 def bytes_of(key: object, encoding: Optional[str]) -> bytes:
-    """The bytes of a key. A number or a list of numbers is no key, though `bytes` takes both."""
+    """The bytes of a key. A number or a list of numbers is not a key, although `bytes` takes both."""
     if isinstance(key, str):
         if encoding is None:
             raise TypeError("a key is bytes, unless the array was made with an encoding: %r" % (key,))
@@ -152,7 +152,7 @@ def bytes_of(key: object, encoding: Optional[str]) -> bytes:
 
 def plain_keys(keys: Sequence[Any], encoding: Optional[str]) -> Optional[List[bytes]]:
     """The bytes of many keys, checked at once; None if one of them is neither bytes nor, with an encoding,
-    str, or is no key."""
+    str, or is not a key."""
     if any(kind is not (bytes if encoding is None else str) for kind in set(map(type, keys))):
         return None
     try:
@@ -186,7 +186,7 @@ def plain_lines(lines: Iterable[bytes]) -> List[bytes]:
     return plain
 
 
-# What replies tell. A refusal has been raised before.
+# What replies mean. A refusal has been raised before.
 
 
 def flag(reply: bytes) -> bool:
@@ -231,7 +231,7 @@ def flags_of(replies: bytes) -> Iterable[int]:
 
 
 def numbers_of(replies: bytes) -> List[int]:
-    """The value of each of these replies, none of which is that there is none."""
+    """The value of each of these replies, all of which have one."""
     values = list(values_of(replies))
     if None in values:
         raise JudyError("no such answer: %r" % b"NULL")

@@ -1,4 +1,5 @@
-"""Lines that are sent together, and their replies, as bytes. So many lines cost little more than the bytes."""
+"""Lines that are sent together, and their replies, as bytes. So a large number of lines costs little more than
+the bytes."""
 
 from typing import Any, Callable, Collection, Iterable, List, Optional, Sequence
 
@@ -28,7 +29,7 @@ class Lines:
         return self._data
 
     def told_sent(self) -> None:
-        """Does what is to be done once all lines are sent, while the server works on them."""
+        """What to do once all lines are sent, while the server works on them."""
         if self.meanwhile is not None:
             self.meanwhile()
 
@@ -71,5 +72,5 @@ def joined(lines: Collection[bytes]) -> bytes:
 
 
 def cut(data: bytes) -> List[bytes]:
-    """Each of these lines or replies by itself. What has no LF yet is left out."""
+    """Each of these lines or replies by itself. Bytes without an LF yet are left out."""
     return data.split(b"\n")[:-1]

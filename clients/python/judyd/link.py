@@ -1,4 +1,4 @@
-"""A connection that threads share, that survives a fork, and that may be made anew."""
+"""A connection that threads share, that survives a fork, and that may be made again."""
 
 import os
 import ssl
@@ -16,7 +16,7 @@ from .retry import LOGGER, TRIES, Exchange, tenant_of
 
 class Link:
     """The connection of a client, with its log-in. One thread at a time uses it. With `reconnect` a
-    new connection takes the place of one that was lost."""
+    new connection replaces a lost one."""
 
     def __init__(self, address: Address, timeout: Optional[float], tls: Optional[ssl.SSLContext], reconnect: bool, on_new: Callable[[], None]) -> None:
         checked_address(address)
@@ -51,8 +51,8 @@ class Link:
         return "%s, %s, %s" % (self._place, tenant_of(self.log_in), state)
 
     def server(self) -> object:
-        """What tells the server of the latest connection from another. Where the system does not tell
-        its process, each connection counts as one to another server."""
+        """What identifies the server of the latest connection. If the system does not report its
+        process, each connection counts as one to another server."""
         return self._server
 
     def process(self) -> Optional[int]:
@@ -130,8 +130,7 @@ class Link:
             raise type(e)("the new connection was lost at the log-in; the calls that need it have not run", False) from e
 
     def _made(self, at: int) -> Connection:
-        """A new connection. With `reconnect`, a server that is started anew has the time of one
-        wait for that."""
+        """A new connection. With `reconnect`, a server that restarts has the time of one wait."""
         time.sleep(0.05 * max(at - 1, 0))
         until = None if self._timeout is None else time.monotonic() + self._timeout
         while True:

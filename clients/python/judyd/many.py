@@ -17,7 +17,7 @@ WINDOW = 1000
 """How many lines are in flight at once."""
 
 ABSENT = b"NULL"
-"""What stands for the reply where a thing has no call, since it can't be in the array."""
+"""What stands for the reply if a thing has no call, since it can't be in the array."""
 
 
 def windows(things: Iterable[T], size: int = WINDOW) -> Iterator[List[T]]:
@@ -30,7 +30,7 @@ def windows(things: Iterable[T], size: int = WINDOW) -> Iterator[List[T]]:
 
 
 AT_HAND: Tuple[type, ...] = (list, tuple, range, dict, set, frozenset, type({}.keys()), type({}.items()), type({}.values()))
-"""What has all its things, so that it does not matter when they are taken."""
+"""Types that have all their things, so that it does not matter when these are read."""
 
 
 class Ahead(Generic[T]):
@@ -111,10 +111,10 @@ class Many:
         is_quiet: bool = False, is_ahead: bool = True,
     ) -> Iterator[Tuple[List[T], bytes]]:  # fmt: skip
         """These things in windows, each with the replies to its calls. A refusal is raised after the
-        window that has it. The calls are quiet if nobody looks at their results. A window is made ahead
-        unless the caller has a part in what comes between two of them.
+        window that has it. The calls are quiet if their results are not used. A window is made ahead
+        unless the caller acts between two windows.
 
-        `lines_of` makes the lines of a window at once. Where it gives none, and for a client with a
+        `lines_of` makes the lines of a window at once. If it makes none, and for a client with a
         catalogue, which has lines of its own among them, `call` makes the call of each thing."""
         same = SameServer(self._asker._server)
         for window, lines in Ahead(things, no_lines if self._asker._catalogue is not None else lines_of, is_ahead):

@@ -53,7 +53,7 @@ class Metrics:
 
 
 class Question:
-    """A request line on a socket of the operator, whose answer comes bit by bit."""
+    """A request line on a socket of the operator, whose answer comes in parts."""
 
     def __init__(self, path: str, line: str, seconds: Optional[float], option: str = "status") -> None:
         self._path, self._option = path, option
@@ -152,7 +152,7 @@ def _said(path: str, line: str, seconds: Optional[float]) -> bytes:
 
 
 def _other(path: str, got: bytes) -> Error:
-    """Another answer than one of a control socket."""
+    """An answer that is not one of a control socket."""
     return Error("%s answers %s: it is not the socket of --control" % (path, got[:-1].decode("ascii", "replace")))
 
 
@@ -191,7 +191,7 @@ def freeze(path: str, tenant: str, digest: str, seconds: Optional[float]) -> Non
 
 
 def thaw(path: str, tenant: str, seconds: Optional[float]) -> None:
-    """Tells a server at its control socket that a tenant is not frozen any more."""
+    """Tells a server at its control socket that a tenant is no longer frozen."""
     _check_frozen(path, _said_of(path, tenant, "THAW %s", seconds))
 
 
@@ -203,7 +203,7 @@ def _check_frozen(path: str, got: bytes) -> None:
 
 
 def _identity(path: str) -> Optional[Tuple[int, int, int]]:
-    """What tells a socket from another one on the same path. None if nothing is there."""
+    """What distinguishes a socket from another one on the same path. None if nothing is there."""
     try:
         found = os.lstat(path)
     except OSError:

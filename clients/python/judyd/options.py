@@ -95,7 +95,7 @@ def add_options(parser: argparse.ArgumentParser, is_first: bool) -> None:
 
 
 def add_timeout(parser: argparse.ArgumentParser, default: object) -> None:
-    """The option that tells how long to wait."""
+    """The option for how long to wait."""
     parser.add_argument("--timeout", type=seconds, default=default, metavar="S", help="wait this many seconds while no byte comes (%d); 0 forever" % TIMEOUT)
 
 

@@ -17,11 +17,11 @@ class Pipeline(LateArrays):
 
     Its arrays have the manual's calls, each of which returns a `Later` at once, and `add`, `discard`,
     `m[k] = v`, `update`, `difference_update` and `clear`. The calls are sent together, in their
-    order, at the latest when the block ends. A refused call stops no other. If
-    calls were refused, the end of the block raises the first refusal, unless `raises=False`. If the
-    block raises an exception, the calls that were not sent yet are left out. Calls are sent in
-    windows of `window` calls, or with `window=None` only at the end. The client reads while it
-    writes, so a window may have any length.
+    order, at the latest when the block ends. A refused call does not stop the others. If calls were
+    refused, the end of the block raises the first refusal, unless `raises=False`. If the block raises
+    an exception, the calls that were not sent yet are left out. Calls are sent in windows of `window`
+    calls, or with `window=None` only at the end. The client reads while it writes, so a window may
+    have any length.
 
     No call of another thread comes between the calls of one window. The block itself does not hold
     the connection: a call of the client inside it is made at once, before the calls that wait.

@@ -66,12 +66,12 @@ class Pool(AnyPool[Client]):
         with pool.client() as client:
             client.judy1("ids").add(5)
 
-    A block has its client alone. If all are in use, `client()` waits up to `wait` seconds for one,
-    and then raises `PoolEmpty`; with None it waits as long as it takes. Connections are made when
-    they are needed, and kept. A connection that was lost is not given out again, and a new one takes
-    its place; the exception of the call that lost it reaches its block. After a fork the child's
-    pool makes connections of its own. The server serves at most `--clients` connections at once.
-    `reconnect` and `retry` are those of a `Client`.
+    A block has its client to itself. If all are in use, `client()` waits up to `wait` seconds for
+    one, and then raises `PoolEmpty`; with None it waits without a limit. Connections are made when
+    they are needed, and kept. A lost connection is not given out again, and a new one replaces it;
+    the exception of the call that lost it reaches its block. After a fork the child's pool makes
+    connections of its own. The server serves at most `--clients` connections at once. `reconnect`
+    and `retry` are those of a `Client`.
     """
 
     _client_type = Client

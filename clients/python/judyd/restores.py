@@ -2,7 +2,7 @@
 
 The server freezes the tenant: only a token that is made for this restore may change it. Lines of its other
 clients that may change an array are refused with `ERR FROZEN`; those that only look are answered. At the
-end the tenant is thawed, whatever came between.
+end the tenant is thawed, whatever happened.
 """
 
 import fcntl
@@ -77,8 +77,8 @@ def alone(control: Control) -> Iterator[None]:
 
 @contextmanager
 def frozen(control: Control, tenant: str, token: str) -> Iterator[None]:
-    """Only a token may change a tenant while the block runs. Whatever ends it, the tenant is thawed. If that
-    fails too, a line says so."""
+    """Only one token may change a tenant while the block runs. However the block ends, the tenant is thawed.
+    If that fails too, a line reports it."""
     is_frozen = True
     try:
         try:

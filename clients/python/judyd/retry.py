@@ -9,10 +9,10 @@ from .errors import ConnectionLost, NoServer, Restarted, TimedOut
 from .lines import Lines, joined
 
 LOGGER = logging.getLogger("judyd")
-"""It tells of new connections and of repeated calls, at the level INFO."""
+"""It logs new connections and repeated calls, at the level INFO."""
 
 TRIES = 10
-"""How many connections one exchange uses up at most."""
+"""The most connections that one exchange uses."""
 
 
 class Retry(Enum):
@@ -20,14 +20,15 @@ class Retry(Enum):
 
     `QUERIES`: calls that change nothing. All others raise `ConnectionLost`.
 
-    `IDEMPOTENT`: also calls that store or remove and whose result nobody looks at: `m[k] = v`,
+    `IDEMPOTENT`: also calls that store or remove and whose result is not used: `m[k] = v`,
     `update`, `s.add`, `discard`, `difference_update`, `clear`, and a pipeline with `is_quiet=True`.
 
-    Twice in a row such a call leaves what it leaves once. Beside other writers it may not: what another
-    client does between the two runs is undone by the second. A repeated `discard` takes back an id or a
-    lock that another client has acquired since, and a repeated `m[k] = v` stores an old value over a
-    newer one. A repeated `keep`, `exchange` or `delete_if` of a quiet pipeline does so only if the value
-    that it names has come again meanwhile, and a repeated `take` takes what was stored since. So it is for arrays, or keys, that one client at a time writes to.
+    Run twice in a row, such a call leaves what it leaves once. Beside other writers it may not:
+    what another client does between the two runs is undone by the second. A repeated `discard`
+    takes back an id or a lock that another client has acquired since, and a repeated `m[k] = v`
+    stores an old value over a newer one. A repeated `keep`, `exchange` or `delete_if` of a quiet
+    pipeline does so only if the value that it names has come again meanwhile, and a repeated `take`
+    takes what was stored since. So it is for arrays, or keys, that one client at a time writes to.
     """
 
     QUERIES = "queries"
@@ -58,7 +59,7 @@ def counted(calls: int) -> str:
 
 
 def rule_of(retry: Retry, is_quiet: bool) -> Callable[[bytes], bool]:
-    """Whether a line that may have run may be sent again. It is quiet if nobody looks at its result."""
+    """Whether a line that may have run may be sent again. It is quiet if its result is not used."""
     return is_same_twice if retry is IDEMPOTENT and is_quiet else is_query
 
 
@@ -88,7 +89,7 @@ class Exchange:
         return self._lines.each()[len(self.replies) :]
 
     def raise_no_server(self, why: NoServer) -> NoReturn:
-        """Raises what there is to say if there is no next connection."""
+        """Raises the error for a missing next connection."""
         if self._lost is None or not (self._lost.may_have_run or self.replies):
             raise why
         raise self._lost from why

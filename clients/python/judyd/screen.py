@@ -1,4 +1,4 @@
-"""The terminal of `judy top`: lines that are renewed in place, until a key q or ^C."""
+"""The terminal of `judy top`: lines that are updated in place, until a key q or ^C."""
 
 import os
 import select
@@ -14,7 +14,7 @@ from .metrics import Metrics, Question, status
 from .top import Sample, lines_of
 
 PERIOD = 1.0
-"""After how many seconds the lines are renewed."""
+"""After how many seconds the lines are updated."""
 
 BEGIN, RENEW, END_OF_LINE, REST, END = "\033[?1049h\033[?25l", "\033[H", "\033[K\n", "\033[K\033[J", "\033[?25h\033[?1049l"
 
@@ -30,7 +30,7 @@ def once(path: str, seconds: Optional[float]) -> None:
 
 
 def top(path: str, seconds: Optional[float]) -> None:
-    """Shows what a server does until the user ends it. The terminal is as before at every end."""
+    """Shows what a server does until the user ends it. However it ends, the terminal is as before."""
     if sys.stdout is None or not sys.stdout.isatty():
         raise ValueError("judy top needs a terminal; judy top --once %s prints one table" % path)
     for number in (signal.SIGTERM, signal.SIGHUP):

@@ -25,7 +25,7 @@ def remedy(e: BaseException, path: Optional[str]) -> str:
 
 
 def status(connect: Callable[[], Client], user: Optional[str], where: str) -> str:
-    """What a server tells of itself, and of the tenant that is logged in."""
+    """What a server reports about itself, and about the tenant that is logged in."""
     with connect() as client:
         if user is None:
             client.lines([b"PING"])

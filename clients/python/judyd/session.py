@@ -1,5 +1,5 @@
-"""Sends the lines of `judy` to a server: those of a script over one connection, those of a terminal with
-a connection for each line, so that a user who thinks holds up nobody on a server that serves one client."""
+"""Sends the lines of `judy` to a server: those of a script over one connection, those of a terminal with a
+connection for each line, so that an idle user does not block others on a server that serves one client."""
 
 import os
 import select
@@ -31,8 +31,8 @@ class Session:
         self.log_in = log_in  # the AUTH line, if anyone has logged in
 
     def open(self) -> None:
-        """Connects and logs in, if there is no connection. One that the server ended in silence, as after
-        the seconds of `judyd serve --idle`, gets a successor if that server still runs."""
+        """Connects and logs in, if there is no connection. If the server closed an idle one, as after the
+        seconds of `judyd serve --idle`, and still runs, a new one replaces it."""
         before = self._client
         if before is not None and before._link.is_idle():
             return
@@ -183,5 +183,5 @@ def run_script(session: Session, file: int, printer: Printer, name: str = "") ->
         if lost is not None:
             raise Cut("%sline %d: %s; %d lines were answered" % (prefix, window[len(replies)][0], lost, answered)) from lost
     if not has_begun:
-        session.open()  # the log-in of an empty script is tried all the same
+        session.open()  # also tries the log-in of an empty script
     session.close()

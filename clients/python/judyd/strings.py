@@ -1,6 +1,6 @@
-"""Walks of a JudySL, with many lines in flight at once. A JudySL has no ranks, so the walk guesses
-strings in the middle of what lies ahead and asks for the first string from each guess on. That cuts
-the rest into stretches, and each stretch goes on by Next."""
+"""Walks of a JudySL, with many lines in flight at once. A JudySL does not have ranks, so the walk
+guesses strings in the middle of the rest and asks for the first string from each guess on. That
+cuts the rest into stretches, and each stretch goes on by Next."""
 
 from typing import Any, Callable, Generator, Generic, Iterator, List, Optional, Tuple, TypeVar
 

@@ -1,6 +1,6 @@
-"""The faults of a table of tenants, each with its line, its tenant and what is right, and what is odd in
-a table that judyd takes. judyd alone says what a fault is: `judyd serve --check` is asked about the table,
-about its parts, and about single keys in a table of their own."""
+"""The faults of a table of tenants, each with its line, its tenant and what is right, and what is odd in a
+table that judyd accepts. judyd alone decides what a fault is: `judyd serve --check` is asked about the
+table, about its parts, and about single keys in a table of their own."""
 
 import json
 import os
@@ -12,7 +12,7 @@ import tempfile
 from typing import Dict, Iterator, List, NamedTuple, Optional, Sequence, Tuple
 
 PARTS = 200
-"""Of a faulty table so many parts are tried, to find the lines of its faults."""
+"""The most parts of a faulty table that are tried to find the lines of its faults."""
 
 _MEANS = {
     "Long": "the table has more than 65,536 bytes",
@@ -119,8 +119,8 @@ def _judged(text: str) -> str:
 
 
 def faults_in(data: bytes) -> List[Fault]:
-    """The faults of a table that can be told, in the order of lines. The first fault that judyd has for
-    the whole table is among them. A valid table has none."""
+    """The faults of a table that can be found, in the order of lines. The first fault that judyd has
+    for the whole table is among them. A valid table has none."""
     word = judged(data)
     if not word:
         return []
@@ -145,8 +145,8 @@ def _parts(text: str) -> List[Tuple[int, str]]:
 
 
 def _faults_of_part(first: int, part: str, is_no_toml: bool) -> List[Fault]:
-    """The faults of one part by itself, which so many lines come before, with their lines within it. That it
-    is no TOML is one only if the table is none."""
+    """The faults of one part by itself, with their lines within it; `first` lines come before it. A part
+    that is not TOML is a fault only if the table is not TOML."""
     word = _judged(part)
     if word in ("", "Count") or (word == "Toml" and not is_no_toml):
         return []
@@ -164,8 +164,8 @@ def _faults_of_part(first: int, part: str, is_no_toml: bool) -> List[Fault]:
 
 
 def _no_toml(first: int, part: str, tenant: str) -> Fault:
-    """The fault of a part that is no TOML. It is in the line after the last front of whole lines that is
-    TOML."""
+    """The fault of a part that is not TOML. It is in the line after the last front of whole lines that
+    is TOML."""
     lines = part.splitlines(keepends=True)
     fronts = range(1, min(len(lines), PARTS))
     line = max([count for count in fronts if _judged("".join(lines[:count])) != "Toml"], default=0) + 1
@@ -256,7 +256,7 @@ def _tenants_in(text: str) -> Dict[str, _Tenant]:
 
 def _statements_of(line: int, path: List[str], value: str) -> List[_Statement]:
     """The keys that a statement gives to a tenant: those of an inline table, or the one that it names. One
-    without a name is no table."""
+    without a name is not a table."""
     if path:
         return [_Statement(line, _name(path[0]), ".".join(path), value)]
     if value.startswith("{"):
@@ -265,7 +265,7 @@ def _statements_of(line: int, path: List[str], value: str) -> List[_Statement]:
 
 
 def line_of(text: str, tenant: str) -> int:
-    """The line in which a tenant begins, or 0 if the table has no such tenant."""
+    """The line in which a tenant begins, or 0 if the table does not have the tenant."""
     found = _tenants_in(text).get(tenant)
     return found.line if found else 0
 
@@ -283,8 +283,8 @@ class _Token(NamedTuple):
 
 
 def warnings_in(data: bytes) -> List[Fault]:
-    """What is odd in a table that judyd takes, in the order of lines: fewer pieces than entries, and equal
-    digests."""
+    """What is odd in a table that judyd accepts, in the order of lines: fewer pieces than entries, and
+    equal digests."""
     tenants = _tenants_in(data.decode("utf-8", "surrogateescape"))
     short = [fault for name, tenant in tenants.items() for fault in _short_pieces(name, tenant)]
     return sorted([*short, *_equal_digests(tenants)], key=lambda fault: fault.line)

@@ -54,8 +54,8 @@ def _value(text: str, tenant: str, key: str) -> Optional[str]:
 
 
 def with_digests(text: str, tenant: str, digests: Dict[str, str], keeps: bool) -> str:
-    """The table with the digests of other tokens of a tenant, by their keys. The tokens in their place are its
-    old tokens, if they are kept; else these and the old ones go."""
+    """The table with the digests of other tokens of a tenant, by their keys. The replaced tokens become its
+    old tokens if they are kept; otherwise they and the old ones are removed."""
     for key, digest in digests.items():
         before = _value(text, tenant, key) if keeps else None
         if not keeps:
@@ -84,7 +84,7 @@ def without(text: str, tenant: str) -> str:
 
 
 def with_tenant(text: str, tenant: str, keys: Dict[str, str]) -> str:
-    """The table with one tenant more."""
+    """The table with one more tenant."""
     name_field(tenant)
     gap = "" if not text else "\n" if text.endswith("\n") else "\n\n"
     header = '["%s"]' % tenant if "." in tenant else "[%s]" % tenant
@@ -92,7 +92,7 @@ def with_tenant(text: str, tenant: str, keys: Dict[str, str]) -> str:
 
 
 def refuse_known(path: str, text: str, tenant: str) -> None:
-    """Raises if a table has this tenant already."""
+    """Raises if a table already has this tenant."""
     line = line_of(text, tenant)
     data = text.encode("utf-8", "surrogateescape")
     if line or (judged(data) != "Toml" and judged(data + b'\n["%s"]\n' % name_field(tenant)) == "Toml"):

@@ -1,5 +1,5 @@
 """Lines at a terminal. judyd serves one connection after another, so each line has its own
-connection: a user who thinks holds nobody up."""
+connection: an idle user does not block others."""
 
 import getpass
 import os
@@ -92,7 +92,7 @@ class Terminal:
         return self._ask(request_of(line))
 
     def _ask(self, request: str) -> bool:
-        """Sends a request and prints its reply. If the server is away, or on ^C, the line is
+        """Sends a request and prints its reply. If the server is gone, or on ^C, the line is
         dropped and the session goes on."""
         try:
             (reply,) = self._session.exchange([request])

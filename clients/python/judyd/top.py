@@ -21,7 +21,7 @@ class Sample(NamedTuple):
 
 def lines_of(now: Sample, before: Optional[Sample], width: int, height: Optional[int] = None) -> List[str]:
     """The lines of a screen of this many columns and rows. The rates are those since the sample before; without
-    one, or if the server was started anew since, they are those since its start."""
+    one, or if the server has restarted since, they are those since its start."""
     if before is not None and _uptime(before) > _uptime(now):
         before = None
     lines = _server(now, before, width)
@@ -111,7 +111,7 @@ def _replies(now: Sample, before: Optional[Sample]) -> List[str]:
 
 
 def _calls(now: Sample, before: Optional[Sample], width: int, rows: Optional[int]) -> List[str]:
-    """What the lines ask for, the most frequent calls first; `none` is no request."""
+    """What the lines ask for, the most frequent calls first; `none` is not a request."""
     rates = [(rate, call) for call, rate in _rates(now, before, "judyd_lines_total").items() if rate > 0]
     items = ["%-5s %5s" % (call, short(rate)) for rate, call in sorted(rates, key=lambda it: (-it[0], it[1]))]
     count = max((width + 2) // 13, 1)

@@ -1,5 +1,5 @@
 """A connection for a dump or a load: many lines at once, as bytes. It is one connection from the log-in
-to the end, so a server that was started anew in the middle, with empty arrays, is noticed."""
+to the end, so a restart in the middle, with empty arrays, is detected."""
 
 import select
 import socket

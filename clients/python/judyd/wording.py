@@ -105,7 +105,7 @@ The manual's names work too, as Judy1Set for J1S. At a terminal Tab completes, a
 
 
 def help_of(word: str) -> str:
-    """What a request does, by its word or the manual's name; all of them without one."""
+    """What a request does, by its word or the manual's name; without one, all requests."""
     if not word:
         return HELP
     call = WORDS.get(LONG_NAMES.get(word, word.upper()))
