@@ -5,6 +5,7 @@ import operator
 import os
 from bisect import bisect_left
 from collections import namedtuple
+from itertools import compress
 
 PAGE = 4096
 ZEROS = bytes(PAGE)
@@ -245,9 +246,16 @@ def touched(file):
     that are secured, by their numbers."""
     if id(file) not in TOUCHED:
         first = min(same_pages(file.secured, content) for content in file.later)
-        most = max(len(file.secured.pages), len(file.later[-1].pages))
-        TOUCHED[id(file)] = (file, first, [number for number in range(first, most) if is_changed(file, number)])
+        TOUCHED[id(file)] = (file, first, changed_pages(file.secured.pages, file.later[-1].pages, first))
     return TOUCHED[id(file)][1:]
+
+
+def changed_pages(old, new, first):
+    """Which pages from the first on are other ones, by their numbers. Each change writes behind the ones before, or
+    cuts. A page that only one of the two has is another one."""
+    both = min(len(old), len(new))
+    changed = map(operator.is_not, new[first:both], old[first:both])
+    return [*compress(range(first, both), changed), *range(max(first, both), max(len(old), len(new)))]
 
 
 def same_pages(one, other):
@@ -255,11 +263,6 @@ def same_pages(one, other):
     same = list(map(operator.is_, one.pages, other.pages))
     count = same.index(False) if False in same else len(same)
     return count - 1 if count > 0 and len(one.pages[count - 1]) < PAGE else count
-
-
-def is_changed(file, number):
-    """Whether a page is another one than that which is secured. Each change writes behind the ones before, or cuts."""
-    return page_of(file.later[-1], number) is not page_of(file.secured, number)
 
 
 def page_of(content, number):

@@ -10,6 +10,11 @@ from commands import COMMANDS
 from disks import after, renumbered
 
 WORD = 2**64
+STEP = 16384  # bytes between two places of a text whose arrays are kept
+KEPT = 256  # of so many places
+
+# The arrays that texts make, by a sum of each text. The newest stand last.
+PLAYED = {}
 
 # A moment of a run: the disk, how many records must be there after a loss, how many may be, and the place of the
 # last event.
@@ -209,10 +214,26 @@ class Story:
             length = len(text) - len(self.text)
             count = bisect_left(self.texts, length)
             return [count, count] if self.texts[count] == length else None
-        arrays = Arrays()
         try:
-            for record in text.split(b"\n")[:-1]:
-                arrays.play(record)
+            return self.sums.get(played(text).sum)
         except ValueError:
             return None
-        return self.sums.get(arrays.sum)
+
+
+def played(text):
+    """The arrays that the records of a text make. Many texts begin alike, so what the last ones made at some places is
+    kept."""
+    ends = [text.rfind(b"\n", 0, at) + 1 for at in range(STEP, len(text), STEP)]
+    marks = [hash(text[:end]) for end in ends]
+    known = next((at for at in reversed(range(len(marks))) if marks[at] in PLAYED), None)
+    arrays = Arrays(PLAYED[marks[known]] if known is not None else None)
+    begin = ends[known] if known is not None else 0
+    for end, mark in [*zip(ends, marks), (len(text), None)][0 if known is None else known + 1 :]:
+        for record in text[begin:end].split(b"\n")[:-1]:
+            arrays.play(record)
+        begin = end
+        if mark is not None:
+            PLAYED[mark] = Arrays(arrays)
+    while len(PLAYED) > KEPT:
+        del PLAYED[next(iter(PLAYED))]
+    return arrays
