@@ -18,9 +18,10 @@ that refuses it, all other goals that were left are holes, so that this one alon
 that tries what the compiler tries of itself. So the compiler prints neither the goal nor a file to begin with,
 which takes as long as the search. For a copy the answer has `STEPS` of the 10,000,000 steps that the compiler
 allows: goals of the control are proved in less, and a search that finds nothing would use up all. If the control
-is not proved so, the compiler's own tactics are tried, unless wrong/GOALS says that its goal takes a long search. A wrong body in the function's place has no control, so its
-answer finds all that the compiler's tactics find (`LIKE_THE_COMPILER`), and counts only if it says that its search
-failed."""
+is not proved so, the compiler's own tactics are tried, unless wrong/GOALS says that its goal takes a long search. A
+wrong body in the function's place has no control, so its answer finds all that the compiler's tactics find
+(`LIKE_THE_COMPILER`), unless wrong/GOALS says that the short search proves the function's own goal; it counts only if
+it says that its search failed."""
 
 import re
 
@@ -178,8 +179,8 @@ def without_tactics(text):
 class Batch:
     """A crate's texts with copies and changed functions in them, and what is tried there."""
 
-    def __init__(self, crate, sources, holes=None, long=None):
-        self.crate, self.sources, self.holes, self.long = crate, sources, holes, long or {}
+    def __init__(self, crate, sources, holes=None, goals=None):
+        self.crate, self.sources, self.holes, self.goals = crate, sources, holes, goals
         self.texts, self.changes, self.imports = with_the_hole(holes.texts if holes else sources.texts), {}, {}
         self.asked, self.spans, self.dug, self.alike = [], [], {}, set()
 
@@ -202,7 +203,8 @@ class Batch:
             self.texts[as_copy + path[len(below) :]] = re.sub(re.escape(cited[0]) + r"(?![\w-])", cited[1], proof)
         self.keep_answers(as_copy, kept)
         if goals or searched:
-            self.dig_goals(as_copy + "Answers.antt", cited[1], goals, searched, long=self.long.get(function.path(), ()))
+            long = self.goals.long.get(function.path(), ()) if self.goals else ()
+            self.dig_goals(as_copy + "Answers.antt", cited[1], goals, searched, long=long)
         self.asked.append(function.path(name))
 
     def copy_cycle(self, function, text, name, tried):
@@ -271,7 +273,8 @@ class Batch:
             self.keep_answers(folder, it.kept)
             if it.holes or it.searched():
                 cited = "Rattle.%s.proofs.%s" % (self.crate, ".".join(place))
-                self.dig_goals(folder + "Answers.antt", cited, it.holes, it.searched(), LIKE_THE_COMPILER)
+                is_short = self.goals is not None and self.goals.is_short(it.function, self.sources, it.searched())
+                self.dig_goals(folder + "Answers.antt", cited, it.holes, it.searched(), SEARCH if is_short else LIKE_THE_COMPILER)
                 self.alike |= {folder + "Answers.antt"} if it.searched() else set()
 
     def place(self, tried, text=None):

@@ -3,13 +3,22 @@ that refuses it, so of these that one alone is searched, and the others are hole
 and decides nothing: a goal that it lacks is searched, and one that is gone is an error of the copy, which
 is tried then with all of its goals. A line is `FUNCTION: GOAL..`, or `EDIT: GOAL..` of a wrong body with
 which its function has other goals. A line `LONG FUNCTION: GOAL..` names goals that the function itself is
-proved to have only by the compiler's whole search. `tests/wrong --goals` writes it, but for those."""
+proved to have only by the compiler's whole search. `tests/wrong --goals` writes it, but for those. A line
+`SHORT FUNCTION SUM: GOAL..` names goals that the short search of a copy proves of a function, whose text
+and proof have this sum: so that search serves for its only wrong body too, which has no control beside it."""
 
+import hashlib
 import os
 
 from edits import CRATES, read, write
 
-LONG = "LONG "
+LONG, SHORT = "LONG ", "SHORT "
+
+
+def sum_of(function, sources):
+    """A sum of the text of a function and of its proof."""
+    texts = [sources.texts[function.file][function.start : function.end], *sorted(sources.proof_of(function).items())]
+    return hashlib.sha256(repr(texts).encode()).hexdigest()[:12]
 
 
 class Goals:
@@ -20,6 +29,7 @@ class Goals:
         lines = read(self.path).split("\n") if os.path.exists(self.path) else []
         self.known = {name: goals.split() for name, _, goals in (it.partition(": ") for it in lines if it)}
         self.long = {name[len(LONG) :]: self.known.pop(name) for name in list(self.known) if name.startswith(LONG)}
+        self.short = {name[len(SHORT) :]: self.known.pop(name) for name in list(self.known) if name.startswith(SHORT)}
         self.noted = {}
 
     def of(self, function):
@@ -40,6 +50,10 @@ class Goals:
             elif goals and it.edit.goal in goals:
                 it.choose(goals, self.of(it.function))
 
+    def is_short(self, function, sources, goals):
+        """Whether the short search proves these goals of a function, as it is now."""
+        return set(goals) <= set(self.short.get("%s %s" % (function.path(), sum_of(function, sources)), ()))
+
     def of_controls(self, tries):
         """The holes of the control of each function of which some body has holes: all goals but those that
         it must be proved to have."""
@@ -59,10 +73,15 @@ class Goals:
         if goals:
             self.noted[function.path()] = (function.path(), goals)
 
+    def note_short(self, function, sources, goals):
+        """Notes goals of a function that the short search proves."""
+        self.short["%s %s" % (function.path(), sum_of(function, sources))] = sorted(goals)
+
     def write(self):
         """Writes the file: of the functions with a body that is tried so, and of the bodies that differ."""
         used = {path for name, (path, _) in self.noted.items() if name != path}
-        lines = ["%s%s: %s\n" % (LONG, path, " ".join(goals)) for path, goals in sorted(self.long.items())]
+        searches = [(LONG, self.long), (SHORT, self.short)]
+        lines = ["%s%s: %s\n" % (start, path, " ".join(goals)) for start, those in searches for path, goals in sorted(those.items())]
         for name, (path, goals) in sorted(self.noted.items()):
             if path in used and (name == path or goals != self.noted.get(path, (path, None))[1]):
                 lines.append("%s: %s\n" % (name, " ".join(goals)))
