@@ -1,7 +1,7 @@
 """Which goals of functions no written answer proves: crates/NAME/wrong/GOALS. A wrong body names the goal
 that refuses it, so of these that one alone is searched, and the others are holes. The file saves time
-and decides nothing: a goal that it lacks is searched, and one that is gone is an error of the copy, which
-is tried then with all of its goals. A line is `FUNCTION: GOAL..`, or `EDIT: GOAL..` of a wrong body with
+and decides nothing, except by its lines SHORT: a goal that it lacks is searched, and one that is gone is
+an error of the copy, which is tried then with all of its goals. A line is `FUNCTION: GOAL..`, or `EDIT: GOAL..` of a wrong body with
 which its function has other goals. A line `LONG FUNCTION: GOAL..` names goals that the function itself is
 proved to have only by the compiler's whole search. `tests/wrong --goals` writes it, but for those. A line
 `SHORT FUNCTION SUM: GOAL..` names goals that the short search of a copy proves of a function, whose text
