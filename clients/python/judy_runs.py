@@ -3,6 +3,7 @@ programs that leave nothing behind."""
 
 import os
 import select
+import signal
 import subprocess
 import sys
 import unittest
@@ -11,6 +12,10 @@ from judyd import Client
 from served import HERE, Served
 
 RUNNING = []
+
+# A shell that runs the tests in the background has them ignore these, and judy would do so too.
+signal.signal(signal.SIGINT, signal.default_int_handler)
+signal.signal(signal.SIGHUP, signal.SIG_DFL)
 
 
 def start_judy(*words, token="abc", path=None, **how):
