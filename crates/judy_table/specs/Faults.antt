@@ -1,4 +1,4 @@
--- The first fault of a table's text, in the order of docs/FORMATS.md.
+-- The first fault of a table's text, in the order of docs/FORMAT.md.
 --     IsOutside most z     the integer is not 0 to this number
 --     HasFault f name w    f is the first fault of a tenant with these values
 --     LacksShape ms        a value is no table of a tenant, or a key of it is missing, unknown or of

@@ -1,4 +1,4 @@
--- What a table of tenants is, in the words of docs/FORMATS.md.
+-- What a table of tenants is, in the words of docs/FORMAT.md.
 --     HasPieces o quota      the quota of pieces, by the value of the key `pieces`, if it is present
 --     HasLimit o limit       the limit of records in a journal, by the value of the key `journal`
 --     HasDigest o digest     the digest of another token, by that of its key

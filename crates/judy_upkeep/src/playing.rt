@@ -84,8 +84,8 @@ impl<S: Served> Playing<S> {
 
     /// Whether an array has no entry, as far as that can be asked: of a map from byte keys it can't.
     fn is_empty(&mut self, tenant: usize, array: &Array) -> Result<bool, Reason>
-        ensures probed { IfOk result (λ empty. IsProbed S.who S.made self.old.entries.speakers.items tenant array.now empty
-            self.old.entries.service self.new.entries.service) }
+        ensures probed { IfOk result (λ empty. IsProbed S.who S.made self.old.entries.speakers.items tenant
+            array.now empty self.old.entries.service self.new.entries.service) }
         ensures speakers { self.new.entries.speakers.items ≡ self.old.entries.speakers.items }
         ensures noters { self.new.arrays.asking.speakers.items ≡ self.old.arrays.asking.speakers.items }
         ensures arrays { self.new.arrays.asking.service ≡ self.old.arrays.asking.service }
@@ -159,7 +159,8 @@ impl<S: Served> Playing<S> {
     /// A tenant leaves. One that has no record has nothing to take along.
     fn leave(&mut self, name: &[u8]) -> Result<(), Reason>
         ensures left { OnOk result (Leaves S.who S.made self.old.entries.speakers.items
-            self.old.arrays.asking.speakers.items name.now (both self.old.entries.service self.old.arrays.asking.service)
+            self.old.arrays.asking.speakers.items name.now
+            (both self.old.entries.service self.old.arrays.asking.service)
             self.old.tenants.names.items (both self.new.entries.service self.new.arrays.asking.service)
             self.new.tenants.names.items) }
         ensures speakers { self.new.entries.speakers.items ≡ self.old.entries.speakers.items }
@@ -199,7 +200,8 @@ impl<S: Served> Playing<S> {
     /// Plays a record.
     fn play_record(&mut self, record: &[u8]) -> Result<(), Reason>
         ensures played { OnOk result (Plays S.who S.made self.old.entries.speakers.items
-            self.old.arrays.asking.speakers.items record.now (both self.old.entries.service self.old.arrays.asking.service)
+            self.old.arrays.asking.speakers.items record.now
+            (both self.old.entries.service self.old.arrays.asking.service)
             self.old.tenants.names.items (both self.new.entries.service self.new.arrays.asking.service)
             self.new.tenants.names.items) }
         ensures speakers { self.new.entries.speakers.items ≡ self.old.entries.speakers.items }

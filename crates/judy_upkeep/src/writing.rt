@@ -33,8 +33,8 @@ impl Walk {
         }
     }
 
-    /// Looks for the next entry by a call with these letters, from this walk's key on. Returns its value, and then the walk has
-    /// its key. None if there is none.
+    /// Looks for the next entry by a call with these letters, from this walk's key on. Returns its value, and then
+    /// the walk has its key. None if there is none.
     fn step<S: Served>(
         &mut self,
         playing: &mut Playing<S>,

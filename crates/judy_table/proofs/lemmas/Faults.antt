@@ -1,5 +1,5 @@
 -- The fault that is told of a table is its first fault.
---     first-faults    it is the first in the order of docs/FORMATS.md
+--     first-faults    it is the first in the order of docs/FORMAT.md
 use Rattle.std.proofs.Common.{◌≡◌, ◌⊎◌, inl, inr, ℕ, ℤ, pos, negsuc, ◌<◌, ◌≤◌, ◌&&◌, Bool, true, false, List, Option, Some, None, is_some, Ok, Err}
 use Rattle.std.proofs.Common.{ap, sym, ◌∙◌, refl, subst, nat_le, if◌then◌else◌, arith}
 use Rattle.std.specs.Prelude.{Result, option_map}
