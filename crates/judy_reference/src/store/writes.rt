@@ -22,7 +22,7 @@ pub(super) fn set(
 ) -> Result<Reply<'static>, AllocError>
     ensures ok { IfOk result
         (λ reply. on_array sets.old name.now (λ l. insert word_order room l index given.Nothing ReportsNew)
-            ≡ (reply, sets.new)) }
+        ≡ (reply, sets.new)) }
     ensures unchanged { OnErr result (sets.new ≡ sets.old) }
     ensures lacks { OnErr result (IsTrue room
         × (value_of word_order (content_of sets.old name.now) index ≡ None)) }
