@@ -23,7 +23,7 @@
 #include <time.h>
 #include <unistd.h>
 
-enum { LINE_LIMIT = 4096, KEY_LIMIT = 1000, FIELDS = 6 };
+enum { LINE_LIMIT = 4096, KEY_LIMIT = 1000, LIST_LIMIT = 4088, MOST_ENTRIES = 65535, FIELDS = 6 };
 enum kind { ONE, LONG, STRING, BYTES };
 enum call { INSERT, ADD, KEEP, EXCHANGE, REMOVE, TAKE, FREE, LOOK, COUNT, NTH, FIRST, NEXT, LAST, PREV, FIRST_EMPTY, NEXT_EMPTY, LAST_EMPTY, PREV_EMPTY };
 
@@ -66,14 +66,14 @@ static const struct command COMMANDS[] = {
     {"J1T", ONE, LOOK, 1, 0},
     {"J1C", ONE, COUNT, 2, 0},
     {"J1BC", ONE, NTH, 1, 0},
-    {"J1F", ONE, FIRST, 1, 0},
-    {"J1N", ONE, NEXT, 1, 0},
-    {"J1L", ONE, LAST, 1, 0},
-    {"J1P", ONE, PREV, 1, 0},
-    {"J1FE", ONE, FIRST_EMPTY, 1, 0},
-    {"J1NE", ONE, NEXT_EMPTY, 1, 0},
-    {"J1LE", ONE, LAST_EMPTY, 1, 0},
-    {"J1PE", ONE, PREV_EMPTY, 1, 0},
+    {"J1F", ONE, FIRST, 1, 1},
+    {"J1N", ONE, NEXT, 1, 1},
+    {"J1L", ONE, LAST, 1, 1},
+    {"J1P", ONE, PREV, 1, 1},
+    {"J1FE", ONE, FIRST_EMPTY, 1, 1},
+    {"J1NE", ONE, NEXT_EMPTY, 1, 1},
+    {"J1LE", ONE, LAST_EMPTY, 1, 1},
+    {"J1PE", ONE, PREV_EMPTY, 1, 1},
     {"J1FA", ONE, FREE, 0, 0},
     {"JLI", LONG, INSERT, 1, 1},
     {"JLA", LONG, ADD, 2, 0},
@@ -84,14 +84,14 @@ static const struct command COMMANDS[] = {
     {"JLG", LONG, LOOK, 1, 0},
     {"JLC", LONG, COUNT, 2, 0},
     {"JLBC", LONG, NTH, 1, 0},
-    {"JLF", LONG, FIRST, 1, 0},
-    {"JLN", LONG, NEXT, 1, 0},
-    {"JLL", LONG, LAST, 1, 0},
-    {"JLP", LONG, PREV, 1, 0},
-    {"JLFE", LONG, FIRST_EMPTY, 1, 0},
-    {"JLNE", LONG, NEXT_EMPTY, 1, 0},
-    {"JLLE", LONG, LAST_EMPTY, 1, 0},
-    {"JLPE", LONG, PREV_EMPTY, 1, 0},
+    {"JLF", LONG, FIRST, 1, 1},
+    {"JLN", LONG, NEXT, 1, 1},
+    {"JLL", LONG, LAST, 1, 1},
+    {"JLP", LONG, PREV, 1, 1},
+    {"JLFE", LONG, FIRST_EMPTY, 1, 1},
+    {"JLNE", LONG, NEXT_EMPTY, 1, 1},
+    {"JLLE", LONG, LAST_EMPTY, 1, 1},
+    {"JLPE", LONG, PREV_EMPTY, 1, 1},
     {"JLFA", LONG, FREE, 0, 0},
     {"JSLI", STRING, INSERT, 1, 1},
     {"JSLA", STRING, ADD, 2, 0},
@@ -100,10 +100,10 @@ static const struct command COMMANDS[] = {
     {"JSLD", STRING, REMOVE, 1, 1},
     {"JSLT", STRING, TAKE, 1, 0},
     {"JSLG", STRING, LOOK, 1, 0},
-    {"JSLF", STRING, FIRST, 1, 0},
-    {"JSLN", STRING, NEXT, 1, 0},
-    {"JSLL", STRING, LAST, 1, 0},
-    {"JSLP", STRING, PREV, 1, 0},
+    {"JSLF", STRING, FIRST, 1, 1},
+    {"JSLN", STRING, NEXT, 1, 1},
+    {"JSLL", STRING, LAST, 1, 1},
+    {"JSLP", STRING, PREV, 1, 1},
     {"JSLFA", STRING, FREE, 0, 0},
     {"JHSI", BYTES, INSERT, 1, 1},
     {"JHSA", BYTES, ADD, 2, 0},
@@ -206,6 +206,17 @@ static int cut(const uint8_t *line, size_t len, struct field *fields)
     return count;
 }
 
+/* Whether a search has a number of entries, and that number. */
+static int is_walk(const struct request *r)
+{
+    return r->command->call >= FIRST && r->given > (r->command->kind != STRING);
+}
+
+static Word_t entries_asked(const struct request *r)
+{
+    return r->words[r->given - 1];
+}
+
 /* Reads the call of an array that the fields spell. */
 static int read_call(const struct field *fields, int count, struct request *r)
 {
@@ -229,7 +240,7 @@ static int read_call(const struct field *fields, int count, struct request *r)
     while (at < count)
         if (!read_word(fields[at++], &r->words[r->given++]))
             return 0;
-    return 1;
+    return !is_walk(r) || (entries_asked(r) >= 1 && entries_asked(r) <= MOST_ENTRIES);
 }
 
 /* ---- replies ---- */
@@ -426,12 +437,64 @@ static Word_t *find_string(const struct array *a, enum call call, uint8_t *key)
     }
 }
 
+/* The search that goes on behind what a search found. */
+static enum call behind(enum call call)
+{
+    switch (call) {
+    case FIRST: case NEXT: return NEXT;
+    case LAST: case PREV: return PREV;
+    case FIRST_EMPTY: case NEXT_EMPTY: return NEXT_EMPTY;
+    default: return PREV_EMPTY;
+    }
+}
+
+/* The text of what a search finds, after a space. Returns its bytes, or 0 if there is nothing. */
+static int text_found(const struct array *a, enum kind kind, enum call call, Word_t *x, uint8_t *key, char *text)
+{
+    Word_t *value;
+    int size;
+    if (kind == ONE || call >= FIRST_EMPTY)
+        return find_index(a, kind, call, x) ? sprintf(text, " %lu", *x) : 0;
+    if (kind == LONG)
+        return (value = find_value(a, call, x)) ? sprintf(text, " %lu %lu", *value, *x) : 0;
+    if (!(value = find_string(a, call, key)))
+        return 0;
+    size = sprintf(text, " %lu x", *value);
+    for (; *key; key++)
+        size += sprintf(text + size, "%02x", *key);
+    return size;
+}
+
+/* A search with a number of entries. */
+static void walk(const struct array *a, const struct request *r)
+{
+    static char text[2 * KEY_LIMIT + 64], listed[LIST_LIMIT];
+    static uint8_t key[2 * KEY_LIMIT];
+    enum call call = r->command->call;
+    Word_t x = r->words[0], count, len = 0;
+    if (r->command->kind == STRING)
+        memcpy(key, r->key, r->key_len + 1);
+    for (count = 0; count < entries_asked(r); count++) {
+        int size = text_found(a, r->command->kind, call, &x, key, text);
+        if (size == 0 || len + (Word_t)size > LIST_LIMIT)
+            break;
+        memcpy(listed + len, text, (size_t)size);
+        len += (Word_t)size;
+        call = behind(call);
+    }
+    say("E %lu%.*s", count, (int)len, listed);
+}
+
 /* A search of a request in an array. */
 static void search(const struct array *a, const struct request *r)
 {
     static uint8_t key[2 * KEY_LIMIT];
     Word_t x = r->words[0], *value;
     enum call call = r->command->call;
+    if (is_walk(r)) {
+        walk(a, r);
+        return;
+    }
     if (r->command->kind == ONE || call >= FIRST_EMPTY) {
         if (find_index(a, r->command->kind, call, &x))
             say("1 %lu", x);

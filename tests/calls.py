@@ -81,7 +81,7 @@ class Row(NamedTuple):
 
     def usage(self, kind):
         """The fields of a kind's words: a key for the index of strings and bytes, and no value in a set."""
-        fields = [field for field in self.fields if kind != "One" or not field.startswith("[")]
+        fields = [field for field in self.fields if kind != "One" or field != "[v]"]
         return ["key" if field == "i" and kind in ("Str", "Bytes") else field for field in fields]
 
 

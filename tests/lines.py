@@ -1,6 +1,6 @@
 """Lines of requests from a seed: long walks of well-formed calls, and hostile lines."""
 
-from oracle import COMMANDS, EXCHANGES, FREES, GREATEST, INSERTS, LOOKS, REMOVES, Tenant, read_bytes, read_string, read_word
+from oracle import COMMANDS, EXCHANGES, FREES, GREATEST, INSERTS, LOOKS, REMOVES, Tenant, read_bytes, read_most, read_string, read_word
 
 TENANTS = [
     Tenant("alice", "abc", 40000, read_token="look"),
@@ -100,12 +100,16 @@ class Walk:
         fields = [word, self.random.choice(NAMES), *map(self.keys.field, must if does == LOOKS else must[:1])]
         fields += [self.value() for _ in must[len(fields) - 2 :]]
         if command.may and self.random.random() < (0.7 if does == INSERTS else 0.4):
-            fields.append(self.value())
+            fields += [self.most() if read is read_most else self.value() for read in command.may]
         return b" ".join(fields)
 
     def value(self):
         """The field of a value. Few values recur often, so that many entries have a value that a line names."""
         return b"%d" % self.random.getrandbits(self.random.choice((1, 1, 4, 64)))
+
+    def most(self):
+        """The field of a number of entries."""
+        return b"%d" % self.random.choice((1, 2, 3, self.random.randrange(4, 300), 65535))
 
     def march(self):
         """Lines of one call on consecutive words, or on words as far apart as the children of a

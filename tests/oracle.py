@@ -22,6 +22,8 @@ import commands
 GREATEST = 2**64 - 1
 LINE_LIMIT = 4096
 KEY_LIMIT = 1000
+LIST_LIMIT = 4088  # the most bytes of the entries in a reply
+MOST_ENTRIES = 65535  # the most entries that a walk may ask for
 NAME = re.compile(rb"[A-Za-z0-9_.-]{1,32}\Z")
 TOKEN = re.compile(rb"[!-~]{1,128}\Z")
 DIGITS = re.compile(rb"[0-9]{1,20}\Z")
@@ -225,6 +227,14 @@ def read_word(field):
     return int(field)
 
 
+def read_most(field):
+    """The number of entries that a walk asks for."""
+    most = read_word(field)
+    if not 1 <= most <= MOST_ENTRIES:
+        raise Syntax
+    return most
+
+
 def read_bytes(field):
     """A key of a JudyHS."""
     if not KEY.match(field):
@@ -321,22 +331,58 @@ def count(owner, kind, name, low, high):
     return b"N %d" % owner.array(kind, name).count(low, high)
 
 
-def finds(search):
-    """A search for a key that is present: the key of a set, otherwise the value and the key."""
+def finds(search, on=None):
+    """A search for a key that is present: the key of a set, otherwise the value and the key. With a number of
+    entries: so many, each found behind the one before by the other search."""
 
-    def step(owner, kind, name, field):
+    def step(owner, kind, name, field, most=None):
         array = owner.array(kind, name)
+        if most is not None:
+            return listed(entry_text(kind, array, key) for key in walked(array, search, on, field, most))
         key = search(array, field)
         if kind == SET:
             return index(key)
-        return b"NULL" if key is None else b"V %d %s" % (array.values[key], text_of(key))
+        return b"NULL" if key is None else b"V " + entry_text(kind, array, key)
 
     return step
 
 
-def misses(search):
-    """A search for an absent index."""
-    return lambda owner, kind, name, field: index(search(owner.array(kind, name), field))
+def entry_text(kind, array, key):
+    """An entry: the key of a set, otherwise the value and the key."""
+    return text_of(key) if kind == SET else b"%d %s" % (array.values[key], text_of(key))
+
+
+def misses(search, on):
+    """A search for an absent index, or for so many."""
+
+    def step(owner, kind, name, field, most=None):
+        array = owner.array(kind, name)
+        if most is not None:
+            return listed(map(text_of, walked(array, search, on, field, most)))
+        return index(search(array, field))
+
+    return step
+
+
+def walked(array, search, on, field, most):
+    """What a search finds, and each time what the other search finds behind that: at most so many."""
+    found = search(array, field)
+    for _ in range(most):
+        if found is None:
+            return
+        yield found
+        found = on(array, found)
+
+
+def listed(texts):
+    """The reply that lists as many of these texts as fit."""
+    kept, size = [], 0
+    for text in texts:
+        size += 1 + len(text)
+        if size > LIST_LIMIT:
+            break
+        kept.append(text)
+    return b" ".join([b"E %d" % len(kept), *kept])
 
 
 def index(found):
@@ -346,7 +392,7 @@ def index(found):
 
 class Operation(NamedTuple):
     """An operation: its step; its fields after the name, k for a key of the kind and w for a word; those that
-    may follow, except for a set; and what it does to the entries."""
+    may follow, n for a number of entries, and a word except for a set; and what it does to the entries."""
 
     step: Callable
     must: str
@@ -364,14 +410,14 @@ OPERATIONS = {
     "Look": Operation(look, "k"),
     "Count": Operation(count, "kk"),
     "Nth": Operation(finds(Entries.nth), "w"),
-    "First": Operation(finds(Entries.first), "k"),
-    "Next": Operation(finds(Entries.next), "k"),
-    "Last": Operation(finds(Entries.last), "k"),
-    "Prev": Operation(finds(Entries.prev), "k"),
-    "FirstEmpty": Operation(misses(Entries.first_empty), "k"),
-    "NextEmpty": Operation(misses(Entries.next_empty), "k"),
-    "LastEmpty": Operation(misses(Entries.last_empty), "k"),
-    "PrevEmpty": Operation(misses(Entries.prev_empty), "k"),
+    "First": Operation(finds(Entries.first, Entries.next), "k", "n"),
+    "Next": Operation(finds(Entries.next, Entries.next), "k", "n"),
+    "Last": Operation(finds(Entries.last, Entries.prev), "k", "n"),
+    "Prev": Operation(finds(Entries.prev, Entries.prev), "k", "n"),
+    "FirstEmpty": Operation(misses(Entries.first_empty, Entries.next_empty), "k", "n"),
+    "NextEmpty": Operation(misses(Entries.next_empty, Entries.next_empty), "k", "n"),
+    "LastEmpty": Operation(misses(Entries.last_empty, Entries.prev_empty), "k", "n"),
+    "PrevEmpty": Operation(misses(Entries.prev_empty, Entries.prev_empty), "k", "n"),
     "Free": Operation(free, "", "", FREES),
 }
 
@@ -391,8 +437,8 @@ def command_of(word, kind, name):
     if name not in OPERATIONS:
         raise ValueError("tests/oracle.py has no step of the operation %s, which %s makes" % (name, word))
     operation = OPERATIONS[name]
-    readers = {"k": {"Str": read_string, "Bytes": read_bytes}.get(kind, read_word), "w": read_word}
-    may = "" if kind == SET else operation.may
+    readers = {"k": {"Str": read_string, "Bytes": read_bytes}.get(kind, read_word), "w": read_word, "n": read_most}
+    may = operation.may.replace("w", "") if kind == SET else operation.may
     return Command(kind, operation, tuple(map(readers.get, operation.must)), tuple(map(readers.get, may)))
 
 

@@ -13,7 +13,7 @@ from .catalogue import keys_of
 from .fields import MAX, flags_of, numbers_of, values_of
 from .many import Many, Ranked, add_step, get_key, insert_entry, pairs_of
 from .strings import Item, Listing, StringWalk
-from .walks import Steps, items_of, walked
+from .walks import Steps, items_in, items_of, walked
 
 K = TypeVar("K")
 V = TypeVar("V")
@@ -98,7 +98,7 @@ class MapBase(Many, MapCalls[K, bool, int, Optional[int]], Generic[K]):
         raise NotImplementedError
 
     def __eq__(self, other: object) -> bool:
-        """Whether a mapping has the same entries. It reads all of them, in windows of many lines."""
+        """Whether a mapping has the same entries. It reads all of them."""
         if self is other:
             return True
         if not isinstance(other, Mapping):
@@ -241,6 +241,10 @@ class JudyL(Ranked[Tuple[int, int]], WalkedMap[int], JudyLCalls[bool, int, Optio
         return items_of(replies)
 
     @staticmethod
+    def _entries_in(reply: bytes) -> List[Tuple[int, int]]:
+        return items_in(reply)
+
+    @staticmethod
     def _index_of(entry: Tuple[int, int]) -> int:
         return entry[0]
 
@@ -254,12 +258,12 @@ class JudyL(Ranked[Tuple[int, int]], WalkedMap[int], JudyLCalls[bool, int, Optio
 
     def walk(self, start: int = 0, stop: Optional[int] = None) -> Iterator[Tuple[int, int]]:
         """The entries in order from `start` on, up to `stop`, which is left out, as pairs of index and
-        value, read in windows of many lines."""
+        value, read many at a time."""
         return self._walk(start, stop)
 
     def walk_back(self, start: int = MAX, stop: Optional[int] = None) -> Iterator[Tuple[int, int]]:
         """The entries from `start` down to `stop`, which is left out, as pairs of index and value, read
-        in windows of many lines."""
+        many at a time."""
         return self._walk(start, stop, is_back=True)
 
     def _in(self, pipe: Any) -> Any:
@@ -292,7 +296,7 @@ class JudySL(WalkedMap[K], JudySLCalls[K, bool, int, Optional[int], Optional[Tup
 
     def walk(self, start: Optional[K] = None, stop: Optional[K] = None) -> Iterator[Tuple[K, int]]:
         """The entries in order from `start` on, up to `stop`, which is left out, as pairs of key and
-        value, read in windows of many lines."""
+        value, read many at a time."""
         return self._walk(StringWalk(self, False, self._bound(stop)).steps(self._bound(start)))
 
     def walk_back(self, start: Optional[K] = None, stop: Optional[K] = None) -> Iterator[Tuple[K, int]]:

@@ -48,14 +48,14 @@ _OPERATIONS = {
     "Add": ("Add", "adds n to the value, modulo 2^64: V and the value afterwards; an absent {thing} counts as 0 and becomes new; FULL if the quota has no room"),
     "Count": ("Count", "N and the number of {plural} from the first to the second, both included"),
     "Nth": ("ByCount", "the n-th {thing}, counted from 1: {found}"),
-    "First": ("First", "the least {thing} from this one on: {found}"),
-    "Next": ("Next", "the least {thing} above this one: {found}"),
-    "Last": ("Last", "the greatest {thing} up to this one: {found}"),
-    "Prev": ("Prev", "the greatest {thing} below this one: {found}"),
-    "FirstEmpty": ("FirstEmpty", "the least absent {thing} from this one on: " + _EMPTY),
-    "NextEmpty": ("NextEmpty", "the least absent {thing} above this one: " + _EMPTY),
-    "LastEmpty": ("LastEmpty", "the greatest absent {thing} up to this one: " + _EMPTY),
-    "PrevEmpty": ("PrevEmpty", "the greatest absent {thing} below this one: " + _EMPTY),
+    "First": ("First", "the least {thing} from this one on: {found}; with n as many in this direction: E, how many, and each"),
+    "Next": ("Next", "the least {thing} above this one: {found}; with n as many in this direction: E, how many, and each"),
+    "Last": ("Last", "the greatest {thing} up to this one: {found}; with n as many in this direction: E, how many, and each"),
+    "Prev": ("Prev", "the greatest {thing} below this one: {found}; with n as many in this direction: E, how many, and each"),
+    "FirstEmpty": ("FirstEmpty", "the least absent {thing} from this one on: " + _EMPTY + "; with n as many in this direction: E, how many, and each"),
+    "NextEmpty": ("NextEmpty", "the least absent {thing} above this one: " + _EMPTY + "; with n as many in this direction: E, how many, and each"),
+    "LastEmpty": ("LastEmpty", "the greatest absent {thing} up to this one: " + _EMPTY + "; with n as many in this direction: E, how many, and each"),
+    "PrevEmpty": ("PrevEmpty", "the greatest absent {thing} below this one: " + _EMPTY + "; with n as many in this direction: E, how many, and each"),
     "Free": ("FreeArray", "empties the array: N and the number of entries it had"),
 }
 _THINGS = {"Judy1": ("index", "indexes", "i"), "JudyL": ("index", "indexes", "i"), "JudySL": ("string", "strings", "key"), "JudyHS": ("key", "keys", "key")}
@@ -243,6 +243,8 @@ def told(request: str, reply: str) -> Tuple[str, str, str]:
         if name == "Del" and len(request.split()) > 3:
             return "removed" if reply == "1" else "not removed", "", ""
         return words[name][reply == "1"], "", ""
+    if fields[0] == "E":
+        return "%s found" % fields[1], " ".join(map(shown_key, fields[2:])), ""
     if fields[0] == "N":
         return "%s %s" % (fields[1], "freed" if name == "FreeArray" else "counted"), "", ""
     if reply in ("0", "NULL"):

@@ -2,3 +2,4 @@ mod Counted
 mod Kept
 mod Small
 mod Formed
+mod Resting

@@ -59,6 +59,7 @@ has_key_string (str.First k) = is_string k
 has_key_string (str.Next k) = is_string k
 has_key_string (str.Last k) = is_string k
 has_key_string (str.Prev k) = is_string k
+has_key_string (str.Walk search k n) = is_string k
 has_key_string str.Free = true
 
 -- the key of a JudySL call is a string

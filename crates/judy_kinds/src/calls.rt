@@ -46,7 +46,8 @@ fn has_key_string(call: &StrCall<'_>) -> bool
         | StrCall::First(key)
         | StrCall::Next(key)
         | StrCall::Last(key)
-        | StrCall::Prev(key) => is_string(key.as_bytes()),
+        | StrCall::Prev(key)
+        | StrCall::Walk(_, key, _) => is_string(key.as_bytes()),
         StrCall::Free => true,
     }
 }

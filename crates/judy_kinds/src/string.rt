@@ -13,10 +13,9 @@ ghost use Rattle.judy_string.specs.StringArrays.{IsKeyString, IsStringArray, str
 ghost use Rattle.judy_tree.specs.Changes.{IsShort};
 
 use crate::counts;
-use arrayvec::ArrayVec;
 use judy_arena::{Arena, NoMemory};
 use judy_directory::Place;
-use judy_model::{Given, KEY_LIMIT, Key, Reply, StrCall};
+use judy_model::{Given, KEY_LIMIT, Key, Reply, ReplyRoom, StrCall};
 use judy_refs::Ref;
 use judy_string::JudySL;
 use std::alloc::Global;
@@ -59,7 +58,7 @@ pub(crate) fn answer<'a>(
     arena: &mut Arena,
     place: Place,
     call: &StrCall<'_>,
-    found: &'a mut ArrayVec<u8, KEY_LIMIT>,
+    found: &'a mut ReplyRoom,
 ) -> Result<(Reply<'a>, Place), NoMemory>
     requires key { IsTrue (has_key_string call.now) }
     requires array { IsStringArray arena.old.blocks place.root }
@@ -267,12 +266,7 @@ fn clear(arena: &mut Arena, place: Place) -> (Reply<'static>, Place)
 }
 
 /// Answers a call that changes nothing.
-fn look<'a>(
-    arena: &Arena,
-    root: Ref,
-    call: &StrCall<'_>,
-    buffer: &'a mut ArrayVec<u8, KEY_LIMIT>,
-) -> Reply<'a>
+fn look<'a>(arena: &Arena, root: Ref, call: &StrCall<'_>, found: &'a mut ReplyRoom) -> Reply<'a>
     requires key { IsTrue (has_key_string call.now) }
     requires array { IsStringArray arena.now.blocks root }
     requires query { IsFalse (string_changes call.now) }
@@ -282,21 +276,22 @@ fn look<'a>(
     match call {
         StrCall::Get(key) => value_reply(map.get(arena, string_of(key))),
         StrCall::First(key) => {
-            let found = map.first(arena, string_of(key), buffer);
-            entry_reply(found, buffer.as_slice())
+            let value = map.first(arena, string_of(key), &mut found.key);
+            entry_reply(value, found.key.as_slice())
         }
         StrCall::Next(key) => {
-            let found = map.next(arena, string_of(key), buffer);
-            entry_reply(found, buffer.as_slice())
+            let value = map.next(arena, string_of(key), &mut found.key);
+            entry_reply(value, found.key.as_slice())
         }
         StrCall::Last(key) => {
-            let found = map.last(arena, string_of(key), buffer);
-            entry_reply(found, buffer.as_slice())
+            let value = map.last(arena, string_of(key), &mut found.key);
+            entry_reply(value, found.key.as_slice())
         }
         StrCall::Prev(key) => {
-            let found = map.prev(arena, string_of(key), buffer);
-            entry_reply(found, buffer.as_slice())
+            let value = map.prev(arena, string_of(key), &mut found.key);
+            entry_reply(value, found.key.as_slice())
         }
+        StrCall::Walk(search, key, n) => map.walk(arena, *search, string_of(key), *n, found),
         StrCall::Insert(..)
         | StrCall::Keep(..)
         | StrCall::Exchange(..)

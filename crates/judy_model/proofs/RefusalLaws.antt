@@ -13,7 +13,7 @@ use Rattle.judy_model.specs.declared.replies.Reply.{Reply}
 use Rattle.judy_model.specs.declared.replies.Reply.TheVariants as reply
 use Rattle.judy_model.specs.Contents.{Order, Entries, word_order, string_order, value_of, has_key}
 use Rattle.judy_model.specs.Tenant.Effect.{Insert, Keep, Exchange, Remove, Take, RemoveIf, Free, Ask}
-use Rattle.judy_model.specs.Tenant.Answer.{Yes, Number, Index, Absent, ValueOf, ValueAt, ValueKey}
+use Rattle.judy_model.specs.Tenant.Answer.{Yes, Number, Index, Absent, ValueOf, ValueAt, ValueKey, Listed}
 use Rattle.judy_model.specs.Tenant.Reports.{ReportsNew, ReportsValue}
 use Rattle.judy_model.specs.Tenant.{keep_over, exchange_over, remove_over}
 use Rattle.judy_model.specs.Tenant.{Effect, Answer, Reports, State, content_of, with_content, insertion_reply, insert_over, insert, index_or_no}
@@ -68,6 +68,7 @@ answered (Absent o) = absent_found o
 answered (ValueOf o) = value_found o
 answered (ValueAt o) = value_at_found o
 answered (ValueKey o) = value_key_found o
+answered (Listed texts) = refl
 
 -- nor is the reply to an insertion that is made
 inserted : (reports : Reports) (given : Given) (had : Option ℕ) → refusal (insertion_reply reports given had) ≡ 0

@@ -22,6 +22,7 @@ use Rattle.judy_model.specs.declared.replies.Reply.TheVariants as reply
 use Rattle.judy_model.specs.Contents.{Order, Entries, word_order, string_order, value_of, has_key, with_entry, without_key, first, next, last, prev, count, nth}
 use Rattle.judy_model.specs.Gaps.{first_empty, last_empty, next_empty, prev_empty}
 use Rattle.judy_model.specs.Pieces.{word_pieces, string_pieces, pieces_of}
+use Rattle.judy_model.specs.Walks.{entry_words, index_words, key_words, listed, walk, walk_empty, walk_indexes}
 
 -- the arrays of one kind, sorted by name; an array without entries is left out
 abbrev pub Arrays : Type 0 → Type 0
@@ -106,6 +107,8 @@ pub data Answer : Type 0 where
   ValueAt : Option (ℕ × ℕ) → Answer
   -- the value and the string of an entry of a JudySL
   ValueKey : Option (List ℕ × ℕ) → Answer
+  -- the entries of a walk, each as its text
+  Listed : List (List ℕ) → Answer
 
 -- the reply with this answer
 abbrev pub reply_of : Answer → Reply
@@ -116,6 +119,7 @@ reply_of (Absent o) = absent_or_no o
 reply_of (ValueOf o) = value_or_null o
 reply_of (ValueAt o) = value_at_or_null o
 reply_of (ValueKey o) = value_key_or_null o
+reply_of (Listed texts) = reply.Entries (listed texts).0 (listed texts).1
 
 -- what the reply to an insertion shows: whether the key was new, or a value
 pub data Reports : Type 0 where
@@ -243,6 +247,8 @@ one_effect (one.FirstEmpty x) = Ask (λ l. Absent (first_empty l x))
 one_effect (one.NextEmpty x) = Ask (λ l. Absent (next_empty l x))
 one_effect (one.LastEmpty x) = Ask (λ l. Absent (last_empty l x))
 one_effect (one.PrevEmpty x) = Ask (λ l. Absent (prev_empty l x))
+one_effect (one.Walk search x n) = Ask (λ l. Listed (map index_words (walk_indexes l search x n)))
+one_effect (one.WalkEmpty search x n) = Ask (λ l. Listed (map index_words (walk_empty l search x n)))
 one_effect one.Free = Free
 
 -- what a call of a JudyL does
@@ -264,6 +270,8 @@ long_effect (long.FirstEmpty x) = Ask (λ l. Absent (first_empty l x))
 long_effect (long.NextEmpty x) = Ask (λ l. Absent (next_empty l x))
 long_effect (long.LastEmpty x) = Ask (λ l. Absent (last_empty l x))
 long_effect (long.PrevEmpty x) = Ask (λ l. Absent (prev_empty l x))
+long_effect (long.Walk search x n) = Ask (λ l. Listed (map entry_words (walk word_order l search x n)))
+long_effect (long.WalkEmpty search x n) = Ask (λ l. Listed (map index_words (walk_empty l search x n)))
 long_effect long.Free = Free
 
 -- what a call of a JudySL does
@@ -279,6 +287,7 @@ string_effect (str.First x) = Ask (λ l. ValueKey (first string_order l x))
 string_effect (str.Next x) = Ask (λ l. ValueKey (next string_order l x))
 string_effect (str.Last x) = Ask (λ l. ValueKey (last string_order l x))
 string_effect (str.Prev x) = Ask (λ l. ValueKey (prev string_order l x))
+string_effect (str.Walk search x n) = Ask (λ l. Listed (map key_words (walk string_order l search x n)))
 string_effect str.Free = Free
 
 -- what a call of a JudyHS does

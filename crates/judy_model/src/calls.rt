@@ -1,8 +1,10 @@
 //! The calls of a tenant, as in the manual pages Judy1(3), JudyL(3), JudySL(3) and JudyHS(3).
 ghost use Rattle.std.specs.Prelude.{◌≡◌};
 ghost use Rattle.judy_model.specs.Commands.{bytes_operation, command_of, given_operation, long_operation, one_operation, string_operation};
+ghost use Rattle.judy_model.specs.Commands.{empty_operation, search_operation};
 ghost use Rattle.judy_model.specs.Tenant.{bytes_changes, changes, inserts, is_read_only, long_changes, new_pieces, one_changes, string_changes};
 ghost use Rattle.judy_model.specs.Tenant.{value_after, value_replied};
+ghost use Rattle.judy_model.specs.Walks.{search_on};
 
 use crate::commands::{Command, Kind, Operation};
 use crate::names::{Key, Name};
@@ -24,8 +26,22 @@ pub enum Call<'a> {
     Used,
 }
 
+/// The searches in the order of keys. A walk begins with one of them.
+#[derive(Clone, Copy, Debug, PartialEq, Eq)]
+pub enum Search {
+    /// The least key from this one on.
+    First,
+    /// The least key above this one.
+    Next,
+    /// The greatest key up to this one.
+    Last,
+    /// The greatest key below this one.
+    Prev,
+}
+
 /// A call of a set of words (Judy1(3)). A search answers the index that it finds, or that there is
-/// none.
+/// none. A walk answers as many entries as fit into a reply, at most its last argument: what the search
+/// finds, and each time what follows it in the same direction.
 #[derive(Clone, Copy, Debug, PartialEq, Eq)]
 pub enum OneCall {
     /// Inserts the index. The reply says whether it was new.
@@ -54,6 +70,10 @@ pub enum OneCall {
     LastEmpty(u64),
     /// The greatest absent index below this one.
     PrevEmpty(u64),
+    /// A walk over the indexes in the set.
+    Walk(Search, u64, u16),
+    /// A walk over the absent indexes.
+    WalkEmpty(Search, u64, u16),
     /// Removes all indexes. The reply is how many there were.
     Free,
 }
@@ -110,6 +130,10 @@ pub enum LongCall {
     LastEmpty(u64),
     /// The greatest absent index below this one.
     PrevEmpty(u64),
+    /// A walk over the indexes in the map, each with its value.
+    Walk(Search, u64, u16),
+    /// A walk over the absent indexes.
+    WalkEmpty(Search, u64, u16),
     /// Removes all indexes. The reply is how many there were.
     Free,
 }
@@ -141,6 +165,8 @@ pub enum StrCall<'a> {
     Last(Key<'a>),
     /// The greatest string in the map below this one.
     Prev(Key<'a>),
+    /// A walk over the strings in the map, each with its value.
+    Walk(Search, Key<'a>, u16),
     /// Removes all strings. The reply is how many there were.
     Free,
 }
@@ -267,6 +293,42 @@ impl Given {
     }
 }
 
+impl Search {
+    /// The search that goes on behind the key that this one found.
+    pub fn on(self) -> Search
+        ensures { result ≡ search_on self }
+    {
+        match self {
+            Search::First | Search::Next => Search::Next,
+            Search::Last | Search::Prev => Search::Prev,
+        }
+    }
+
+    /// What a walk over entries does, by the search that it begins with.
+    pub fn operation(self) -> Operation
+        ensures { result ≡ search_operation self }
+    {
+        match self {
+            Search::First => Operation::First,
+            Search::Next => Operation::Next,
+            Search::Last => Operation::Last,
+            Search::Prev => Operation::Prev,
+        }
+    }
+
+    /// What a walk over absent words does.
+    pub fn empty_operation(self) -> Operation
+        ensures { result ≡ empty_operation self }
+    {
+        match self {
+            Search::First => Operation::FirstEmpty,
+            Search::Next => Operation::NextEmpty,
+            Search::Last => Operation::LastEmpty,
+            Search::Prev => Operation::PrevEmpty,
+        }
+    }
+}
+
 impl OneCall {
     /// What the call does to the set.
     pub fn operation(&self) -> Operation
@@ -286,6 +348,8 @@ impl OneCall {
             OneCall::NextEmpty(_) => Operation::NextEmpty,
             OneCall::LastEmpty(_) => Operation::LastEmpty,
             OneCall::PrevEmpty(_) => Operation::PrevEmpty,
+            OneCall::Walk(search, _, _) => search.operation(),
+            OneCall::WalkEmpty(search, _, _) => search.empty_operation(),
             OneCall::Free => Operation::Free,
         }
     }
@@ -320,6 +384,8 @@ impl LongCall {
             LongCall::NextEmpty(_) => Operation::NextEmpty,
             LongCall::LastEmpty(_) => Operation::LastEmpty,
             LongCall::PrevEmpty(_) => Operation::PrevEmpty,
+            LongCall::Walk(search, _, _) => search.operation(),
+            LongCall::WalkEmpty(search, _, _) => search.empty_operation(),
             LongCall::Free => Operation::Free,
         }
     }
@@ -357,6 +423,7 @@ impl<'a> StrCall<'a> {
             StrCall::Next(_) => Operation::Next,
             StrCall::Last(_) => Operation::Last,
             StrCall::Prev(_) => Operation::Prev,
+            StrCall::Walk(search, _, _) => search.operation(),
             StrCall::Free => Operation::Free,
         }
     }

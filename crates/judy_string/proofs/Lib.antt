@@ -25,3 +25,5 @@ mod Taking
 mod Shows
 mod WellFormed
 mod MapLaws
+mod Walking
+mod WalkKeys

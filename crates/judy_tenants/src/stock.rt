@@ -10,12 +10,11 @@ ghost use Rattle.judy_tenants.specs.States.{IsHeld};
 ghost use Rattle.judy_tenants.specs.Stocks.{HasNoReserveIn, IsExchange, IsRefusedIn};
 
 use crate::accounts::{Account, has_room};
-use arrayvec::ArrayVec;
 use judy_arena::{Arena, NoMemory};
 use judy_bytes::KeyHash;
 use judy_directory::{Directory, Place, Spot};
 use judy_kinds::{answer, asks};
-use judy_model::{Call, KEY_LIMIT, Quota, Reply};
+use judy_model::{Call, Quota, Reply, ReplyRoom};
 use std::alloc::Global;
 
 /// All arrays, the directory of their places, each tenant's account, how many new names the
@@ -109,7 +108,7 @@ pub fn exchange<'a, H: KeyHash>(
     hash: H,
     spot: &Spot,
     call: &Call<'_>,
-    found: &'a mut ArrayVec<u8, KEY_LIMIT>,
+    found: &'a mut ReplyRoom,
 ) -> Result<Answered<'a>, NoMemory>
     requires held { IsHeld H.hashed stock.old.arena.blocks stock.old.directory.0 }
     requires few { (at stock.old.directory.0 spot.now).pieces < 2 ^ 63 }
@@ -135,7 +134,7 @@ fn look_up<'a, H: KeyHash>(
     hash: H,
     spot: &Spot,
     call: &Call<'_>,
-    found: &'a mut ArrayVec<u8, KEY_LIMIT>,
+    found: &'a mut ReplyRoom,
 ) -> Result<Answered<'a>, NoMemory>
     requires held { IsHeld H.hashed stock.old.arena.blocks stock.old.directory.0 }
     requires few { (at stock.old.directory.0 spot.now).pieces < 2 ^ 63 }
@@ -176,7 +175,7 @@ fn enter<'a, H: KeyHash>(
     hash: H,
     spot: &Spot,
     call: &Call<'_>,
-    found: &'a mut ArrayVec<u8, KEY_LIMIT>,
+    found: &'a mut ReplyRoom,
 ) -> Result<Answered<'a>, NoMemory>
     requires held { IsHeld H.hashed stock.old.arena.blocks stock.old.directory.0 }
     requires few { (at stock.old.directory.0 spot.now).pieces < 2 ^ 63 }

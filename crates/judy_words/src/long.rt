@@ -13,7 +13,7 @@ ghost use Rattle.judy_tree.specs.Changes.{IsRefused};
 ghost use Rattle.judy_query.specs.Keys.{key_found};
 
 use judy_arena::{Arena, NoMemory};
-use judy_model::{Given, LongCall, Reply};
+use judy_model::{Given, Listing, LongCall, Reply};
 use judy_query::Finger;
 use judy_refs::Ref;
 use judy_tree::{Inserted, Root};
@@ -361,7 +361,7 @@ impl JudyL {
     }
 
     // Replies to a call that changes nothing.
-    fn look(&self, arena: &Arena, call: LongCall) -> Reply<'static>
+    fn look<'a>(&self, arena: &Arena, call: LongCall, listing: &'a mut Listing) -> Reply<'a>
         requires array { IsLongArray arena.now.blocks self.now }
         requires query { IsFalse (long_changes call) }
         ensures { LongLooks arena.now self.now call result }
@@ -378,6 +378,8 @@ impl JudyL {
             LongCall::NextEmpty(x) => absent_reply(self.next_empty(arena, x)),
             LongCall::LastEmpty(x) => absent_reply(self.last_empty(arena, x)),
             LongCall::PrevEmpty(x) => absent_reply(self.prev_empty(arena, x)),
+            LongCall::Walk(search, x, n) => self.walk(arena, search, x, n, listing),
+            LongCall::WalkEmpty(search, x, n) => self.walk_empty(arena, search, x, n, listing),
             LongCall::Insert(..)
             | LongCall::Keep(..)
             | LongCall::Exchange(..)
@@ -452,16 +454,17 @@ impl JudyL {
         Ok(given.value_replied(value))
     }
 
-    /// Replies to a call as its method does.
+    /// Replies to a call as its method does. The text of a walk is put into `listing`.
     ///
     /// Err means that the arena refused a block. It comes only if the call inserts an index that
     /// was absent. It changes no block and no reference.
-    pub fn answer(
+    pub fn answer<'a>(
         &mut self,
         alloc: Global,
         arena: &mut Arena,
         call: LongCall,
-    ) -> Result<Reply<'static>, NoMemory>
+        listing: &'a mut Listing,
+    ) -> Result<Reply<'a>, NoMemory>
         requires { IsLongArray arena.old.blocks self.old }
         ensures array { LongBecomes arena.old self.old arena.new self.new }
         ensures space { HasLongSpace arena.new self.new }
@@ -489,7 +492,7 @@ impl JudyL {
             _ => {
                 judy_tree::laws::nothing_changes();
                 judy_tree::laws::roots_have_space();
-                Ok(self.look(arena, call))
+                Ok(self.look(arena, call, listing))
             }
         }
     }

@@ -12,7 +12,7 @@ ghost use Rattle.judy_tree.specs.Changes.{IsRefused};
 ghost use Rattle.judy_query.specs.Keys.{key_found};
 
 use judy_arena::{Arena, NoMemory};
-use judy_model::{OneCall, Reply};
+use judy_model::{Listing, OneCall, Reply};
 use judy_refs::Ref;
 use judy_tree::Root;
 use std::alloc::Global;
@@ -210,7 +210,7 @@ impl Judy1 {
     }
 
     // Replies to a call that changes nothing.
-    fn look(&self, arena: &Arena, call: OneCall) -> Reply<'static>
+    fn look<'a>(&self, arena: &Arena, call: OneCall, listing: &'a mut Listing) -> Reply<'a>
         requires array { IsOneArray arena.now.blocks self.now }
         requires query { IsFalse (one_changes call) }
         ensures { OneLooks arena.now self.now call result }
@@ -227,6 +227,8 @@ impl Judy1 {
             OneCall::NextEmpty(x) => shown(self.next_empty(arena, x)),
             OneCall::LastEmpty(x) => shown(self.last_empty(arena, x)),
             OneCall::PrevEmpty(x) => shown(self.prev_empty(arena, x)),
+            OneCall::Walk(search, x, n) => self.walk(arena, search, x, n, listing),
+            OneCall::WalkEmpty(search, x, n) => self.walk_empty(arena, search, x, n, listing),
             OneCall::Set(_) | OneCall::Unset(_) | OneCall::Free => unreachable!(),
         }
     }
@@ -252,16 +254,17 @@ impl Judy1 {
         self.root.population(arena)
     }
 
-    /// Replies to a call as its method does.
+    /// Replies to a call as its method does. The text of a walk is put into `listing`.
     ///
     /// Err means that the arena refused a block. It comes only if the call sets an index that was
     /// unset. It changes no block and no reference.
-    pub fn answer(
+    pub fn answer<'a>(
         &mut self,
         alloc: Global,
         arena: &mut Arena,
         call: OneCall,
-    ) -> Result<Reply<'static>, NoMemory>
+        listing: &'a mut Listing,
+    ) -> Result<Reply<'a>, NoMemory>
         requires { IsOneArray arena.old.blocks self.old }
         ensures array { OneBecomes arena.old self.old arena.new self.new }
         ensures space { HasOneSpace arena.new self.new }
@@ -282,7 +285,7 @@ impl Judy1 {
             _ => {
                 judy_tree::laws::nothing_changes();
                 judy_tree::laws::roots_have_space();
-                Ok(self.look(arena, call))
+                Ok(self.look(arena, call, listing))
             }
         }
     }
