@@ -306,6 +306,17 @@ def remove(owner, kind, name, key, value=None):
     return b"1" if owner.remove(kind, name, key) else b"0"
 
 
+def pop(owner, kind, name, key, most=None):
+    """The removal of the least key from this one on, up to another index: the reply of the search for it."""
+    array = owner.array(kind, name)
+    found = array.first(key)
+    if found is None or (most is not None and found > most):
+        return b"0" if kind == SET else b"NULL"
+    reply = index(found) if kind == SET else b"V " + entry_text(kind, array, found)
+    owner.remove(kind, name, found)
+    return reply
+
+
 def take(owner, kind, name, key):
     """The removal of a key: its value, or NULL."""
     before = look(owner, kind, name, key)
@@ -392,12 +403,14 @@ def index(found):
 
 class Operation(NamedTuple):
     """An operation: its step; its fields after the name, k for a key of the kind and w for a word; those that
-    may follow, n for a number of entries, and a word except for a set; and what it does to the entries."""
+    may follow, n for a number of entries, and a word except for a set; what it does to the entries; and the
+    fields that follow an index, but no key."""
 
     step: Callable
     must: str
     may: str = ""
     does: str = LOOKS
+    of_words: str = ""
 
 
 OPERATIONS = {
@@ -407,6 +420,7 @@ OPERATIONS = {
     "Exchange": Operation(exchange, "kww", "", EXCHANGES),
     "Remove": Operation(remove, "k", "w", REMOVES),
     "Take": Operation(take, "k", "", REMOVES),
+    "Pop": Operation(pop, "k", "", REMOVES, "w"),
     "Look": Operation(look, "k"),
     "Count": Operation(count, "kk"),
     "Nth": Operation(finds(Entries.nth), "w"),
@@ -439,7 +453,8 @@ def command_of(word, kind, name):
     operation = OPERATIONS[name]
     readers = {"k": {"Str": read_string, "Bytes": read_bytes}.get(kind, read_word), "w": read_word, "n": read_most}
     may = operation.may.replace("w", "") if kind == SET else operation.may
-    return Command(kind, operation, tuple(map(readers.get, operation.must)), tuple(map(readers.get, may)))
+    must = operation.must + (operation.of_words if kind in ("One", "Long") else "")
+    return Command(kind, operation, tuple(map(readers.get, must)), tuple(map(readers.get, may)))
 
 
 COMMANDS = {word.encode(): command_of(word, *it) for word, it in commands.COMMANDS.items()}

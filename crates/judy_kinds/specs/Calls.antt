@@ -54,6 +54,7 @@ has_key_string (str.Exchange k old new) = is_string k
 has_key_string (str.Delete k) = is_string k
 has_key_string (str.DeleteIf k v) = is_string k
 has_key_string (str.Take k) = is_string k
+has_key_string (str.Pop k) = is_string k
 has_key_string (str.Get k) = is_string k
 has_key_string (str.First k) = is_string k
 has_key_string (str.Next k) = is_string k

@@ -42,6 +42,7 @@ fn has_key_string(call: &StrCall<'_>) -> bool
         | StrCall::Delete(key)
         | StrCall::DeleteIf(key, _)
         | StrCall::Take(key)
+        | StrCall::Pop(key)
         | StrCall::Get(key)
         | StrCall::First(key)
         | StrCall::Next(key)

@@ -13,6 +13,7 @@ ghost use Rattle.judy_string.specs.StringArrays.{IsKeyString, IsStringArray, str
 ghost use Rattle.judy_tree.specs.Changes.{IsShort};
 
 use crate::counts;
+use arrayvec::ArrayVec;
 use judy_arena::{Arena, NoMemory};
 use judy_directory::Place;
 use judy_model::{Given, KEY_LIMIT, Key, Reply, ReplyRoom, StrCall};
@@ -84,6 +85,7 @@ pub(crate) fn answer<'a>(
         StrCall::Delete(key) => Ok(delete(arena, place, key)),
         StrCall::DeleteIf(key, value) => Ok(delete_if(arena, place, key, *value)),
         StrCall::Take(key) => Ok(take(arena, place, key)),
+        StrCall::Pop(key) => Ok(pop(arena, place, key, &mut found.key)),
         StrCall::Free => Ok(clear(arena, place)),
         _ => {
             judy_string::laws::blocks_are_live();
@@ -228,6 +230,34 @@ fn take(arena: &mut Arena, place: Place, key: &Key<'_>) -> (Reply<'static>, Plac
     (value_reply(had), place)
 }
 
+/// Removes the least string from this one on, and shows it.
+fn pop<'a>(
+    arena: &mut Arena,
+    place: Place,
+    key: &Key<'_>,
+    buffer: &'a mut ArrayVec<u8, KEY_LIMIT>,
+) -> (Reply<'a>, Place)
+    requires key { IsTrue (is_string key.now) }
+    requires array { IsStringArray arena.old.blocks place.root }
+    requires counts { HasCounts string_pieces (string_in arena.old.blocks place.root) place }
+    ensures array { StringBecomes arena.old place.root arena.new result.1.root }
+    ensures counts { HasCounts string_pieces (string_in arena.new.blocks result.1.root) result.1 }
+    ensures step { StringAnswers arena.old place.root (str.Pop key.now) result.0 arena.new
+        result.1.root }
+    ensures memory { TakesNothing arena.old arena.new }
+{
+    judy_string::laws::blocks_are_live();
+    let map = JudySL::from_reference(place.root);
+    match map.first(arena, string_of(key), buffer) {
+        Some(value) => {
+            let found = Key::of(buffer.as_slice());
+            let (_, place) = delete(arena, place, &found);
+            (Reply::ValueKey(value, found), place)
+        }
+        None => (Reply::Null, place),
+    }
+}
+
 /// Removes a string if it has this value.
 fn delete_if(arena: &mut Arena, place: Place, key: &Key<'_>, value: u64) -> (Reply<'static>, Place)
     requires key { IsTrue (is_string key.now) }
@@ -298,6 +328,7 @@ fn look<'a>(arena: &Arena, root: Ref, call: &StrCall<'_>, found: &'a mut ReplyRo
         | StrCall::Delete(_)
         | StrCall::DeleteIf(..)
         | StrCall::Take(_)
+        | StrCall::Pop(_)
         | StrCall::Free => unreachable!(),
     }
 }

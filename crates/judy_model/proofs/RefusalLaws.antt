@@ -12,7 +12,7 @@ use Rattle.judy_model.specs.declared.quotas.Right.TheVariants.{Change, Look, Fro
 use Rattle.judy_model.specs.declared.replies.Reply.{Reply}
 use Rattle.judy_model.specs.declared.replies.Reply.TheVariants as reply
 use Rattle.judy_model.specs.Contents.{Order, Entries, word_order, string_order, value_of, has_key}
-use Rattle.judy_model.specs.Tenant.Effect.{Insert, Keep, Exchange, Remove, Take, RemoveIf, Free, Ask}
+use Rattle.judy_model.specs.Tenant.Effect.{Insert, Keep, Exchange, Remove, Take, RemoveIf, Pop, Free, Ask}
 use Rattle.judy_model.specs.Tenant.Answer.{Yes, Number, Index, Absent, ValueOf, ValueAt, ValueKey, Listed}
 use Rattle.judy_model.specs.Tenant.Reports.{ReportsNew, ReportsValue}
 use Rattle.judy_model.specs.Tenant.{keep_over, exchange_over, remove_over}
@@ -20,6 +20,9 @@ use Rattle.judy_model.specs.Tenant.{Effect, Answer, Reports, State, content_of, 
 use Rattle.judy_model.specs.Tenant.{value_at_or_null, value_key_or_null, value_or_null, absent_or_no, reply_of, effect_step, effect_changes}
 use Rattle.judy_model.specs.Tenant.{effect_asks_for_new, one_effect, long_effect, string_effect, bytes_effect, changes}
 use Rattle.judy_model.specs.Tenant.{is_read_only, refusal_of, asks_for_new, has_room, allowed_step, step}
+use Rattle.judy_model.specs.Tenant.{Lack, Shown, lack_reply, pop_over, shown_reply}
+use Rattle.judy_model.specs.Tenant.Shown.{AnIndex, AnEntry, AString}
+use Rattle.judy_model.specs.Tenant.Lack.{NoIndex, NoEntry}
 use Rattle.judy_model.specs.Solo.{is_memory, StepHasMemory}
 use Rattle.judy_model.specs.WellFormed.{is_one_entry, is_long_entry, is_string_entry, is_bytes_entry, IsWellFormed, FullIsForNew, LooksKeepAll, QueriesKeepAll}
 use Rattle.judy_model.proofs.lemmas.FormLemmas.{with_content_same}
@@ -58,6 +61,16 @@ value_found None = refl
 absent_found : (o : Option ℕ) → refusal (absent_or_no o) ≡ 0
 absent_found (Some v) = refl
 absent_found None = refl
+
+-- nor is an entry that is shown, or its lack
+shown_found : (s : Shown) → refusal (shown_reply s) ≡ 0
+shown_found (AnIndex i) = refl
+shown_found (AnEntry v i) = refl
+shown_found (AString v key) = refl
+
+lacked : (lack : Lack) → refusal (lack_reply lack) ≡ 0
+lacked NoIndex = refl
+lacked NoEntry = refl
 
 -- nor is any other answer
 answered : (a : Answer) → refusal (reply_of a) ≡ 0
@@ -103,6 +116,11 @@ effect_refusal order room l (RemoveIf k v) = by (value_of order l k)
     by : (had : Option ℕ) → refusal (remove_over order l k v had).0 ≡ 0
     by (Some w) = refl
     by None = refl
+effect_refusal order room l (Pop find show lack) = by (find l)
+  where
+    by : (found : Option (K × ℕ)) → refusal (pop_over order l show lack found).0 ≡ 0
+    by (Some e) = shown_found (show e)
+    by None = lacked lack
 effect_refusal order room l Free = refl
 effect_refusal order room l (Ask answer) = answered (answer l)
 
@@ -143,6 +161,8 @@ effect_kept order room l (RemoveIf k v) (inl h) = cc
 effect_kept order room l (RemoveIf k v) (inr h) = cc
 effect_kept order room l (Remove k) (inl h) = cc
 effect_kept order room l (Remove k) (inr h) = cc
+effect_kept order room l (Pop find show lack) (inl h) = cc
+effect_kept order room l (Pop find show lack) (inr h) = cc
 effect_kept order room l Free (inl h) = cc
 effect_kept order room l Free (inr h) = cc
 effect_kept order room l (Ask answer) h = refl
@@ -155,6 +175,7 @@ effect_asks_nothing order l (Exchange k old new) h = refl
 effect_asks_nothing order l (Remove k) h = refl
 effect_asks_nothing order l (Take k) h = refl
 effect_asks_nothing order l (RemoveIf k v) h = refl
+effect_asks_nothing order l (Pop find show lack) h = refl
 effect_asks_nothing order l Free h = refl
 effect_asks_nothing order l (Ask answer) h = refl
 

@@ -19,12 +19,14 @@ use Rattle.judy_model.specs.declared.replies.Reply.{Reply}
 use Rattle.judy_model.specs.declared.replies.Reply.TheVariants as reply
 use Rattle.judy_model.specs.Grammar.{are_bytes, is_string, is_byte_key}
 use Rattle.judy_model.specs.Contents.{Order, Entries, word_order, string_order, value_of, has_key, with_entry, without_key}
-use Rattle.judy_model.specs.Tenant.Effect.{Insert, Keep, Exchange, Remove, Take, RemoveIf, Free, Ask}
+use Rattle.judy_model.specs.Tenant.Effect.{Insert, Keep, Exchange, Remove, Take, RemoveIf, Pop, Free, Ask}
 use Rattle.judy_model.specs.Tenant.Reports.{ReportsNew, ReportsValue}
 use Rattle.judy_model.specs.Tenant.{keep_over, exchange_over, remove_over, value_or_null}
 use Rattle.judy_model.specs.Tenant.{Effect, State, content_of, with_content, value_after, value_replied, insert_over, insert, delete, free}
 use Rattle.judy_model.specs.Tenant.{effect_step, one_effect, long_effect, string_effect, bytes_effect, changes, has_room, allowed_step, step}
-use Rattle.judy_model.specs.Unchanged.{keeps, insertion_leaves, says_no, says_none, says_some, says_null, says_other, effect_leaves, leaves, UnchangedAreTold}
+use Rattle.judy_model.specs.Tenant.{Lack, Shown, pop_over, shown_reply}
+use Rattle.judy_model.specs.Tenant.Shown.{AnIndex, AnEntry, AString}
+use Rattle.judy_model.specs.Unchanged.{keeps, insertion_leaves, says_no, says_none, says_some, says_null, says_other, effect_leaves, leaves, UnchangedAreTold, says_nothing}
 use Rattle.judy_model.specs.WellFormed.{is_word, is_one_entry, is_long_entry, is_string_entry, is_bytes_entry, is_content, IsWellFormed}
 use Rattle.judy_model.proofs.lemmas.FormLemmas.{content_form, found_passes, names_apart, with_content_same}
 use Rattle.judy_model.proofs.lemmas.StateLemmas.{and_left, and_right, is_Equal}
@@ -145,6 +147,17 @@ remove_left order l k v None h = refl
 remove_left order l k v (Some w) h = elim (w == v) as (λ b. not b ≡ true → cond b (without_key order l k) l ≡ l)
     [ true ↦ λ e. cc | false ↦ λ e. refl ] h
 
+-- an entry that is popped is shown
+pop_left : {K : Type 0} (order : Order K) (l : Entries K) (show : K × ℕ → Shown) (lack : Lack) (found : Option (K × ℕ))
+    → says_nothing (pop_over order l show lack found).0 ≡ true → (pop_over order l show lack found).1 ≡ l
+pop_left order l show lack None h = refl
+pop_left order l show lack (Some e) h = absurd (by (show e) h)
+  where
+    by : (s : Shown) → says_nothing (shown_reply s) ≡ true → ⊥
+    by (AnIndex i) h = cc
+    by (AnEntry v i) h = cc
+    by (AString v key) h = cc
+
 free_left : {K : Type 0} (l : Entries K) → says_none (free l).0 ≡ true → (free l).1 ≡ l
 free_left [] h = refl
 free_left (e ∷ es) h = let no = eqb-true (length (e ∷ es)) 0 h in absurd (omega (arith, no))
@@ -179,6 +192,7 @@ effect_left order total same test words room l (Exchange k old new) form h = exc
 effect_left order total same test words room l (Take k) form h = take_left order total same test l k form h
 effect_left order total same test words room l (RemoveIf k v) form h = remove_left order l k v (value_of order l k) h
 effect_left order total same test words room l (Remove k) form h = delete_left order total same test l k form h
+effect_left order total same test words room l (Pop find show lack) form h = pop_left order l show lack (find l) h
 effect_left order total same test words room l Free form h = free_left l h
 effect_left order total same test words room l (Ask answer) form h = refl
 

@@ -28,7 +28,7 @@ use Rattle.judy_model.specs.declared.commands.Kind.TheVariants.{One, Long, Str, 
 use Rattle.judy_model.specs.declared.commands.Numbers.{Numbers}
 use Rattle.judy_model.specs.declared.commands.Numbers.TheVariants as numbers
 use Rattle.judy_model.specs.declared.commands.Operation.{Operation}
-use Rattle.judy_model.specs.declared.commands.Operation.TheVariants.{Insert, Add, Keep, Exchange, Remove, Take, Look, Count, Nth, First, Next, Last, Prev, Free}
+use Rattle.judy_model.specs.declared.commands.Operation.TheVariants.{Insert, Add, Keep, Exchange, Remove, Take, Look, Count, Nth, First, Next, Last, Prev, Free, Pop}
 use Rattle.judy_model.specs.declared.commands.Operation.TheVariants.{FirstEmpty, NextEmpty, LastEmpty, PrevEmpty}
 
 -- what does this to an array of this kind
@@ -38,19 +38,19 @@ to kind operation = record { kind = kind; operation = operation }
 -- the commands, by kind
 abbrev pub commands : List (List ℕ × Command)
 commands =
-    (codes "J1S", to One Insert) ∷ (codes "J1U", to One Remove) ∷ (codes "J1T", to One Look)
+    (codes "J1S", to One Insert) ∷ (codes "J1U", to One Remove) ∷ (codes "J1UF", to One Pop) ∷ (codes "J1T", to One Look)
     ∷ (codes "J1C", to One Count) ∷ (codes "J1BC", to One Nth)
     ∷ (codes "J1F", to One First) ∷ (codes "J1N", to One Next) ∷ (codes "J1L", to One Last) ∷ (codes "J1P", to One Prev)
     ∷ (codes "J1FE", to One FirstEmpty) ∷ (codes "J1NE", to One NextEmpty)
     ∷ (codes "J1LE", to One LastEmpty) ∷ (codes "J1PE", to One PrevEmpty) ∷ (codes "J1FA", to One Free)
     ∷ (codes "JLI", to Long Insert) ∷ (codes "JLA", to Long Add) ∷ (codes "JLK", to Long Keep) ∷ (codes "JLX", to Long Exchange)
-    ∷ (codes "JLD", to Long Remove) ∷ (codes "JLT", to Long Take) ∷ (codes "JLG", to Long Look)
+    ∷ (codes "JLD", to Long Remove) ∷ (codes "JLDF", to Long Pop) ∷ (codes "JLT", to Long Take) ∷ (codes "JLG", to Long Look)
     ∷ (codes "JLC", to Long Count) ∷ (codes "JLBC", to Long Nth)
     ∷ (codes "JLF", to Long First) ∷ (codes "JLN", to Long Next) ∷ (codes "JLL", to Long Last) ∷ (codes "JLP", to Long Prev)
     ∷ (codes "JLFE", to Long FirstEmpty) ∷ (codes "JLNE", to Long NextEmpty)
     ∷ (codes "JLLE", to Long LastEmpty) ∷ (codes "JLPE", to Long PrevEmpty) ∷ (codes "JLFA", to Long Free)
     ∷ (codes "JSLI", to Str Insert) ∷ (codes "JSLA", to Str Add) ∷ (codes "JSLK", to Str Keep) ∷ (codes "JSLX", to Str Exchange)
-    ∷ (codes "JSLD", to Str Remove) ∷ (codes "JSLT", to Str Take) ∷ (codes "JSLG", to Str Look)
+    ∷ (codes "JSLD", to Str Remove) ∷ (codes "JSLDF", to Str Pop) ∷ (codes "JSLT", to Str Take) ∷ (codes "JSLG", to Str Look)
     ∷ (codes "JSLF", to Str First) ∷ (codes "JSLN", to Str Next) ∷ (codes "JSLL", to Str Last) ∷ (codes "JSLP", to Str Prev)
     ∷ (codes "JSLFA", to Str Free)
     ∷ (codes "JHSI", to Bytes Insert) ∷ (codes "JHSA", to Bytes Add) ∷ (codes "JHSK", to Bytes Keep) ∷ (codes "JHSX", to Bytes Exchange)
@@ -95,6 +95,7 @@ operation_number NextEmpty = 14
 operation_number LastEmpty = 15
 operation_number PrevEmpty = 16
 operation_number Free = 17
+operation_number Pop = 18
 
 -- whether two commands are one
 abbrev pub is_same : Command → Command → Bool
@@ -137,6 +138,7 @@ one_with FirstEmpty (numbers.Two i n) = option_map (λ k. one.WalkEmpty search.F
 one_with NextEmpty (numbers.Two i n) = option_map (λ k. one.WalkEmpty search.Next i k) (entries_of n)
 one_with LastEmpty (numbers.Two i n) = option_map (λ k. one.WalkEmpty search.Last i k) (entries_of n)
 one_with PrevEmpty (numbers.Two i n) = option_map (λ k. one.WalkEmpty search.Prev i k) (entries_of n)
+one_with Pop (numbers.Two i k) = Some (one.Pop i k)
 one_with Free numbers.Nothing = Some one.Free
 one_with _ _ = None
 
@@ -169,6 +171,7 @@ long_with FirstEmpty (numbers.Two i n) = option_map (λ k. long.WalkEmpty search
 long_with NextEmpty (numbers.Two i n) = option_map (λ k. long.WalkEmpty search.Next i k) (entries_of n)
 long_with LastEmpty (numbers.Two i n) = option_map (λ k. long.WalkEmpty search.Last i k) (entries_of n)
 long_with PrevEmpty (numbers.Two i n) = option_map (λ k. long.WalkEmpty search.Prev i k) (entries_of n)
+long_with Pop (numbers.Two i k) = Some (long.Pop i k)
 long_with Free numbers.Nothing = Some long.Free
 long_with _ _ = None
 
@@ -191,6 +194,7 @@ string_with First key (numbers.One n) = option_map (λ k. str.Walk search.First 
 string_with Next key (numbers.One n) = option_map (λ k. str.Walk search.Next key k) (entries_of n)
 string_with Last key (numbers.One n) = option_map (λ k. str.Walk search.Last key k) (entries_of n)
 string_with Prev key (numbers.One n) = option_map (λ k. str.Walk search.Prev key k) (entries_of n)
+string_with Pop key numbers.Nothing = Some (str.Pop key)
 string_with _ key _ = None
 
 -- of a JudyHS, with a key
@@ -248,6 +252,7 @@ one_operation (one.FirstEmpty i) = FirstEmpty
 one_operation (one.NextEmpty i) = NextEmpty
 one_operation (one.LastEmpty i) = LastEmpty
 one_operation (one.PrevEmpty i) = PrevEmpty
+one_operation (one.Pop i k) = Pop
 one_operation (one.Walk search i n) = search_operation search
 one_operation (one.WalkEmpty search i n) = empty_operation search
 one_operation one.Free = Free
@@ -271,6 +276,7 @@ long_operation (long.FirstEmpty i) = FirstEmpty
 long_operation (long.NextEmpty i) = NextEmpty
 long_operation (long.LastEmpty i) = LastEmpty
 long_operation (long.PrevEmpty i) = PrevEmpty
+long_operation (long.Pop i k) = Pop
 long_operation (long.Walk search i n) = search_operation search
 long_operation (long.WalkEmpty search i n) = empty_operation search
 long_operation long.Free = Free
@@ -288,6 +294,7 @@ string_operation (str.First key) = First
 string_operation (str.Next key) = Next
 string_operation (str.Last key) = Last
 string_operation (str.Prev key) = Prev
+string_operation (str.Pop key) = Pop
 string_operation (str.Walk search key n) = search_operation search
 string_operation str.Free = Free
 

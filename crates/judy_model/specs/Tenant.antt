@@ -1,5 +1,5 @@
 -- One tenant's arrays. The reply to each call, and the arrays after it.
-use Rattle.std.specs.Prelude.{◌≡◌, ℕ, ◌+◌, ◌%◌, ◌^◌, Bool, true, false, not, ◌&&◌, ◌==◌, List, [], ◌∷◌, ◌++◌, map, length, Option, Some, None, nat_lt, nat_le, if◌then◌else◌, is_none, unwrap_or, sum_by, filter}
+use Rattle.std.specs.Prelude.{◌≡◌, ℕ, ◌+◌, ◌%◌, ◌^◌, Bool, true, false, not, ◌&&◌, ◌==◌, List, [], ◌∷◌, ◌++◌, map, length, Option, Some, None, nat_lt, nat_le, if◌then◌else◌, is_none, unwrap_or, sum_by, filter, option_and_then}
 use Rattle.std.specs.Ordering.{eq_by_cmp}
 use Rattle.std.specs.FinMap.{find, put}
 use Rattle.judy_model.specs.declared.calls.Call.{Call}
@@ -121,10 +121,34 @@ reply_of (ValueAt o) = value_at_or_null o
 reply_of (ValueKey o) = value_key_or_null o
 reply_of (Listed texts) = reply.Entries (listed texts).0 (listed texts).1
 
+-- an entry that a removal shows
+pub data Shown : Type 0 where
+  -- the index of one of a set
+  AnIndex : ℕ → Shown
+  -- the value and the index of one of a JudyL
+  AnEntry : ℕ → ℕ → Shown
+  -- the value and the string of one of a JudySL
+  AString : ℕ → List ℕ → Shown
+
+-- the reply that shows it
+abbrev pub shown_reply : Shown → Reply
+shown_reply (AnIndex i) = reply.Index i
+shown_reply (AnEntry v i) = reply.ValueAt v i
+shown_reply (AString v key) = reply.ValueKey v key
+
 -- what the reply to an insertion shows: whether the key was new, or a value
 pub data Reports : Type 0 where
   ReportsNew : Reports
   ReportsValue : Reports
+
+-- the reply if a search finds nothing: `0` of a set, `NULL` of a map
+pub data Lack : Type 0 where
+  NoIndex : Lack
+  NoEntry : Lack
+
+abbrev pub lack_reply : Lack → Reply
+lack_reply NoIndex = reply.Int false
+lack_reply NoEntry = reply.Null
 
 -- What a call does to the entries of an array. A call of a kind of array is one of these with a key of that
 -- kind.
@@ -141,6 +165,8 @@ pub data Effect (K : Type 0) : Type 0 where
   Take : K → Effect K
   -- removes a key if it has this value; the reply says whether it had
   RemoveIf : K → ℕ → Effect K
+  -- removes the entry that is found, and shows it
+  Pop : (Entries K → Option (K × ℕ)) → (K × ℕ → Shown) → Lack → Effect K
   -- removes all entries; the reply is how many there were
   Free : Effect K
   -- changes nothing
@@ -192,6 +218,11 @@ remove_over order l k v None = (reply.Int false, l)
 abbrev pub delete : {K : Type 0} → Order K → Entries K → K → Reply × Entries K
 delete order l k = (reply.Int (has_key order l k), without_key order l k)
 
+-- removes an entry that was found
+abbrev pub pop_over : {K : Type 0} → Order K → Entries K → (K × ℕ → Shown) → Lack → Option (K × ℕ) → Reply × Entries K
+pop_over order l show lack (Some e) = (shown_reply (show e), without_key order l e.0)
+pop_over order l show lack None = (lack_reply lack, l)
+
 -- removes all entries
 abbrev pub free : {K : Type 0} → Entries K → Reply × Entries K
 free l = (reply.Count (length l), [])
@@ -204,6 +235,7 @@ effect_step order room l (Exchange k old new) = exchange_over order l k old new 
 effect_step order room l (Remove k) = delete order l k
 effect_step order room l (Take k) = (value_or_null (value_of order l k), without_key order l k)
 effect_step order room l (RemoveIf k v) = remove_over order l k v (value_of order l k)
+effect_step order room l (Pop find show lack) = pop_over order l show lack (find l)
 effect_step order room l Free = free l
 effect_step order room l (Ask answer) = (reply_of (answer l), l)
 
@@ -232,6 +264,10 @@ effect_pieces size _ = 0
 
 -- ---- the calls of each kind
 
+-- the least entry from x on, if its index is at most k
+abbrev pub first_up_to : Entries ℕ → ℕ → ℕ → Option (ℕ × ℕ)
+first_up_to l x k = option_and_then (λ e. if nat_le e.0 k then Some e else None) (first word_order l x)
+
 -- what a call of a set does: its values are 0
 abbrev pub one_effect : OneCall → Effect ℕ
 one_effect (one.Set x) = Insert x Nothing ReportsNew
@@ -247,6 +283,7 @@ one_effect (one.FirstEmpty x) = Ask (λ l. Absent (first_empty l x))
 one_effect (one.NextEmpty x) = Ask (λ l. Absent (next_empty l x))
 one_effect (one.LastEmpty x) = Ask (λ l. Absent (last_empty l x))
 one_effect (one.PrevEmpty x) = Ask (λ l. Absent (prev_empty l x))
+one_effect (one.Pop x k) = Pop (λ l. first_up_to l x k) (λ e. AnIndex e.0) NoIndex
 one_effect (one.Walk search x n) = Ask (λ l. Listed (map index_words (walk_indexes l search x n)))
 one_effect (one.WalkEmpty search x n) = Ask (λ l. Listed (map index_words (walk_empty l search x n)))
 one_effect one.Free = Free
@@ -270,6 +307,7 @@ long_effect (long.FirstEmpty x) = Ask (λ l. Absent (first_empty l x))
 long_effect (long.NextEmpty x) = Ask (λ l. Absent (next_empty l x))
 long_effect (long.LastEmpty x) = Ask (λ l. Absent (last_empty l x))
 long_effect (long.PrevEmpty x) = Ask (λ l. Absent (prev_empty l x))
+long_effect (long.Pop x k) = Pop (λ l. first_up_to l x k) (λ e. AnEntry e.1 e.0) NoEntry
 long_effect (long.Walk search x n) = Ask (λ l. Listed (map entry_words (walk word_order l search x n)))
 long_effect (long.WalkEmpty search x n) = Ask (λ l. Listed (map index_words (walk_empty l search x n)))
 long_effect long.Free = Free
@@ -287,6 +325,7 @@ string_effect (str.First x) = Ask (λ l. ValueKey (first string_order l x))
 string_effect (str.Next x) = Ask (λ l. ValueKey (next string_order l x))
 string_effect (str.Last x) = Ask (λ l. ValueKey (last string_order l x))
 string_effect (str.Prev x) = Ask (λ l. ValueKey (prev string_order l x))
+string_effect (str.Pop x) = Pop (λ l. first string_order l x) (λ e. AString e.1 e.0) NoEntry
 string_effect (str.Walk search x n) = Ask (λ l. Listed (map key_words (walk string_order l search x n)))
 string_effect str.Free = Free
 

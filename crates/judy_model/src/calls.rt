@@ -48,6 +48,9 @@ pub enum OneCall {
     Set(u64),
     /// Removes the index. The reply says whether it was present.
     Unset(u64),
+    /// Removes the least index that is at least the first argument, if it is at most the second. The reply is
+    /// that index, or that there is none.
+    Pop(u64, u64),
     /// Whether the index is in the set.
     Test(u64),
     /// The number of indexes in the set from the first argument to the second, inclusive.
@@ -108,6 +111,9 @@ pub enum LongCall {
     DeleteIf(u64, u64),
     /// Removes the index. The reply is its value, or that it was absent.
     Take(u64),
+    /// Removes the least index that is at least the first argument, if it is at most the second. The reply is
+    /// its value and that index, or that there is none.
+    Pop(u64, u64),
     /// The value of the index.
     Get(u64),
     /// The number of indexes in the map from the first argument to the second, inclusive.
@@ -155,6 +161,9 @@ pub enum StrCall<'a> {
     DeleteIf(Key<'a>, u64),
     /// Removes the string. The reply is its value, or that it was absent.
     Take(Key<'a>),
+    /// Removes the least string that is at least this one. The reply is its value and that string, or that there
+    /// is none.
+    Pop(Key<'a>),
     /// The value of the string.
     Get(Key<'a>),
     /// The least string in the map that is at least this one.
@@ -337,6 +346,7 @@ impl OneCall {
         match self {
             OneCall::Set(_) => Operation::Insert,
             OneCall::Unset(_) => Operation::Remove,
+            OneCall::Pop(..) => Operation::Pop,
             OneCall::Test(_) => Operation::Look,
             OneCall::Count(_, _) => Operation::Count,
             OneCall::ByCount(_) => Operation::Nth,
@@ -358,7 +368,10 @@ impl OneCall {
     pub fn changes(&self) -> bool
         ensures { result ≡ one_changes self.now }
     {
-        matches!(self, OneCall::Set(_) | OneCall::Unset(_) | OneCall::Free)
+        matches!(
+            self,
+            OneCall::Set(_) | OneCall::Unset(_) | OneCall::Pop(..) | OneCall::Free
+        )
     }
 }
 
@@ -373,6 +386,7 @@ impl LongCall {
             LongCall::Exchange(..) => Operation::Exchange,
             LongCall::Delete(_) | LongCall::DeleteIf(..) => Operation::Remove,
             LongCall::Take(_) => Operation::Take,
+            LongCall::Pop(..) => Operation::Pop,
             LongCall::Get(_) => Operation::Look,
             LongCall::Count(_, _) => Operation::Count,
             LongCall::ByCount(_) => Operation::Nth,
@@ -402,6 +416,7 @@ impl LongCall {
                 | LongCall::Delete(_)
                 | LongCall::DeleteIf(..)
                 | LongCall::Take(_)
+                | LongCall::Pop(..)
                 | LongCall::Free
         )
     }
@@ -418,6 +433,7 @@ impl<'a> StrCall<'a> {
             StrCall::Exchange(..) => Operation::Exchange,
             StrCall::Delete(_) | StrCall::DeleteIf(..) => Operation::Remove,
             StrCall::Take(_) => Operation::Take,
+            StrCall::Pop(_) => Operation::Pop,
             StrCall::Get(_) => Operation::Look,
             StrCall::First(_) => Operation::First,
             StrCall::Next(_) => Operation::Next,
@@ -440,6 +456,7 @@ impl<'a> StrCall<'a> {
                 | StrCall::Delete(_)
                 | StrCall::DeleteIf(..)
                 | StrCall::Take(_)
+                | StrCall::Pop(_)
                 | StrCall::Free
         )
     }

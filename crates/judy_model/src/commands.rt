@@ -4,29 +4,19 @@ ghost use Rattle.std.specs.Prelude.{◌≡◌, ◌<◌, ◌≤◌, Some, length,
 ghost use Rattle.judy_model.specs.Commands.{command_place, command_words, kind_number, kind_with};
 
 /// How many commands there are.
-pub const COMMANDS: usize = 52;
+pub const COMMANDS: usize = 55;
 
 /// Their words, in the order of the table.
 static WORDS: [&'static str; COMMANDS] = [
-    "J1S", "J1U", "J1T", "J1C", "J1BC", "J1F", "J1N", "J1L", "J1P", "J1FE", "J1NE", "J1LE", "J1PE",
-    "J1FA", "JLI", "JLA", "JLK", "JLX", "JLD", "JLT", "JLG", "JLC", "JLBC", "JLF", "JLN", "JLL",
-    "JLP", "JLFE", "JLNE", "JLLE", "JLPE", "JLFA", "JSLI", "JSLA", "JSLK", "JSLX", "JSLD", "JSLT",
-    "JSLG", "JSLF", "JSLN", "JSLL", "JSLP", "JSLFA", "JHSI", "JHSA", "JHSK", "JHSX", "JHSD",
-    "JHST", "JHSG", "JHSFA",
+    "J1S", "J1U", "J1UF", "J1T", "J1C", "J1BC", "J1F", "J1N", "J1L", "J1P", "J1FE", "J1NE", "J1LE", "J1PE", "J1FA", "JLI", "JLA", "JLK", "JLX", "JLD", "JLDF", "JLT", "JLG", "JLC", "JLBC", "JLF", "JLN", "JLL", "JLP", "JLFE", "JLNE", "JLLE", "JLPE", "JLFA", "JSLI", "JSLA", "JSLK", "JSLX", "JSLD", "JSLDF", "JSLT", "JSLG", "JSLF", "JSLN", "JSLL", "JSLP", "JSLFA", "JHSI", "JHSA", "JHSK", "JHSX", "JHSD", "JHST", "JHSG", "JHSFA",
 ];
 
 /// For each kind and operation, in the order of their types, the place of the command in the table.
-static PLACES: [[usize; 18]; 4] = [
-    [0, 52, 52, 52, 1, 52, 2, 3, 4, 5, 6, 7, 8, 9, 10, 11, 12, 13],
-    [
-        14, 15, 16, 17, 18, 19, 20, 21, 22, 23, 24, 25, 26, 27, 28, 29, 30, 31,
-    ],
-    [
-        32, 33, 34, 35, 36, 37, 38, 52, 52, 39, 40, 41, 42, 52, 52, 52, 52, 43,
-    ],
-    [
-        44, 45, 46, 47, 48, 49, 50, 52, 52, 52, 52, 52, 52, 52, 52, 52, 52, 51,
-    ],
+static PLACES: [[usize; 19]; 4] = [
+    [0, 55, 55, 55, 1, 55, 3, 4, 5, 6, 7, 8, 9, 10, 11, 12, 13, 14, 2],
+    [15, 16, 17, 18, 19, 21, 22, 23, 24, 25, 26, 27, 28, 29, 30, 31, 32, 33, 20],
+    [34, 35, 36, 37, 38, 40, 41, 55, 55, 42, 43, 44, 45, 55, 55, 55, 55, 46, 39],
+    [47, 48, 49, 50, 51, 52, 53, 55, 55, 55, 55, 55, 55, 55, 55, 55, 55, 54, 55],
 ];
 
 /// The kinds of array.
@@ -81,6 +71,8 @@ pub enum Operation {
     PrevEmpty,
     /// Removes all indexes.
     Free,
+    /// Removes the first index from this one on, and shows it.
+    Pop,
 }
 
 /// What a word of a line stands for.

@@ -18,6 +18,7 @@ fn one_command(letters: &[u8]) -> Option<Command>
     let operation = match letters {
         b"S" => Operation::Insert,
         b"U" => Operation::Remove,
+        b"UF" => Operation::Pop,
         b"T" => Operation::Look,
         b"C" => Operation::Count,
         b"BC" => Operation::Nth,
@@ -48,6 +49,7 @@ fn long_command(letters: &[u8]) -> Option<Command>
         b"K" => Operation::Keep,
         b"X" => Operation::Exchange,
         b"D" => Operation::Remove,
+        b"DF" => Operation::Pop,
         b"T" => Operation::Take,
         b"G" => Operation::Look,
         b"C" => Operation::Count,
@@ -79,6 +81,7 @@ fn string_command(letters: &[u8]) -> Option<Command>
         b"K" => Operation::Keep,
         b"X" => Operation::Exchange,
         b"D" => Operation::Remove,
+        b"DF" => Operation::Pop,
         b"T" => Operation::Take,
         b"G" => Operation::Look,
         b"F" => Operation::First,
@@ -143,6 +146,7 @@ fn one_with_two(operation: Operation, i: u64, k: u64) -> Option<OneCall>
     ensures { result ≡ one_with operation (numbers.Two i k) }
 {
     let call = match operation {
+        Operation::Pop => OneCall::Pop(i, k),
         Operation::Count => OneCall::Count(i, k),
         Operation::First => OneCall::Walk(Search::First, i, entries_in(k)?),
         Operation::Next => OneCall::Walk(Search::Next, i, entries_in(k)?),
@@ -190,6 +194,7 @@ fn long_with_two(operation: Operation, i: u64, k: u64) -> Option<LongCall>
         Operation::Add => LongCall::Insert(i, Given::Plus(k)),
         Operation::Keep => LongCall::Keep(i, k),
         Operation::Remove => LongCall::DeleteIf(i, k),
+        Operation::Pop => LongCall::Pop(i, k),
         Operation::Count => LongCall::Count(i, k),
         Operation::First => LongCall::Walk(Search::First, i, entries_in(k)?),
         Operation::Next => LongCall::Walk(Search::Next, i, entries_in(k)?),
@@ -243,6 +248,7 @@ pub fn string_with<'a>(operation: Operation, key: Key<'a>, numbers: Numbers) -> 
         (Operation::Remove, Numbers::Nothing) => StrCall::Delete(key),
         (Operation::Remove, Numbers::One(v)) => StrCall::DeleteIf(key, v),
         (Operation::Take, Numbers::Nothing) => StrCall::Take(key),
+        (Operation::Pop, Numbers::Nothing) => StrCall::Pop(key),
         (Operation::Look, Numbers::Nothing) => StrCall::Get(key),
         (Operation::First, Numbers::Nothing) => StrCall::First(key),
         (Operation::Next, Numbers::Nothing) => StrCall::Next(key),

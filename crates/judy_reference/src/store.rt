@@ -10,6 +10,7 @@ mod content;
 mod directory;
 mod long;
 mod one;
+mod pops;
 mod replies;
 mod string;
 mod walks;

@@ -20,7 +20,7 @@ use Rattle.judy_model.specs.declared.commands.Kind.TheVariants as kind
 use Rattle.judy_model.specs.declared.commands.Numbers.{Numbers}
 use Rattle.judy_model.specs.declared.commands.Numbers.TheVariants as numbers
 use Rattle.judy_model.specs.declared.commands.Operation.{Operation}
-use Rattle.judy_model.specs.declared.commands.Operation.TheVariants.{Insert, Add, Keep, Exchange, Remove, Take, Look, Count, Nth, First, Next, Last, Prev, Free}
+use Rattle.judy_model.specs.declared.commands.Operation.TheVariants.{Insert, Add, Keep, Exchange, Remove, Take, Look, Count, Nth, First, Next, Last, Prev, Free, Pop}
 use Rattle.judy_model.specs.declared.commands.Operation.TheVariants.{FirstEmpty, NextEmpty, LastEmpty, PrevEmpty}
 use Rattle.judy_model.specs.declared.requests.Line.TheVariants as request
 use Rattle.judy_kinds.specs.Calls.{has_key_string, has_string}
@@ -89,6 +89,10 @@ with_passes Prev key numbers.Nothing h = h
 with_passes Prev key (numbers.One i) h = walk_passes search.Prev key (entries_of i) h
 with_passes Prev key (numbers.Two i j) h = tt
 with_passes Prev key (numbers.Three i j k) h = tt
+with_passes Pop key numbers.Nothing h = h
+with_passes Pop key (numbers.One i) h = tt
+with_passes Pop key (numbers.Two i j) h = tt
+with_passes Pop key (numbers.Three i j k) h = tt
 with_passes Count key ns h = tt
 with_passes Nth key ns h = tt
 with_passes FirstEmpty key ns h = tt
@@ -106,6 +110,7 @@ free_passes Keep = tt
 free_passes Exchange = tt
 free_passes Remove = tt
 free_passes Take = tt
+free_passes Pop = tt
 free_passes Look = tt
 free_passes Count = tt
 free_passes Nth = tt

@@ -8,8 +8,8 @@ use Rattle.judy_model.specs.declared.calls.Call.{Call}
 use Rattle.judy_model.specs.declared.calls.Call.TheVariants as call
 use Rattle.judy_model.specs.declared.replies.Reply.{Reply}
 use Rattle.judy_model.specs.Contents.{Order, Entries, word_order, string_order}
-use Rattle.judy_model.specs.Tenant.Effect.{Insert, Keep, Exchange, Remove, Take, RemoveIf, Free, Ask}
-use Rattle.judy_model.specs.Tenant.{Effect, effect_step, effect_inserts, inserts, one_effect, long_effect, string_effect, bytes_effect}
+use Rattle.judy_model.specs.Tenant.Effect.{Insert, Keep, Exchange, Remove, Take, RemoveIf, Pop, Free, Ask}
+use Rattle.judy_model.specs.Tenant.{Effect, effect_step, effect_inserts, inserts, one_effect, long_effect, string_effect, bytes_effect, pop_over}
 use Rattle.judy_model.specs.Tenant.{one_step, long_step, string_step, bytes_step}
 use Rattle.judy_words.specs.OneArrays.{one_in}
 use Rattle.judy_words.specs.LongArrays.{long_in}
@@ -27,6 +27,11 @@ effect_rests order (Exchange k old new) h = refl
 effect_rests order (Remove k) h = refl
 effect_rests order (Take k) h = refl
 effect_rests order (RemoveIf k v) h = refl
+effect_rests {K} order (Pop find show lack) h = by (find [])
+  where
+    by : (found : Option (K × ℕ)) → (pop_over order [] show lack found).1 ≡ []
+    by (Some e) = refl
+    by None = refl
 effect_rests order Free h = refl
 effect_rests order (Ask answer) h = refl
 

@@ -3,7 +3,7 @@ use Rattle.std.proofs.Common.{◌≡◌, ℕ, ◌⊎◌, inl, inr, Bool, true, f
 use Rattle.judy_model.specs.declared.calls.Given.{Given}
 use Rattle.judy_model.specs.declared.replies.Reply.TheVariants.{Full}
 use Rattle.judy_model.specs.Contents.{Order, Entries, value_of}
-use Rattle.judy_model.specs.Tenant.Effect.{Insert, Keep, Exchange, Remove, Take, RemoveIf, Free, Ask}
+use Rattle.judy_model.specs.Tenant.Effect.{Insert, Keep, Exchange, Remove, Take, RemoveIf, Pop, Free, Ask}
 use Rattle.judy_model.specs.Tenant.{Effect, Reports, insert_over, keep_over, effect_step, effect_asks_for_new}
 
 -- the call asks for nothing new, or there is room
@@ -29,6 +29,7 @@ effect_alike order room l (Exchange k old new) h = refl
 effect_alike order room l (Remove k) h = refl
 effect_alike order room l (Take k) h = refl
 effect_alike order room l (RemoveIf k v) h = refl
+effect_alike order room l (Pop find show lack) h = refl
 effect_alike order room l Free h = refl
 effect_alike order room l (Ask answer) h = refl
 
@@ -57,5 +58,6 @@ effect_full order l (Exchange k old new) h = cc
 effect_full order l (Remove k) h = cc
 effect_full order l (Take k) h = cc
 effect_full order l (RemoveIf k v) h = cc
+effect_full order l (Pop find show lack) h = cc
 effect_full order l Free h = cc
 effect_full order l (Ask answer) h = cc

@@ -66,7 +66,7 @@ fn does_of(operation: Operation) -> Option<Does>
         Operation::Insert | Operation::Add | Operation::Keep | Operation::Exchange => {
             Some(Does::Makes)
         }
-        Operation::Remove | Operation::Take => Some(Does::Removes),
+        Operation::Remove | Operation::Take | Operation::Pop => Some(Does::Removes),
         Operation::Free => Some(Does::Frees),
         _ => None,
     }

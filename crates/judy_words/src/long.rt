@@ -230,6 +230,25 @@ impl JudyL {
         }
     }
 
+    /// Removes the least index that is at least `x`, if it is at most `most`, and returns it with its value.
+    pub fn pop(&mut self, arena: &mut Arena, x: u64, most: u64) -> Option<(u64, u64)>
+        requires { IsLongArray arena.old.blocks self.old }
+        ensures array { LongBecomes arena.old self.old arena.new self.new }
+        ensures space { HasLongSpace arena.new self.new }
+        ensures step { LongAnswers arena.old self.old (long.Pop x most) (value_at_or_null result)
+            arena.new self.new }
+        ensures memory { TakesNothing arena.old arena.new }
+    {
+        judy_tree::laws::nothing_changes();
+        judy_tree::laws::roots_have_space();
+        let (index, value) = self.first(arena, x)?;
+        if index > most {
+            return None;
+        }
+        self.delete(arena, index);
+        Some((index, value))
+    }
+
     // The index with its value.
     fn entry(&self, arena: &Arena, index: Option<u64>) -> Option<(u64, u64)>
         requires { IsLongArray arena.now.blocks self.now }
@@ -386,6 +405,7 @@ impl JudyL {
             | LongCall::Delete(_)
             | LongCall::DeleteIf(..)
             | LongCall::Take(_)
+            | LongCall::Pop(..)
             | LongCall::Free => unreachable!(),
         }
     }
@@ -488,6 +508,7 @@ impl JudyL {
             LongCall::Delete(x) => Ok(Reply::Int(self.delete(arena, x))),
             LongCall::DeleteIf(x, value) => Ok(Reply::Int(self.delete_if(arena, x, value))),
             LongCall::Take(x) => Ok(value_reply(self.take(arena, x))),
+            LongCall::Pop(x, most) => Ok(entry_reply(self.pop(arena, x, most))),
             LongCall::Free => Ok(Reply::Count(self.clear(arena))),
             _ => {
                 judy_tree::laws::nothing_changes();

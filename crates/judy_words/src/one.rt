@@ -105,6 +105,25 @@ impl Judy1 {
         self.root.remove(arena, x).is_some()
     }
 
+    /// Unsets the least set index that is at least `x`, if it is at most `most`, and returns it.
+    pub fn pop(&mut self, arena: &mut Arena, x: u64, most: u64) -> Option<u64>
+        requires { IsOneArray arena.old.blocks self.old }
+        ensures array { OneBecomes arena.old self.old arena.new self.new }
+        ensures space { HasOneSpace arena.new self.new }
+        ensures step { OneAnswers arena.old self.old (one.Pop x most) (index_shown result)
+            arena.new self.new }
+        ensures memory { TakesNothing arena.old arena.new }
+    {
+        judy_tree::laws::nothing_changes();
+        judy_tree::laws::roots_have_space();
+        let index = self.first(arena, x)?;
+        if index > most {
+            return None;
+        }
+        self.unset(arena, index);
+        Some(index)
+    }
+
     /// Whether an index is set. As `Judy1Test` of Judy1(3).
     pub fn test(&self, arena: &Arena, x: u64) -> bool
         requires { IsOneArray arena.now.blocks self.now }
@@ -229,7 +248,9 @@ impl Judy1 {
             OneCall::PrevEmpty(x) => shown(self.prev_empty(arena, x)),
             OneCall::Walk(search, x, n) => self.walk(arena, search, x, n, listing),
             OneCall::WalkEmpty(search, x, n) => self.walk_empty(arena, search, x, n, listing),
-            OneCall::Set(_) | OneCall::Unset(_) | OneCall::Free => unreachable!(),
+            OneCall::Set(_) | OneCall::Unset(_) | OneCall::Pop(..) | OneCall::Free => {
+                unreachable!()
+            }
         }
     }
 
@@ -281,6 +302,7 @@ impl Judy1 {
         match call {
             OneCall::Set(x) => Ok(Reply::Int(self.set(alloc, arena, x)?)),
             OneCall::Unset(x) => Ok(Reply::Int(self.unset(arena, x))),
+            OneCall::Pop(x, most) => Ok(shown(self.pop(arena, x, most))),
             OneCall::Free => Ok(Reply::Count(self.clear(arena))),
             _ => {
                 judy_tree::laws::nothing_changes();

@@ -16,7 +16,7 @@ use Rattle.judy_model.specs.declared.quotas.Quota.{Quota}
 use Rattle.judy_model.specs.declared.replies.Reply.{Reply}
 use Rattle.judy_model.specs.declared.replies.Reply.TheVariants as reply
 use Rattle.judy_model.specs.Contents.{Order, Entries, word_order, string_order, value_of, has_key, with_entry}
-use Rattle.judy_model.specs.Tenant.Effect.{Insert, Keep, Exchange, Remove, Take, RemoveIf, Free, Ask}
+use Rattle.judy_model.specs.Tenant.Effect.{Insert, Keep, Exchange, Remove, Take, RemoveIf, Pop, Free, Ask}
 use Rattle.judy_model.specs.Tenant.{Effect, Reports, keep_over, effect_step, one_effect, long_effect, string_effect, bytes_effect}
 use Rattle.judy_model.specs.Tenant.{State, Attempt, content_of, with_content, insert_over, insert, used, pieces, new_pieces, one_step, long_step}
 use Rattle.judy_model.specs.Tenant.{string_step, bytes_step, changes, is_read_only, refusal_of, has_room, allowed_step, attempt_step}
@@ -67,6 +67,7 @@ effect_same order room l (Exchange k old new) h = refl
 effect_same order room l (Remove k) h = refl
 effect_same order room l (Take k) h = refl
 effect_same order room l (RemoveIf k v) h = refl
+effect_same order room l (Pop find show lack) h = refl
 effect_same order room l Free h = refl
 effect_same order room l (Ask answer) h = refl
 

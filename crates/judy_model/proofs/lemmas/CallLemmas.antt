@@ -13,7 +13,7 @@ use Rattle.judy_model.specs.declared.commands.Kind.TheVariants as kind
 use Rattle.judy_model.specs.declared.commands.Numbers.{Numbers}
 use Rattle.judy_model.specs.declared.commands.Numbers.TheVariants as numbers
 use Rattle.judy_model.specs.declared.commands.Operation.{Operation}
-use Rattle.judy_model.specs.declared.commands.Operation.TheVariants.{Insert, Add, Keep, Exchange, Remove, Take, Look, Count, Nth, First, Next, Last, Prev, Free}
+use Rattle.judy_model.specs.declared.commands.Operation.TheVariants.{Insert, Add, Keep, Exchange, Remove, Take, Look, Count, Nth, First, Next, Last, Prev, Free, Pop}
 use Rattle.judy_model.specs.declared.commands.Operation.TheVariants.{FirstEmpty, NextEmpty, LastEmpty, PrevEmpty}
 use Rattle.judy_model.specs.Commands.{bytes_operation, bytes_with, entries_of, command_of, free_with, long_operation, long_with, one_operation, one_with}
 use Rattle.judy_model.specs.Commands.{string_operation, string_with, to}
@@ -44,6 +44,7 @@ one_made NextEmpty (numbers.One i) = refl
 one_made LastEmpty (numbers.One i) = refl
 one_made PrevEmpty (numbers.One i) = refl
 one_made Count (numbers.Two i j) = refl
+one_made Pop (numbers.Two i j) = refl
 one_made Free numbers.Nothing = refl
 one_made First (numbers.Two i n) = walked_made one_operation First (λ k. one.Walk search.First i k) (entries_of n) (λ k. refl)
 one_made Next (numbers.Two i n) = walked_made one_operation Next (λ k. one.Walk search.Next i k) (entries_of n) (λ k. refl)
@@ -75,6 +76,7 @@ long_made Keep (numbers.Two i j) = refl
 long_made Exchange (numbers.Three i j k) = refl
 long_made Remove (numbers.Two i j) = refl
 long_made Take (numbers.One i) = refl
+long_made Pop (numbers.Two i j) = refl
 long_made Free numbers.Nothing = refl
 long_made First (numbers.Two i n) = walked_made long_operation First (λ k. long.Walk search.First i k) (entries_of n) (λ k. refl)
 long_made Next (numbers.Two i n) = walked_made long_operation Next (λ k. long.Walk search.Next i k) (entries_of n) (λ k. refl)
@@ -100,6 +102,7 @@ string_made Keep key (numbers.One i) = refl
 string_made Exchange key (numbers.Two i j) = refl
 string_made Remove key (numbers.One i) = refl
 string_made Take key numbers.Nothing = refl
+string_made Pop key numbers.Nothing = refl
 string_made First key (numbers.One n) = walked_made string_operation First (λ k. str.Walk search.First key k) (entries_of n) (λ k. refl)
 string_made Next key (numbers.One n) = walked_made string_operation Next (λ k. str.Walk search.Next key k) (entries_of n) (λ k. refl)
 string_made Last key (numbers.One n) = walked_made string_operation Last (λ k. str.Walk search.Last key k) (entries_of n) (λ k. refl)

@@ -23,11 +23,12 @@ use Rattle.judy_model.specs.declared.replies.Reply.{Reply}
 use Rattle.judy_model.specs.declared.replies.Reply.TheVariants as reply
 use Rattle.judy_model.specs.Grammar.{are_bytes, is_string, is_byte_key}
 use Rattle.judy_model.specs.Contents.{Order, Entries, word_order, string_order, value_of, has_key, with_entry, without_key}
-use Rattle.judy_model.specs.Tenant.Effect.{Insert, Keep, Exchange, Remove, Take, RemoveIf, Free, Ask}
+use Rattle.judy_model.specs.Tenant.Effect.{Insert, Keep, Exchange, Remove, Take, RemoveIf, Pop, Free, Ask}
 use Rattle.judy_model.specs.Tenant.{keep_over, exchange_over, remove_over}
 use Rattle.judy_model.specs.Tenant.{Effect, Reports, effect_step, one_effect, long_effect, string_effect, bytes_effect}
 use Rattle.judy_model.specs.Tenant.{Arrays, State, content_of, with_content, value_after, insert_over, insert, one_step}
 use Rattle.judy_model.specs.Tenant.{long_step, string_step, bytes_step, has_room, allowed_step, is_read_only, refusal_of}
+use Rattle.judy_model.specs.Tenant.{Lack, Shown, pop_over}
 use Rattle.judy_model.specs.WellFormed.{is_word, is_one_entry, is_long_entry, is_string_entry, is_bytes_entry, is_content}
 use Rattle.judy_model.specs.WellFormed.{has_entries, are_arrays, IsWellFormed, effect_writes, writes_entry, StepKeepsForm}
 use Rattle.judy_model.proofs.lemmas.TestLemmas.{to_T, from_T}
@@ -129,6 +130,11 @@ module _ {K : Type 0} (order : Order K) (total : IsTotalOrder order) (same : IsA
     remove_form l k v h (Some w) = elim (w == v) as (λ b. is_content order test (cond b (without_key order l k) l) ≡ true)
         [ true ↦ content_less l k h | false ↦ h ]
 
+    pop_form : (l : Entries K) (show : K × ℕ → Shown) (lack : Lack) → is_content order test l ≡ true
+        → (found : Option (K × ℕ)) → is_content order test (pop_over order l show lack found).1 ≡ true
+    pop_form l show lack h None = h
+    pop_form l show lack h (Some e) = content_less l e.0 h
+
     -- a call keeps the content well-formed
     effect_form : (room : Bool) (l : Entries K) (effect : Effect K) → Suits effect → is_content order test l ≡ true → IsTrue (effect_writes test effect)
         → is_content order test (effect_step order room l effect).1 ≡ true
@@ -138,6 +144,7 @@ module _ {K : Type 0} (order : Order K) (total : IsTotalOrder order) (same : IsA
     effect_form room l (Remove k) suits h w = content_less l k h
     effect_form room l (Take k) suits h w = content_less l k h
     effect_form room l (RemoveIf k v) suits h w = remove_form l k v h (value_of order l k)
+    effect_form room l (Pop find show lack) suits h w = pop_form l show lack h (find l)
     effect_form room l Free suits h w = refl
     effect_form room l (Ask answer) suits h w = h
 
@@ -231,6 +238,7 @@ suits_all order total same test takes (Exchange k old new) = tt
 suits_all order total same test takes (Remove k) = tt
 suits_all order total same test takes (Take k) = tt
 suits_all order total same test takes (RemoveIf k v) = tt
+suits_all order total same test takes (Pop find show lack) = tt
 suits_all order total same test takes Free = tt
 suits_all order total same test takes (Ask answer) = tt
 

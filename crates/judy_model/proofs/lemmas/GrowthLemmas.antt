@@ -7,9 +7,10 @@ use Rattle.std.specs.FinMap.Entries.{length-put, length_without}
 use Rattle.judy_model.specs.declared.calls.Given.{Given}
 use Rattle.judy_model.specs.Contents.{Order, Entries, value_of, has_key, with_entry, without_key}
 use Rattle.judy_model.specs.Pieces.{pieces_of}
-use Rattle.judy_model.specs.Tenant.Effect.{Insert, Keep, Exchange, Remove, Take, RemoveIf, Free, Ask}
+use Rattle.judy_model.specs.Tenant.Effect.{Insert, Keep, Exchange, Remove, Take, RemoveIf, Pop, Free, Ask}
 use Rattle.judy_model.specs.Tenant.{keep_over, exchange_over, remove_over}
 use Rattle.judy_model.specs.Tenant.{Effect, Reports, value_after, insert_over, insert, effect_step, effect_asks_for_new, effect_pieces}
+use Rattle.judy_model.specs.Tenant.{Lack, Shown, pop_over}
 use Rattle.judy_model.specs.WellFormed.{Grows}
 use Rattle.judy_model.proofs.lemmas.PieceLemmas.{pieces_of-with_entry, pieces_of-without_key}
 use Rattle.judy_model.proofs.lemmas.TestLemmas.{to_T}
@@ -53,6 +54,7 @@ one_each (Exchange k old new) = tt
 one_each (Remove k) = tt
 one_each (Take k) = tt
 one_each (RemoveIf k v) = tt
+one_each (Pop find show lack) = tt
 one_each Free = tt
 one_each (Ask answer) = tt
 
@@ -64,6 +66,7 @@ its_size size (Exchange k old new) = tt
 its_size size (Remove k) = tt
 its_size size (Take k) = tt
 its_size size (RemoveIf k v) = tt
+its_size size (Pop find show lack) = tt
 its_size size Free = tt
 its_size size (Ask answer) = tt
 
@@ -113,6 +116,11 @@ module _ {K : Type 0} (order : Order K) (size : Entries K → ℕ) (weight : K �
       by None = omega arith
       by (Some w) = elim (w == v) as (λ b. size (cond b (without_key order l k) l) ≤ size l) [ true ↦ m.less l k h | false ↦ omega arith ]
 
+  pop_grows : (l : Entries K) (show : K × ℕ → Shown) (lack : Lack) → is_sorted order l ≡ true
+      → (found : Option (K × ℕ)) → size (pop_over order l show lack found).1 ≤ size l
+  pop_grows l show lack h None = omega arith
+  pop_grows l show lack h (Some e) = m.less l e.0 h
+
   -- a call grows it by the weight of a key that it asks for
   pub effect_grows : (room : Bool) (l : Entries K) (effect : Effect K) (n : ℕ) → is_sorted order l ≡ true → Weighs weight effect n
       → Grows (effect_asks_for_new order l effect) room n (size l) (size (effect_step order room l effect).1)
@@ -126,6 +134,7 @@ module _ {K : Type 0} (order : Order K) (size : Entries K → ℕ) (weight : K �
   effect_grows room l (Remove k) n h w = m.less l k h
   effect_grows room l (Take k) n h w = m.less l k h
   effect_grows room l (RemoveIf k v) n h w = remove_grows l k v h
+  effect_grows room l (Pop find show lack) n h w = pop_grows l show lack h (find l)
   effect_grows room l Free n h w = omega (arith, m.none)
   effect_grows room l (Ask answer) n h w = omega arith
 

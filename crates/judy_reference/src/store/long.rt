@@ -4,6 +4,7 @@ ghost use Rattle.judy_model.specs.Tenant.{content_of, long_step, long_asks_for_n
 ghost use Rattle.judy_reference.specs.Store.{on_array};
 
 use super::directory::Directory;
+use super::pops::pop_entry;
 use super::replies::{absent_or_no, value_at_or_null, value_or_null};
 use super::walks;
 use super::writes::{delete, delete_if, exchange, free, insert, keep, take};
@@ -38,6 +39,7 @@ pub(super) fn long_step<'a>(
         LongCall::Delete(k) => delete(maps, name, k),
         LongCall::DeleteIf(k, value) => delete_if(maps, name, k, *value),
         LongCall::Take(k) => take(maps, name, k),
+        LongCall::Pop(x, most) => pop_entry(maps, name, *x, *most),
         LongCall::Free => free(maps, name),
         LongCall::Get(k) => value_or_null(maps.get(name, k)),
         LongCall::Count(a, b) => Reply::Count(count_between(entries, *a, *b) as u64),

@@ -4,6 +4,7 @@ ghost use Rattle.judy_model.specs.Tenant.{content_of, one_step, one_asks_for_new
 ghost use Rattle.judy_reference.specs.Store.{on_array};
 
 use super::directory::Directory;
+use super::pops::pop_index;
 use super::replies::{absent_or_no, index_or_no};
 use super::walks;
 use super::writes::{delete, free, set};
@@ -34,6 +35,7 @@ pub(super) fn one_step<'a>(
     let reply = match call {
         OneCall::Set(x) => return set(alloc, sets, room, name, *x),
         OneCall::Unset(x) => delete(sets, name, x),
+        OneCall::Pop(x, most) => pop_index(sets, name, *x, *most),
         OneCall::Free => free(sets, name),
         OneCall::Test(x) => Reply::Int(sets.get(name, x).is_some()),
         OneCall::Count(a, b) => Reply::Count(count_between(entries, *a, *b) as u64),

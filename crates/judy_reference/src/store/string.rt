@@ -4,6 +4,7 @@ ghost use Rattle.judy_model.specs.Tenant.{content_of, string_step, string_asks_f
 ghost use Rattle.judy_reference.specs.Store.{on_array};
 
 use super::directory::Directory;
+use super::pops::pop_string;
 use super::replies::{value_key_or_null, value_or_null};
 use super::walks;
 use super::writes::{delete, delete_if, exchange, free, insert, keep, take};
@@ -50,6 +51,7 @@ pub(super) fn string_step<'a>(
         StrCall::Delete(k) => delete(maps, name, &OwnedKey::of(k)),
         StrCall::DeleteIf(k, value) => delete_if(maps, name, &OwnedKey::of(k), *value),
         StrCall::Take(k) => take(maps, name, &OwnedKey::of(k)),
+        StrCall::Pop(k) => pop_string(maps, name, k, &mut found.key),
         StrCall::Free => free(maps, name),
         StrCall::Get(k) => value_or_null(maps.get(name, &OwnedKey::of(k))),
         StrCall::First(x) => value_key_or_null(first_string(entries, x), &mut found.key),
