@@ -1,5 +1,5 @@
 -- Sets of bytes, each as the rising list of its members.
-use Rattle.std.specs.Prelude.{ℕ, ◌/◌, ◌%◌, Bool, not, List, [], ◌∷◌, ◌++◌, Option, Some, None, nat_le, nat_lt, ◌==◌, filter, slice_index}
+use Rattle.std.specs.Prelude.{ℕ, ◌/◌, ◌%◌, Bool, not, List, ◌∷◌, ◌++◌, nat_le, nat_lt, ◌==◌, filter, slice_index}
 use Rattle.std.specs.List.{list_any, range_with_len}
 use Rattle.std.specs.Int.{bit_at}
 pub use Rattle.judy_model.specs.Contents.{head_of, last_of}

@@ -1,5 +1,5 @@
 -- A child that is put in again.
-use Rattle.std.proofs.Common.{◌≡◌, ◌<◌, ℕ, true, Option, Some, None, ap, sym, ◌∙◌, refl, subst, arith, set, length, List, ◌≤◌, length-set}
+use Rattle.std.proofs.Common.{◌≡◌, ◌<◌, ℕ, true, Option, Some, None, ap, sym, ◌∙◌, refl, subst, arith, set, length, length-set}
 use Rattle.std.specs.Prelude.{IsSome}
 use Rattle.std.specs.FinMap.{is_sorted}
 use Rattle.judy_arena.specs.Blocks.{Blocks, words_of, put}

@@ -10,7 +10,7 @@ use Rattle.clap.specs.declared.builder.value_parser.ValueParser.TheVariants as p
 use Rattle.clap.proofs.ValueTestLemmas.{accepts-Accepts, Accepts-accepts}
 use Rattle.judy_command.specs.CommandLine.{IsSync, seconds_in, sync_in, number_in, most_clients, most_count, most_megabytes, most_segment, IsUsage, StopsBy, judyd_app, job_of, IsCount, IsInRange, IsOptionFault, job_at, served, words_fault}
 use Rattle.clap.specs.Kinds.{or_else}
-use Rattle.std.proofs.Common.{◌⊎◌, ◌∷◌, [], inl, inr, subst, sym, Some, None, codes}
+use Rattle.std.proofs.Common.{◌∷◌, [], inl, inr, subst, sym, Some, None, codes}
 use Rattle.clap.specs.Words.{Row, first_of, Kinds, IsAmong, takes, subcommand_of, fault_of}
 use Rattle.clap.proofs.OnLiterals.{clap_on_literals}
 use Rattle.clap.specs.declared.error.ErrorKind.{ErrorKind}

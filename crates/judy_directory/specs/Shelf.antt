@@ -5,7 +5,7 @@
 --     IsShelf          each place leads to an array with its own blocks, and no block is left over
 --     AreKept          what every kind requires: the empty place is sound, and an array survives
 --                      while its blocks do
-use Rattle.std.specs.Prelude.{◌≡◌, ◌≢◌, ℕ, Bool, cond, ◌==◌, List, [], ◌∷◌, Option, Some, None, is_some, IsTrue, true, unwrap_or}
+use Rattle.std.specs.Prelude.{◌≡◌, ◌≢◌, ℕ, cond, ◌==◌, List, [], ◌∷◌, is_some, true}
 use Rattle.std.specs.FinMap.{FinMap, entries, get}
 use Rattle.judy_arena.specs.Blocks.{Blocks, is_live}
 use Rattle.judy_arena.specs.Frame.{Frame, holds, AreApart}

@@ -1,12 +1,12 @@
 -- The notes of a text, line after line.
-use Rattle.std.proofs.Common.{◌≡◌, ℕ, zero, suc, ◌+◌, ◌<◌, ◌≤◌, ◌^◌, Bool, true, false, ◌&&◌, ◌||◌, List, [], ◌∷◌, ◌++◌, length, take, drop, sym, ◌∙◌, ap, subst, refl, arith, append_assoc, append-nil, Option, Some, None}
-use Rattle.std.specs.Prelude.{IsTrue, ◌==◌, ◌-◌, nat_le, min, not, slice_index, if◌then◌else◌}
+use Rattle.std.proofs.Common.{◌≡◌, ℕ, zero, suc, ◌+◌, ◌<◌, ◌≤◌, ◌^◌, Bool, true, false, ◌&&◌, List, [], ◌∷◌, ◌++◌, length, take, drop, sym, ◌∙◌, ap, subst, refl, arith, append-nil, Some, None}
+use Rattle.std.specs.Prelude.{IsTrue, ◌==◌, ◌-◌, nat_le, not, slice_index, if◌then◌else◌}
 use Rattle.std.specs.List.{list_all}
 use Rattle.std.specs.Str.{bytes_eq}
 use Rattle.std.proofs.lemmas.Bool.Decides.{nat_tests}
 use Rattle.std.proofs.lemmas.List.{drop-append-le, length-append, take-append-drop, take-append-le, take_all}
 use Rattle.judy_model.specs.Stream.{lines_of, rest_of}
-use Rattle.judy_model.proofs.lemmas.LineLemmas.{IsOneLine, lines_of-append, lines_of-more_bytes, lines_of-push, rest_of-append, rest_of-more_bytes, rest_of-push}
+use Rattle.judy_model.proofs.lemmas.LineLemmas.{IsOneLine, lines_of-more_bytes, lines_of-push, rest_of-more_bytes, rest_of-push}
 use Rattle.std.specs.Prelude.{codes, decimal}
 use Rattle.std.specs.Int.{w64, to_be_bytes}
 use Rattle.hex.specs.Hex.{encode_lower}

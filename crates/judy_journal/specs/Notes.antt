@@ -4,7 +4,7 @@
 --     sure_of segment place line    what a line at this place tells, if it is a note
 --     Seen, seen_in segment text    what the lines of a text tell: the most that a note of it tells
 --     is_torn_end segment seen size whether damage behind this size may be what a crash left
-use Rattle.std.specs.Prelude.{ℕ, Bool, true, false, ◌&&◌, ◌+◌, ◌-◌, ◌*◌, ◌%◌, List, [], ◌∷◌, ◌++◌, length, take, drop, nat_le, ◌==◌, codes, decimal}
+use Rattle.std.specs.Prelude.{ℕ, Bool, false, ◌&&◌, ◌+◌, ◌-◌, ◌*◌, ◌%◌, List, [], ◌∷◌, ◌++◌, length, take, drop, nat_le, ◌==◌, codes, decimal}
 use Rattle.std.specs.Prelude.{Option, Some, None, if◌then◌else◌, min, ◌^◌}
 use Rattle.std.specs.Int.{w64, to_be_bytes}
 use Rattle.std.specs.Str.{bytes_eq}

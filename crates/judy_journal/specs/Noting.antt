@@ -3,7 +3,7 @@
 --     held chunk n              more of the line that is open was read
 --     line_ended n              its line feed was read
 --     HasSeen segment text n    this text was read
-use Rattle.std.specs.Prelude.{◌≡◌, ◌||◌, ◌++◌, ℕ, List, [], take, length}
+use Rattle.std.specs.Prelude.{◌≡◌, ◌++◌, ℕ, List, [], take, length}
 use Rattle.judy_model.specs.Stream.{rest_of}
 use Rattle.judy_journal.specs.declared.format.TheConstants.{NOTE_ROOM}
 use Rattle.judy_journal.specs.Notes.{Seen, larger, seen_in, sure_of}

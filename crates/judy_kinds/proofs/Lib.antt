@@ -2,3 +2,5 @@ mod Counted
 mod Kept
 mod Small
 mod Formed
+mod Resting
+mod Popped

@@ -54,11 +54,13 @@ has_key_string (str.Exchange k old new) = is_string k
 has_key_string (str.Delete k) = is_string k
 has_key_string (str.DeleteIf k v) = is_string k
 has_key_string (str.Take k) = is_string k
+has_key_string (str.Pop k) = is_string k
 has_key_string (str.Get k) = is_string k
 has_key_string (str.First k) = is_string k
 has_key_string (str.Next k) = is_string k
 has_key_string (str.Last k) = is_string k
 has_key_string (str.Prev k) = is_string k
+has_key_string (str.Walk search k n) = is_string k
 has_key_string str.Free = true
 
 -- the key of a JudySL call is a string

@@ -6,11 +6,10 @@ ghost use Rattle.judy_kinds.specs.Kinds.{IsPlaceOf};
 ghost use Rattle.judy_tree.specs.Changes.{IsShort};
 
 use crate::{bytes, long, one, string};
-use arrayvec::ArrayVec;
 use judy_arena::{Arena, NoMemory};
 use judy_bytes::KeyHash;
 use judy_directory::Place;
-use judy_model::{Call, KEY_LIMIT, Reply};
+use judy_model::{Call, Reply, ReplyRoom};
 use std::alloc::Global;
 
 /// Whether the call asks for an entry that the array at the place does not have.
@@ -39,7 +38,7 @@ pub fn answer<'a, H: KeyHash>(
     hash: H,
     place: Place,
     call: &Call<'_>,
-    found: &'a mut ArrayVec<u8, KEY_LIMIT>,
+    found: &'a mut ReplyRoom,
 ) -> Result<(Reply<'a>, Place), NoMemory>
     requires array { IsTrue (is_of_array call.now) }
     requires string { IsTrue (has_string call.now) }
@@ -56,8 +55,8 @@ pub fn answer<'a, H: KeyHash>(
     ensures refused { OnErr result (IsShort arena.old arena.new) }
 {
     match call {
-        Call::One(_, call) => one::answer(alloc, arena, place, *call),
-        Call::Long(_, call) => long::answer(alloc, arena, place, *call),
+        Call::One(_, call) => one::answer(alloc, arena, place, *call, &mut found.listing),
+        Call::Long(_, call) => long::answer(alloc, arena, place, *call, &mut found.listing),
         Call::Str(_, call) => string::answer(alloc, arena, place, call, found),
         Call::Bytes(_, call) => bytes::answer(alloc, arena, hash, place, call),
         Call::Used => unreachable!(),

@@ -42,11 +42,13 @@ fn has_key_string(call: &StrCall<'_>) -> bool
         | StrCall::Delete(key)
         | StrCall::DeleteIf(key, _)
         | StrCall::Take(key)
+        | StrCall::Pop(key)
         | StrCall::Get(key)
         | StrCall::First(key)
         | StrCall::Next(key)
         | StrCall::Last(key)
-        | StrCall::Prev(key) => is_string(key.as_bytes()),
+        | StrCall::Prev(key)
+        | StrCall::Walk(_, key, _) => is_string(key.as_bytes()),
         StrCall::Free => true,
     }
 }

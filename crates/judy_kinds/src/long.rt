@@ -12,7 +12,7 @@ ghost use Rattle.judy_tree.specs.Changes.{IsShort};
 use crate::counts;
 use judy_arena::{Arena, NoMemory};
 use judy_directory::Place;
-use judy_model::{LongCall, Reply};
+use judy_model::{Listing, LongCall, Reply};
 use judy_refs::Ref;
 use judy_words::JudyL;
 use std::alloc::Global;
@@ -26,17 +26,25 @@ pub(crate) fn asks(arena: &Arena, root: Ref, call: LongCall) -> bool
         LongCall::Insert(x, _) | LongCall::Keep(x, _) => JudyL::from_reference(root)
             .get(arena, x)
             .is_none(),
+        LongCall::Fill(x, _) => {
+            let map = JudyL::from_reference(root);
+            match map.first_empty(arena, x) {
+                Some(index) => map.get(arena, index).is_none(),
+                None => false,
+            }
+        }
         _ => false,
     }
 }
 
 /// Answers a call. Returns the reply and the map's new place. Err: out of memory; no block changed.
-pub(crate) fn answer(
+pub(crate) fn answer<'a>(
     alloc: Global,
     arena: &mut Arena,
     place: Place,
     call: LongCall,
-) -> Result<(Reply<'static>, Place), NoMemory>
+    listing: &'a mut Listing,
+) -> Result<(Reply<'a>, Place), NoMemory>
     requires array { IsLongArray arena.old.blocks place.root }
     requires counts { HasCounts word_pieces (long_in arena.old.blocks place.root) place }
     ensures array { IfOk result (λ r. LongBecomes arena.old place.root arena.new r.1.root) }
@@ -52,7 +60,7 @@ pub(crate) fn answer(
     ensures refused { OnErr result (IsShort arena.old arena.new) }
 {
     let mut map = JudyL::from_reference(place.root);
-    let reply = map.answer(alloc, arena, call)?;
+    let reply = map.answer(alloc, arena, call, listing)?;
     if !call.changes() {
         return Ok((reply, counts::kept(place, map.reference())));
     }

@@ -12,7 +12,7 @@ ghost use Rattle.judy_tree.specs.Changes.{IsShort};
 use crate::counts;
 use judy_arena::{Arena, NoMemory};
 use judy_directory::Place;
-use judy_model::{OneCall, Reply};
+use judy_model::{Listing, OneCall, Reply};
 use judy_refs::Ref;
 use judy_words::Judy1;
 use std::alloc::Global;
@@ -24,17 +24,25 @@ pub(crate) fn asks(arena: &Arena, root: Ref, call: OneCall) -> bool
 {
     match call {
         OneCall::Set(x) => !Judy1::from_reference(root).test(arena, x),
+        OneCall::Fill(x) => {
+            let set = Judy1::from_reference(root);
+            match set.first_empty(arena, x) {
+                Some(index) => !set.test(arena, index),
+                None => false,
+            }
+        }
         _ => false,
     }
 }
 
 /// Answers a call. Returns the reply and the set's new place. Err: out of memory; no block changed.
-pub(crate) fn answer(
+pub(crate) fn answer<'a>(
     alloc: Global,
     arena: &mut Arena,
     place: Place,
     call: OneCall,
-) -> Result<(Reply<'static>, Place), NoMemory>
+    listing: &'a mut Listing,
+) -> Result<(Reply<'a>, Place), NoMemory>
     requires array { IsOneArray arena.old.blocks place.root }
     requires counts { HasCounts word_pieces (one_in arena.old.blocks place.root) place }
     ensures array { IfOk result (λ r. OneBecomes arena.old place.root arena.new r.1.root) }
@@ -50,7 +58,7 @@ pub(crate) fn answer(
     ensures refused { OnErr result (IsShort arena.old arena.new) }
 {
     let mut set = Judy1::from_reference(place.root);
-    let reply = set.answer(alloc, arena, call)?;
+    let reply = set.answer(alloc, arena, call, listing)?;
     if !call.changes() {
         return Ok((reply, counts::kept(place, set.reference())));
     }

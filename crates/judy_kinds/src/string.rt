@@ -16,7 +16,7 @@ use crate::counts;
 use arrayvec::ArrayVec;
 use judy_arena::{Arena, NoMemory};
 use judy_directory::Place;
-use judy_model::{Given, KEY_LIMIT, Key, Reply, StrCall};
+use judy_model::{Given, KEY_LIMIT, Key, Reply, ReplyRoom, StrCall};
 use judy_refs::Ref;
 use judy_string::JudySL;
 use std::alloc::Global;
@@ -59,7 +59,7 @@ pub(crate) fn answer<'a>(
     arena: &mut Arena,
     place: Place,
     call: &StrCall<'_>,
-    found: &'a mut ArrayVec<u8, KEY_LIMIT>,
+    found: &'a mut ReplyRoom,
 ) -> Result<(Reply<'a>, Place), NoMemory>
     requires key { IsTrue (has_key_string call.now) }
     requires array { IsStringArray arena.old.blocks place.root }
@@ -85,6 +85,7 @@ pub(crate) fn answer<'a>(
         StrCall::Delete(key) => Ok(delete(arena, place, key)),
         StrCall::DeleteIf(key, value) => Ok(delete_if(arena, place, key, *value)),
         StrCall::Take(key) => Ok(take(arena, place, key)),
+        StrCall::Pop(key) => Ok(pop(arena, place, key, &mut found.key)),
         StrCall::Free => Ok(clear(arena, place)),
         _ => {
             judy_string::laws::blocks_are_live();
@@ -229,6 +230,35 @@ fn take(arena: &mut Arena, place: Place, key: &Key<'_>) -> (Reply<'static>, Plac
     (value_reply(had), place)
 }
 
+/// Removes the least string from this one on, and shows it.
+fn pop<'a>(
+    arena: &mut Arena,
+    place: Place,
+    key: &Key<'_>,
+    buffer: &'a mut ArrayVec<u8, KEY_LIMIT>,
+) -> (Reply<'a>, Place)
+    requires key { IsTrue (is_string key.now) }
+    requires array { IsStringArray arena.old.blocks place.root }
+    requires counts { HasCounts string_pieces (string_in arena.old.blocks place.root) place }
+    ensures array { StringBecomes arena.old place.root arena.new result.1.root }
+    ensures counts { HasCounts string_pieces (string_in arena.new.blocks result.1.root) result.1 }
+    ensures step { StringAnswers arena.old place.root (str.Pop key.now) result.0 arena.new
+        result.1.root }
+    ensures memory { TakesNothing arena.old arena.new }
+{
+    judy_string::laws::blocks_are_live();
+    judy_string::laws::content_is_sound();
+    let map = JudySL::from_reference(place.root);
+    match map.first(arena, string_of(key), buffer) {
+        Some(value) => {
+            let found = Key::of(buffer.as_slice());
+            let (_, place) = delete(arena, place, &found);
+            (Reply::ValueKey(value, found), place)
+        }
+        None => (Reply::Null, place),
+    }
+}
+
 /// Removes a string if it has this value.
 fn delete_if(arena: &mut Arena, place: Place, key: &Key<'_>, value: u64) -> (Reply<'static>, Place)
     requires key { IsTrue (is_string key.now) }
@@ -267,12 +297,7 @@ fn clear(arena: &mut Arena, place: Place) -> (Reply<'static>, Place)
 }
 
 /// Answers a call that changes nothing.
-fn look<'a>(
-    arena: &Arena,
-    root: Ref,
-    call: &StrCall<'_>,
-    buffer: &'a mut ArrayVec<u8, KEY_LIMIT>,
-) -> Reply<'a>
+fn look<'a>(arena: &Arena, root: Ref, call: &StrCall<'_>, found: &'a mut ReplyRoom) -> Reply<'a>
     requires key { IsTrue (has_key_string call.now) }
     requires array { IsStringArray arena.now.blocks root }
     requires query { IsFalse (string_changes call.now) }
@@ -282,27 +307,29 @@ fn look<'a>(
     match call {
         StrCall::Get(key) => value_reply(map.get(arena, string_of(key))),
         StrCall::First(key) => {
-            let found = map.first(arena, string_of(key), buffer);
-            entry_reply(found, buffer.as_slice())
+            let value = map.first(arena, string_of(key), &mut found.key);
+            entry_reply(value, found.key.as_slice())
         }
         StrCall::Next(key) => {
-            let found = map.next(arena, string_of(key), buffer);
-            entry_reply(found, buffer.as_slice())
+            let value = map.next(arena, string_of(key), &mut found.key);
+            entry_reply(value, found.key.as_slice())
         }
         StrCall::Last(key) => {
-            let found = map.last(arena, string_of(key), buffer);
-            entry_reply(found, buffer.as_slice())
+            let value = map.last(arena, string_of(key), &mut found.key);
+            entry_reply(value, found.key.as_slice())
         }
         StrCall::Prev(key) => {
-            let found = map.prev(arena, string_of(key), buffer);
-            entry_reply(found, buffer.as_slice())
+            let value = map.prev(arena, string_of(key), &mut found.key);
+            entry_reply(value, found.key.as_slice())
         }
+        StrCall::Walk(search, key, n) => map.walk(arena, *search, string_of(key), *n, found),
         StrCall::Insert(..)
         | StrCall::Keep(..)
         | StrCall::Exchange(..)
         | StrCall::Delete(_)
         | StrCall::DeleteIf(..)
         | StrCall::Take(_)
+        | StrCall::Pop(_)
         | StrCall::Free => unreachable!(),
     }
 }

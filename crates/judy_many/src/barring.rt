@@ -12,7 +12,7 @@ use crate::client::Client;
 use crate::network::Network;
 use crate::shows::Shows;
 use arrayvec::ArrayVec;
-use judy_model::KEY_LIMIT;
+use judy_model::ReplyRoom;
 use judy_protocol::{Line, REPLY_LIMIT, Refusal, Served, run};
 use std::alloc::Global;
 
@@ -84,7 +84,7 @@ pub fn run_unless<S: Served>(
     service: &mut S,
     speaker: &mut Option<S::Speaker>,
     asked: &Result<Line<'_>, Refusal>,
-    found: &mut ArrayVec<u8, KEY_LIMIT>,
+    found: &mut ReplyRoom,
     answer: &mut ArrayVec<u8, REPLY_LIMIT>,
 ) -> bool
     requires known { HasLoggedIn (S.seen service.old).speakers (option_map S.who speaker.old) }

@@ -20,7 +20,7 @@ use crate::others::{is_login, limit_login};
 use crate::serve::Limits;
 use crate::shows::Shows;
 use arrayvec::ArrayVec;
-use judy_model::{KEY_LIMIT, LINE_LIMIT};
+use judy_model::{KEY_LIMIT, LINE_LIMIT, ReplyRoom};
 use judy_protocol::{
     ANSWERS_LIMIT, Held, REPLY_LIMIT, asks_to_quit, cut_line, hear_line, join_line, squeeze,
     whole_line,
@@ -32,7 +32,7 @@ use std::alloc::Global;
 #[derive(Drop)]
 pub struct Rooms {
     key: [u8; KEY_LIMIT],
-    found: ArrayVec<u8, KEY_LIMIT>,
+    found: ReplyRoom,
     reply: ArrayVec<u8, REPLY_LIMIT>,
     short: ArrayVec<u8, LINE_LIMIT>,
 }
@@ -42,7 +42,7 @@ impl Rooms {
     pub fn new() -> Rooms {
         Rooms {
             key: [0u8; KEY_LIMIT],
-            found: ArrayVec::new(),
+            found: ReplyRoom::new(),
             reply: ArrayVec::new(),
             short: ArrayVec::new(),
         }

@@ -21,7 +21,7 @@ use Rattle.judy_model.proofs.lemmas.StateLemmas.{total, total-with_content}
 use Rattle.judy_model.proofs.lemmas.FormLemmas.{names_apart, names_rise, content_form}
 use Rattle.judy_model.proofs.RefusalLaws.{look_keeps, frozen_keeps}
 use Rattle.judy_model.proofs.lemmas.TestLemmas.{and_left, and_right}
-use Rattle.judy_model.proofs.lemmas.GrowthLemmas.{Measure, Weighs, lengths, sizes, one_each, its_size, effect_grows, lifted}
+use Rattle.judy_model.proofs.lemmas.GrowthLemmas.{Measure, Weighs, lengths, sizes, one_each, its_size, words_alike, strings_alike, bytes_alike, effect_grows, lifted}
 use Rattle.judy_model.proofs.lemmas.GapLemmas.{le_of}
 
 -- ---- a call of a tenant
@@ -106,10 +106,10 @@ pieces_grow right quota s call h =
   where
     its_own : (c : Call) → WeighsIn (pieces_of word_pieces) word_pieces (sizes word_order nat_cmp_total nat_cmp-IsAntisymmetric word_pieces)
         (pieces_of string_pieces) string_pieces (sizes string_order nat_list_cmp_total names_apart string_pieces) c (new_pieces c)
-    its_own (One name c) = its_size word_pieces (one_effect c)
-    its_own (Long name c) = its_size word_pieces (long_effect c)
-    its_own (Str name c) = its_size string_pieces (string_effect c)
-    its_own (Bytes name c) = its_size string_pieces (bytes_effect c)
+    its_own (One name c) = its_size word_pieces (one_effect c) (words_alike (one_effect c))
+    its_own (Long name c) = its_size word_pieces (long_effect c) (words_alike (long_effect c))
+    its_own (Str name c) = its_size string_pieces (string_effect c) (strings_alike c)
+    its_own (Bytes name c) = its_size string_pieces (bytes_effect c) (bytes_alike c)
     its_own Used = tt
 
 -- what grows only if there is room stays within the quota

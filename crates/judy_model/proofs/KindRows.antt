@@ -6,6 +6,7 @@ use Rattle.std.specs.Fmt.{digits}
 use Rattle.hex.specs.Hex.{decode_pairs, encode_with}
 use Rattle.judy_model.specs.Grammar.{is_name, number_of_field}
 use Rattle.judy_model.specs.Reading.{request_of}
+use Rattle.judy_model.specs.Walks.{listed}
 use Rattle.judy_model.proofs.Talks.{alice, bob}
 
 -- every search of a set of 3, 5 and 9, at an index that is there and at one that is not
@@ -88,11 +89,62 @@ taken : alice (codes "JLT l 1\nJLI l 1 5\nJLT l 1\nJLT l 1\nJSLI s x61 5\nJSLT s
 unfolding digits decode_pairs
 taken = refl
 
+-- the first entry of a range is removed and shown
+popped : alice (codes "J1UF a 0 9\nJ1S a 3\nJ1S a 5\nJ1UF a 4 9\nJ1UF a 0 2\nJ1UF a 3 3\nJLDF l 0 9\nJLI l 5 8\nJLDF l 6 9\nJLDF l 6 5\nJLDF l 0 5\nJSLI s x61 7\nJSLI s x63 8\nJSLDF s x62\nJSLDF s x\nJSLDF s x\nUSED\n")
+    ≡ codes "OK\n0\n1\n1\n1 5\n0\n1 3\nNULL\nV 0\nNULL\nNULL\nV 8 5\nV 0\nV 0\nV 8 x63\nV 7 x61\nNULL\nQ 0 4 0 504\n"
+unfolding digits decode_pairs encode_with
+popped = refl
+
+-- the least absent word is inserted and shown, if there is room and there is one
+filled : alice (codes "J1SE a 3\nJ1SE a 3\nJ1SE a 5\nJLIE l 7 9\nJLG l 7\nJLIE l 7 9\nJ1SE a -1\nUSED\n")
+    ≡ codes "OK\n1 3\n1 4\n1 5\n1 7\nV 9\nFULL\nFULL\nQ 4 4 4 504\n"
+unfolding digits
+filled = refl
+
+filled_up : alice (codes "J1SE a -1\nJ1SE a -1\nJLIE l -1 5\nJLIE l -1 6\nUSED\n")
+    ≡ codes "OK\n1 18446744073709551615\n0\n1 18446744073709551615\n0\nQ 2 4 2 504\n"
+unfolding digits
+filled_up = refl
+
+-- the entries of a range are removed, the least first, at most so many
+ranges_cut : alice (codes "J1S a 3\nJ1S a 5\nJ1S a 9\nJ1UR a 4 9 1\nJ1F a 0 9\nJ1UR a 0 9 9\nJ1UR a 0 9 9\nJ1UR a 0 9 0\nJ1UR a 0 9 65536\nJLI l 3 1\nJLI l 5 2\nJLDR l 4 3 9\nJLDR l 4 -1 65535\nJLF l 0 9\nUSED\n")
+    ≡ codes "OK\n1\n1\n1\nN 1\nE 2 3 9\nN 2\nN 0\nERR SYNTAX\nERR SYNTAX\nV 0\nV 0\nN 0\nN 1\nE 1 1 3\nQ 1 4 1 504\n"
+unfolding digits
+ranges_cut = refl
+
 -- two names of a kind are two arrays
 two_names : bob (codes "J1S a 1\nJ1S b 2\nJ1FA a\nJ1T b 2\nJSLI s x61 1\nJSLI t x61 2\nJSLD s x61\nJSLG t x61\n")
     ≡ codes "OK\n1\n1\nN 1\n1\nV 0\nV 0\n1\nV 2\n"
 unfolding digits decode_pairs
 two_names = refl
+
+-- walks: over a set and its absent words, in each direction, up to their number of entries
+set_walks : bob
+    (codes "J1S a 3\nJ1S a 5\nJ1S a 9\nJ1F a 3 2\nJ1N a 3 2\nJ1L a 9 2\nJ1P a 9 2\nJ1F a 4 9\nJ1F a 10 9\nJ1FE a 3 2\nJ1NE a 4 2\nJ1LE a 5 2\nJ1PE a 4 3\nJ1F a 3 0\nJ1F a 3 65536\nJ1F a 3 65535\n")
+    ≡ codes "OK\n1\n1\n1\nE 2 3 5\nE 2 5 9\nE 2 9 5\nE 2 5 3\nE 2 5 9\nE 0\nE 2 4 6\nE 2 6 7\nE 2 4 2\nE 3 2 1 0\nERR SYNTAX\nERR SYNTAX\nE 3 3 5 9\n"
+unfolding digits
+set_walks = refl
+
+-- over a JudyL
+map_walks : bob
+    (codes "JLI l 3 7\nJLI l 5 8\nJLI l 9 6\nJLF l 3 2\nJLN l 3 9\nJLL l 8 5\nJLP l 9 1\nJLFE l 5 2\nJLNE l 9 1\nJLLE l 5 1\nJLPE l 0 1\nJLF l 3 0\n")
+    ≡ codes "OK\nV 0\nV 0\nV 0\nE 2 7 3 8 5\nE 2 8 5 6 9\nE 2 8 5 7 3\nE 1 8 5\nE 2 6 7\nE 1 10\nE 1 4\nE 0\nERR SYNTAX\n"
+unfolding digits
+map_walks = refl
+
+-- over a JudySL
+string_walks : bob
+    (codes "JSLI s x61 7\nJSLI s x63 8\nJSLI s x65 9\nJSLF s x 2\nJSLN s x61 9\nJSLL s x64 9\nJSLP s x65 1\nJSLN s x65 1\nJSLF s x61 0\n")
+    ≡ codes "OK\nV 0\nV 0\nV 0\nE 2 7 x61 8 x63\nE 2 8 x63 9 x65\nE 2 8 x63 7 x61\nE 1 8 x63\nE 0\nERR SYNTAX\n"
+unfolding digits decode_pairs encode_with
+string_walks = refl
+
+-- a text that no longer fits is not added, nor is one behind it
+fitting : listed (replicate 2000 32 ∷ replicate 2088 32 ∷ replicate 1 32 ∷ []) ≡ (2, replicate 4088 32)
+fitting = refl
+
+cut_off : (listed (replicate 2000 32 ∷ replicate 2089 32 ∷ replicate 1 32 ∷ [])).0 ≡ 1
+cut_off = refl
 
 -- ---- fields
 
@@ -103,26 +155,26 @@ many (suc n) = codes "ERR SYNTAX\n" ++ many n
 
 -- one too many for each command
 fields_more : alice
-    (codes "J1S a 1 2\nJ1U a 1 2\nJ1T a 1 2\nJ1C a 1 2 3\nJ1BC a 1 2\nJ1F a 1 2\nJ1NE a 1 2\nJ1FA a 1\nJLI l 1 2 3\nJLA l 1 2 3\nJLK l 1 2 3\nJLX l 1 2 3 4\nJLD l 1 2 3\nJLT l 1 2\nJLG l 1 2\nJLC l 1 2 3\nJLBC l 1 2\nJLP l 1 2\nJLLE l 1 2\nJLFA l 1\n")
-    ≡ codes "OK\n" ++ many 20
+    (codes "J1S a 1 2\nJ1U a 1 2\nJ1T a 1 2\nJ1C a 1 2 3\nJ1BC a 1 2\nJ1F a 1 2 3\nJ1NE a 1 2 3\nJ1FA a 1\nJLI l 1 2 3\nJLA l 1 2 3\nJLK l 1 2 3\nJLX l 1 2 3 4\nJLD l 1 2 3\nJLT l 1 2\nJLG l 1 2\nJLC l 1 2 3\nJLBC l 1 2\nJLP l 1 2 3\nJLLE l 1 2 3\nJLFA l 1\nJ1SE a 1 2\nJ1UF a 1 2 3\nJ1UR a 1 2 3 4\nJLIE l 1 2 3\nJLDF l 1 2 3\nJLDR l 1 2 3 4\n")
+    ≡ codes "OK\n" ++ many 26
 fields_more = refl
 
 fields_more_keys : alice
-    (codes "JSLI s x61 1 2\nJSLA s x61 1 2\nJSLK s x61 1 2\nJSLX s x61 1 2 3\nJSLD s x61 1 2\nJSLT s x61 1\nJSLG s x61 1\nJSLF s x61 1\nJSLP s x61 1\nJSLFA s x61\nJHSI h x 1 2\nJHSA h x 1 2\nJHSK h x 1 2\nJHSX h x 1 2 3\nJHSD h x 1 2\nJHST h x 1\nJHSG h x 1\nJHSFA h x\nUSED a\nQUIT now\nAUTH alice abc d\n")
-    ≡ codes "OK\n" ++ many 21
+    (codes "JSLI s x61 1 2\nJSLA s x61 1 2\nJSLK s x61 1 2\nJSLX s x61 1 2 3\nJSLD s x61 1 2\nJSLT s x61 1\nJSLDF s x61 1\nJSLG s x61 1\nJSLF s x61 1 2\nJSLP s x61 1 2\nJSLFA s x61\nJHSI h x 1 2\nJHSA h x 1 2\nJHSK h x 1 2\nJHSX h x 1 2 3\nJHSD h x 1 2\nJHST h x 1\nJHSG h x 1\nJHSFA h x\nUSED a\nQUIT now\nAUTH alice abc d\n")
+    ≡ codes "OK\n" ++ many 22
 unfolding decode_pairs
 fields_more_keys = refl
 
 -- one too few
 fields_fewer : alice
-    (codes "J1S a\nJ1U a\nJ1T a\nJ1C a 1\nJ1BC a\nJ1F a\nJ1NE a\nJ1FA\nJLI l\nJLA l 1\nJLK l 1\nJLX l 1 2\nJLD l\nJLT l\nJLG l\nJLC l 1\nJLBC l\nJLP l\nJLLE l\nJLFA\nJSLI s\nJSLA s x61\nJSLK s x61\nJSLX s x61 1\nJSLD s\nJSLT s\nJSLG s\nJSLN s\nJSLFA\nJHSI h\nJHSA h x61\nJHSK h x61\nJHSX h x61 1\nJHSD h\nJHST h\nJHSG h\nJHSFA\nAUTH alice\n")
-    ≡ codes "OK\n" ++ many 38
+    (codes "J1S a\nJ1U a\nJ1T a\nJ1C a 1\nJ1BC a\nJ1F a\nJ1NE a\nJ1FA\nJLI l\nJLA l 1\nJLK l 1\nJLX l 1 2\nJLD l\nJLT l\nJLG l\nJLC l 1\nJLBC l\nJLP l\nJLLE l\nJLFA\nJSLI s\nJSLA s x61\nJSLK s x61\nJSLX s x61 1\nJSLD s\nJSLT s\nJSLG s\nJSLN s\nJSLFA\nJHSI h\nJHSA h x61\nJHSK h x61\nJHSX h x61 1\nJHSD h\nJHST h\nJHSG h\nJHSFA\nAUTH alice\nJ1SE a\nJ1UF a 1\nJ1UR a 1 2\nJLIE l 1\nJLDF l 1\nJLDR l 1 2\nJSLDF s\n")
+    ≡ codes "OK\n" ++ many 45
 unfolding decode_pairs
 fields_fewer = refl
 
 -- and a command of another kind
-other_kinds : alice (codes "J1I a 1\nJ1A a 1 1\nJ1D a 1\nJ1G a 1\nJ1K a 1 1\nJ1X a 1 1 1\nJ1TA a 1\nJLS a 1\nJLU a 1\nJSLC s x 1\nJSLBC s x\nJSLFE s x\nJHSF s x\nJHSN s x\nJH1S a 1\n")
-    ≡ codes "OK\n" ++ many 15
+other_kinds : alice (codes "J1I a 1\nJ1A a 1 1\nJ1D a 1\nJ1G a 1\nJ1K a 1 1\nJ1X a 1 1 1\nJ1TA a 1\nJLS a 1\nJLU a 1\nJSLC s x 1\nJSLBC s x\nJSLFE s x\nJHSF s x\nJHSN s x\nJH1S a 1\nJ1IE a 1 2\nJSLIE s x 1\nJSLDR s x x 1\nJHSDF h x\n")
+    ≡ codes "OK\n" ++ many 19
 unfolding decode_pairs
 other_kinds = refl
 

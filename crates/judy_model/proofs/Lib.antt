@@ -14,3 +14,4 @@ mod RefusalLaws
 mod UnchangedLaws
 mod GrowthLaws
 mod AnswerLaws
+mod WalkLaws

@@ -12,14 +12,17 @@ use Rattle.judy_model.specs.declared.quotas.Right.TheVariants.{Change, Look, Fro
 use Rattle.judy_model.specs.declared.replies.Reply.{Reply}
 use Rattle.judy_model.specs.declared.replies.Reply.TheVariants as reply
 use Rattle.judy_model.specs.Contents.{Order, Entries, word_order, string_order, value_of, has_key}
-use Rattle.judy_model.specs.Tenant.Effect.{Insert, Keep, Exchange, Remove, Take, RemoveIf, Free, Ask}
-use Rattle.judy_model.specs.Tenant.Answer.{Yes, Number, Index, Absent, ValueOf, ValueAt, ValueKey}
+use Rattle.judy_model.specs.Tenant.Effect.{Insert, Keep, Exchange, Remove, Take, RemoveIf, Pop, Cut, Fill, Free, Ask}
+use Rattle.judy_model.specs.Tenant.Answer.{Yes, Number, Index, Absent, ValueOf, ValueAt, ValueKey, Listed}
 use Rattle.judy_model.specs.Tenant.Reports.{ReportsNew, ReportsValue}
 use Rattle.judy_model.specs.Tenant.{keep_over, exchange_over, remove_over}
 use Rattle.judy_model.specs.Tenant.{Effect, Answer, Reports, State, content_of, with_content, insertion_reply, insert_over, insert, index_or_no}
 use Rattle.judy_model.specs.Tenant.{value_at_or_null, value_key_or_null, value_or_null, absent_or_no, reply_of, effect_step, effect_changes}
 use Rattle.judy_model.specs.Tenant.{effect_asks_for_new, one_effect, long_effect, string_effect, bytes_effect, changes}
 use Rattle.judy_model.specs.Tenant.{is_read_only, refusal_of, asks_for_new, has_room, allowed_step, step}
+use Rattle.judy_model.specs.Tenant.{Lack, Shown, fill_at, fill_over, lack_reply, lacks, pop_over, shown_reply}
+use Rattle.judy_model.specs.Tenant.Shown.{AnIndex, AnEntry, AString}
+use Rattle.judy_model.specs.Tenant.Lack.{NoIndex, NoEntry}
 use Rattle.judy_model.specs.Solo.{is_memory, StepHasMemory}
 use Rattle.judy_model.specs.WellFormed.{is_one_entry, is_long_entry, is_string_entry, is_bytes_entry, IsWellFormed, FullIsForNew, LooksKeepAll, QueriesKeepAll}
 use Rattle.judy_model.proofs.lemmas.FormLemmas.{with_content_same}
@@ -59,6 +62,16 @@ absent_found : (o : Option ℕ) → refusal (absent_or_no o) ≡ 0
 absent_found (Some v) = refl
 absent_found None = refl
 
+-- nor is an entry that is shown, or its lack
+shown_found : (s : Shown) → refusal (shown_reply s) ≡ 0
+shown_found (AnIndex i) = refl
+shown_found (AnEntry v i) = refl
+shown_found (AString v key) = refl
+
+lacked : (lack : Lack) → refusal (lack_reply lack) ≡ 0
+lacked NoIndex = refl
+lacked NoEntry = refl
+
 -- nor is any other answer
 answered : (a : Answer) → refusal (reply_of a) ≡ 0
 answered (Yes b) = refl
@@ -68,6 +81,7 @@ answered (Absent o) = absent_found o
 answered (ValueOf o) = value_found o
 answered (ValueAt o) = value_at_found o
 answered (ValueKey o) = value_key_found o
+answered (Listed texts) = refl
 
 -- nor is the reply to an insertion that is made
 inserted : (reports : Reports) (given : Given) (had : Option ℕ) → refusal (insertion_reply reports given had) ≡ 0
@@ -75,6 +89,16 @@ inserted ReportsNew given had = refl
 inserted ReportsValue given had = refl
 
 -- ---- a call of an array is refused exactly if it asks for a new entry without room
+
+fill_refusal : {K : Type 0} (order : Order K) (room : Bool) (l : Entries K) (index : K → ℕ) (v : ℕ) (found : Option K)
+    → refusal (fill_over order room l index v found).0 ≡ at_quota (lacks order l found) room
+fill_refusal order room l index v None = refl
+fill_refusal order room l index v (Some k) = by (value_of order l k) room
+  where
+    by : (had : Option ℕ) (r : Bool) → refusal (fill_at order r l (index k) k v had).0 ≡ at_quota (not (is_some had)) r
+    by (Some w) r = refl
+    by None true = refl
+    by None false = refl
 
 effect_refusal : {K : Type 0} (order : Order K) (room : Bool) (l : Entries K) (effect : Effect K)
     → refusal (effect_step order room l effect).0 ≡ at_quota (effect_asks_for_new order l effect) room
@@ -102,6 +126,13 @@ effect_refusal order room l (RemoveIf k v) = by (value_of order l k)
     by : (had : Option ℕ) → refusal (remove_over order l k v had).0 ≡ 0
     by (Some w) = refl
     by None = refl
+effect_refusal {K = K} order room l (Pop find show lack) = by (find l)
+  where
+    by : (found : Option (K × ℕ)) → refusal (pop_over order l show lack found).0 ≡ 0
+    by (Some e) = shown_found (show e)
+    by None = lacked lack
+effect_refusal order room l (Cut find n) = refl
+effect_refusal order room l (Fill x find index v) = fill_refusal order room l index v (find l)
 effect_refusal order room l Free = refl
 effect_refusal order room l (Ask answer) = answered (answer l)
 
@@ -124,6 +155,17 @@ keep_kept order room l k v (Some w) e = cc
 keep_kept order true l k v None e = cc
 keep_kept order false l k v None e = refl
 
+-- nor is a key that is found
+fill_kept : {K : Type 0} (order : Order K) (room : Bool) (l : Entries K) (index : K → ℕ) (v : ℕ) (found : Option K)
+    → (lacks order l found && not room) ≡ true → (fill_over order room l index v found).1 ≡ l
+fill_kept order room l index v None e = refl
+fill_kept order room l index v (Some k) e = by (value_of order l k) room e
+  where
+    by : (had : Option ℕ) (r : Bool) → (not (is_some had) && not r) ≡ true → (fill_at order r l (index k) k v had).1 ≡ l
+    by (Some w) r e = refl
+    by None true e = cc
+    by None false e = refl
+
 -- a call that changes nothing, or has no room, leaves the array unchanged
 abbrev Rests : Bool → Bool → Bool → Type 0
 Rests changing asks room = IsTrue (not changing) ⊎ IsTrue (asks && not room)
@@ -142,6 +184,12 @@ effect_kept order room l (RemoveIf k v) (inl h) = cc
 effect_kept order room l (RemoveIf k v) (inr h) = cc
 effect_kept order room l (Remove k) (inl h) = cc
 effect_kept order room l (Remove k) (inr h) = cc
+effect_kept order room l (Pop find show lack) (inl h) = cc
+effect_kept order room l (Pop find show lack) (inr h) = cc
+effect_kept order room l (Cut find n) (inl h) = cc
+effect_kept order room l (Cut find n) (inr h) = cc
+effect_kept order room l (Fill x find index v) (inl h) = cc
+effect_kept order room l (Fill x find index v) (inr h) = fill_kept order room l index v (find l) h
 effect_kept order room l Free (inl h) = cc
 effect_kept order room l Free (inr h) = cc
 effect_kept order room l (Ask answer) h = refl
@@ -154,6 +202,9 @@ effect_asks_nothing order l (Exchange k old new) h = refl
 effect_asks_nothing order l (Remove k) h = refl
 effect_asks_nothing order l (Take k) h = refl
 effect_asks_nothing order l (RemoveIf k v) h = refl
+effect_asks_nothing order l (Pop find show lack) h = refl
+effect_asks_nothing order l (Cut find n) h = refl
+effect_asks_nothing order l (Fill x find index v) h = cc
 effect_asks_nothing order l Free h = refl
 effect_asks_nothing order l (Ask answer) h = refl
 

@@ -1,10 +1,10 @@
 -- A reply that says that a call changed nothing is right.
-use Rattle.std.proofs.Common.{◌≡◌, ℕ, ◌+◌, ◌%◌, ◌^◌, arith, Bool, true, false, not, cond, ◌&&◌, List, [], ◌∷◌, refl, sym, ◌∙◌, ap, subst, Option, Some, None}
+use Rattle.std.proofs.Common.{◌≡◌, ◌≤◌, ℕ, zero, suc, ◌+◌, ◌%◌, ◌^◌, arith, Bool, true, false, not, cond, ◌&&◌, [], ◌∷◌, refl, sym, ◌∙◌, ap, Option, Some, None}
 use Rattle.std.specs.Prelude.{◌==◌, is_some, length, nat_lt}
 use Rattle.std.specs.Cmp.{IsTotalOrder, nat_cmp_total}
 use Rattle.std.specs.Cmp.Lexicographic.{nat_list_cmp_total}
 use Rattle.std.specs.Ordering.{eq_by_cmp}
-use Rattle.std.specs.FinMap.{find, put, is_sorted, IsAntisymmetric, slice_cmp-IsAntisymmetric, nat_cmp-IsAntisymmetric}
+use Rattle.std.specs.FinMap.{find, is_sorted, IsAntisymmetric, nat_cmp-IsAntisymmetric}
 use Rattle.std.specs.FinMap.Entries.{is_sorted-put, is_sorted-where_key, find-put, find-where_key, same_entries}
 use Rattle.std.proofs.lemmas.Bool.{eqb-true}
 use Rattle.std.proofs.lemmas.Bool.Decides.{nat_tests}
@@ -13,18 +13,19 @@ use Rattle.judy_model.specs.declared.calls.Call.TheVariants.{One, Long, Str, Byt
 use Rattle.judy_model.specs.declared.calls.Given.{Given}
 use Rattle.judy_model.specs.declared.calls.Given.TheVariants.{Nothing, Value, Plus}
 use Rattle.judy_model.specs.declared.quotas.Quota.{Quota}
-use Rattle.judy_model.specs.declared.quotas.Right.{Right}
 use Rattle.judy_model.specs.declared.quotas.Right.TheVariants.{Change, Look, Frozen}
 use Rattle.judy_model.specs.declared.replies.Reply.{Reply}
 use Rattle.judy_model.specs.declared.replies.Reply.TheVariants as reply
 use Rattle.judy_model.specs.Grammar.{are_bytes, is_string, is_byte_key}
 use Rattle.judy_model.specs.Contents.{Order, Entries, word_order, string_order, value_of, has_key, with_entry, without_key}
-use Rattle.judy_model.specs.Tenant.Effect.{Insert, Keep, Exchange, Remove, Take, RemoveIf, Free, Ask}
+use Rattle.judy_model.specs.Tenant.Effect.{Insert, Keep, Exchange, Remove, Take, RemoveIf, Pop, Cut, Fill, Free, Ask}
 use Rattle.judy_model.specs.Tenant.Reports.{ReportsNew, ReportsValue}
 use Rattle.judy_model.specs.Tenant.{keep_over, exchange_over, remove_over, value_or_null}
 use Rattle.judy_model.specs.Tenant.{Effect, State, content_of, with_content, value_after, value_replied, insert_over, insert, delete, free}
-use Rattle.judy_model.specs.Tenant.{effect_step, one_effect, long_effect, string_effect, bytes_effect, changes, has_room, allowed_step, step}
-use Rattle.judy_model.specs.Unchanged.{keeps, insertion_leaves, says_no, says_none, says_some, says_null, says_other, effect_leaves, leaves, UnchangedAreTold}
+use Rattle.judy_model.specs.Tenant.{effect_step, one_effect, long_effect, string_effect, bytes_effect, changes, has_room, allowed_step}
+use Rattle.judy_model.specs.Tenant.{Lack, Shown, cut_from, fill_at, fill_over, pop_over, shown_reply}
+use Rattle.judy_model.specs.Tenant.Shown.{AnIndex, AnEntry, AString}
+use Rattle.judy_model.specs.Unchanged.{keeps, insertion_leaves, says_no, says_none, says_some, says_null, says_other, effect_leaves, leaves, UnchangedAreTold, says_nothing}
 use Rattle.judy_model.specs.WellFormed.{is_word, is_one_entry, is_long_entry, is_string_entry, is_bytes_entry, is_content, IsWellFormed}
 use Rattle.judy_model.proofs.lemmas.FormLemmas.{content_form, found_passes, names_apart, with_content_same}
 use Rattle.judy_model.proofs.lemmas.StateLemmas.{and_left, and_right, is_Equal}
@@ -145,6 +146,48 @@ remove_left order l k v None h = refl
 remove_left order l k v (Some w) h = elim (w == v) as (λ b. not b ≡ true → cond b (without_key order l k) l ≡ l)
     [ true ↦ λ e. cc | false ↦ λ e. refl ] h
 
+-- an entry that is popped is shown
+pop_left : {K : Type 0} (order : Order K) (l : Entries K) (show : K × ℕ → Shown) (lack : Lack) (found : Option (K × ℕ))
+    → says_nothing (pop_over order l show lack found).0 ≡ true → (pop_over order l show lack found).1 ≡ l
+pop_left order l show lack None h = refl
+pop_left order l show lack (Some e) h = absurd (by (show e) h)
+  where
+    by : (s : Shown) → says_nothing (shown_reply s) ≡ true → ⊥
+    by (AnIndex i) h = cc
+    by (AnEntry v i) h = cc
+    by (AString v key) h = cc
+
+-- each entry that is cut is counted
+cut_counts : {K : Type 0} (order : Order K) (search : Entries K → Option (K × ℕ)) (count n : ℕ) (l : Entries K) (found : Option (K × ℕ))
+    → count ≤ (cut_from order search count n l found).0
+cut_counts order search count zero l found = omega arith
+cut_counts order search count (suc n) l None = omega arith
+cut_counts order search count (suc n) l (Some e) =
+    let rest = without_key order l e.0 in
+    let more = cut_counts order search (count + 1) n rest (search rest) in
+    omega (arith, more)
+
+cut_left : {K : Type 0} (order : Order K) (search : Entries K → Option (K × ℕ)) (n : ℕ) (l : Entries K) (found : Option (K × ℕ))
+    → ((cut_from order search 0 n l found).0 == 0) ≡ true → (cut_from order search 0 n l found).1 ≡ l
+cut_left order search zero l found h = refl
+cut_left order search (suc n) l None h = refl
+cut_left order search (suc n) l (Some e) h =
+    let rest = without_key order l e.0 in
+    let some = cut_counts order search 1 n rest (search rest) in
+    let none = eqb-true (cut_from order search 1 n rest (search rest)).0 0 h in
+    absurd (omega (arith, some, none))
+
+-- a key that is filled is shown
+fill_left : {K : Type 0} (order : Order K) (room : Bool) (l : Entries K) (index : K → ℕ) (v : ℕ) (found : Option K)
+    → says_no (fill_over order room l index v found).0 ≡ true → (fill_over order room l index v found).1 ≡ l
+fill_left order room l index v None h = refl
+fill_left order room l index v (Some k) h = absurd (by (value_of order l k) room h)
+  where
+    by : (had : Option ℕ) (r : Bool) → says_no (fill_at order r l (index k) k v had).0 ≡ true → ⊥
+    by (Some w) r h = cc
+    by None true h = cc
+    by None false h = cc
+
 free_left : {K : Type 0} (l : Entries K) → says_none (free l).0 ≡ true → (free l).1 ≡ l
 free_left [] h = refl
 free_left (e ∷ es) h = let no = eqb-true (length (e ∷ es)) 0 h in absurd (omega (arith, no))
@@ -179,6 +222,9 @@ effect_left order total same test words room l (Exchange k old new) form h = exc
 effect_left order total same test words room l (Take k) form h = take_left order total same test l k form h
 effect_left order total same test words room l (RemoveIf k v) form h = remove_left order l k v (value_of order l k) h
 effect_left order total same test words room l (Remove k) form h = delete_left order total same test l k form h
+effect_left order total same test words room l (Pop find show lack) form h = pop_left order l show lack (find l) h
+effect_left order total same test words room l (Cut find n) form h = cut_left order find n l (find l) h
+effect_left order total same test words room l (Fill x find index v) form h = fill_left order room l index v (find l) h
 effect_left order total same test words room l Free form h = free_left l h
 effect_left order total same test words room l (Ask answer) form h = refl
 

@@ -12,4 +12,5 @@ pub mod PieceLemmas
 pub mod StateLemmas
 pub mod StreamLemmas
 pub mod TestLemmas
+pub mod WalkLemmas
 pub mod WordLemmas

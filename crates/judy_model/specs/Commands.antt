@@ -5,7 +5,7 @@
 --     command_of call          the command that makes a call
 --     command_words            the words of the table
 --     command_place command    the place of a command in the table
-use Rattle.std.specs.Prelude.{◌&&◌, ℕ, zero, suc, Bool, List, [], ◌∷◌, Option, Some, None, codes, map, ◌==◌}
+use Rattle.std.specs.Prelude.{◌&&◌, ℕ, zero, suc, Bool, List, [], ◌∷◌, Option, Some, None, option_map, codes, map, ◌==◌, nat_le, if◌then◌else◌}
 use Rattle.std.specs.List.{position_or_len}
 use Rattle.judy_model.specs.declared.calls.Call.{Call}
 use Rattle.judy_model.specs.declared.calls.Call.TheVariants as call
@@ -20,13 +20,15 @@ use Rattle.judy_model.specs.declared.calls.BytesCall.{BytesCall}
 use Rattle.judy_model.specs.declared.calls.BytesCall.TheVariants as bytes
 use Rattle.judy_model.specs.declared.calls.Given.TheVariants.{Value, Plus}
 use Rattle.judy_model.specs.declared.calls.Given.TheVariants as given
+use Rattle.judy_model.specs.declared.calls.Search.{Search}
+use Rattle.judy_model.specs.declared.calls.Search.TheVariants as search
 use Rattle.judy_model.specs.declared.commands.Command.{Command}
 use Rattle.judy_model.specs.declared.commands.Kind.{Kind}
 use Rattle.judy_model.specs.declared.commands.Kind.TheVariants.{One, Long, Str, Bytes}
 use Rattle.judy_model.specs.declared.commands.Numbers.{Numbers}
 use Rattle.judy_model.specs.declared.commands.Numbers.TheVariants as numbers
 use Rattle.judy_model.specs.declared.commands.Operation.{Operation}
-use Rattle.judy_model.specs.declared.commands.Operation.TheVariants.{Insert, Add, Keep, Exchange, Remove, Take, Look, Count, Nth, First, Next, Last, Prev, Free}
+use Rattle.judy_model.specs.declared.commands.Operation.TheVariants.{Insert, Add, Keep, Exchange, Remove, Take, Look, Count, Nth, First, Next, Last, Prev, Free, Pop, Fill, Cut}
 use Rattle.judy_model.specs.declared.commands.Operation.TheVariants.{FirstEmpty, NextEmpty, LastEmpty, PrevEmpty}
 
 -- what does this to an array of this kind
@@ -36,19 +38,19 @@ to kind operation = record { kind = kind; operation = operation }
 -- the commands, by kind
 abbrev pub commands : List (List ℕ × Command)
 commands =
-    (codes "J1S", to One Insert) ∷ (codes "J1U", to One Remove) ∷ (codes "J1T", to One Look)
-    ∷ (codes "J1C", to One Count) ∷ (codes "J1BC", to One Nth)
+    (codes "J1S", to One Insert) ∷ (codes "J1SE", to One Fill) ∷ (codes "J1U", to One Remove) ∷ (codes "J1UF", to One Pop)
+    ∷ (codes "J1UR", to One Cut) ∷ (codes "J1T", to One Look) ∷ (codes "J1C", to One Count) ∷ (codes "J1BC", to One Nth)
     ∷ (codes "J1F", to One First) ∷ (codes "J1N", to One Next) ∷ (codes "J1L", to One Last) ∷ (codes "J1P", to One Prev)
     ∷ (codes "J1FE", to One FirstEmpty) ∷ (codes "J1NE", to One NextEmpty)
     ∷ (codes "J1LE", to One LastEmpty) ∷ (codes "J1PE", to One PrevEmpty) ∷ (codes "J1FA", to One Free)
-    ∷ (codes "JLI", to Long Insert) ∷ (codes "JLA", to Long Add) ∷ (codes "JLK", to Long Keep) ∷ (codes "JLX", to Long Exchange)
-    ∷ (codes "JLD", to Long Remove) ∷ (codes "JLT", to Long Take) ∷ (codes "JLG", to Long Look)
-    ∷ (codes "JLC", to Long Count) ∷ (codes "JLBC", to Long Nth)
+    ∷ (codes "JLI", to Long Insert) ∷ (codes "JLIE", to Long Fill) ∷ (codes "JLA", to Long Add) ∷ (codes "JLK", to Long Keep) ∷ (codes "JLX", to Long Exchange)
+    ∷ (codes "JLD", to Long Remove) ∷ (codes "JLDF", to Long Pop) ∷ (codes "JLDR", to Long Cut)
+    ∷ (codes "JLT", to Long Take) ∷ (codes "JLG", to Long Look) ∷ (codes "JLC", to Long Count) ∷ (codes "JLBC", to Long Nth)
     ∷ (codes "JLF", to Long First) ∷ (codes "JLN", to Long Next) ∷ (codes "JLL", to Long Last) ∷ (codes "JLP", to Long Prev)
     ∷ (codes "JLFE", to Long FirstEmpty) ∷ (codes "JLNE", to Long NextEmpty)
     ∷ (codes "JLLE", to Long LastEmpty) ∷ (codes "JLPE", to Long PrevEmpty) ∷ (codes "JLFA", to Long Free)
     ∷ (codes "JSLI", to Str Insert) ∷ (codes "JSLA", to Str Add) ∷ (codes "JSLK", to Str Keep) ∷ (codes "JSLX", to Str Exchange)
-    ∷ (codes "JSLD", to Str Remove) ∷ (codes "JSLT", to Str Take) ∷ (codes "JSLG", to Str Look)
+    ∷ (codes "JSLD", to Str Remove) ∷ (codes "JSLDF", to Str Pop) ∷ (codes "JSLT", to Str Take) ∷ (codes "JSLG", to Str Look)
     ∷ (codes "JSLF", to Str First) ∷ (codes "JSLN", to Str Next) ∷ (codes "JSLL", to Str Last) ∷ (codes "JSLP", to Str Prev)
     ∷ (codes "JSLFA", to Str Free)
     ∷ (codes "JHSI", to Bytes Insert) ∷ (codes "JHSA", to Bytes Add) ∷ (codes "JHSK", to Bytes Keep) ∷ (codes "JHSX", to Bytes Exchange)
@@ -93,6 +95,9 @@ operation_number NextEmpty = 14
 operation_number LastEmpty = 15
 operation_number PrevEmpty = 16
 operation_number Free = 17
+operation_number Pop = 18
+operation_number Fill = 19
+operation_number Cut = 20
 
 -- whether two commands are one
 abbrev pub is_same : Command → Command → Bool
@@ -103,6 +108,14 @@ abbrev pub command_place : Command → ℕ
 command_place command = position_or_len (λ row. is_same row.1 command) commands
 
 -- ---- the calls that they make
+
+-- the most entries that a walk or a removal of a range may ask for
+abbrev pub most_entries : ℕ
+most_entries = 65535
+
+-- the number of entries that a walk or a removal of a range asks for, if it may ask for so many
+abbrev pub entries_of : ℕ → Option ℕ
+entries_of n = if nat_le 1 n && nat_le n most_entries then Some n else None
 
 -- the call of a set
 abbrev pub one_with : Operation → Numbers → Option OneCall
@@ -119,6 +132,17 @@ one_with FirstEmpty (numbers.One i) = Some (one.FirstEmpty i)
 one_with NextEmpty (numbers.One i) = Some (one.NextEmpty i)
 one_with LastEmpty (numbers.One i) = Some (one.LastEmpty i)
 one_with PrevEmpty (numbers.One i) = Some (one.PrevEmpty i)
+one_with First (numbers.Two i n) = option_map (λ k. one.Walk search.First i k) (entries_of n)
+one_with Next (numbers.Two i n) = option_map (λ k. one.Walk search.Next i k) (entries_of n)
+one_with Last (numbers.Two i n) = option_map (λ k. one.Walk search.Last i k) (entries_of n)
+one_with Prev (numbers.Two i n) = option_map (λ k. one.Walk search.Prev i k) (entries_of n)
+one_with FirstEmpty (numbers.Two i n) = option_map (λ k. one.WalkEmpty search.First i k) (entries_of n)
+one_with NextEmpty (numbers.Two i n) = option_map (λ k. one.WalkEmpty search.Next i k) (entries_of n)
+one_with LastEmpty (numbers.Two i n) = option_map (λ k. one.WalkEmpty search.Last i k) (entries_of n)
+one_with PrevEmpty (numbers.Two i n) = option_map (λ k. one.WalkEmpty search.Prev i k) (entries_of n)
+one_with Pop (numbers.Two i k) = Some (one.Pop i k)
+one_with Fill (numbers.One i) = Some (one.Fill i)
+one_with Cut (numbers.Three i k n) = option_map (λ most. one.Cut i k most) (entries_of n)
 one_with Free numbers.Nothing = Some one.Free
 one_with _ _ = None
 
@@ -143,6 +167,17 @@ long_with FirstEmpty (numbers.One i) = Some (long.FirstEmpty i)
 long_with NextEmpty (numbers.One i) = Some (long.NextEmpty i)
 long_with LastEmpty (numbers.One i) = Some (long.LastEmpty i)
 long_with PrevEmpty (numbers.One i) = Some (long.PrevEmpty i)
+long_with First (numbers.Two i n) = option_map (λ k. long.Walk search.First i k) (entries_of n)
+long_with Next (numbers.Two i n) = option_map (λ k. long.Walk search.Next i k) (entries_of n)
+long_with Last (numbers.Two i n) = option_map (λ k. long.Walk search.Last i k) (entries_of n)
+long_with Prev (numbers.Two i n) = option_map (λ k. long.Walk search.Prev i k) (entries_of n)
+long_with FirstEmpty (numbers.Two i n) = option_map (λ k. long.WalkEmpty search.First i k) (entries_of n)
+long_with NextEmpty (numbers.Two i n) = option_map (λ k. long.WalkEmpty search.Next i k) (entries_of n)
+long_with LastEmpty (numbers.Two i n) = option_map (λ k. long.WalkEmpty search.Last i k) (entries_of n)
+long_with PrevEmpty (numbers.Two i n) = option_map (λ k. long.WalkEmpty search.Prev i k) (entries_of n)
+long_with Pop (numbers.Two i k) = Some (long.Pop i k)
+long_with Fill (numbers.Two i v) = Some (long.Fill i v)
+long_with Cut (numbers.Three i k n) = option_map (λ most. long.Cut i k most) (entries_of n)
 long_with Free numbers.Nothing = Some long.Free
 long_with _ _ = None
 
@@ -161,6 +196,11 @@ string_with First key numbers.Nothing = Some (str.First key)
 string_with Next key numbers.Nothing = Some (str.Next key)
 string_with Last key numbers.Nothing = Some (str.Last key)
 string_with Prev key numbers.Nothing = Some (str.Prev key)
+string_with First key (numbers.One n) = option_map (λ k. str.Walk search.First key k) (entries_of n)
+string_with Next key (numbers.One n) = option_map (λ k. str.Walk search.Next key k) (entries_of n)
+string_with Last key (numbers.One n) = option_map (λ k. str.Walk search.Last key k) (entries_of n)
+string_with Prev key (numbers.One n) = option_map (λ k. str.Walk search.Prev key k) (entries_of n)
+string_with Pop key numbers.Nothing = Some (str.Pop key)
 string_with _ key _ = None
 
 -- of a JudyHS, with a key
@@ -189,6 +229,20 @@ given_operation given.Nothing = Insert
 given_operation (Value v) = Insert
 given_operation (Plus n) = Add
 
+-- what a walk does, by the search that it begins with
+abbrev pub search_operation : Search → Operation
+search_operation search.First = First
+search_operation search.Next = Next
+search_operation search.Last = Last
+search_operation search.Prev = Prev
+
+-- the same of absent words
+abbrev pub empty_operation : Search → Operation
+empty_operation search.First = FirstEmpty
+empty_operation search.Next = NextEmpty
+empty_operation search.Last = LastEmpty
+empty_operation search.Prev = PrevEmpty
+
 -- what the call of a set does
 abbrev pub one_operation : OneCall → Operation
 one_operation (one.Set i) = Insert
@@ -204,6 +258,11 @@ one_operation (one.FirstEmpty i) = FirstEmpty
 one_operation (one.NextEmpty i) = NextEmpty
 one_operation (one.LastEmpty i) = LastEmpty
 one_operation (one.PrevEmpty i) = PrevEmpty
+one_operation (one.Pop i k) = Pop
+one_operation (one.Fill i) = Fill
+one_operation (one.Cut i k n) = Cut
+one_operation (one.Walk search i n) = search_operation search
+one_operation (one.WalkEmpty search i n) = empty_operation search
 one_operation one.Free = Free
 
 -- of a JudyL
@@ -225,6 +284,11 @@ long_operation (long.FirstEmpty i) = FirstEmpty
 long_operation (long.NextEmpty i) = NextEmpty
 long_operation (long.LastEmpty i) = LastEmpty
 long_operation (long.PrevEmpty i) = PrevEmpty
+long_operation (long.Pop i k) = Pop
+long_operation (long.Fill i v) = Fill
+long_operation (long.Cut i k n) = Cut
+long_operation (long.Walk search i n) = search_operation search
+long_operation (long.WalkEmpty search i n) = empty_operation search
 long_operation long.Free = Free
 
 -- of a JudySL
@@ -240,6 +304,8 @@ string_operation (str.First key) = First
 string_operation (str.Next key) = Next
 string_operation (str.Last key) = Last
 string_operation (str.Prev key) = Prev
+string_operation (str.Pop key) = Pop
+string_operation (str.Walk search key n) = search_operation search
 string_operation str.Free = Free
 
 -- of a JudyHS

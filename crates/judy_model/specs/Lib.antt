@@ -1,5 +1,6 @@
 pub mod Contents
 pub mod Gaps
+pub mod Walks
 pub mod Pieces
 pub mod Tenant
 pub mod Speakers

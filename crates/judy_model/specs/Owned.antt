@@ -1,9 +1,10 @@
--- Replies that own their key.
-use Rattle.std.specs.Prelude.{ℕ, List}
+-- Replies that own their bytes.
+use Rattle.judy_model.specs.declared.lists.ReplyRoom.{ReplyRoom}
 use Rattle.judy_model.specs.declared.replies.Reply.{Reply}
-use Rattle.judy_model.specs.declared.replies.Reply.TheVariants.{ValueKey}
+use Rattle.judy_model.specs.declared.replies.Reply.TheVariants.{Entries, ValueKey}
 
--- the reply with this key in place of its own
-abbrev pub with_key : List ℕ → Reply → Reply
-with_key key (ValueKey v _) = ValueKey v key
-with_key key reply = reply
+-- the reply with the bytes in this room in place of its own
+abbrev pub with_room : ReplyRoom → Reply → Reply
+with_room room (ValueKey v _) = ValueKey v room.key.items
+with_room room (Entries k _) = Entries k room.listing
+with_room room reply = reply

@@ -1,5 +1,5 @@
 -- One tenant's arrays. The reply to each call, and the arrays after it.
-use Rattle.std.specs.Prelude.{◌≡◌, ℕ, ◌+◌, ◌%◌, ◌^◌, Bool, true, false, not, ◌&&◌, ◌==◌, List, [], ◌∷◌, ◌++◌, map, length, Option, Some, None, nat_lt, nat_le, if◌then◌else◌, is_none, unwrap_or, sum_by, filter}
+use Rattle.std.specs.Prelude.{◌≡◌, ℕ, zero, suc, cond, ◌+◌, ◌%◌, ◌^◌, Bool, true, false, not, ◌&&◌, ◌==◌, List, [], ◌∷◌, ◌++◌, map, length, Option, Some, None, nat_lt, nat_le, if◌then◌else◌, is_none, unwrap_or, sum_by, filter, option_and_then}
 use Rattle.std.specs.Ordering.{eq_by_cmp}
 use Rattle.std.specs.FinMap.{find, put}
 use Rattle.judy_model.specs.declared.calls.Call.{Call}
@@ -22,6 +22,7 @@ use Rattle.judy_model.specs.declared.replies.Reply.TheVariants as reply
 use Rattle.judy_model.specs.Contents.{Order, Entries, word_order, string_order, value_of, has_key, with_entry, without_key, first, next, last, prev, count, nth}
 use Rattle.judy_model.specs.Gaps.{first_empty, last_empty, next_empty, prev_empty}
 use Rattle.judy_model.specs.Pieces.{word_pieces, string_pieces, pieces_of}
+use Rattle.judy_model.specs.Walks.{entry_words, index_words, key_words, listed, walk, walk_empty, walk_indexes}
 
 -- the arrays of one kind, sorted by name; an array without entries is left out
 abbrev pub Arrays : Type 0 → Type 0
@@ -106,6 +107,8 @@ pub data Answer : Type 0 where
   ValueAt : Option (ℕ × ℕ) → Answer
   -- the value and the string of an entry of a JudySL
   ValueKey : Option (List ℕ × ℕ) → Answer
+  -- the entries of a walk, each as its text
+  Listed : List (List ℕ) → Answer
 
 -- the reply with this answer
 abbrev pub reply_of : Answer → Reply
@@ -116,11 +119,36 @@ reply_of (Absent o) = absent_or_no o
 reply_of (ValueOf o) = value_or_null o
 reply_of (ValueAt o) = value_at_or_null o
 reply_of (ValueKey o) = value_key_or_null o
+reply_of (Listed texts) = reply.Entries (listed texts).0 (listed texts).1
+
+-- an entry that a removal shows
+pub data Shown : Type 0 where
+  -- the index of one of a set
+  AnIndex : ℕ → Shown
+  -- the value and the index of one of a JudyL
+  AnEntry : ℕ → ℕ → Shown
+  -- the value and the string of one of a JudySL
+  AString : ℕ → List ℕ → Shown
+
+-- the reply that shows it
+abbrev pub shown_reply : Shown → Reply
+shown_reply (AnIndex i) = reply.Index i
+shown_reply (AnEntry v i) = reply.ValueAt v i
+shown_reply (AString v key) = reply.ValueKey v key
 
 -- what the reply to an insertion shows: whether the key was new, or a value
 pub data Reports : Type 0 where
   ReportsNew : Reports
   ReportsValue : Reports
+
+-- the reply if a search finds nothing: `0` of a set, `NULL` of a map
+pub data Lack : Type 0 where
+  NoIndex : Lack
+  NoEntry : Lack
+
+abbrev pub lack_reply : Lack → Reply
+lack_reply NoIndex = reply.Int false
+lack_reply NoEntry = reply.Null
 
 -- What a call does to the entries of an array. A call of a kind of array is one of these with a key of that
 -- kind.
@@ -137,6 +165,12 @@ pub data Effect (K : Type 0) : Type 0 where
   Take : K → Effect K
   -- removes a key if it has this value; the reply says whether it had
   RemoveIf : K → ℕ → Effect K
+  -- removes the entry that is found, and shows it
+  Pop : (Entries K → Option (K × ℕ)) → (K × ℕ → Shown) → Lack → Effect K
+  -- Removes the entry that is found, and so on, at most so many; the reply is how many it removed.
+  Cut : (Entries K → Option (K × ℕ)) → ℕ → Effect K
+  -- Inserts the key that is found with a value, and shows its index; the search begins with this key.
+  Fill : K → (Entries K → Option K) → (K → ℕ) → ℕ → Effect K
   -- removes all entries; the reply is how many there were
   Free : Effect K
   -- changes nothing
@@ -188,6 +222,36 @@ remove_over order l k v None = (reply.Int false, l)
 abbrev pub delete : {K : Type 0} → Order K → Entries K → K → Reply × Entries K
 delete order l k = (reply.Int (has_key order l k), without_key order l k)
 
+-- removes an entry that was found
+abbrev pub pop_over : {K : Type 0} → Order K → Entries K → (K × ℕ → Shown) → Lack → Option (K × ℕ) → Reply × Entries K
+pop_over order l show lack (Some e) = (shown_reply (show e), without_key order l e.0)
+pop_over order l show lack None = (lack_reply lack, l)
+
+-- removes the entry that was found, then what is found next, at most n; how many were removed is added to the first number
+abbrev pub cut_from : {K : Type 0} → Order K → (Entries K → Option (K × ℕ)) → ℕ → ℕ → Entries K → Option (K × ℕ) → ℕ × Entries K
+cut_from order search done zero l found = (done, l)
+cut_from order search done (suc n) l None = (done, l)
+cut_from order search done (suc n) l (Some e) =
+    let rest = without_key order l e.0 in
+    cut_from order search (done + 1) n rest (search rest)
+
+abbrev pub cut : {K : Type 0} → Order K → Entries K → (Entries K → Option (K × ℕ)) → ℕ → ℕ × Entries K
+cut order l search n = cut_from order search 0 n l (search l)
+
+-- inserts a key that was found if it is absent; FULL if there is no room for it
+abbrev pub fill_at : {K : Type 0} → Order K → Bool → Entries K → ℕ → K → ℕ → Option ℕ → Reply × Entries K
+fill_at order room l index k v (Some had) = (reply.Index index, l)
+fill_at order room l index k v None = cond room (reply.Index index, with_entry order l k v) (reply.Full, l)
+
+abbrev pub fill_over : {K : Type 0} → Order K → Bool → Entries K → (K → ℕ) → ℕ → Option K → Reply × Entries K
+fill_over order room l index v (Some k) = fill_at order room l (index k) k v (value_of order l k)
+fill_over order room l index v None = (reply.Int false, l)
+
+-- whether a key that was found is absent
+abbrev pub lacks : {K : Type 0} → Order K → Entries K → Option K → Bool
+lacks order l (Some k) = not (has_key order l k)
+lacks order l None = false
+
 -- removes all entries
 abbrev pub free : {K : Type 0} → Entries K → Reply × Entries K
 free l = (reply.Count (length l), [])
@@ -200,6 +264,9 @@ effect_step order room l (Exchange k old new) = exchange_over order l k old new 
 effect_step order room l (Remove k) = delete order l k
 effect_step order room l (Take k) = (value_or_null (value_of order l k), without_key order l k)
 effect_step order room l (RemoveIf k v) = remove_over order l k v (value_of order l k)
+effect_step order room l (Pop find show lack) = pop_over order l show lack (find l)
+effect_step order room l (Cut find n) = (reply.Count (cut order l find n).0, (cut order l find n).1)
+effect_step order room l (Fill x find index v) = fill_over order room l index v (find l)
 effect_step order room l Free = free l
 effect_step order room l (Ask answer) = (reply_of (answer l), l)
 
@@ -212,21 +279,29 @@ effect_changes _ = true
 abbrev pub effect_inserts : {K : Type 0} → Effect K → Bool
 effect_inserts (Insert k given reports) = true
 effect_inserts (Keep k v) = true
+effect_inserts (Fill x find index v) = true
 effect_inserts _ = false
 
 -- whether it asks for a new key
 abbrev pub effect_asks_for_new : {K : Type 0} → Order K → Entries K → Effect K → Bool
 effect_asks_for_new order l (Insert k given reports) = not (has_key order l k)
 effect_asks_for_new order l (Keep k v) = not (has_key order l k)
+effect_asks_for_new order l (Fill x find index v) = lacks order l (find l)
 effect_asks_for_new order l _ = false
 
--- the pieces of the entry that it would insert, by those of a key
+-- The pieces of the entry that it would insert, by those of a key. Keys are filled only where each has as
+-- many pieces.
 abbrev pub effect_pieces : {K : Type 0} → (K → ℕ) → Effect K → ℕ
 effect_pieces size (Insert k given reports) = size k
 effect_pieces size (Keep k v) = size k
+effect_pieces size (Fill x find index v) = size x
 effect_pieces size _ = 0
 
 -- ---- the calls of each kind
+
+-- the least entry from x on, if its index is at most k
+abbrev pub first_up_to : Entries ℕ → ℕ → ℕ → Option (ℕ × ℕ)
+first_up_to l x k = option_and_then (λ e. if nat_le e.0 k then Some e else None) (first word_order l x)
 
 -- what a call of a set does: its values are 0
 abbrev pub one_effect : OneCall → Effect ℕ
@@ -243,6 +318,11 @@ one_effect (one.FirstEmpty x) = Ask (λ l. Absent (first_empty l x))
 one_effect (one.NextEmpty x) = Ask (λ l. Absent (next_empty l x))
 one_effect (one.LastEmpty x) = Ask (λ l. Absent (last_empty l x))
 one_effect (one.PrevEmpty x) = Ask (λ l. Absent (prev_empty l x))
+one_effect (one.Fill x) = Fill x (λ l. first_empty l x) (λ i. i) 0
+one_effect (one.Cut x k n) = Cut (λ l. first_up_to l x k) n
+one_effect (one.Pop x k) = Pop (λ l. first_up_to l x k) (λ e. AnIndex e.0) NoIndex
+one_effect (one.Walk search x n) = Ask (λ l. Listed (map index_words (walk_indexes l search x n)))
+one_effect (one.WalkEmpty search x n) = Ask (λ l. Listed (map index_words (walk_empty l search x n)))
 one_effect one.Free = Free
 
 -- what a call of a JudyL does
@@ -264,6 +344,11 @@ long_effect (long.FirstEmpty x) = Ask (λ l. Absent (first_empty l x))
 long_effect (long.NextEmpty x) = Ask (λ l. Absent (next_empty l x))
 long_effect (long.LastEmpty x) = Ask (λ l. Absent (last_empty l x))
 long_effect (long.PrevEmpty x) = Ask (λ l. Absent (prev_empty l x))
+long_effect (long.Fill x v) = Fill x (λ l. first_empty l x) (λ i. i) v
+long_effect (long.Cut x k n) = Cut (λ l. first_up_to l x k) n
+long_effect (long.Pop x k) = Pop (λ l. first_up_to l x k) (λ e. AnEntry e.1 e.0) NoEntry
+long_effect (long.Walk search x n) = Ask (λ l. Listed (map entry_words (walk word_order l search x n)))
+long_effect (long.WalkEmpty search x n) = Ask (λ l. Listed (map index_words (walk_empty l search x n)))
 long_effect long.Free = Free
 
 -- what a call of a JudySL does
@@ -279,6 +364,8 @@ string_effect (str.First x) = Ask (λ l. ValueKey (first string_order l x))
 string_effect (str.Next x) = Ask (λ l. ValueKey (next string_order l x))
 string_effect (str.Last x) = Ask (λ l. ValueKey (last string_order l x))
 string_effect (str.Prev x) = Ask (λ l. ValueKey (prev string_order l x))
+string_effect (str.Pop x) = Pop (λ l. first string_order l x) (λ e. AString e.1 e.0) NoEntry
+string_effect (str.Walk search x n) = Ask (λ l. Listed (map key_words (walk string_order l search x n)))
 string_effect str.Free = Free
 
 -- what a call of a JudyHS does

@@ -15,7 +15,7 @@ use Rattle.judy_model.specs.declared.quotas.Quota.{Quota}
 use Rattle.judy_model.specs.declared.quotas.Right.{Right}
 use Rattle.judy_model.specs.declared.replies.Reply.{Reply}
 use Rattle.judy_model.specs.declared.replies.Reply.TheVariants as reply
-use Rattle.judy_model.specs.Tenant.Effect.{Insert, Keep, Exchange, Remove, Take, RemoveIf, Free, Ask}
+use Rattle.judy_model.specs.Tenant.Effect.{Insert, Keep, Exchange, Remove, Take, RemoveIf, Pop, Cut, Fill, Free, Ask}
 use Rattle.judy_model.specs.Tenant.Reports.{ReportsNew, ReportsValue}
 use Rattle.judy_model.specs.Tenant.{Effect, State, one_effect, long_effect, string_effect, bytes_effect, step}
 use Rattle.judy_model.specs.WellFormed.{IsWellFormed}
@@ -32,7 +32,7 @@ abbrev pub insertion_leaves : Given → Reply → Bool
 insertion_leaves given (reply.Value shown) = keeps given shown
 insertion_leaves given _ = false
 
--- a key was not new, or not there to be removed
+-- a key was not new, not there to be removed, or not found
 abbrev pub says_no : Reply → Bool
 says_no (reply.Int new) = not new
 says_no _ = false
@@ -53,6 +53,12 @@ says_other old (reply.Value v) = not (v == old)
 says_other old reply.Null = true
 says_other old _ = false
 
+-- a search found no entry
+abbrev pub says_nothing : Reply → Bool
+says_nothing (reply.Int b) = not b
+says_nothing reply.Null = true
+says_nothing _ = false
+
 -- there was no entry to be removed
 abbrev pub says_none : Reply → Bool
 says_none (reply.Count n) = n == 0
@@ -69,6 +75,9 @@ effect_leaves (Exchange k old new) r = says_other old r
 effect_leaves (Remove k) r = says_no r
 effect_leaves (Take k) r = says_null r
 effect_leaves (RemoveIf k v) r = says_no r
+effect_leaves (Pop find show lack) r = says_nothing r
+effect_leaves (Cut find n) r = says_none r
+effect_leaves (Fill x find index v) r = says_no r
 effect_leaves Free r = says_none r
 effect_leaves (Ask answer) r = false
 

@@ -12,7 +12,7 @@ use Rattle.judy_model.specs.declared.replies.Reply.TheVariants as reply
 use Rattle.judy_model.specs.Contents.{Order, Entries, word_order, string_order, max_word}
 use Rattle.judy_model.specs.Grammar.{are_bytes, is_string, is_byte_key}
 use Rattle.judy_model.specs.Solo.{IsAnswered}
-use Rattle.judy_model.specs.Tenant.Effect.{Insert, Keep, Exchange}
+use Rattle.judy_model.specs.Tenant.Effect.{Insert, Keep, Exchange, Fill}
 use Rattle.judy_model.specs.Tenant.{Effect, one_effect, long_effect, string_effect, bytes_effect, value_after}
 use Rattle.judy_model.specs.Tenant.{Arrays, State, Attempt, content_of, used, pieces, step, changes, asks_for_new, new_pieces, has_room}
 
@@ -56,11 +56,13 @@ pub record IsWellFormed (s : State) : Type 0 where
   pub string : IsTrue (are_arrays string_order is_string_entry s.string)
   pub bytes : IsTrue (are_arrays string_order is_bytes_entry s.bytes)
 
--- what a key would be inserted or written with is an entry, by the test of its kind
+-- What a key would be inserted or written with is an entry, by the test of its kind. Of a key that is still to
+-- be found it is the key at which the search begins.
 abbrev pub effect_writes : {K : Type 0} → (K × ℕ → Bool) → Effect K → Bool
 effect_writes is_entry (Insert k given reports) = is_entry (k, value_after given 0)
 effect_writes is_entry (Keep k v) = is_entry (k, v)
 effect_writes is_entry (Exchange k old new) = is_entry (k, new)
+effect_writes is_entry (Fill x find index v) = is_entry (x, v)
 effect_writes is_entry _ = true
 
 -- what the call would insert or write is an entry of its kind

@@ -1,8 +1,10 @@
 //! The calls of a tenant, as in the manual pages Judy1(3), JudyL(3), JudySL(3) and JudyHS(3).
 ghost use Rattle.std.specs.Prelude.{◌≡◌};
 ghost use Rattle.judy_model.specs.Commands.{bytes_operation, command_of, given_operation, long_operation, one_operation, string_operation};
+ghost use Rattle.judy_model.specs.Commands.{empty_operation, search_operation};
 ghost use Rattle.judy_model.specs.Tenant.{bytes_changes, changes, inserts, is_read_only, long_changes, new_pieces, one_changes, string_changes};
 ghost use Rattle.judy_model.specs.Tenant.{value_after, value_replied};
+ghost use Rattle.judy_model.specs.Walks.{search_on};
 
 use crate::commands::{Command, Kind, Operation};
 use crate::names::{Key, Name};
@@ -24,14 +26,36 @@ pub enum Call<'a> {
     Used,
 }
 
+/// The searches in the order of keys. A walk begins with one of them.
+#[derive(Clone, Copy, Debug, PartialEq, Eq)]
+pub enum Search {
+    /// The least key from this one on.
+    First,
+    /// The least key above this one.
+    Next,
+    /// The greatest key up to this one.
+    Last,
+    /// The greatest key below this one.
+    Prev,
+}
+
 /// A call of a set of words (Judy1(3)). A search answers the index that it finds, or that there is
-/// none.
+/// none. A walk answers as many entries as fit into a reply, at most its last argument: what the search
+/// finds, and each time what follows it in the same direction.
 #[derive(Clone, Copy, Debug, PartialEq, Eq)]
 pub enum OneCall {
     /// Inserts the index. The reply says whether it was new.
     Set(u64),
     /// Removes the index. The reply says whether it was present.
     Unset(u64),
+    /// Removes the least index that is at least the first argument, if it is at most the second. The reply is
+    /// that index, or that there is none.
+    Pop(u64, u64),
+    /// Adds the least index from this one on that is absent. The reply is that index, or that there is none.
+    Fill(u64),
+    /// Removes the least indexes from the first argument to the second, inclusive, at most so many. The reply is
+    /// how many it removed.
+    Cut(u64, u64, u16),
     /// Whether the index is in the set.
     Test(u64),
     /// The number of indexes in the set from the first argument to the second, inclusive.
@@ -54,6 +78,10 @@ pub enum OneCall {
     LastEmpty(u64),
     /// The greatest absent index below this one.
     PrevEmpty(u64),
+    /// A walk over the indexes in the set.
+    Walk(Search, u64, u16),
+    /// A walk over the absent indexes.
+    WalkEmpty(Search, u64, u16),
     /// Removes all indexes. The reply is how many there were.
     Free,
 }
@@ -88,6 +116,15 @@ pub enum LongCall {
     DeleteIf(u64, u64),
     /// Removes the index. The reply is its value, or that it was absent.
     Take(u64),
+    /// Removes the least index that is at least the first argument, if it is at most the second. The reply is
+    /// its value and that index, or that there is none.
+    Pop(u64, u64),
+    /// Inserts the least index from the first argument on that is absent, with the value of the second. The reply
+    /// is that index, or that there is none.
+    Fill(u64, u64),
+    /// Removes the least indexes from the first argument to the second, inclusive, at most so many. The reply is
+    /// how many it removed.
+    Cut(u64, u64, u16),
     /// The value of the index.
     Get(u64),
     /// The number of indexes in the map from the first argument to the second, inclusive.
@@ -110,6 +147,10 @@ pub enum LongCall {
     LastEmpty(u64),
     /// The greatest absent index below this one.
     PrevEmpty(u64),
+    /// A walk over the indexes in the map, each with its value.
+    Walk(Search, u64, u16),
+    /// A walk over the absent indexes.
+    WalkEmpty(Search, u64, u16),
     /// Removes all indexes. The reply is how many there were.
     Free,
 }
@@ -131,6 +172,9 @@ pub enum StrCall<'a> {
     DeleteIf(Key<'a>, u64),
     /// Removes the string. The reply is its value, or that it was absent.
     Take(Key<'a>),
+    /// Removes the least string that is at least this one. The reply is its value and that string, or that there
+    /// is none.
+    Pop(Key<'a>),
     /// The value of the string.
     Get(Key<'a>),
     /// The least string in the map that is at least this one.
@@ -141,6 +185,8 @@ pub enum StrCall<'a> {
     Last(Key<'a>),
     /// The greatest string in the map below this one.
     Prev(Key<'a>),
+    /// A walk over the strings in the map, each with its value.
+    Walk(Search, Key<'a>, u16),
     /// Removes all strings. The reply is how many there were.
     Free,
 }
@@ -199,8 +245,13 @@ impl<'a> Call<'a> {
         ensures { result ≡ inserts self.now }
     {
         match self {
-            Call::One(_, call) => matches!(call, OneCall::Set(_)),
-            Call::Long(_, call) => matches!(call, LongCall::Insert(..) | LongCall::Keep(..)),
+            Call::One(_, call) => matches!(call, OneCall::Set(_) | OneCall::Fill(_)),
+            Call::Long(_, call) => {
+                matches!(
+                    call,
+                    LongCall::Insert(..) | LongCall::Keep(..) | LongCall::Fill(..)
+                )
+            }
             Call::Str(_, call) => matches!(call, StrCall::Insert(..) | StrCall::Keep(..)),
             Call::Bytes(_, call) => matches!(call, BytesCall::Insert(..) | BytesCall::Keep(..)),
             Call::Used => false,
@@ -223,8 +274,10 @@ impl<'a> Call<'a> {
     {
         match self {
             Call::One(_, OneCall::Set(_))
+            | Call::One(_, OneCall::Fill(_))
             | Call::Long(_, LongCall::Insert(..))
-            | Call::Long(_, LongCall::Keep(..)) => 1,
+            | Call::Long(_, LongCall::Keep(..))
+            | Call::Long(_, LongCall::Fill(..)) => 1,
             Call::Str(_, StrCall::Insert(key, _))
             | Call::Str(_, StrCall::Keep(key, _))
             | Call::Bytes(_, BytesCall::Insert(key, _))
@@ -267,6 +320,42 @@ impl Given {
     }
 }
 
+impl Search {
+    /// The search that goes on behind the key that this one found.
+    pub fn on(self) -> Search
+        ensures { result ≡ search_on self }
+    {
+        match self {
+            Search::First | Search::Next => Search::Next,
+            Search::Last | Search::Prev => Search::Prev,
+        }
+    }
+
+    /// What a walk over entries does, by the search that it begins with.
+    pub fn operation(self) -> Operation
+        ensures { result ≡ search_operation self }
+    {
+        match self {
+            Search::First => Operation::First,
+            Search::Next => Operation::Next,
+            Search::Last => Operation::Last,
+            Search::Prev => Operation::Prev,
+        }
+    }
+
+    /// What a walk over absent words does.
+    pub fn empty_operation(self) -> Operation
+        ensures { result ≡ empty_operation self }
+    {
+        match self {
+            Search::First => Operation::FirstEmpty,
+            Search::Next => Operation::NextEmpty,
+            Search::Last => Operation::LastEmpty,
+            Search::Prev => Operation::PrevEmpty,
+        }
+    }
+}
+
 impl OneCall {
     /// What the call does to the set.
     pub fn operation(&self) -> Operation
@@ -275,6 +364,9 @@ impl OneCall {
         match self {
             OneCall::Set(_) => Operation::Insert,
             OneCall::Unset(_) => Operation::Remove,
+            OneCall::Pop(..) => Operation::Pop,
+            OneCall::Fill(_) => Operation::Fill,
+            OneCall::Cut(..) => Operation::Cut,
             OneCall::Test(_) => Operation::Look,
             OneCall::Count(_, _) => Operation::Count,
             OneCall::ByCount(_) => Operation::Nth,
@@ -286,6 +378,8 @@ impl OneCall {
             OneCall::NextEmpty(_) => Operation::NextEmpty,
             OneCall::LastEmpty(_) => Operation::LastEmpty,
             OneCall::PrevEmpty(_) => Operation::PrevEmpty,
+            OneCall::Walk(search, _, _) => search.operation(),
+            OneCall::WalkEmpty(search, _, _) => search.empty_operation(),
             OneCall::Free => Operation::Free,
         }
     }
@@ -294,7 +388,15 @@ impl OneCall {
     pub fn changes(&self) -> bool
         ensures { result ≡ one_changes self.now }
     {
-        matches!(self, OneCall::Set(_) | OneCall::Unset(_) | OneCall::Free)
+        matches!(
+            self,
+            OneCall::Set(_)
+                | OneCall::Unset(_)
+                | OneCall::Pop(..)
+                | OneCall::Fill(_)
+                | OneCall::Cut(..)
+                | OneCall::Free
+        )
     }
 }
 
@@ -309,6 +411,9 @@ impl LongCall {
             LongCall::Exchange(..) => Operation::Exchange,
             LongCall::Delete(_) | LongCall::DeleteIf(..) => Operation::Remove,
             LongCall::Take(_) => Operation::Take,
+            LongCall::Pop(..) => Operation::Pop,
+            LongCall::Fill(..) => Operation::Fill,
+            LongCall::Cut(..) => Operation::Cut,
             LongCall::Get(_) => Operation::Look,
             LongCall::Count(_, _) => Operation::Count,
             LongCall::ByCount(_) => Operation::Nth,
@@ -320,6 +425,8 @@ impl LongCall {
             LongCall::NextEmpty(_) => Operation::NextEmpty,
             LongCall::LastEmpty(_) => Operation::LastEmpty,
             LongCall::PrevEmpty(_) => Operation::PrevEmpty,
+            LongCall::Walk(search, _, _) => search.operation(),
+            LongCall::WalkEmpty(search, _, _) => search.empty_operation(),
             LongCall::Free => Operation::Free,
         }
     }
@@ -336,6 +443,9 @@ impl LongCall {
                 | LongCall::Delete(_)
                 | LongCall::DeleteIf(..)
                 | LongCall::Take(_)
+                | LongCall::Pop(..)
+                | LongCall::Fill(..)
+                | LongCall::Cut(..)
                 | LongCall::Free
         )
     }
@@ -352,11 +462,13 @@ impl<'a> StrCall<'a> {
             StrCall::Exchange(..) => Operation::Exchange,
             StrCall::Delete(_) | StrCall::DeleteIf(..) => Operation::Remove,
             StrCall::Take(_) => Operation::Take,
+            StrCall::Pop(_) => Operation::Pop,
             StrCall::Get(_) => Operation::Look,
             StrCall::First(_) => Operation::First,
             StrCall::Next(_) => Operation::Next,
             StrCall::Last(_) => Operation::Last,
             StrCall::Prev(_) => Operation::Prev,
+            StrCall::Walk(search, _, _) => search.operation(),
             StrCall::Free => Operation::Free,
         }
     }
@@ -373,6 +485,7 @@ impl<'a> StrCall<'a> {
                 | StrCall::Delete(_)
                 | StrCall::DeleteIf(..)
                 | StrCall::Take(_)
+                | StrCall::Pop(_)
                 | StrCall::Free
         )
     }

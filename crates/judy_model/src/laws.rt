@@ -4,6 +4,7 @@ ghost use Rattle.judy_model.specs.Service.{IdleTenantsRest, ServingGoesOn, Servi
 ghost use Rattle.judy_model.specs.Solo.{MemoryIsForNew, SoloGoesOn, SoloIsDetermined, SoloIsStepwise, StepHasMemory};
 ghost use Rattle.judy_model.specs.Tenant.{AloneGoesOn};
 ghost use Rattle.judy_model.specs.Unchanged.{UnchangedAreTold};
+ghost use Rattle.judy_model.specs.Walks.{WalksAreTakes};
 ghost use Rattle.judy_model.specs.WellFormed.{AnswersKeepAll, CallsKeepOthers, FullIsForNew, LooksKeepAll, QueriesKeepAll, StepKeepsForm, StepKeepsQuota};
 ghost use Rattle.judy_model.specs.Reading.{CallsAreOfTheirCommand, SpellsAtMostOne};
 
@@ -31,6 +32,11 @@ pub fn gaps_are_found()
 /// Each search for an absent word has exactly one answer.
 pub fn gaps_have_one_answer()
     ensures { GapsHaveOneAnswer }
+{}
+
+/// A walk is the first n entries that its search looks among, in the search's direction.
+pub fn walks_are_takes()
+    ensures { WalksAreTakes }
 {}
 
 /// A call keeps well-formed arrays well-formed: names and keys are sorted, no array is empty, and

@@ -4,6 +4,7 @@ ghost use Rattle.std.specs.Ordering.{nat_cmp};
 ghost use Rattle.std.specs.Cmp.{partial_equiv_from_equiv};
 ghost use Rattle.std.specs.Cmp.Lexicographic.{pointwise, slice_cmp, nat_list_eq_equiv, nat_list_cmp_total, texts_po, texts_ties};
 
+use crate::lists::{ReplyRoom, Text};
 use crate::names::{KEY_LIMIT, Key};
 use crate::replies::Reply;
 use arrayvec::ArrayVec;
@@ -80,21 +81,21 @@ impl Ord for OwnedKey {
     }
 }
 
-/// A reply that owns the bytes of its key, if it has one. Contracts see it as the reply.
+/// A reply that owns the bytes of its key or of its entries, if it has any. Contracts see it as the reply.
 #[derive(Debug, Drop)]
 pub struct OwnedReply {
-    /// The reply. A key in it is replaced by the key of no bytes.
+    /// The reply. In place of its key or text it has one of no bytes.
     bare: Reply<'static>,
-    key: ArrayVec<u8, KEY_LIMIT>,
+    room: ReplyRoom,
 }
 
 impl Model for OwnedReply {
     ghost use Rattle.judy_model.specs.declared.replies.Reply.{Reply};
-    ghost use Rattle.judy_model.specs.Owned.{with_key};
+    ghost use Rattle.judy_model.specs.Owned.{with_room};
 
     ghost Value = { Reply };
 
-    ghost view = { λ r. with_key r.key.items r.bare };
+    ghost view = { λ r. with_room r.room r.bare };
 }
 
 impl OwnedReply {
@@ -102,7 +103,7 @@ impl OwnedReply {
     pub fn of(reply: &Reply<'_>) -> OwnedReply
         ensures { result ≡ reply.now }
     {
-        let mut key = ArrayVec::new();
+        let mut room = ReplyRoom::new();
         let bare = match reply {
             Reply::Int(b) => Reply::Int(*b),
             Reply::Index(i) => Reply::Index(*i),
@@ -110,8 +111,12 @@ impl OwnedReply {
             Reply::Value(v) => Reply::Value(*v),
             Reply::ValueAt(v, i) => Reply::ValueAt(*v, *i),
             Reply::ValueKey(v, found) => {
-                let _fits = key.try_extend_from_slice(found.as_bytes());
+                let _fits = room.key.try_extend_from_slice(found.as_bytes());
                 Reply::ValueKey(*v, Key::of(&[]))
+            }
+            Reply::Entries(count, text) => {
+                room.listing.put(text);
+                Reply::Entries(*count, Text::of(&[]))
             }
             Reply::Null => Reply::Null,
             Reply::Used(used, quota, pieces, most) => Reply::Used(*used, *quota, *pieces, *most),
@@ -120,7 +125,7 @@ impl OwnedReply {
             Reply::Full => Reply::Full,
             Reply::Memory => Reply::Memory,
         };
-        OwnedReply { bare, key }
+        OwnedReply { bare, room }
     }
 
     /// The reply.
@@ -133,7 +138,8 @@ impl OwnedReply {
             Reply::Count(n) => Reply::Count(*n),
             Reply::Value(v) => Reply::Value(*v),
             Reply::ValueAt(v, i) => Reply::ValueAt(*v, *i),
-            Reply::ValueKey(v, _) => Reply::ValueKey(*v, Key::of(self.key.as_slice())),
+            Reply::ValueKey(v, _) => Reply::ValueKey(*v, Key::of(self.room.key.as_slice())),
+            Reply::Entries(count, _) => Reply::Entries(*count, self.room.listing.text()),
             Reply::Null => Reply::Null,
             Reply::Used(used, quota, pieces, most) => Reply::Used(*used, *quota, *pieces, *most),
             Reply::ReadOnly => Reply::ReadOnly,

@@ -1,4 +1,5 @@
 //! The replies to calls.
+use crate::lists::Text;
 use crate::names::Key;
 
 /// The reply to a call.
@@ -17,6 +18,8 @@ pub enum Reply<'a> {
     ValueAt(u64, u64),
     /// The string found by a search of a JudySL, with its value.
     ValueKey(u64, Key<'a>),
+    /// The entries of a walk: how many they are, and their text.
+    Entries(u16, Text<'a>),
     /// There is no such key, or the search found none.
     Null,
     /// The tenant's entries, its quota of entries, its pieces, and its quota of pieces.

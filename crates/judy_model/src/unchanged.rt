@@ -1,6 +1,6 @@
 //! What a reply says of the arrays: whether they are as they were before the call.
 ghost use Rattle.std.specs.Prelude.{◌≡◌};
-ghost use Rattle.judy_model.specs.Unchanged.{bytes_leaves, insertion_leaves, keeps, leaves, long_leaves, one_leaves, says_no, says_none, says_null, says_other, says_some, string_leaves};
+ghost use Rattle.judy_model.specs.Unchanged.{bytes_leaves, insertion_leaves, keeps, leaves, long_leaves, one_leaves, says_no, says_none, says_nothing, says_null, says_other, says_some, string_leaves};
 
 use crate::calls::{BytesCall, Call, Given, LongCall, OneCall, StrCall};
 use crate::replies::Reply;
@@ -61,6 +61,17 @@ fn says_other(old: u64, reply: &Reply<'_>) -> bool
     }
 }
 
+/// Whether a search found no entry.
+fn says_nothing(reply: &Reply<'_>) -> bool
+    ensures { result ≡ says_nothing reply.now }
+{
+    match reply {
+        Reply::Int(found) => !*found,
+        Reply::Null => true,
+        _ => false,
+    }
+}
+
 /// Whether there was no entry to be removed.
 fn says_none(reply: &Reply<'_>) -> bool
     ensures { result ≡ says_none reply.now }
@@ -76,8 +87,9 @@ fn one_leaves(call: &OneCall, reply: &Reply<'_>) -> bool
     ensures { result ≡ one_leaves call.now reply.now }
 {
     match call {
-        OneCall::Set(_) | OneCall::Unset(_) => says_no(reply),
-        OneCall::Free => says_none(reply),
+        OneCall::Set(_) | OneCall::Unset(_) | OneCall::Fill(_) => says_no(reply),
+        OneCall::Pop(..) => says_nothing(reply),
+        OneCall::Cut(..) | OneCall::Free => says_none(reply),
         _ => false,
     }
 }
@@ -90,9 +102,10 @@ fn long_leaves(call: &LongCall, reply: &Reply<'_>) -> bool
         LongCall::Insert(_, given) => insertion_leaves(*given, reply),
         LongCall::Keep(..) => says_some(reply),
         LongCall::Exchange(_, old, _) => says_other(*old, reply),
-        LongCall::Delete(_) | LongCall::DeleteIf(..) => says_no(reply),
+        LongCall::Delete(_) | LongCall::DeleteIf(..) | LongCall::Fill(..) => says_no(reply),
         LongCall::Take(_) => says_null(reply),
-        LongCall::Free => says_none(reply),
+        LongCall::Pop(..) => says_nothing(reply),
+        LongCall::Cut(..) | LongCall::Free => says_none(reply),
         _ => false,
     }
 }
@@ -107,6 +120,7 @@ fn string_leaves(call: &StrCall<'_>, reply: &Reply<'_>) -> bool
         StrCall::Exchange(_, old, _) => says_other(*old, reply),
         StrCall::Delete(_) | StrCall::DeleteIf(..) => says_no(reply),
         StrCall::Take(_) => says_null(reply),
+        StrCall::Pop(_) => says_nothing(reply),
         StrCall::Free => says_none(reply),
         _ => false,
     }

@@ -23,11 +23,12 @@ string_long letters long = none_passes (is_short 83 5) (codes "JSL" ++ letters) 
 pub bytes_long : (letters : List ℕ) → 3 ≤ length letters → at_command (codes "JHS" ++ letters) commands ≡ None
 bytes_long letters long = none_passes (is_short 72 5) (codes "JHS" ++ letters) commands refl (grind (arith, nat_tests))
 
--- those of four letters have one of these in the third place
-abbrev pub has_known_third : ℕ → List ℕ → Bool
-has_known_third letter word = not (length word == 4) || not (slice_index word 1 == letter) || slice_index word 2 == 66
-    || slice_index word 2 == 70 || slice_index word 2 == 78 || slice_index word 2 == 76 || slice_index word 2 == 80
+-- those of four letters have one of these in the third place: the letter of an insertion, of a removal, of a count or of a
+-- search
+abbrev pub has_known_third : ℕ → ℕ → ℕ → List ℕ → Bool
+has_known_third letter insertion removal word = not (length word == 4) || not (slice_index word 1 == letter) || slice_index word 2 == 66
+    || slice_index word 2 == insertion || slice_index word 2 == removal || slice_index word 2 == 70 || slice_index word 2 == 78 || slice_index word 2 == 76 || slice_index word 2 == 80
 
--- those of five letters have an `F` in the fourth place
-abbrev pub has_known_fourth : ℕ → List ℕ → Bool
-has_known_fourth letter word = not (length word == 5) || not (slice_index word 1 == letter) || slice_index word 3 == 70
+-- those of five letters have a removal's letter or an `F` in the fourth place
+abbrev pub has_known_fourth : ℕ → ℕ → List ℕ → Bool
+has_known_fourth letter removal word = not (length word == 5) || not (slice_index word 1 == letter) || slice_index word 3 == removal || slice_index word 3 == 70

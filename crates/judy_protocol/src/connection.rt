@@ -12,8 +12,8 @@ use crate::held::Held;
 use crate::sending::send;
 use crate::service::Served;
 use arrayvec::ArrayVec;
-use judy_model::KEY_LIMIT;
 use judy_model::laws::{one_call_is_a_run, served_runs_go_on, tenants_are_answered_equally};
+use judy_model::{KEY_LIMIT, ReplyRoom};
 use judy_stream::{Pull, Sink, Source};
 use std::alloc::Global;
 
@@ -124,7 +124,7 @@ pub fn serve_after<S: Served, R: Source, W: Sink>(
     let mut held = Held::new();
     let mut rooms = Rooms {
         key: [0u8; KEY_LIMIT],
-        found: ArrayVec::new(),
+        found: ReplyRoom::new(),
         reply: ArrayVec::new(),
         answers: ArrayVec::new(),
     };

@@ -9,7 +9,7 @@ use crate::limits::{ANSWERS_LIMIT, REPLY_LIMIT};
 use crate::service::Served;
 use crate::turns::{asks_to_quit, hear, run};
 use arrayvec::ArrayVec;
-use judy_model::KEY_LIMIT;
+use judy_model::{KEY_LIMIT, ReplyRoom};
 use std::alloc::Global;
 
 /// Buffers for a line's key, for a key that a call finds, for the answer to a line, and for the
@@ -19,7 +19,7 @@ pub struct Rooms {
     /// A line's key.
     pub key: [u8; KEY_LIMIT],
     /// A key that a call finds.
-    pub found: ArrayVec<u8, KEY_LIMIT>,
+    pub found: ReplyRoom,
     /// The answer to a line.
     pub reply: ArrayVec<u8, REPLY_LIMIT>,
     /// The answers that are written at once.

@@ -5,8 +5,7 @@ ghost use Rattle.judy_model.specs.Replies.{text as text_of, with_number, reply_w
 
 use crate::limits::REPLY_LIMIT;
 use arrayvec::ArrayVec;
-use itoa::write_digits;
-use judy_model::{KEY_LIMIT, Key, Reply};
+use judy_model::{KEY_LIMIT, Key, Reply, SPACED_LIMIT, spaced};
 
 /// Adds bytes to the line.
 fn put(line: &mut ArrayVec<u8, REPLY_LIMIT>, bytes: &[u8])
@@ -22,11 +21,17 @@ fn put_number(line: &mut ArrayVec<u8, REPLY_LIMIT>, n: u64)
     ensures text { line.new.items ≡ with_number line.old.items n }
     ensures short { length line.new.items ≤ length line.old.items + 21 }
 {
-    let mut digits = [0; 21];
-    let space = write_digits(n, &mut digits, 21) - 1;
-    digits[space] = b' ';
-    let (_, number) = digits.split_at(space);
-    put(line, number);
+    let mut digits = [0; SPACED_LIMIT];
+    put(line, spaced(n, &mut digits));
+}
+
+/// Adds a space and a number of entries.
+fn put_count(line: &mut ArrayVec<u8, REPLY_LIMIT>, n: u16)
+    requires { length line.old.items + 21 ≤ REPLY_LIMIT }
+    ensures text { line.new.items ≡ with_number line.old.items n }
+    ensures short { length line.new.items ≤ length line.old.items + 6 }
+{
+    put_number(line, n as u64);
 }
 
 /// Adds the bytes of a key as pairs of lower-case hexadecimal digits.
@@ -73,6 +78,11 @@ fn put_words(line: &mut ArrayVec<u8, REPLY_LIMIT>, reply: &Reply<'_>)
             put_number(line, *v);
             put(line, b" x");
             put_key(line, key);
+        }
+        Reply::Entries(count, text) => {
+            put(line, b"E");
+            put_count(line, *count);
+            put(line, text.as_bytes());
         }
         Reply::Null => put(line, b"NULL"),
         Reply::Used(used, quota, pieces, most) => {

@@ -5,8 +5,7 @@ ghost use Rattle.judy_model.specs.declared.replies.Reply.{Reply as ReplyLem};
 ghost use Rattle.judy_model.specs.Speakers.{Event, Speaker};
 ghost use Rattle.judy_protocol.specs.Services.{IsAsked, IsCalled, IsKnown, Seen};
 
-use arrayvec::ArrayVec;
-use judy_model::{Call, KEY_LIMIT, Reply};
+use judy_model::{Call, Reply, ReplyRoom};
 use std::alloc::Global;
 
 /// A service of many tenants, each with its own arrays, who log in with a name and a token.
@@ -46,7 +45,7 @@ pub trait Served {
         alloc: Global,
         speaker: Self::Speaker,
         call: &Call<'_>,
-        found: &'a mut ArrayVec<u8, KEY_LIMIT>,
+        found: &'a mut ReplyRoom,
     ) -> Reply<'a>
         requires known { IsKnown (seen self.old).speakers (who speaker) }
         requires asked { IsAsked call.now }

@@ -18,7 +18,7 @@ use crate::replies::write_reply;
 use crate::requests::read_line;
 use crate::service::Served;
 use arrayvec::ArrayVec;
-use judy_model::{Call, KEY_LIMIT, LINE_LIMIT, Line, Name, Reply, Token};
+use judy_model::{Call, KEY_LIMIT, LINE_LIMIT, Line, Name, Reply, ReplyRoom, Token};
 use std::alloc::Global;
 
 /// Why a line is refused.
@@ -197,7 +197,7 @@ fn make_call<S: Served>(
     service: &mut S,
     speaker: Option<S::Speaker>,
     call: &Call<'_>,
-    found: &mut ArrayVec<u8, KEY_LIMIT>,
+    found: &mut ReplyRoom,
     answer: &mut ArrayVec<u8, REPLY_LIMIT>,
 ) -> bool
     requires known { HasLoggedIn (S.seen service.old).speakers (option_map S.who speaker) }
@@ -227,7 +227,7 @@ pub fn run<S: Served>(
     service: &mut S,
     speaker: &mut Option<S::Speaker>,
     asked: &Result<Line<'_>, Refusal>,
-    found: &mut ArrayVec<u8, KEY_LIMIT>,
+    found: &mut ReplyRoom,
     answer: &mut ArrayVec<u8, REPLY_LIMIT>,
 ) -> bool
     requires known { HasLoggedIn (S.seen service.old).speakers (option_map S.who speaker.old) }

@@ -18,3 +18,9 @@ pub searched : (arrays : Arrays (List ℕ)) (name : List ℕ) (query : Entries (
     found ≡ query entries → reply ≡ value_key_or_null found → with_content arrays name (content_of arrays name) ≡ arrays
     → on_array arrays name (λ l. (value_key_or_null (query l), l)) ≡ (reply, arrays)
 searched arrays name query entries reply found held is shown written = cc (held, is, shown, written)
+
+-- the reply to a walk
+pub walked : (arrays : Arrays (List ℕ)) (name : List ℕ) (show : Entries (List ℕ) → Reply) (entries : Entries (List ℕ)) (reply : Reply)
+    → entries ≡ content_of arrays name → reply ≡ show entries → with_content arrays name (content_of arrays name) ≡ arrays
+    → on_array arrays name (λ l. (show l, l)) ≡ (reply, arrays)
+walked arrays name show entries reply held is written = cc (held, is, written)

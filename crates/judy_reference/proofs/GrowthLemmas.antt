@@ -1,5 +1,5 @@
 -- A call adds entries and pieces only if there is room, so their numbers fit words.
-use Rattle.std.proofs.Common.{◌≡◌, ℕ, ◌+◌, ◌-◌, ◌<◌, ◌≤◌, ◌^◌, Bool, true, false, cond, List, [], ◌∷◌, length, refl, sym, ap}
+use Rattle.std.proofs.Common.{◌≡◌, ℕ, ◌+◌, ◌<◌, ◌≤◌, ◌^◌, Bool, true, false, cond, List, [], ◌∷◌, length, refl, sym, ap}
 use Rattle.std.proofs.Common.{arith, Ok, Err, Result, IfOk, OnErr}
 use Rattle.std.specs.Prelude.{◌&&◌, nat_lt, nat_le}
 use Rattle.judy_model.specs.declared.replies.Reply.{Reply}

@@ -4,3 +4,4 @@ mod PlaceLemmas
 mod KeptLemmas
 mod GrowthLemmas
 mod CallLemmas
+mod CutLemmas

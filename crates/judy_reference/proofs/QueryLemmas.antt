@@ -1,5 +1,5 @@
 -- Queries of words, by comparisons of numbers.
-use Rattle.std.proofs.Common.{◌≡◌, ℕ, ◌+◌, ◌<◌, ◌≤◌, Bool, true, false, List, [], ◌∷◌, ◌++◌, length, refl, ◌∙◌}
+use Rattle.std.proofs.Common.{◌≡◌, ℕ, ◌+◌, ◌<◌, ◌≤◌, Bool, true, false, List, [], ◌∷◌, ◌++◌, length, refl}
 use Rattle.std.proofs.Common.{arith, Some, None, get_or, drop, take, suc, append-nil, eq-eqb}
 use Rattle.std.specs.Prelude.{filter, find, nat_le, ◌==◌}
 use Rattle.std.proofs.Math.Seq.{drop-cons}

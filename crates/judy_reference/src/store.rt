@@ -8,10 +8,13 @@ ghost use Rattle.judy_reference.specs.Store.{IsKept};
 mod bytes;
 mod content;
 mod directory;
+mod fills;
 mod long;
 mod one;
+mod pops;
 mod replies;
 mod string;
+mod walks;
 mod writes;
 
 use self::bytes::bytes_step;
@@ -19,8 +22,7 @@ use self::directory::Directory;
 use self::long::long_step;
 use self::one::one_step;
 use self::string::string_step;
-use arrayvec::ArrayVec;
-use judy_model::{Call, KEY_LIMIT, OwnedKey, Quota, Reply, Right};
+use judy_model::{Call, OwnedKey, Quota, Reply, ReplyRoom, Right};
 use std::alloc::{AllocError, Global};
 use std::marker::Model;
 
@@ -86,7 +88,7 @@ impl Store {
         right: Right,
         quota: Quota,
         call: &Call<'_>,
-        found: &'a mut ArrayVec<u8, KEY_LIMIT>,
+        found: &'a mut ReplyRoom,
     ) -> Result<Reply<'a>, AllocError>
         ensures ok { IfOk result (λ reply. step right quota self.old call.now ≡ (reply, self.new)) }
         ensures unchanged { OnErr result (self.new ≡ self.old) }
@@ -105,7 +107,7 @@ impl Store {
         alloc: Global,
         quota: Quota,
         call: &Call<'_>,
-        found: &'a mut ArrayVec<u8, KEY_LIMIT>,
+        found: &'a mut ReplyRoom,
     ) -> Result<Reply<'a>, AllocError>
         ensures ok { IfOk result
             (λ reply. allowed_step quota self.old call.now ≡ (reply, self.new)) }
@@ -117,8 +119,8 @@ impl Store {
         let pieces = self.pieces();
         let room = has_room(used, pieces, quota, call);
         match call {
-            Call::One(name, call) => one_step(alloc, &mut self.one, room, name, call),
-            Call::Long(name, call) => long_step(alloc, &mut self.long, room, name, call),
+            Call::One(name, call) => one_step(alloc, &mut self.one, room, name, call, found),
+            Call::Long(name, call) => long_step(alloc, &mut self.long, room, name, call, found),
             Call::Str(name, call) => string_step(alloc, &mut self.string, room, name, call, found),
             Call::Bytes(name, call) => bytes_step(alloc, &mut self.bytes, room, name, call),
             Call::Used => Ok(Reply::Used(used, quota.entries, pieces, quota.pieces)),

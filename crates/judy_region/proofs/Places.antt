@@ -11,7 +11,7 @@ use Rattle.judy_region.proofs.lemmas.Parts.{part_long, with_part_paste}
 use Rattle.judy_region.specs.Flat.{flat_by, IsChunkRow, IsRuns, AreRuns, IsInOne, zeros}
 use Rattle.judy_region.proofs.lemmas.Flat.{Lies, found, place-get, place-set, part, place-part, place-paste, row-set, runs-set}
 use Rattle.judy_region.proofs.lemmas.Flat.{runs-at, row-last, flat-last, row-push, runs-push, flat-push, length-zeros}
-use Rattle.judy_region.proofs.lemmas.Flat.{short-at, sure}
+use Rattle.judy_region.proofs.lemmas.Flat.{short-at}
 
 abbrev pub Chunks : Type 0
 Chunks = List (List ℕ)

@@ -2,7 +2,7 @@
 use Rattle.std.proofs.Common.{◌≡◌, ◌<◌, ℕ, Bool, true, false, cond, List, [], ◌∷◌, length, Option, Some, None, refl, sym, ◌∙◌, ap, subst}
 use Rattle.std.specs.Prelude.{IfSome, IsTrue, codes, option_map, option_and_then}
 use Rattle.std.specs.Ordering.{eq_by_cmp}
-use Rattle.judy_model.specs.Commands.{commands, free_with, string_with}
+use Rattle.judy_model.specs.Commands.{commands, entries_of, free_with, string_with}
 use Rattle.judy_model.specs.Contents.{string_order}
 use Rattle.judy_model.specs.Grammar.{at_command, call_by, fields_of, is_name, is_string, key_of, numbers_of_fields, one_call, long_call}
 use Rattle.judy_model.specs.Grammar.{bytes_call, string_call, string_of}
@@ -10,6 +10,8 @@ use Rattle.judy_model.specs.Reading.{auth_of, named_request, request_by, request
 use Rattle.judy_model.specs.Speakers.{Speaker}
 use Rattle.judy_model.specs.declared.calls.Call.{Call}
 use Rattle.judy_model.specs.declared.calls.Call.TheVariants.{One, Long, Str, Bytes, Used}
+use Rattle.judy_model.specs.declared.calls.Search.{Search}
+use Rattle.judy_model.specs.declared.calls.Search.TheVariants as search
 use Rattle.judy_model.specs.declared.calls.StrCall.{StrCall}
 use Rattle.judy_model.specs.declared.calls.StrCall.TheVariants as str
 use Rattle.judy_model.specs.declared.commands.Command.{Command}
@@ -18,7 +20,7 @@ use Rattle.judy_model.specs.declared.commands.Kind.TheVariants as kind
 use Rattle.judy_model.specs.declared.commands.Numbers.{Numbers}
 use Rattle.judy_model.specs.declared.commands.Numbers.TheVariants as numbers
 use Rattle.judy_model.specs.declared.commands.Operation.{Operation}
-use Rattle.judy_model.specs.declared.commands.Operation.TheVariants.{Insert, Add, Keep, Exchange, Remove, Take, Look, Count, Nth, First, Next, Last, Prev, Free}
+use Rattle.judy_model.specs.declared.commands.Operation.TheVariants.{Insert, Add, Keep, Exchange, Remove, Take, Look, Count, Nth, First, Next, Last, Prev, Free, Pop, Fill, Cut}
 use Rattle.judy_model.specs.declared.commands.Operation.TheVariants.{FirstEmpty, NextEmpty, LastEmpty, PrevEmpty}
 use Rattle.judy_model.specs.declared.requests.Line.TheVariants as request
 use Rattle.judy_kinds.specs.Calls.{has_key_string, has_string}
@@ -35,6 +37,11 @@ use Rattle.judy_table.proofs.lemmas.Seats.{knows-place, login-knows}
 -- the call, if there is one, passes
 abbrev Passes : Option StrCall → Type 0
 Passes o = IfSome o (λ c. has_key_string c ≡ true)
+
+-- a walk from a string passes
+walk_passes : (search : Search) (key : List ℕ) (o : Option ℕ) → is_string key ≡ true → Passes (option_map (λ k. str.Walk search key k) o)
+walk_passes search key None h = tt
+walk_passes search key (Some k) h = h
 
 -- the calls with a string pass
 with_passes : (operation : Operation) (key : List ℕ) (ns : Numbers) → is_string key ≡ true → Passes (string_with operation key ns)
@@ -67,21 +74,27 @@ with_passes Look key (numbers.One i) h = tt
 with_passes Look key (numbers.Two i j) h = tt
 with_passes Look key (numbers.Three i j k) h = tt
 with_passes First key numbers.Nothing h = h
-with_passes First key (numbers.One i) h = tt
+with_passes First key (numbers.One i) h = walk_passes search.First key (entries_of i) h
 with_passes First key (numbers.Two i j) h = tt
 with_passes First key (numbers.Three i j k) h = tt
 with_passes Next key numbers.Nothing h = h
-with_passes Next key (numbers.One i) h = tt
+with_passes Next key (numbers.One i) h = walk_passes search.Next key (entries_of i) h
 with_passes Next key (numbers.Two i j) h = tt
 with_passes Next key (numbers.Three i j k) h = tt
 with_passes Last key numbers.Nothing h = h
-with_passes Last key (numbers.One i) h = tt
+with_passes Last key (numbers.One i) h = walk_passes search.Last key (entries_of i) h
 with_passes Last key (numbers.Two i j) h = tt
 with_passes Last key (numbers.Three i j k) h = tt
 with_passes Prev key numbers.Nothing h = h
-with_passes Prev key (numbers.One i) h = tt
+with_passes Prev key (numbers.One i) h = walk_passes search.Prev key (entries_of i) h
 with_passes Prev key (numbers.Two i j) h = tt
 with_passes Prev key (numbers.Three i j k) h = tt
+with_passes Pop key numbers.Nothing h = h
+with_passes Pop key (numbers.One i) h = tt
+with_passes Pop key (numbers.Two i j) h = tt
+with_passes Pop key (numbers.Three i j k) h = tt
+with_passes Fill key ns h = tt
+with_passes Cut key ns h = tt
 with_passes Count key ns h = tt
 with_passes Nth key ns h = tt
 with_passes FirstEmpty key ns h = tt
@@ -99,6 +112,9 @@ free_passes Keep = tt
 free_passes Exchange = tt
 free_passes Remove = tt
 free_passes Take = tt
+free_passes Pop = tt
+free_passes Fill = tt
+free_passes Cut = tt
 free_passes Look = tt
 free_passes Count = tt
 free_passes Nth = tt

@@ -13,9 +13,8 @@ ghost use Rattle.judy_server.specs.Tally.{tallied};
 
 use crate::absent::Left;
 use crate::tally::{PLACES, Tally};
-use arrayvec::ArrayVec;
 use judy_journal::{Unplayed, read_gone};
-use judy_model::{Call, KEY_LIMIT, Name, Reply, Right, name_ok};
+use judy_model::{Call, KEY_LIMIT, Name, Reply, ReplyRoom, Right, name_ok};
 use judy_protocol::{Line, cut_line, read_line};
 use judy_table::{Speaker, TenantId};
 use judy_tenants::{KeyHash, Service};
@@ -72,6 +71,7 @@ fn outcome(reply: &Reply<'_>) -> Result<(), Unplayed>
         Reply::Value(_) => Ok(()),
         Reply::ValueAt(_, _) => Ok(()),
         Reply::ValueKey(_, _) => Ok(()),
+        Reply::Entries(_, _) => Ok(()),
         Reply::Null => Ok(()),
         Reply::Used(_, _, _, _) => Ok(()),
     }
@@ -102,7 +102,7 @@ fn make_again<H: KeyHash>(
     service: &mut Service<H>,
     tenant: TenantId,
     call: &Call<'_>,
-    found: &mut ArrayVec<u8, KEY_LIMIT>,
+    found: &mut ReplyRoom,
 ) -> Result<(), Unplayed>
     requires known { tenant < length service.old.tenants }
     requires string { IsTrue (has_string call.now) }
@@ -142,7 +142,7 @@ fn play_change<H: KeyHash>(
     tally: &mut Tally,
     name: &[u8],
     call: &Call<'_>,
-    found: &mut ArrayVec<u8, KEY_LIMIT>,
+    found: &mut ReplyRoom,
 ) -> Result<(), Unplayed>
     requires name { IsTrue (is_name name.now) }
     requires string { IsTrue (has_string call.now) }
@@ -206,7 +206,7 @@ pub fn replay<H: KeyHash>(
     tally: &mut Tally,
     bytes: &[u8],
     key: &mut [u8; KEY_LIMIT],
-    found: &mut ArrayVec<u8, KEY_LIMIT>,
+    found: &mut ReplyRoom,
 ) -> Result<(), Unplayed>
     ensures { Plays bytes.now (tallied service.old tally.old) result
         (tallied service.new tally.new) }
@@ -225,7 +225,7 @@ pub fn replay_all<H: KeyHash>(
     tally: &mut Tally,
     text: &[u8],
     key: &mut [u8; KEY_LIMIT],
-    found: &mut ArrayVec<u8, KEY_LIMIT>,
+    found: &mut ReplyRoom,
 ) -> Result<(), Halt>
     ensures { PlaysAll (lines_of text.now) (tallied service.old tally.old) result
         (tallied service.new tally.new) }

@@ -26,7 +26,7 @@ use crate::tally::{Tally, refused_name};
 use arrayvec::ArrayVec;
 use judy_journal::Unplayed;
 use judy_many::Shows;
-use judy_model::{Call, KEY_LIMIT, LINE_LIMIT, Name, Reply};
+use judy_model::{Call, KEY_LIMIT, LINE_LIMIT, Name, Reply, ReplyRoom};
 use judy_programs::{Opens, Ran, Replays, Unopened, run_with};
 use judy_protocol::{Batch, Line, Refusal, Served};
 use judy_recovery::{Halt as Stopped, JournalFault, Reason};
@@ -94,7 +94,7 @@ impl<H: Chosen> Served for Server<H> {
         alloc: Global,
         speaker: Speaker,
         call: &Call<'_>,
-        found: &'a mut ArrayVec<u8, KEY_LIMIT>,
+        found: &'a mut ReplyRoom,
     ) -> Reply<'a> {
         self.service.call(alloc, speaker, call, found)
     }
@@ -230,7 +230,7 @@ impl<H: Chosen> Server<H> {
         alloc: Global,
         bytes: &[u8],
         key: &mut [u8; KEY_LIMIT],
-        found: &mut ArrayVec<u8, KEY_LIMIT>,
+        found: &mut ReplyRoom,
     ) -> Result<(), Unplayed>
         ensures { Plays bytes.now self.old result self.new }
     {
@@ -244,7 +244,7 @@ impl<H: Chosen> Server<H> {
         alloc: Global,
         text: &[u8],
         key: &mut [u8; KEY_LIMIT],
-        found: &mut ArrayVec<u8, KEY_LIMIT>,
+        found: &mut ReplyRoom,
     ) -> Result<(), Halt>
         ensures { PlaysAll (lines_of text.now) self.old result self.new }
     {
@@ -279,7 +279,7 @@ impl<H: Chosen> Replays for Server<H> {
 
     fn replay(&mut self, alloc: Global, records: &[u8]) -> Result<(), Stopped> {
         let mut key = [0u8; KEY_LIMIT];
-        let mut found = ArrayVec::new();
+        let mut found = ReplyRoom::new();
         match replay_all(
             alloc,
             &mut self.service,

@@ -25,3 +25,4 @@ mod Taking
 mod Shows
 mod WellFormed
 mod MapLaws
+mod WalkKeys

@@ -23,8 +23,8 @@ use Rattle.judy_packing.specs.Packing.{pack, word_bytes, is_last, IsString}
 use Rattle.judy_packing.proofs.lemmas.Packs.{bytes-pack, last-word, more-word}
 use Rattle.judy_string.specs.Searches.{kept_strings, here, keeps, end_of, found_by, beside, IsShown}
 use Rattle.judy_string.specs.Strings.{Strings, after, part, joined_strings, nested_content_at, IsNestedAt, Leads}
-use Rattle.judy_string.specs.declared.search.Search.{Search}
-use Rattle.judy_string.specs.declared.search.Search.TheVariants.{First, Next, Last, Prev}
+use Rattle.judy_model.specs.declared.calls.Search.{Search}
+use Rattle.judy_model.specs.declared.calls.Search.TheVariants.{First, Next, Last, Prev}
 use Rattle.judy_string.proofs.Joins.{found_later}
 use Rattle.judy_string.proofs.Nests.{Nest, nest-kind, nest-sorted, nest-content}
 use Rattle.judy_string.proofs.Levels.{spells-nothing}

@@ -11,8 +11,8 @@ use Rattle.judy_tree.specs.Root.{entries}
 use Rattle.judy_packing.specs.Packing.{pack}
 use Rattle.judy_string.specs.Strings.{Strings, part, nested_content_at, content_under}
 use Rattle.judy_string.specs.Suffixes.{suffix_entry}
-use Rattle.judy_string.specs.declared.search.Search.{Search}
-use Rattle.judy_string.specs.declared.search.Search.TheVariants.{First, Next, Last, Prev}
+use Rattle.judy_model.specs.declared.calls.Search.{Search}
+use Rattle.judy_model.specs.declared.calls.Search.TheVariants.{First, Next, Last, Prev}
 
 -- whether the search keeps a string that compares so with the string that it starts from
 abbrev pub keeps : Search → Ordering → Bool

@@ -10,11 +10,10 @@ ghost use Rattle.judy_string.specs.StringArrays.{first_in, next_in, last_in, pre
 ghost use Rattle.judy_string.specs.StringArrays.{StringAnswers, StringInserts, StringLooks, StringBecomes, HasStringSpace};
 ghost use Rattle.judy_tree.specs.Changes.{IsRefused};
 
-use crate::search::Search;
 use crate::{insertion, nodes, search};
 use arrayvec::ArrayVec;
 use judy_arena::{Arena, NoMemory};
-use judy_model::{Given, KEY_LIMIT};
+use judy_model::{Given, KEY_LIMIT, Search};
 use judy_refs::Ref;
 use judy_words::Inserted;
 use std::alloc::Global;

@@ -11,6 +11,7 @@ pub mod laws;
 mod nodes;
 mod search;
 mod suffix;
+mod walks;
 mod words;
 
 pub use array::{JudySL, is_string};

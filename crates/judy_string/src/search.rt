@@ -13,37 +13,22 @@ use crate::nodes::{is_last, tail};
 use crate::suffix;
 use arrayvec::ArrayVec;
 use judy_arena::Arena;
-use judy_model::KEY_LIMIT;
+use judy_model::{KEY_LIMIT, Search};
 use judy_packing::{byte, word_at};
 use judy_refs::Ref;
 use judy_words::{Finger, JudyL};
 use std::cmp::Ordering;
 
-/// The searches of JudySL(3). Each keeps some of the strings and takes the first or the last of
-/// those.
-#[derive(Clone, Copy)]
-pub(crate) enum Search {
-    /// The least string from this one on.
-    First,
-    /// The least string above this one.
-    Next,
-    /// The greatest string up to this one.
-    Last,
-    /// The greatest string below this one.
-    Prev,
-}
-
-impl Search {
-    // Whether the search keeps a string that compares so with the string that it starts from.
-    fn keeps(self, order: Ordering) -> bool
-        ensures { result ≡ keeps self order }
-    {
-        match self {
-            Search::First => order.is_ge(),
-            Search::Next => order.is_gt(),
-            Search::Last => order.is_le(),
-            Search::Prev => order.is_lt(),
-        }
+// Whether a search keeps a string that compares so with the string that it starts from. It takes the first or
+// the last of those that it keeps.
+fn keeps(search: Search, order: Ordering) -> bool
+    ensures { result ≡ keeps search order }
+{
+    match search {
+        Search::First => order.is_ge(),
+        Search::Next => order.is_gt(),
+        Search::Last => order.is_le(),
+        Search::Prev => order.is_lt(),
     }
 }
 
@@ -173,12 +158,12 @@ fn find_suffix(
     ensures { IsShown buffer.old.items
         (found_in_suffix how string.now arena.now.blocks node) result buffer.new.items }
 {
-    if !how.keeps(Ordering::Equal) && suffix::get(arena, node, string).is_some() {
+    if !keeps(how, Ordering::Equal) && suffix::get(arena, node, string).is_some() {
         return None;
     }
     let before = buffer.len();
     let value = suffix::read(arena, node, buffer);
-    if how.keeps(compare_from(buffer, before, string)) {
+    if keeps(how, compare_from(buffer, before, string)) {
         return Some(value);
     }
     buffer.truncate(before);
@@ -240,7 +225,7 @@ fn find_here(
     };
     let word = word_at(string, 0);
     if string.len() < 8 {
-        if !how.keeps(Ordering::Equal) {
+        if !keeps(how, Ordering::Equal) {
             return None;
         }
         push_word(buffer, word);

@@ -11,7 +11,7 @@ use Rattle.judy_model.specs.Tenant.{one_effect, long_effect, string_effect, byte
 use Rattle.judy_model.specs.Tenant.{new_pieces, one_step, long_step, string_step, bytes_step}
 use Rattle.judy_model.specs.WellFormed.{Grows}
 use Rattle.judy_model.proofs.lemmas.FormLemmas.{names_apart}
-use Rattle.judy_model.proofs.lemmas.GrowthLemmas.{lengths, sizes, one_each, its_size, effect_grows}
+use Rattle.judy_model.proofs.lemmas.GrowthLemmas.{lengths, sizes, one_each, its_size, words_alike, strings_alike, bytes_alike, effect_grows}
 use Rattle.judy_tree.specs.Laws as tree
 use Rattle.judy_string.specs.Laws as strings
 use Rattle.judy_bytes.specs.Laws as bytes
@@ -36,7 +36,7 @@ calls-add-one of_words of_strings of_bytes H (call.One name c) a b w x r s e =
           (effect_grows word_order length (λ k. 1) (lengths word_order nat_cmp_total) true (one_in a w) (one_effect c) 1 rises (one_each (one_effect c)));
       pieces = told (pieces_of word_pieces) _ (new_pieces (call.One name c)) (one_in a w) (one_in b x) (one_step true (one_in a w) c) r e
           (effect_grows word_order (pieces_of word_pieces) word_pieces (sizes word_order nat_cmp_total nat_cmp-IsAntisymmetric word_pieces)
-          true (one_in a w) (one_effect c) (new_pieces (call.One name c)) rises (its_size word_pieces (one_effect c)));
+          true (one_in a w) (one_effect c) (new_pieces (call.One name c)) rises (its_size word_pieces (one_effect c) (words_alike (one_effect c))));
     }
 calls-add-one of_words of_strings of_bytes H (call.Long name c) a b w x r s e =
     let rises : is_sorted word_order (long_in a w) ≡ true =
@@ -46,7 +46,7 @@ calls-add-one of_words of_strings of_bytes H (call.Long name c) a b w x r s e =
           (effect_grows word_order length (λ k. 1) (lengths word_order nat_cmp_total) true (long_in a w) (long_effect c) 1 rises (one_each (long_effect c)));
       pieces = told (pieces_of word_pieces) _ (new_pieces (call.Long name c)) (long_in a w) (long_in b x) (long_step true (long_in a w) c) r e
           (effect_grows word_order (pieces_of word_pieces) word_pieces (sizes word_order nat_cmp_total nat_cmp-IsAntisymmetric word_pieces)
-          true (long_in a w) (long_effect c) (new_pieces (call.Long name c)) rises (its_size word_pieces (long_effect c)));
+          true (long_in a w) (long_effect c) (new_pieces (call.Long name c)) rises (its_size word_pieces (long_effect c) (words_alike (long_effect c))));
     }
 calls-add-one of_words of_strings of_bytes H (call.Str name c) a b w x r s e =
     let rises : is_sorted string_order (string_in a w) ≡ true = (of_strings a w (string_in a w) (numbers_of_strings a w)
@@ -57,7 +57,7 @@ calls-add-one of_words of_strings of_bytes H (call.Str name c) a b w x r s e =
       pieces = told (pieces_of string_pieces) _ (new_pieces (call.Str name c)) (string_in a w) (string_in b x)
           (string_step true (string_in a w) c) r e
           (effect_grows string_order (pieces_of string_pieces) string_pieces (sizes string_order nat_list_cmp_total names_apart string_pieces)
-          true (string_in a w) (string_effect c) (new_pieces (call.Str name c)) rises (its_size string_pieces (string_effect c)));
+          true (string_in a w) (string_effect c) (new_pieces (call.Str name c)) rises (its_size string_pieces (string_effect c) (strings_alike c)));
     }
 calls-add-one of_words of_strings of_bytes H (call.Bytes name c) a b w x r s e =
     let rises : is_sorted string_order (bytes_in a w) ≡ true = (of_bytes H a w (bytes_in a w) (numbers_of_bytes a w)
@@ -68,6 +68,6 @@ calls-add-one of_words of_strings of_bytes H (call.Bytes name c) a b w x r s e =
       pieces = told (pieces_of string_pieces) _ (new_pieces (call.Bytes name c)) (bytes_in a w) (bytes_in b x)
           (bytes_step true (bytes_in a w) c) r e
           (effect_grows string_order (pieces_of string_pieces) string_pieces (sizes string_order nat_list_cmp_total names_apart string_pieces)
-          true (bytes_in a w) (bytes_effect c) (new_pieces (call.Bytes name c)) rises (its_size string_pieces (bytes_effect c)));
+          true (bytes_in a w) (bytes_effect c) (new_pieces (call.Bytes name c)) rises (its_size string_pieces (bytes_effect c) (bytes_alike c)));
     }
 calls-add-one of_words of_strings of_bytes H call.Used a b w x r s e = absurd e

@@ -23,3 +23,4 @@ mod Carried
 mod Lifted
 mod Freezing
 pub mod lemmas
+mod Nothing

@@ -1,5 +1,5 @@
 -- A call that is no insertion leaves an empty array empty.
-use Rattle.std.proofs.Common.{◌≡◌, ℕ, List, [], true, false, Option, Some, None, is_some, ◌==◌, ◌&&◌, ap, sym, ◌∙◌, refl}
+use Rattle.std.proofs.Common.{◌≡◌, ◌+◌, ℕ, zero, suc, List, [], true, false, Option, Some, None, is_some, ◌==◌, ◌&&◌, ap, sym, ◌∙◌, refl}
 use Rattle.std.specs.Prelude.{unwrap_or}
 use Rattle.std.proofs.lemmas.Bool.{and_parts, eqb-true}
 use Rattle.judy_arena.specs.Blocks.{Blocks}
@@ -8,8 +8,8 @@ use Rattle.judy_model.specs.declared.calls.Call.{Call}
 use Rattle.judy_model.specs.declared.calls.Call.TheVariants as call
 use Rattle.judy_model.specs.declared.replies.Reply.{Reply}
 use Rattle.judy_model.specs.Contents.{Order, Entries, word_order, string_order}
-use Rattle.judy_model.specs.Tenant.Effect.{Insert, Keep, Exchange, Remove, Take, RemoveIf, Free, Ask}
-use Rattle.judy_model.specs.Tenant.{Effect, effect_step, effect_inserts, inserts, one_effect, long_effect, string_effect, bytes_effect}
+use Rattle.judy_model.specs.Tenant.Effect.{Insert, Keep, Exchange, Remove, Take, RemoveIf, Pop, Cut, Fill, Free, Ask}
+use Rattle.judy_model.specs.Tenant.{Effect, effect_step, effect_inserts, inserts, one_effect, long_effect, string_effect, bytes_effect, cut_from, pop_over}
 use Rattle.judy_model.specs.Tenant.{one_step, long_step, string_step, bytes_step}
 use Rattle.judy_words.specs.OneArrays.{one_in}
 use Rattle.judy_words.specs.LongArrays.{long_in}
@@ -19,6 +19,13 @@ use Rattle.judy_kinds.specs.Kinds.{IsArrayOf}
 use Rattle.judy_kinds.specs.Calls.{kind_of_call, AnswersAt}
 use Rattle.judy_kinds.specs.Laws.{OnlyNothingIsEmpty}
 
+-- nothing is cut from an empty array
+cut_rests : {K : Type 0} (order : Order K) (search : Entries K → Option (K × ℕ)) (done n : ℕ) (found : Option (K × ℕ))
+    → (cut_from order search done n [] found).1 ≡ []
+cut_rests order search done zero found = refl
+cut_rests order search done (suc n) None = refl
+cut_rests order search done (suc n) (Some e) = cut_rests order search (done + 1) n (search [])
+
 -- a call that is no insertion leaves an empty array empty
 effect_rests : {K : Type 0} (order : Order K) (effect : Effect K) → effect_inserts effect ≡ false → (effect_step order true [] effect).1 ≡ []
 effect_rests order (Insert k given reports) h = cc
@@ -27,6 +34,13 @@ effect_rests order (Exchange k old new) h = refl
 effect_rests order (Remove k) h = refl
 effect_rests order (Take k) h = refl
 effect_rests order (RemoveIf k v) h = refl
+effect_rests {K} order (Pop find show lack) h = by (find [])
+  where
+    by : (found : Option (K × ℕ)) → (pop_over order [] show lack found).1 ≡ []
+    by (Some e) = refl
+    by None = refl
+effect_rests order (Cut find n) h = cut_rests order find 0 n (find [])
+effect_rests order (Fill x find index v) h = cc
 effect_rests order Free h = refl
 effect_rests order (Ask answer) h = refl
 

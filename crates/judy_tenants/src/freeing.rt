@@ -16,12 +16,11 @@ ghost use Rattle.judy_tenants.specs.Stocks.{IsStocked};
 use crate::accounts::{Account, ROWS, settle};
 use crate::laws;
 use crate::stock::{Stock, stands_at};
-use arrayvec::ArrayVec;
 use judy_arena::Arena;
 use judy_bytes::KeyHash;
 use judy_directory::{Directory, Place};
 use judy_kinds::answer;
-use judy_model::{BytesCall, Call, Kind, LongCall, Name, OneCall, StrCall};
+use judy_model::{BytesCall, Call, Kind, LongCall, Name, OneCall, ReplyRoom, StrCall};
 use judy_table::Table;
 use std::alloc::Global;
 
@@ -47,7 +46,7 @@ fn free<H: KeyHash>(alloc: Global, arena: &mut Arena, hash: H, kind: Kind, name:
 {
     laws::kinds_are_lawful();
     let call = free_of(kind, name);
-    let mut found = ArrayVec::new();
+    let mut found = ReplyRoom::new();
     let Ok(_answered) = answer(alloc, arena, hash, place, &call, &mut found) else {
         // Only an insertion asks for memory.
         unreachable!();

@@ -7,10 +7,9 @@ ghost use Rattle.judy_tenants.specs.Held.{states_of, quotas_of};
 ghost use Rattle.judy_tenants.specs.Runs.{told_event, is_answerable, AreCallsOf, AreCounted};
 
 use crate::service::Service;
-use arrayvec::ArrayVec;
 use judy_bytes::KeyHash;
 use judy_kinds::is_callable;
-use judy_model::{Call, OwnedReply};
+use judy_model::{Call, OwnedReply, ReplyRoom};
 use judy_table::Speaker;
 use std::alloc::Global;
 
@@ -46,7 +45,7 @@ impl<H: KeyHash> Service<H> {
         judy_model::laws::one_call_is_a_run();
         judy_model::laws::served_runs_go_on();
         judy_model::laws::tenants_are_answered_equally();
-        let mut found = ArrayVec::new();
+        let mut found = ReplyRoom::new();
         for (i, event) in events.iter().enumerate() {
             replies[i] = OwnedReply::of(&self.call(alloc, event.speaker, &event.call, &mut found));
         }

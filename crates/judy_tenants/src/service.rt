@@ -20,11 +20,10 @@ use crate::grants::words_for;
 use crate::laws;
 use crate::serving::serve;
 use crate::stock::{Stock, prepare};
-use arrayvec::ArrayVec;
 use judy_arena::{Arena, NoMemory};
 use judy_bytes::KeyHash;
 use judy_directory::Directory;
-use judy_model::{Call, KEY_LIMIT, Reply};
+use judy_model::{Call, Reply, ReplyRoom};
 use judy_table::{Speaker, Table, TenantId};
 use std::alloc::Global;
 use std::marker::Model;
@@ -334,7 +333,7 @@ impl<H: KeyHash> Service<H> {
         alloc: Global,
         speaker: Speaker,
         call: &Call<'_>,
-        found: &'a mut ArrayVec<u8, KEY_LIMIT>,
+        found: &'a mut ReplyRoom,
     ) -> Reply<'a>
         requires known { speaker.tenant < length self.old.tenants }
         requires string { IsTrue (has_string call.now) }

@@ -10,11 +10,10 @@ ghost use Rattle.judy_tenants.specs.Stocks.{held_of, IsGranted, IsStocked};
 use crate::accounts::{account_of, settle};
 use crate::laws;
 use crate::stock::{Stock, exchange, is_full};
-use arrayvec::ArrayVec;
 use judy_bytes::KeyHash;
 use judy_directory::Spot;
 use judy_kinds::array_of;
-use judy_model::{Call, KEY_LIMIT, Reply};
+use judy_model::{Call, Reply, ReplyRoom};
 use judy_table::{Speaker, Table};
 use std::alloc::Global;
 
@@ -26,7 +25,7 @@ pub fn serve<'a, H: KeyHash>(
     table: &Table,
     speaker: Speaker,
     call: &Call<'_>,
-    found: &'a mut ArrayVec<u8, KEY_LIMIT>,
+    found: &'a mut ReplyRoom,
 ) -> Reply<'a>
     requires stocked { IsStocked H.hashed table.now stock.old }
     requires granted { IsGranted table.now stock.old }

@@ -1,21 +1,24 @@
 //! The arrays of all tenants in one arena, with each tenant's counts.
-ghost use Rattle.std.specs.Prelude.{◌≡◌, ◌<◌, ◌≤◌, ◌^◌, ◌&&◌, IfOk, OnOk, OnErr, IsTrue, IsFalse, not, max, ◌+◌};
+ghost use Rattle.std.specs.Prelude.{◌≡◌, ◌<◌, ◌≤◌, ◌^◌, ◌&&◌, IfOk, OnOk, OnErr, IsTrue, IsFalse, not, max, nat_le, ◌+◌};
+ghost use Rattle.judy_arena.specs.Blocks.{Blocks};
 ghost use Rattle.judy_arena.specs.Takes.{Takes};
 ghost use Rattle.judy_directory.specs.Places.{at};
 ghost use Rattle.judy_kinds.specs.Kinds.{kind_of_key, IsPlaceOf};
 ghost use Rattle.judy_kinds.specs.Calls.{is_of_array, kind_of_call, has_string, asks_at, blocks_of_call};
-ghost use Rattle.judy_model.specs.Tenant.{inserts};
+ghost use Rattle.judy_model.specs.Contents.{max_word};
+ghost use Rattle.judy_model.specs.Tenant.{effect_inserts, inserts, long_asks_for_new, long_effect, one_asks_for_new, one_effect};
+ghost use Rattle.judy_words.specs.LongArrays.{long_in};
+ghost use Rattle.judy_words.specs.OneArrays.{one_in};
 ghost use Rattle.judy_tenants.specs.Accounts.{has_room_in};
 ghost use Rattle.judy_tenants.specs.States.{IsHeld};
 ghost use Rattle.judy_tenants.specs.Stocks.{HasNoReserveIn, IsExchange, IsRefusedIn};
 
 use crate::accounts::{Account, has_room};
-use arrayvec::ArrayVec;
 use judy_arena::{Arena, NoMemory};
 use judy_bytes::KeyHash;
 use judy_directory::{Directory, Place, Spot};
 use judy_kinds::{answer, asks};
-use judy_model::{Call, KEY_LIMIT, Quota, Reply};
+use judy_model::{Call, LongCall, OneCall, Quota, Reply, ReplyRoom};
 use std::alloc::Global;
 
 /// All arrays, the directory of their places, each tenant's account, how many new names the
@@ -109,7 +112,7 @@ pub fn exchange<'a, H: KeyHash>(
     hash: H,
     spot: &Spot,
     call: &Call<'_>,
-    found: &'a mut ArrayVec<u8, KEY_LIMIT>,
+    found: &'a mut ReplyRoom,
 ) -> Result<Answered<'a>, NoMemory>
     requires held { IsHeld H.hashed stock.old.arena.blocks stock.old.directory.0 }
     requires few { (at stock.old.directory.0 spot.now).pieces < 2 ^ 63 }
@@ -135,7 +138,7 @@ fn look_up<'a, H: KeyHash>(
     hash: H,
     spot: &Spot,
     call: &Call<'_>,
-    found: &'a mut ArrayVec<u8, KEY_LIMIT>,
+    found: &'a mut ReplyRoom,
 ) -> Result<Answered<'a>, NoMemory>
     requires held { IsHeld H.hashed stock.old.arena.blocks stock.old.directory.0 }
     requires few { (at stock.old.directory.0 spot.now).pieces < 2 ^ 63 }
@@ -168,6 +171,48 @@ fn look_up<'a, H: KeyHash>(
     })
 }
 
+/// A word is at most the greatest one.
+fn words_are_small(x: u64)
+    ensures { IsTrue (nat_le x max_word) }
+{}
+
+/// An insertion into a set that has no index asks for a new one.
+fn sets_ask_of_nothing(call: OneCall)
+    requires { IsTrue (effect_inserts (one_effect call)) }
+    ensures { (b : Blocks) → IsTrue (one_asks_for_new (one_in b 0) call) }
+{
+    judy_kinds::laws::only_nothing_is_empty();
+    if let OneCall::Fill(x) = call {
+        words_are_small(x);
+    }
+}
+
+/// An insertion into a map of words that has no index asks for a new one.
+fn maps_ask_of_nothing(call: LongCall)
+    requires { IsTrue (effect_inserts (long_effect call)) }
+    ensures { (b : Blocks) → IsTrue (long_asks_for_new (long_in b 0) call) }
+{
+    judy_kinds::laws::only_nothing_is_empty();
+    if let LongCall::Fill(x, _) = call {
+        words_are_small(x);
+    }
+}
+
+/// An insertion asks for a new entry of an array that has none.
+fn insertions_ask_of_nothing(call: &Call<'_>)
+    requires { IsTrue (inserts call.now) }
+    ensures { (b : Blocks) → IsTrue (asks_at b 0 call.now) }
+{
+    judy_kinds::laws::only_nothing_is_empty();
+    match call {
+        Call::One(_, call) => sets_ask_of_nothing(*call),
+        Call::Long(_, call) => maps_ask_of_nothing(*call),
+        Call::Str(_, _) => {}
+        Call::Bytes(_, _) => {}
+        Call::Used => {}
+    }
+}
+
 /// Answers an insertion. A new name gets its place first, and loses it if the arena refuses a
 /// block.
 fn enter<'a, H: KeyHash>(
@@ -176,7 +221,7 @@ fn enter<'a, H: KeyHash>(
     hash: H,
     spot: &Spot,
     call: &Call<'_>,
-    found: &'a mut ArrayVec<u8, KEY_LIMIT>,
+    found: &'a mut ReplyRoom,
 ) -> Result<Answered<'a>, NoMemory>
     requires held { IsHeld H.hashed stock.old.arena.blocks stock.old.directory.0 }
     requires few { (at stock.old.directory.0 spot.now).pieces < 2 ^ 63 }
@@ -191,6 +236,7 @@ fn enter<'a, H: KeyHash>(
         (at stock.old.directory.0 spot.now).root call.now) stock.old.arena stock.new.arena }
 {
     let Ok(before) = stock.directory.place(spot) else {
+        insertions_ask_of_nothing(call);
         stock.unplaced = stock.unplaced.saturating_add(1);
         return Err(NoMemory);
     };

@@ -1,7 +1,7 @@
 -- A branch of which one child changed, came or went: what it is afterwards, what it spells, and the
 -- frame.
-use Rattle.std.proofs.Common.{◌≡◌, ◌≢◌, ℕ, zero, suc, ◌+◌, ◌-◌, ◌*◌, ◌<◌, ◌≤◌, Bool, true, false, cond, not, ◌||◌, ◌&&◌, ◌==◌, nat_lt, List, [], ◌∷◌, ◌++◌}
-use Rattle.std.proofs.Common.{length, Option, Some, None, is_some, unwrap_or, ap, sym, ◌∙◌, refl, subst, arith, length-append}
+use Rattle.std.proofs.Common.{◌≡◌, ◌≢◌, ℕ, zero, suc, ◌+◌, ◌-◌, ◌<◌, ◌≤◌, Bool, true, false, cond, not, ◌||◌, ◌==◌, nat_lt, List, [], ◌∷◌, ◌++◌}
+use Rattle.std.proofs.Common.{length, Option, Some, None, is_some, ap, sym, ◌∙◌, refl, subst, arith}
 use Rattle.std.proofs.lemmas.Bool.Decides.{nat_tests}
 use Rattle.std.specs.Ordering.{eq_by_cmp}
 use Rattle.std.specs.FinMap.{is_sorted}
@@ -10,24 +10,23 @@ use Rattle.std.proofs.lemmas.Option.{none-some}
 use Rattle.judy_arena.specs.Blocks.{Blocks, block, is_live}
 use Rattle.judy_arena.specs.Frame.{holds, Frame}
 use Rattle.judy_arena.specs.Totals.{are_distinct}
-use Rattle.judy_arena.proofs.lemmas.FrameLaws.{frame-then, frame-rest, frame-stays, holds-append, holds-one, joint, both}
+use Rattle.judy_arena.proofs.lemmas.FrameLaws.{frame-then, frame-rest, frame-stays, holds-append, joint, both}
 use Rattle.judy_arena.proofs.lemmas.BlockLaws.{same_blocks}
-use Rattle.judy_model.specs.Contents.{Entries, word_order, value_of, with_entry, without_key}
-use Rattle.judy_model.proofs.lemmas.EntryLemmas.{same_word, word_itself}
+use Rattle.judy_model.specs.Contents.{Entries, word_order, value_of, without_key}
+use Rattle.judy_model.proofs.lemmas.EntryLemmas.{same_word}
 use Rattle.judy_tree.specs.Each.{Each}
 use Rattle.judy_branch.specs.Branch.{IsBranch, View, branch_view, branch_number}
-use Rattle.judy_tree.proofs.lemmas.BranchLaws.{IsView}
-use Rattle.judy_tree.specs.Nodes.{head_at, is_branch, joined, IsKid, IsOver, depth}
+use Rattle.judy_tree.specs.Nodes.{head_at, is_branch, joined, IsKid, depth}
 use Rattle.judy_tree.specs.Root.{entries, numbers, IsRoot}
-use Rattle.judy_tree.proofs.lemmas.BranchLaws.{branch-live, branch-kind, branch-sound}
+use Rattle.judy_tree.proofs.lemmas.BranchLaws.{branch-kind, branch-sound}
 use Rattle.judy_tree.proofs.lemmas.Joins.{kid, some_of, total, total-split, times, times-append, times-joined, holds-some, some-holds, none-holds, holds-none}
 use Rattle.judy_tree.proofs.lemmas.Joins.{holds-times, distinct-times, times-distinct, joined-same, each-weaker, each-both}
 use Rattle.judy_tree.proofs.lemmas.Joins.{each-without, each-found, find-joined}
-use Rattle.judy_tree.proofs.lemmas.Joins.{find-outside, find-without, gone-after, rises-parts, other_word, word_other, word_is}
+use Rattle.judy_tree.proofs.lemmas.Joins.{find-outside, find-without, gone-after, rises-parts, other_word, word_other}
 use Rattle.judy_tree.proofs.lemmas.Joins.{Heads, same-found, joined-rises}
 use Rattle.judy_tree.proofs.lemmas.Heads.{head-less}
 use Rattle.judy_tree.proofs.Nodes.{each-used}
-use Rattle.judy_tree.proofs.lemmas.Trees.{Top, root-top, top-root, IsTopRoot, Kept, root-kept, numbers-live, numbers-once, root-stays, root-rises}
+use Rattle.judy_tree.proofs.lemmas.Trees.{Top, root-top, top-root, IsTopRoot, Kept, root-kept, numbers-live, numbers-once, root-rises}
 use Rattle.judy_tree.proofs.Nodes.{depth-branch}
 
 -- ---- two changes in a row, beside numbers that rest

@@ -1,5 +1,5 @@
 -- A branch made over a node and a leaf of one key.
-use Rattle.std.proofs.Common.{◌≡◌, ◌≢◌, ℕ, ◌+◌, ◌-◌, ◌/◌, ◌%◌, ◌<◌, ◌≤◌, Bool, true, false, cond, not, [], ◌∷◌}
+use Rattle.std.proofs.Common.{◌≡◌, ◌≢◌, ℕ, ◌+◌, ◌/◌, ◌%◌, ◌<◌, ◌≤◌, Bool, true, false, cond, not, [], ◌∷◌}
 use Rattle.std.proofs.Common.{length, Some, None, is_some, ap, sym, ◌∙◌, refl, subst, arith, append-nil}
 use Rattle.std.specs.declared.cmp.Ordering.TheVariants.{Less, Greater}
 use Rattle.std.specs.Ordering.{eq_by_cmp, nat_cmp}
@@ -16,11 +16,10 @@ use Rattle.judy_branch.specs.Branch.{IsBranch, View, branch_view, branch_number}
 use Rattle.judy_tree.proofs.lemmas.BranchLaws.{IsPlace}
 use Rattle.std.proofs.lemmas.Bool.Decides.{nat_tests}
 use Rattle.std.specs.Prelude.{nat_lt}
-use Rattle.judy_tree.specs.Calls.{StaysDeep, NodeGrows, Adds}
-use Rattle.judy_tree.specs.Changes.{IsShort}
+use Rattle.judy_tree.specs.Calls.{StaysDeep, NodeGrows}
 use Rattle.judy_tree.specs.Fork.{IsFork, Forks, Differ}
 use Rattle.judy_branch.specs.Branch.{IsBranchOf}
-use Rattle.std.specs.Prelude.{Result, Ok, Err, IfOk, OnErr, IsErr, is_ok, if◌then◌else◌}
+use Rattle.std.specs.Prelude.{Result, Ok, Err, IfOk, OnErr, is_ok, if◌then◌else◌}
 use Rattle.std.proofs.lemmas.Bool.{false≢true as not_true}
 use Rattle.judy_arena.specs.Blocks.{ArenaState, count_up}
 use Rattle.judy_refs.specs.declared.Ref.{Ref}

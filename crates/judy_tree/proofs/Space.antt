@@ -5,8 +5,7 @@ use Rattle.judy_arena.specs.Blocks.{Blocks, words_of}
 use Rattle.judy_arena.specs.Totals.{words_over}
 use Rattle.judy_model.specs.Contents.{Entries}
 use Rattle.judy_tree.specs.Each.{Each}
-use Rattle.judy_leaf.specs.Leaf.{IsLeaf, leaf_entries, leaf_numbers}
-use Rattle.judy_branch.specs.Branch.{IsBranch, View, branch_view, branch_number}
+use Rattle.judy_branch.specs.Branch.{branch_view, branch_number}
 use Rattle.judy_tree.specs.Nodes.{head_at, is_branch, joined, IsKid, depth, content_at, numbers_at, IsNodeAt}
 use Rattle.judy_tree.specs.Root.{entries, numbers, IsRoot}
 use Rattle.judy_tree.proofs.lemmas.Joins.{each-weaker}

@@ -1,15 +1,14 @@
 -- A leaf's keys in leaves of their own under a branch.
-use Rattle.std.proofs.Common.{◌≡◌, ◌≢◌, ℕ, zero, suc, ◌+◌, ◌-◌, ◌*◌, ◌/◌, ◌%◌, ◌<◌, ◌≤◌, Bool, true, false, cond, not, ◌==◌, List, [], ◌∷◌, ◌++◌, take}
-use Rattle.std.proofs.Common.{drop, length, get_or, Option, Some, None, is_some, unwrap_or, ap, sym, ◌∙◌, refl, subst, arith, length-append, append_assoc}
+use Rattle.std.proofs.Common.{◌≡◌, ◌≢◌, ℕ, zero, suc, ◌+◌, ◌-◌, ◌/◌, ◌%◌, ◌<◌, ◌≤◌, Bool, true, false, cond, not, List, [], ◌∷◌, ◌++◌, take}
+use Rattle.std.proofs.Common.{drop, length, Some, None, is_some, unwrap_or, ap, sym, ◌∙◌, refl, subst, arith, length-append, append_assoc}
 use Rattle.std.proofs.Common.{append-nil}
 use Rattle.std.proofs.lemmas.Bool.Decides.{nat_tests}
-use Rattle.std.specs.declared.cmp.Ordering.{Ordering}
-use Rattle.std.specs.declared.cmp.Ordering.TheVariants.{Less, Equal, Greater}
-use Rattle.std.specs.Prelude.{nat_lt, Result, Ok, Err, IfOk, OnErr}
-use Rattle.std.specs.Ordering.{nat_cmp, eq_by_cmp}
+use Rattle.std.specs.declared.cmp.Ordering.TheVariants.{Greater}
+use Rattle.std.specs.Prelude.{nat_lt, Result, Ok, Err}
+use Rattle.std.specs.Ordering.{nat_cmp}
 use Rattle.std.specs.FinMap.{is_sorted}
 use Rattle.std.specs.FinMap.Entries.{by_order}
-use Rattle.judy_arena.specs.Blocks.{Blocks, block, is_live}
+use Rattle.judy_arena.specs.Blocks.{Blocks, is_live}
 use Rattle.judy_arena.specs.Frame.{holds, Frame}
 use Rattle.judy_model.specs.Contents.{Entries, word_order, value_of, has_key, with_entry, without_key}
 use Rattle.judy_tree.specs.Each.{Each}
@@ -23,24 +22,23 @@ use Rattle.std.specs.List.{list_all}
 use Rattle.std.proofs.lemmas.Bool.{false≢true as not_true}
 use Rattle.judy_model.specs.Contents.{max_word}
 use Rattle.judy_model.proofs.lemmas.TestLemmas.{and_right, and_left}
-use Rattle.judy_model.proofs.lemmas.EntryLemmas.{same_word}
 use Rattle.judy_arena.specs.Totals.{are_distinct}
 use Rattle.judy_tree.specs.Fork.{IsFork}
-use Rattle.judy_tree.specs.Split.{IsRun, CanSpread, IsPartly, IsSpread, Spreads, SpreadsRest, IsGivenUp}
+use Rattle.judy_tree.specs.Split.{IsRun, CanSpread, IsPartly, IsSpread, Spreads, SpreadsRest}
 use Rattle.judy_arena.specs.Blocks.{ArenaState, count_up}
 use Rattle.judy_refs.specs.declared.Ref.{Ref}
 use Rattle.judy_arena.specs.declared.blocks.NoMemory.{NoMemory}
 use Rattle.judy_arena.proofs.lemmas.FrameLaws.{frame-stays}
 use Rattle.judy_tree.proofs.LeafLaws.{leaf-kind, leaf-live, leaf-kept, leaf-words, leaf-once, Kept as LeafKept}
 use Rattle.judy_tree.proofs.lemmas.BranchLaws.{branch-kind, Kept as BranchKept}
-use Rattle.judy_tree.proofs.lemmas.Heads.{head-less, prefix-head, same-above}
-use Rattle.judy_tree.proofs.lemmas.Joins.{kid, each-weaker, each-append, each-below, rises-parts, same-found, find-without}
-use Rattle.judy_tree.proofs.lemmas.Joins.{rises-without, joined-same, word_other, is_less, times, times-append}
+use Rattle.judy_tree.proofs.lemmas.Heads.{prefix-head, same-above}
+use Rattle.judy_tree.proofs.lemmas.Joins.{kid, each-weaker, each-append, each-below, rises-parts}
+use Rattle.judy_tree.proofs.lemmas.Joins.{joined-same, word_other, times, times-append}
 use Rattle.judy_tree.proofs.Nodes.{depth-leaf, depth-branch}
-use Rattle.judy_tree.proofs.lemmas.Trees.{root-stays, Kept, Top, IsTopRoot, top-root, root-top, root-kept, leaf-blocks, leaf-content, leaf-root}
-use Rattle.judy_tree.proofs.Changes.{given-back, Became, rest-same, changed-root, changed-frame, changed-depth, kid-alike}
+use Rattle.judy_tree.proofs.lemmas.Trees.{root-stays, Kept, IsTopRoot, top-root, root-top, root-kept, leaf-blocks, leaf-content, leaf-root}
+use Rattle.judy_tree.proofs.Changes.{given-back, Became, rest-same, changed-root, changed-frame, changed-depth}
 use Rattle.judy_tree.proofs.Changes.{new-same, rest-kept, new-stays, two-once, two-frames}
-use Rattle.judy_tree.proofs.Steps.{with_view, own-kept, found-put, others-put, no-value, frames-chain}
+use Rattle.judy_tree.proofs.Steps.{with_view, own-kept, found-put, others-put, frames-chain}
 use Rattle.judy_tree.proofs.Splits.{mono, each-at}
 
 -- a byte above all goes to the end

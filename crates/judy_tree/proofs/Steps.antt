@@ -1,23 +1,21 @@
 -- What the calls on a branch make of it.
-use Rattle.std.proofs.Common.{◌≡◌, ◌≢◌, ℕ, zero, suc, ◌+◌, ◌-◌, ◌*◌, ◌<◌, ◌≤◌, Bool, true, false, cond, ◌||◌, ◌&&◌, ◌==◌, List, [], ◌∷◌, ◌++◌, length}
+use Rattle.std.proofs.Common.{◌≡◌, ◌≢◌, ℕ, ◌+◌, ◌-◌, ◌*◌, ◌<◌, ◌≤◌, Bool, true, false, cond, ◌==◌, List, [], ◌∷◌, length}
 use Rattle.std.proofs.Common.{Option, Some, None, is_some, unwrap_or, ap, sym, ◌∙◌, refl, subst, arith, length-append, append-nil}
 use Rattle.std.proofs.lemmas.Bool.Decides.{nat_tests}
-use Rattle.std.specs.declared.cmp.Ordering.{Ordering}
 use Rattle.std.specs.declared.cmp.Ordering.TheVariants.{Less, Equal, Greater}
-use Rattle.std.specs.Ordering.{nat_cmp, eq_by_cmp, is_eq}
+use Rattle.std.specs.Ordering.{nat_cmp, eq_by_cmp}
 use Rattle.std.specs.Cmp.{nat_cmp_total}
 use Rattle.std.specs.FinMap.{is_sorted}
 use Rattle.std.specs.FinMap.Entries.{by_order, find-put}
 use Rattle.std.proofs.lemmas.Bool.{false≢true as not_true}
 use Rattle.std.proofs.lemmas.Option.{none-some}
-use Rattle.judy_arena.specs.Blocks.{Blocks, block, is_live}
+use Rattle.judy_arena.specs.Blocks.{Blocks, is_live}
 use Rattle.judy_arena.specs.Frame.{holds, Frame}
 use Rattle.judy_model.specs.Contents.{Entries, word_order, value_of, has_key, with_entry, without_key}
 use Rattle.judy_model.proofs.lemmas.EntryLemmas.{same_word, word_itself}
 use Rattle.judy_tree.specs.Each.{Each}
 use Rattle.judy_branch.specs.Branch.{IsBranch, View, branch_view, branch_number}
-use Rattle.judy_tree.proofs.lemmas.BranchLaws.{IsView}
-use Rattle.judy_tree.specs.Nodes.{head_at, is_branch, joined, IsKid, IsOver, depth}
+use Rattle.judy_tree.specs.Nodes.{head_at, is_branch, joined, IsKid, depth}
 use Rattle.judy_tree.specs.Root.{entries, numbers, IsRoot}
 use Rattle.judy_tree.proofs.lemmas.Joins.{kid, each-put, each-without, each-found, each-weaker, find-without, same-found}
 use Rattle.judy_tree.proofs.lemmas.Joins.{rises-put, rises-without, total, some_of, total-split, length-joined, distinct-times}
@@ -31,11 +29,11 @@ use Rattle.judy_tree.specs.Changes.{RootBecomes}
 use Rattle.judy_tree.proofs.LeafLaws.{leaf-kind, leaf-empty, leaf-none}
 use Rattle.judy_tree.proofs.lemmas.Finds.{find-in}
 use Rattle.judy_tree.proofs.lemmas.Counts.{root-few}
-use Rattle.judy_tree.proofs.lemmas.Trees.{Top, root-top, root-rises, leaf-blocks, leaf-content, leaf-root, root-leaf, Kept}
+use Rattle.judy_tree.proofs.lemmas.Trees.{root-top, root-rises, leaf-blocks, leaf-content, leaf-root, root-leaf, Kept}
 use Rattle.judy_tree.proofs.Changes.{Became, changed, times-split, rest-same, rest-kids, own, resting, old_times, two-frames}
 use Rattle.judy_tree.proofs.Changes.{changed-root, changed-frame, joined-changed}
 use Rattle.judy_tree.proofs.lemmas.BranchLaws.{branch-kept, Kept as BranchKept, branch-live, branch-kind, branch-sound, IsPlace}
-use Rattle.judy_tree.proofs.Nodes.{own_first, depth-leaf, depth-branch}
+use Rattle.judy_tree.proofs.Nodes.{depth-leaf, depth-branch}
 
 -- this is the one child
 abbrev pub IsAlone : Entries ℕ → ℕ → Type 0

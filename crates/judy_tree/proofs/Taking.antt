@@ -1,5 +1,5 @@
 -- How many blocks an insertion takes.
-use Rattle.std.proofs.Common.{◌≡◌, ℕ, ◌+◌, ◌-◌, ◌<◌, ◌≤◌, Bool, true, false, cond, arith}
+use Rattle.std.proofs.Common.{◌≡◌, ℕ, ◌+◌, ◌<◌, ◌≤◌, Bool, true, false, cond, arith}
 
 -- a child of a node with few keys has few keys
 pub kid-few : (n m : ℕ) (s t : Bool) → n < m → m + cond {A = ℕ} t 0 1 ≤ 31 → n + cond {A = ℕ} s 0 1 ≤ 31

@@ -4,7 +4,7 @@
 --     head_at level k     the bytes of a key up to the one at the level, as a number
 --     depth b w           the level at which a branch chooses, 8 at a leaf
 --     IsNodeAt, content_at, numbers_at     what a reference leads to, with a bound on its levels
-use Rattle.std.specs.Prelude.{◌≡◌, ℕ, zero, suc, ◌+◌, ◌-◌, ◌*◌, ◌/◌, ◌^◌, ◌<◌, Bool, true, false, cond, List, [], ◌∷◌, ◌++◌, length, IsTrue, nat_lt}
+use Rattle.std.specs.Prelude.{◌≡◌, ℕ, zero, suc, ◌+◌, ◌-◌, ◌*◌, ◌/◌, ◌^◌, ◌<◌, Bool, false, cond, List, [], ◌∷◌, ◌++◌, length, IsTrue, nat_lt}
 use Rattle.std.specs.Bool.{MatchBool}
 use Rattle.judy_arena.specs.Blocks.{Blocks}
 use Rattle.judy_refs.specs.References.{kind_part, kind_number}

@@ -16,16 +16,19 @@ use Rattle.judy_upkeep.specs.declared.kinds.Does.TheVariants as does
 use Rattle.judy_model.specs.declared.commands.Kind.{Kind}
 use Rattle.judy_model.specs.declared.commands.Kind.TheVariants as kind
 use Rattle.judy_model.specs.declared.commands.Operation.{Operation}
-use Rattle.judy_model.specs.declared.commands.Operation.TheVariants.{Add, Exchange, Free, Insert, Keep, Remove, Take}
+use Rattle.judy_model.specs.declared.commands.Operation.TheVariants.{Add, Cut, Exchange, Fill, Free, Insert, Keep, Pop, Remove, Take}
 
 -- what an operation does to an array, if it may change it
 abbrev pub does_of : Operation → Option Does
 does_of Insert = Some does.Makes
 does_of Add = Some does.Makes
 does_of Keep = Some does.Makes
+does_of Fill = Some does.Makes
 does_of Exchange = Some does.Makes
 does_of Remove = Some does.Removes
 does_of Take = Some does.Removes
+does_of Pop = Some does.Removes
+does_of Cut = Some does.Removes
 does_of Free = Some does.Frees
 does_of _ = None
 

@@ -8,7 +8,7 @@ use crate::kinds::Change;
 use crate::lines::put;
 use arrayvec::ArrayVec;
 use itoa::Buffer;
-use judy_model::{Call, KEY_LIMIT, Reply};
+use judy_model::{Call, KEY_LIMIT, Reply, ReplyRoom};
 use judy_programs::Opens;
 use judy_protocol::{Line, Served, read_line};
 use judy_recovery::Reason;
@@ -47,7 +47,7 @@ pub struct Asking<S: Served> {
     speakers: Vec<S::Speaker>,
     key: [u8; KEY_LIMIT],
     /// The room for the key of a reply.
-    found: ArrayVec<u8, KEY_LIMIT>,
+    found: ReplyRoom,
     /// The key that was found last.
     last: ArrayVec<u8, KEY_LIMIT>,
     ghost known: { All (λ s. IsKnown (S.seen service).speakers (S.who s)) speakers.items },
@@ -66,7 +66,7 @@ fn came_of(reply: &Reply<'_>) -> Result<Came, Reason>
         Reply::Count(count) => Ok(Came::Count(*count)),
         Reply::ValueAt(value, index) => Ok(Came::At(*index, *value)),
         Reply::ValueKey(value, _) => Ok(Came::AtKey(*value)),
-        Reply::Used(_, _, _, _) => Err(Reason::Record),
+        Reply::Used(_, _, _, _) | Reply::Entries(_, _) => Err(Reason::Record),
         Reply::Full => Err(Reason::Full),
         Reply::ReadOnly | Reply::Frozen => Err(Reason::Full),
         Reply::Memory => Err(Reason::Memory),
@@ -149,7 +149,7 @@ impl<S: Opens + Drop> Asking<S> {
             service,
             speakers,
             key: [0; KEY_LIMIT],
-            found: ArrayVec::new(),
+            found: ReplyRoom::new(),
             last: ArrayVec::new(),
         })
     }

@@ -63,10 +63,14 @@ fn does_of(operation: Operation) -> Option<Does>
     ensures { result ≡ does_of operation }
 {
     match operation {
-        Operation::Insert | Operation::Add | Operation::Keep | Operation::Exchange => {
-            Some(Does::Makes)
+        Operation::Insert
+        | Operation::Add
+        | Operation::Keep
+        | Operation::Exchange
+        | Operation::Fill => Some(Does::Makes),
+        Operation::Remove | Operation::Take | Operation::Pop | Operation::Cut => {
+            Some(Does::Removes)
         }
-        Operation::Remove | Operation::Take => Some(Does::Removes),
         Operation::Free => Some(Does::Frees),
         _ => None,
     }

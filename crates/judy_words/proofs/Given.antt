@@ -1,5 +1,5 @@
 -- An insertion that gives a value or adds to it.
-use Rattle.std.proofs.Common.{◌≡◌, ℕ, true, cond, [], ◌∷◌, Option, Some, Result, Ok, Err, unwrap_or, is_some, refl, sym, ap, ◌∙◌, arith}
+use Rattle.std.proofs.Common.{◌≡◌, ℕ, true, cond, [], ◌∷◌, Some, Result, Ok, Err, is_some, refl, sym, ap, ◌∙◌, arith}
 use Rattle.std.specs.Prelude.{is_ok, OnOk, IsTrue}
 use Rattle.std.proofs.lemmas.Bool.Decides.{nat_tests}
 use Rattle.std.specs.declared.cmp.Ordering.{Ordering}

@@ -1,3 +1,4 @@
 mod Found
 mod Given
 mod Steps
+mod Cuts

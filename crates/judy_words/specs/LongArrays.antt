@@ -7,10 +7,10 @@
 --     LongAnswers, LongLooks   the reply to a call, and what the call leaves
 --     LongBecomes              what every call leaves of the map and of other arrays
 --     CountsRefusals           a refused call adds one to the count of refusals
-use Rattle.std.specs.Prelude.{◌≡◌, ℕ, Bool, List, true, false, not, unwrap_or, if◌then◌else◌}
+use Rattle.std.specs.Prelude.{◌≡◌, ℕ, Bool, List, true, unwrap_or, if◌then◌else◌}
 use Rattle.judy_arena.specs.Blocks.{Blocks, ArenaState, count_up}
 use Rattle.judy_arena.specs.Frame.{Frame}
-use Rattle.judy_model.specs.Contents.{Entries, word_order, value_of, has_key, with_entry}
+use Rattle.judy_model.specs.Contents.{Entries, word_order, value_of, with_entry}
 use Rattle.judy_model.specs.declared.calls.LongCall.{LongCall}
 use Rattle.judy_model.specs.declared.replies.Reply.{Reply}
 use Rattle.judy_model.specs.Tenant.{long_step}

@@ -6,10 +6,10 @@
 --     OneAnswers, OneLooks   the reply to a call, and what the call leaves
 --     OneBecomes             what every call leaves of the set and of other arrays
 --     HasOneSpace a w        its blocks have few words
-use Rattle.std.specs.Prelude.{◌≡◌, ℕ, Bool, List, true, false, not, Option, Some, None}
+use Rattle.std.specs.Prelude.{◌≡◌, ℕ, List, true, false, Option, Some, None}
 use Rattle.judy_arena.specs.Blocks.{Blocks, ArenaState}
 use Rattle.judy_arena.specs.Frame.{Frame}
-use Rattle.judy_model.specs.Contents.{Entries, word_order, has_key}
+use Rattle.judy_model.specs.Contents.{Entries}
 use Rattle.judy_model.specs.declared.calls.OneCall.{OneCall}
 use Rattle.judy_model.specs.declared.replies.Reply.{Reply}
 use Rattle.judy_model.specs.declared.replies.Reply.TheVariants as reply

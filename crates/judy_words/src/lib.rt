@@ -4,6 +4,7 @@
 
 mod long;
 mod one;
+mod walks;
 
 pub use judy_query::Finger;
 pub use judy_tree::Inserted;

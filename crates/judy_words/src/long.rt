@@ -13,7 +13,7 @@ ghost use Rattle.judy_tree.specs.Changes.{IsRefused};
 ghost use Rattle.judy_query.specs.Keys.{key_found};
 
 use judy_arena::{Arena, NoMemory};
-use judy_model::{Given, LongCall, Reply};
+use judy_model::{Given, Listing, LongCall, Reply};
 use judy_query::Finger;
 use judy_refs::Ref;
 use judy_tree::{Inserted, Root};
@@ -230,6 +230,81 @@ impl JudyL {
         }
     }
 
+    /// Removes the least index that is at least `x`, if it is at most `last`, and returns it with its value. The
+    /// Judy library has no such call.
+    pub fn pop(&mut self, arena: &mut Arena, x: u64, last: u64) -> Option<(u64, u64)>
+        requires { IsLongArray arena.old.blocks self.old }
+        ensures array { LongBecomes arena.old self.old arena.new self.new }
+        ensures space { HasLongSpace arena.new self.new }
+        ensures step { LongAnswers arena.old self.old (long.Pop x last) (value_at_or_null result)
+            arena.new self.new }
+        ensures memory { TakesNothing arena.old arena.new }
+    {
+        judy_tree::laws::nothing_changes();
+        judy_tree::laws::roots_have_space();
+        let (index, value) = self.first(arena, x)?;
+        if index > last {
+            return None;
+        }
+        self.delete(arena, index);
+        Some((index, value))
+    }
+
+    /// Removes the least indexes from `x` to `last`, inclusive, at most `most` of them, and returns how many. The
+    /// Judy library has no such call.
+    pub fn cut(&mut self, arena: &mut Arena, x: u64, last: u64, most: u16) -> u64
+        requires { IsLongArray arena.old.blocks self.old }
+        ensures array { LongBecomes arena.old self.old arena.new self.new }
+        ensures space { HasLongSpace arena.new self.new }
+        ensures step { LongAnswers arena.old self.old (long.Cut x last most) (reply.Count result)
+            arena.new self.new }
+        ensures memory { TakesNothing arena.old arena.new }
+    {
+        judy_tree::laws::nothing_changes();
+        judy_tree::laws::roots_have_space();
+        judy_arena::laws::what_calls_take_adds_up();
+        for count in 0..most {
+            if self.pop(arena, x, last).is_none() {
+                return count as u64;
+            }
+        }
+        most as u64
+    }
+
+    /// Inserts the least absent index that is at least `x` with a value, and returns it; None if there is none.
+    /// The Judy library has no such call.
+    ///
+    /// Err means what it means for `insert`.
+    pub fn fill(
+        &mut self,
+        alloc: Global,
+        arena: &mut Arena,
+        x: u64,
+        value: u64,
+    ) -> Result<Option<u64>, NoMemory>
+        requires { IsLongArray arena.old.blocks self.old }
+        ensures array { LongBecomes arena.old self.old arena.new self.new }
+        ensures space { HasLongSpace arena.new self.new }
+        ensures step { IfOk result
+            (λ found. LongAnswers arena.old self.old (long.Fill x value) (absent_or_no found)
+            arena.new self.new) }
+        ensures asks { OnErr result
+            (IsTrue (long_asks_for_new (long_in arena.old.blocks self.old) (long.Fill x value))) }
+        ensures refused { OnErr result (IsRefused arena.old self.old arena.new self.new) }
+        ensures quiet { OnOk result (arena.new.refusals ≡ arena.old.refusals) }
+        ensures memory { Takes
+            (if long_asks_for_new (long_in arena.old.blocks self.old) (long.Fill x value) then 64 else 0)
+            arena.old arena.new }
+    {
+        judy_tree::laws::nothing_changes();
+        judy_tree::laws::roots_have_space();
+        let Some(index) = self.first_empty(arena, x) else {
+            return Ok(None);
+        };
+        self.keep(alloc, arena, index, value)?;
+        Ok(Some(index))
+    }
+
     // The index with its value.
     fn entry(&self, arena: &Arena, index: Option<u64>) -> Option<(u64, u64)>
         requires { IsLongArray arena.now.blocks self.now }
@@ -361,7 +436,7 @@ impl JudyL {
     }
 
     // Replies to a call that changes nothing.
-    fn look(&self, arena: &Arena, call: LongCall) -> Reply<'static>
+    fn look<'a>(&self, arena: &Arena, call: LongCall, listing: &'a mut Listing) -> Reply<'a>
         requires array { IsLongArray arena.now.blocks self.now }
         requires query { IsFalse (long_changes call) }
         ensures { LongLooks arena.now self.now call result }
@@ -378,12 +453,17 @@ impl JudyL {
             LongCall::NextEmpty(x) => absent_reply(self.next_empty(arena, x)),
             LongCall::LastEmpty(x) => absent_reply(self.last_empty(arena, x)),
             LongCall::PrevEmpty(x) => absent_reply(self.prev_empty(arena, x)),
+            LongCall::Walk(search, x, n) => self.walk(arena, search, x, n, listing),
+            LongCall::WalkEmpty(search, x, n) => self.walk_empty(arena, search, x, n, listing),
             LongCall::Insert(..)
             | LongCall::Keep(..)
             | LongCall::Exchange(..)
             | LongCall::Delete(_)
             | LongCall::DeleteIf(..)
             | LongCall::Take(_)
+            | LongCall::Pop(..)
+            | LongCall::Cut(..)
+            | LongCall::Fill(..)
             | LongCall::Free => unreachable!(),
         }
     }
@@ -452,16 +532,17 @@ impl JudyL {
         Ok(given.value_replied(value))
     }
 
-    /// Replies to a call as its method does.
+    /// Replies to a call as its method does. The text of a walk is put into `listing`.
     ///
     /// Err means that the arena refused a block. It comes only if the call inserts an index that
     /// was absent. It changes no block and no reference.
-    pub fn answer(
+    pub fn answer<'a>(
         &mut self,
         alloc: Global,
         arena: &mut Arena,
         call: LongCall,
-    ) -> Result<Reply<'static>, NoMemory>
+        listing: &'a mut Listing,
+    ) -> Result<Reply<'a>, NoMemory>
         requires { IsLongArray arena.old.blocks self.old }
         ensures array { LongBecomes arena.old self.old arena.new self.new }
         ensures space { HasLongSpace arena.new self.new }
@@ -485,11 +566,14 @@ impl JudyL {
             LongCall::Delete(x) => Ok(Reply::Int(self.delete(arena, x))),
             LongCall::DeleteIf(x, value) => Ok(Reply::Int(self.delete_if(arena, x, value))),
             LongCall::Take(x) => Ok(value_reply(self.take(arena, x))),
+            LongCall::Pop(x, last) => Ok(entry_reply(self.pop(arena, x, last))),
+            LongCall::Cut(x, last, most) => Ok(Reply::Count(self.cut(arena, x, last, most))),
+            LongCall::Fill(x, value) => Ok(absent_reply(self.fill(alloc, arena, x, value)?)),
             LongCall::Free => Ok(Reply::Count(self.clear(arena))),
             _ => {
                 judy_tree::laws::nothing_changes();
                 judy_tree::laws::roots_have_space();
-                Ok(self.look(arena, call))
+                Ok(self.look(arena, call, listing))
             }
         }
     }

@@ -12,7 +12,7 @@ ghost use Rattle.judy_tree.specs.Changes.{IsRefused};
 ghost use Rattle.judy_query.specs.Keys.{key_found};
 
 use judy_arena::{Arena, NoMemory};
-use judy_model::{OneCall, Reply};
+use judy_model::{Listing, OneCall, Reply};
 use judy_refs::Ref;
 use judy_tree::Root;
 use std::alloc::Global;
@@ -103,6 +103,81 @@ impl Judy1 {
         ensures memory { TakesNothing arena.old arena.new }
     {
         self.root.remove(arena, x).is_some()
+    }
+
+    /// Unsets the least set index that is at least `x`, if it is at most `last`, and returns it. The Judy library
+    /// has no such call.
+    pub fn pop(&mut self, arena: &mut Arena, x: u64, last: u64) -> Option<u64>
+        requires { IsOneArray arena.old.blocks self.old }
+        ensures array { OneBecomes arena.old self.old arena.new self.new }
+        ensures space { HasOneSpace arena.new self.new }
+        ensures step { OneAnswers arena.old self.old (one.Pop x last) (index_shown result)
+            arena.new self.new }
+        ensures memory { TakesNothing arena.old arena.new }
+    {
+        judy_tree::laws::nothing_changes();
+        judy_tree::laws::roots_have_space();
+        let index = self.first(arena, x)?;
+        if index > last {
+            return None;
+        }
+        self.unset(arena, index);
+        Some(index)
+    }
+
+    /// Unsets the least set indexes from `x` to `last`, inclusive, at most `most` of them, and returns how many.
+    /// The Judy library has no such call.
+    pub fn cut(&mut self, arena: &mut Arena, x: u64, last: u64, most: u16) -> u64
+        requires { IsOneArray arena.old.blocks self.old }
+        ensures array { OneBecomes arena.old self.old arena.new self.new }
+        ensures space { HasOneSpace arena.new self.new }
+        ensures step { OneAnswers arena.old self.old (one.Cut x last most) (reply.Count result)
+            arena.new self.new }
+        ensures memory { TakesNothing arena.old arena.new }
+    {
+        judy_tree::laws::nothing_changes();
+        judy_tree::laws::roots_have_space();
+        judy_arena::laws::what_calls_take_adds_up();
+        for count in 0..most {
+            if self.pop(arena, x, last).is_none() {
+                return count as u64;
+            }
+        }
+        most as u64
+    }
+
+    /// Sets the least unset index that is at least `x`, and returns it; None if there is none. The Judy library
+    /// has no such call.
+    ///
+    /// Err means what it means for `set`.
+    pub fn fill(
+        &mut self,
+        alloc: Global,
+        arena: &mut Arena,
+        x: u64,
+    ) -> Result<Option<u64>, NoMemory>
+        requires { IsOneArray arena.old.blocks self.old }
+        ensures array { OneBecomes arena.old self.old arena.new self.new }
+        ensures space { HasOneSpace arena.new self.new }
+        ensures step { IfOk result
+            (λ found. OneAnswers arena.old self.old (one.Fill x) (index_shown found) arena.new
+            self.new) }
+        ensures asks { OnErr result
+            (IsTrue (one_asks_for_new (one_in arena.old.blocks self.old) (one.Fill x))) }
+        ensures refused { OnErr result (IsRefused arena.old self.old arena.new self.new) }
+        ensures quiet { OnOk result (arena.new.refusals ≡ arena.old.refusals) }
+        ensures memory { Takes
+            (if one_asks_for_new (one_in arena.old.blocks self.old) (one.Fill x) then 64 else 0)
+            arena.old arena.new }
+    {
+        judy_tree::laws::content_is_sound();
+        judy_tree::laws::nothing_changes();
+        judy_tree::laws::roots_have_space();
+        let Some(index) = self.first_empty(arena, x) else {
+            return Ok(None);
+        };
+        self.set(alloc, arena, index)?;
+        Ok(Some(index))
     }
 
     /// Whether an index is set. As `Judy1Test` of Judy1(3).
@@ -210,7 +285,7 @@ impl Judy1 {
     }
 
     // Replies to a call that changes nothing.
-    fn look(&self, arena: &Arena, call: OneCall) -> Reply<'static>
+    fn look<'a>(&self, arena: &Arena, call: OneCall, listing: &'a mut Listing) -> Reply<'a>
         requires array { IsOneArray arena.now.blocks self.now }
         requires query { IsFalse (one_changes call) }
         ensures { OneLooks arena.now self.now call result }
@@ -227,7 +302,14 @@ impl Judy1 {
             OneCall::NextEmpty(x) => shown(self.next_empty(arena, x)),
             OneCall::LastEmpty(x) => shown(self.last_empty(arena, x)),
             OneCall::PrevEmpty(x) => shown(self.prev_empty(arena, x)),
-            OneCall::Set(_) | OneCall::Unset(_) | OneCall::Free => unreachable!(),
+            OneCall::Walk(search, x, n) => self.walk(arena, search, x, n, listing),
+            OneCall::WalkEmpty(search, x, n) => self.walk_empty(arena, search, x, n, listing),
+            OneCall::Set(_)
+            | OneCall::Unset(_)
+            | OneCall::Pop(..)
+            | OneCall::Cut(..)
+            | OneCall::Fill(_)
+            | OneCall::Free => unreachable!(),
         }
     }
 
@@ -252,16 +334,17 @@ impl Judy1 {
         self.root.population(arena)
     }
 
-    /// Replies to a call as its method does.
+    /// Replies to a call as its method does. The text of a walk is put into `listing`.
     ///
     /// Err means that the arena refused a block. It comes only if the call sets an index that was
     /// unset. It changes no block and no reference.
-    pub fn answer(
+    pub fn answer<'a>(
         &mut self,
         alloc: Global,
         arena: &mut Arena,
         call: OneCall,
-    ) -> Result<Reply<'static>, NoMemory>
+        listing: &'a mut Listing,
+    ) -> Result<Reply<'a>, NoMemory>
         requires { IsOneArray arena.old.blocks self.old }
         ensures array { OneBecomes arena.old self.old arena.new self.new }
         ensures space { HasOneSpace arena.new self.new }
@@ -278,11 +361,14 @@ impl Judy1 {
         match call {
             OneCall::Set(x) => Ok(Reply::Int(self.set(alloc, arena, x)?)),
             OneCall::Unset(x) => Ok(Reply::Int(self.unset(arena, x))),
+            OneCall::Pop(x, last) => Ok(shown(self.pop(arena, x, last))),
+            OneCall::Cut(x, last, most) => Ok(Reply::Count(self.cut(arena, x, last, most))),
+            OneCall::Fill(x) => Ok(shown(self.fill(alloc, arena, x)?)),
             OneCall::Free => Ok(Reply::Count(self.clear(arena))),
             _ => {
                 judy_tree::laws::nothing_changes();
                 judy_tree::laws::roots_have_space();
-                Ok(self.look(arena, call))
+                Ok(self.look(arena, call, listing))
             }
         }
     }

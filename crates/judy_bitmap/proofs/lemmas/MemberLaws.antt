@@ -1,19 +1,16 @@
 -- Laws of members, for the crates above.
 use Rattle.std.proofs.Common.{◌≡◌, ℕ, zero, suc, ◌+◌, ◌-◌, ◌<◌, ◌≤◌, Bool, true, false, cond, List, [], ◌∷◌, ◌++◌, length}
-use Rattle.std.proofs.Common.{get_or, refl, sym, ap, inl, inr, ◌∙◌, ◌*◌, ◌^◌, eqb, eq-eqb, ne_eqb, arith, zero-add, ltb-true}
+use Rattle.std.proofs.Common.{refl, ◌∙◌, arith, zero-add, ltb-true}
 use Rattle.std.specs.Prelude.{nat_lt, All}
 use Rattle.std.specs.List.{range_with_len}
 use Rattle.std.specs.List.Sorted.{IsStrictlyIncreasing}
 use Rattle.std.proofs.lemmas.List.FromFn.{length-range_with_len, get_or-range_with_len}
 use Rattle.std.proofs.lemmas.List.Elements.{All-filter}
 use Rattle.std.proofs.lemmas.List.Kept.{IsStrictlyIncreasing-filter}
-use Rattle.std.specs.Int.{bit_at}
-use Rattle.std.proofs.lemmas.Bool.{cases_eq}
-use Rattle.std.proofs.lemmas.Nat.Bits.{bit_at-lt, same_from_bits_below}
 use Rattle.judy_bitmap.specs.ByteSets.{has_bit, members, is_member, below, above}
 use Rattle.judy_bitmap.proofs.lemmas.Each.{Each, Each-weaken, Each-filter}
 use Rattle.judy_bitmap.proofs.lemmas.Places.{places, places-split}
-use Rattle.judy_bitmap.proofs.lemmas.SetLemmas.{members-places, has_bit-row, below-places, above-places, is_member-has_bit}
+use Rattle.judy_bitmap.proofs.lemmas.SetLemmas.{members-places, below-places, above-places, is_member-has_bit}
 
 pub below-each : (set : List ℕ) (byte : ℕ) → Each (λ m. m < byte) (below set byte)
 below-each set byte = Each-filter (λ m. m < byte) (λ m. nat_lt m byte) (λ m e. ltb-true m byte e) set

@@ -1,5 +1,5 @@
 -- One array of a shelf changes.
-use Rattle.std.proofs.Common.{◌≡◌, ◌≢◌, ℕ, Bool, true, false, cond, List, [], ◌∷◌, ◌==◌, Option, Some, None, is_some, ap, sym, ◌∙◌, refl, subst}
+use Rattle.std.proofs.Common.{◌≡◌, ◌≢◌, ℕ, Bool, true, false, cond, List, ◌==◌, Option, Some, None, is_some, ap, sym, ◌∙◌, refl, subst}
 use Rattle.std.specs.Prelude.{unwrap_or}
 use Rattle.std.specs.Ordering.{eq_by_cmp}
 use Rattle.std.specs.Cmp.{IsTotalOrder}

@@ -7,12 +7,11 @@
 use Rattle.std.proofs.Common.{◌≡◌, ℕ, Bool, true, false, cond, not, ◌||◌, List, [], ◌∷◌, Option, Some, None, is_some, get_or, ap, sym, ◌∙◌, refl}
 use Rattle.std.proofs.lemmas.Bool.{false≢true}
 use Rattle.std.specs.Cmp.Lexicographic.{bytes_decides}
-use Rattle.std.specs.Ordering.{eq_by_cmp}
 use Rattle.std.specs.FinMap.{FinMap, get, remove, contains_key, retain_keys, get-retain_keys, get-remove, same_map}
 use Rattle.judy_model.specs.Contents.{string_order}
 use Rattle.judy_model.proofs.lemmas.FormLemmas.{names_apart}
 use Rattle.judy_model.specs.declared.commands.Kind.{Kind}
-use Rattle.judy_directory.specs.Kinds.{owner_byte, spot_of, is_gone, is_staying}
+use Rattle.judy_directory.specs.Kinds.{spot_of, is_gone, is_staying}
 use Rattle.judy_directory.specs.Places.{Stand}
 use Rattle.judy_directory.specs.Rooms.{alike, is_listed}
 use Rattle.judy_directory.proofs.Listed.{alike-tied}

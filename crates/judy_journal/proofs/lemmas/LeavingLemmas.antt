@@ -2,22 +2,20 @@
 --     gone_is_read         it has the names that it was written with
 --     gone_tells_no_call   it tells no call
 --     gone_pushed          one more name
-use Rattle.std.proofs.Common.{◌≡◌, ◌<◌, ◌+◌, ℕ, Bool, true, false, not, cond, List, [], ◌∷◌, ◌++◌, length, Option, Some, None, refl, sym, ◌∙◌, ap, subst, arith, append_assoc}
-use Rattle.std.specs.Prelude.{codes, option_map, nat_le, ◌&&◌}
+use Rattle.std.proofs.Common.{◌≡◌, ℕ, Bool, true, false, cond, List, [], ◌∷◌, ◌++◌, Option, Some, None, refl, ◌∙◌, ap, arith, append_assoc}
+use Rattle.std.specs.Prelude.{codes, option_map, ◌&&◌}
 use Rattle.std.specs.List.{list_all}
-use Rattle.std.specs.Str.{bytes_eq}
 use Rattle.std.proofs.lemmas.Bool.{and_from, and_parts}
 use Rattle.std.proofs.lemmas.Slice.Eq.{bytes_eq-Decides}
 use Rattle.judy_model.specs.declared.calls.Call.{Call}
 use Rattle.judy_model.specs.declared.requests.Line.{Line}
-use Rattle.judy_model.specs.Grammar.{EndsField, HasFields, IsField, fields_of, is_name, is_name_byte, is_space}
+use Rattle.judy_model.specs.Grammar.{EndsField, HasFields, IsField, fields_of, is_name}
 use Rattle.judy_model.specs.Reading.{named_request, request_of, request_of_fields}
-use Rattle.judy_model.specs.declared.names.TheConstants.{NAME_LIMIT}
 use Rattle.judy_model.proofs.lemmas.FieldLemmas.{HasFields-fields_of}
 use Rattle.judy_protocol.specs.Plain.{spaced_more}
 use Rattle.judy_journal.specs.Journals.{record_of}
 use Rattle.judy_journal.specs.Leaving.{gone_in, gone_of, gone_request}
-use Rattle.judy_journal.specs.Replays.{Told, change_in, told, told_in}
+use Rattle.judy_journal.specs.Replays.{change_in, told, told_in}
 use Rattle.judy_journal.proofs.lemmas.ReplayLemmas.{name_has_no_space, parts_of-record_of}
 
 -- a name is a field

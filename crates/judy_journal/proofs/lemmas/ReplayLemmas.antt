@@ -15,9 +15,9 @@ use Rattle.judy_model.specs.declared.calls.Given.{Given}
 use Rattle.judy_model.specs.declared.quotas.Quota.{Quota}
 use Rattle.judy_model.specs.declared.replies.Reply.{Reply}
 use Rattle.judy_model.specs.declared.replies.Reply.TheVariants as reply
-use Rattle.judy_model.specs.Contents.{Order, Entries, word_order, string_order, value_of, has_key, with_entry}
-use Rattle.judy_model.specs.Tenant.Effect.{Insert, Keep, Exchange, Remove, Take, RemoveIf, Free, Ask}
-use Rattle.judy_model.specs.Tenant.{Effect, Reports, keep_over, effect_step, one_effect, long_effect, string_effect, bytes_effect}
+use Rattle.judy_model.specs.Contents.{Order, Entries, word_order, string_order, value_of}
+use Rattle.judy_model.specs.Tenant.Effect.{Insert, Keep, Exchange, Remove, Take, RemoveIf, Pop, Cut, Fill, Free, Ask}
+use Rattle.judy_model.specs.Tenant.{Effect, Reports, fill_at, fill_over, keep_over, effect_step, one_effect, long_effect, string_effect, bytes_effect}
 use Rattle.judy_model.specs.Tenant.{State, Attempt, content_of, with_content, insert_over, insert, used, pieces, new_pieces, one_step, long_step}
 use Rattle.judy_model.specs.Tenant.{string_step, bytes_step, changes, is_read_only, refusal_of, has_room, allowed_step, attempt_step}
 use Rattle.judy_model.specs.Solo.{is_memory, IsAnswered, MayLackMemory}
@@ -59,6 +59,17 @@ keep_same order room l k v (Some w) h = refl
 keep_same order true l k v None h = refl
 keep_same order false l k v None h = cc
 
+fill_same : {K : Type 0} (order : Order K) (room : Bool) (l : Entries K) (index : K → ℕ) (v : ℕ) (found : Option K)
+    → is_refused (fill_over order room l index v found).0 ≡ false → (fill_over order room l index v found).1 ≡ (fill_over order true l index v found).1
+fill_same order room l index v None h = refl
+fill_same order room l index v (Some k) h = by (value_of order l k) room h
+  where
+    by : (had : Option ℕ) (r : Bool) → is_refused (fill_at order r l (index k) k v had).0 ≡ false
+        → (fill_at order r l (index k) k v had).1 ≡ (fill_at order true l (index k) k v had).1
+    by (Some w) r h = refl
+    by None true h = refl
+    by None false h = cc
+
 effect_same : {K : Type 0} (order : Order K) (room : Bool) (l : Entries K) (effect : Effect K) → is_refused (effect_step order room l effect).0 ≡ false
     → (effect_step order room l effect).1 ≡ (effect_step order true l effect).1
 effect_same order room l (Insert k given reports) h = insert_same order room l k given reports h
@@ -67,6 +78,9 @@ effect_same order room l (Exchange k old new) h = refl
 effect_same order room l (Remove k) h = refl
 effect_same order room l (Take k) h = refl
 effect_same order room l (RemoveIf k v) h = refl
+effect_same order room l (Pop find show lack) h = refl
+effect_same order room l (Cut find n) h = refl
+effect_same order room l (Fill x find index v) h = fill_same order room l index v (find l) h
 effect_same order room l Free h = refl
 effect_same order room l (Ask answer) h = refl
 

@@ -4,15 +4,18 @@ use Rattle.std.specs.Prelude.{IfSome, option_map, option_and_then}
 use Rattle.judy_model.specs.declared.calls.BytesCall.TheVariants as bytes
 use Rattle.judy_model.specs.declared.calls.Call.{Call}
 use Rattle.judy_model.specs.declared.calls.Call.TheVariants.{One, Long, Str, Bytes}
+use Rattle.judy_model.specs.declared.calls.LongCall.TheVariants as long
+use Rattle.judy_model.specs.declared.calls.OneCall.TheVariants as one
+use Rattle.judy_model.specs.declared.calls.Search.TheVariants as search
 use Rattle.judy_model.specs.declared.calls.StrCall.TheVariants as str
 use Rattle.judy_model.specs.declared.commands.Kind.{Kind}
 use Rattle.judy_model.specs.declared.commands.Kind.TheVariants as kind
 use Rattle.judy_model.specs.declared.commands.Numbers.{Numbers}
 use Rattle.judy_model.specs.declared.commands.Numbers.TheVariants as numbers
 use Rattle.judy_model.specs.declared.commands.Operation.{Operation}
-use Rattle.judy_model.specs.declared.commands.Operation.TheVariants.{Insert, Add, Keep, Exchange, Remove, Take, Look, Count, Nth, First, Next, Last, Prev, Free}
+use Rattle.judy_model.specs.declared.commands.Operation.TheVariants.{Insert, Add, Keep, Exchange, Remove, Take, Look, Count, Nth, First, Next, Last, Prev, Free, Pop, Fill, Cut}
 use Rattle.judy_model.specs.declared.commands.Operation.TheVariants.{FirstEmpty, NextEmpty, LastEmpty, PrevEmpty}
-use Rattle.judy_model.specs.Commands.{bytes_operation, bytes_with, command_of, free_with, long_operation, long_with, one_operation, one_with}
+use Rattle.judy_model.specs.Commands.{bytes_operation, bytes_with, entries_of, command_of, free_with, long_operation, long_with, one_operation, one_with}
 use Rattle.judy_model.specs.Commands.{string_operation, string_with, to}
 use Rattle.judy_model.specs.Grammar.{bytes_call, call_by, key_of, long_call, numbers_of_fields, one_call, string_call, string_of}
 
@@ -21,6 +24,11 @@ abbrev IsOf : {C : Type 0} → (C → Operation) → Operation → Option C → 
 IsOf operation_of operation o = IfSome o (λ c. operation_of c ≡ operation)
 
 -- ---- by the numbers of a call
+
+walked_made : {C : Type 0} (operation_of : C → Operation) (operation : Operation) (call : ℕ → C) (o : Option ℕ)
+    → ((k : ℕ) → operation_of (call k) ≡ operation) → IsOf operation_of operation (option_map call o)
+walked_made operation_of operation call None all = tt
+walked_made operation_of operation call (Some k) all = all k
 
 one_made : (operation : Operation) (ns : Numbers) → IsOf one_operation operation (one_with operation ns)
 one_made Insert (numbers.One i) = refl
@@ -36,7 +44,18 @@ one_made NextEmpty (numbers.One i) = refl
 one_made LastEmpty (numbers.One i) = refl
 one_made PrevEmpty (numbers.One i) = refl
 one_made Count (numbers.Two i j) = refl
+one_made Pop (numbers.Two i j) = refl
+one_made Fill (numbers.One i) = refl
+one_made Cut (numbers.Three i j n) = walked_made one_operation Cut (λ k. one.Cut i j k) (entries_of n) (λ k. refl)
 one_made Free numbers.Nothing = refl
+one_made First (numbers.Two i n) = walked_made one_operation First (λ k. one.Walk search.First i k) (entries_of n) (λ k. refl)
+one_made Next (numbers.Two i n) = walked_made one_operation Next (λ k. one.Walk search.Next i k) (entries_of n) (λ k. refl)
+one_made Last (numbers.Two i n) = walked_made one_operation Last (λ k. one.Walk search.Last i k) (entries_of n) (λ k. refl)
+one_made Prev (numbers.Two i n) = walked_made one_operation Prev (λ k. one.Walk search.Prev i k) (entries_of n) (λ k. refl)
+one_made FirstEmpty (numbers.Two i n) = walked_made one_operation FirstEmpty (λ k. one.WalkEmpty search.First i k) (entries_of n) (λ k. refl)
+one_made NextEmpty (numbers.Two i n) = walked_made one_operation NextEmpty (λ k. one.WalkEmpty search.Next i k) (entries_of n) (λ k. refl)
+one_made LastEmpty (numbers.Two i n) = walked_made one_operation LastEmpty (λ k. one.WalkEmpty search.Last i k) (entries_of n) (λ k. refl)
+one_made PrevEmpty (numbers.Two i n) = walked_made one_operation PrevEmpty (λ k. one.WalkEmpty search.Prev i k) (entries_of n) (λ k. refl)
 one_made _ _ = tt
 
 long_made : (operation : Operation) (ns : Numbers) → IsOf long_operation operation (long_with operation ns)
@@ -59,7 +78,18 @@ long_made Keep (numbers.Two i j) = refl
 long_made Exchange (numbers.Three i j k) = refl
 long_made Remove (numbers.Two i j) = refl
 long_made Take (numbers.One i) = refl
+long_made Pop (numbers.Two i j) = refl
+long_made Fill (numbers.Two i j) = refl
+long_made Cut (numbers.Three i j n) = walked_made long_operation Cut (λ k. long.Cut i j k) (entries_of n) (λ k. refl)
 long_made Free numbers.Nothing = refl
+long_made First (numbers.Two i n) = walked_made long_operation First (λ k. long.Walk search.First i k) (entries_of n) (λ k. refl)
+long_made Next (numbers.Two i n) = walked_made long_operation Next (λ k. long.Walk search.Next i k) (entries_of n) (λ k. refl)
+long_made Last (numbers.Two i n) = walked_made long_operation Last (λ k. long.Walk search.Last i k) (entries_of n) (λ k. refl)
+long_made Prev (numbers.Two i n) = walked_made long_operation Prev (λ k. long.Walk search.Prev i k) (entries_of n) (λ k. refl)
+long_made FirstEmpty (numbers.Two i n) = walked_made long_operation FirstEmpty (λ k. long.WalkEmpty search.First i k) (entries_of n) (λ k. refl)
+long_made NextEmpty (numbers.Two i n) = walked_made long_operation NextEmpty (λ k. long.WalkEmpty search.Next i k) (entries_of n) (λ k. refl)
+long_made LastEmpty (numbers.Two i n) = walked_made long_operation LastEmpty (λ k. long.WalkEmpty search.Last i k) (entries_of n) (λ k. refl)
+long_made PrevEmpty (numbers.Two i n) = walked_made long_operation PrevEmpty (λ k. long.WalkEmpty search.Prev i k) (entries_of n) (λ k. refl)
 long_made _ _ = tt
 
 string_made : (operation : Operation) (key : List ℕ) (ns : Numbers) → IsOf string_operation operation (string_with operation key ns)
@@ -76,6 +106,11 @@ string_made Keep key (numbers.One i) = refl
 string_made Exchange key (numbers.Two i j) = refl
 string_made Remove key (numbers.One i) = refl
 string_made Take key numbers.Nothing = refl
+string_made Pop key numbers.Nothing = refl
+string_made First key (numbers.One n) = walked_made string_operation First (λ k. str.Walk search.First key k) (entries_of n) (λ k. refl)
+string_made Next key (numbers.One n) = walked_made string_operation Next (λ k. str.Walk search.Next key k) (entries_of n) (λ k. refl)
+string_made Last key (numbers.One n) = walked_made string_operation Last (λ k. str.Walk search.Last key k) (entries_of n) (λ k. refl)
+string_made Prev key (numbers.One n) = walked_made string_operation Prev (λ k. str.Walk search.Prev key k) (entries_of n) (λ k. refl)
 string_made _ key _ = tt
 
 bytes_made : (operation : Operation) (key : List ℕ) (ns : Numbers) → IsOf bytes_operation operation (bytes_with operation key ns)

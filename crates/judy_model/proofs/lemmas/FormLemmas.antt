@@ -1,6 +1,6 @@
 -- A call keeps a tenant's arrays well-formed.
-use Rattle.std.proofs.Common.{◌≡◌, ℕ, ◌+◌, ◌%◌, ◌^◌, arith, Bool, true, false, not, cond, ◌&&◌, List, [], ◌∷◌, refl, sym, ◌∙◌, ap, subst, Option, Some, None}
-use Rattle.std.specs.Prelude.{IsTrue, ◌==◌, filter, unwrap_or}
+use Rattle.std.proofs.Common.{◌≡◌, ℕ, zero, suc, ◌+◌, ◌%◌, ◌^◌, arith, Bool, true, false, not, cond, ◌&&◌, List, [], ◌∷◌, refl, sym, ◌∙◌, ap, subst, Option, Some, None}
+use Rattle.std.specs.Prelude.{IsTrue, ◌==◌, filter, if◌then◌else◌, nat_le, unwrap_or}
 use Rattle.std.specs.List.{list_all}
 use Rattle.std.specs.declared.cmp.Ordering.{Ordering}
 use Rattle.std.specs.declared.cmp.Ordering.TheVariants.{Less, Equal, Greater}
@@ -16,18 +16,25 @@ use Rattle.judy_model.specs.declared.calls.Call.{Call}
 use Rattle.judy_model.specs.declared.calls.Call.TheVariants.{One, Long, Str, Bytes, Used}
 use Rattle.judy_model.specs.declared.calls.OneCall.{OneCall}
 use Rattle.judy_model.specs.declared.calls.OneCall.TheVariants as one
+use Rattle.judy_model.specs.declared.calls.LongCall.{LongCall}
+use Rattle.judy_model.specs.declared.calls.LongCall.TheVariants as long
+use Rattle.judy_model.specs.declared.calls.StrCall.{StrCall}
+use Rattle.judy_model.specs.declared.calls.StrCall.TheVariants as str
+use Rattle.judy_model.specs.declared.calls.BytesCall.{BytesCall}
+use Rattle.judy_model.specs.declared.calls.BytesCall.TheVariants as bytes
 use Rattle.judy_model.specs.declared.calls.Given.{Given}
 use Rattle.judy_model.specs.declared.calls.Given.TheVariants.{Nothing, Value, Plus}
 use Rattle.judy_model.specs.declared.quotas.Quota.{Quota}
 use Rattle.judy_model.specs.declared.replies.Reply.{Reply}
-use Rattle.judy_model.specs.declared.replies.Reply.TheVariants as reply
 use Rattle.judy_model.specs.Grammar.{are_bytes, is_string, is_byte_key}
-use Rattle.judy_model.specs.Contents.{Order, Entries, word_order, string_order, value_of, has_key, with_entry, without_key}
-use Rattle.judy_model.specs.Tenant.Effect.{Insert, Keep, Exchange, Remove, Take, RemoveIf, Free, Ask}
+use Rattle.judy_model.specs.Contents.{Order, Entries, max_word, word_order, string_order, value_of, with_entry, without_key}
+use Rattle.judy_model.specs.Gaps.{end_of_run, first_empty}
+use Rattle.judy_model.specs.Tenant.Effect.{Insert, Keep, Exchange, Remove, Take, RemoveIf, Pop, Cut, Fill, Free, Ask}
 use Rattle.judy_model.specs.Tenant.{keep_over, exchange_over, remove_over}
 use Rattle.judy_model.specs.Tenant.{Effect, Reports, effect_step, one_effect, long_effect, string_effect, bytes_effect}
 use Rattle.judy_model.specs.Tenant.{Arrays, State, content_of, with_content, value_after, insert_over, insert, one_step}
 use Rattle.judy_model.specs.Tenant.{long_step, string_step, bytes_step, has_room, allowed_step, is_read_only, refusal_of}
+use Rattle.judy_model.specs.Tenant.{Lack, Shown, cut_from, fill_at, fill_over, pop_over}
 use Rattle.judy_model.specs.WellFormed.{is_word, is_one_entry, is_long_entry, is_string_entry, is_bytes_entry, is_content}
 use Rattle.judy_model.specs.WellFormed.{has_entries, are_arrays, IsWellFormed, effect_writes, writes_entry, StepKeepsForm}
 use Rattle.judy_model.proofs.lemmas.TestLemmas.{to_T, from_T}
@@ -93,9 +100,14 @@ module _ {K : Type 0} (order : Order K) (total : IsTotalOrder order) (same : IsA
     abbrev TakesWords : Type 0
     TakesWords = (k : K) (v w : ℕ) → test (k, v) ≡ true → is_word w ≡ true → test (k, w) ≡ true
 
-    -- an addition needs such a test
+    -- a test that passes what is found with a value if it passes the key at which the search begins
+    abbrev Finds : K → (Entries K → Option K) → ℕ → Type 0
+    Finds x find v = (l : Entries K) (k : K) → find l ≡ Some k → test (x, v) ≡ true → test (k, v) ≡ true
+
+    -- an addition needs the first, and a key that is filled the second
     abbrev Suits : Effect K → Type 0
     Suits (Insert k (Plus n) reports) = TakesWords
+    Suits (Fill x find index v) = Finds x find v
     Suits _ = Unit {0}
 
     insert_form : (room : Bool) (l : Entries K) (k : K) (given : Given) (reports : Reports) → Suits (Insert k given reports) → is_content order test l ≡ true
@@ -129,6 +141,30 @@ module _ {K : Type 0} (order : Order K) (total : IsTotalOrder order) (same : IsA
     remove_form l k v h (Some w) = elim (w == v) as (λ b. is_content order test (cond b (without_key order l k) l) ≡ true)
         [ true ↦ content_less l k h | false ↦ h ]
 
+    pop_form : (l : Entries K) (show : K × ℕ → Shown) (lack : Lack) → is_content order test l ≡ true
+        → (found : Option (K × ℕ)) → is_content order test (pop_over order l show lack found).1 ≡ true
+    pop_form l show lack h None = h
+    pop_form l show lack h (Some e) = content_less l e.0 h
+
+    cut_form : (search : Entries K → Option (K × ℕ)) (count n : ℕ) (l : Entries K) (found : Option (K × ℕ)) → is_content order test l ≡ true
+        → is_content order test (cut_from order search count n l found).1 ≡ true
+    cut_form search count zero l found h = h
+    cut_form search count (suc n) l None h = h
+    cut_form search count (suc n) l (Some e) h =
+        let rest = without_key order l e.0 in
+        cut_form search (count + 1) n rest (search rest) (content_less l e.0 h)
+
+    fill_form : (room : Bool) (l : Entries K) (x : K) (find : Entries K → Option K) (index : K → ℕ) (v : ℕ) → Finds x find v
+        → is_content order test l ≡ true → test (x, v) ≡ true → (found : Option K) → find l ≡ found
+        → is_content order test (fill_over order room l index v found).1 ≡ true
+    fill_form room l x find index v suits h f None is = h
+    fill_form room l x find index v suits h f (Some k) is = by (value_of order l k) room
+      where
+        by : (had : Option ℕ) (r : Bool) → is_content order test (fill_at order r l (index k) k v had).1 ≡ true
+        by (Some w) r = h
+        by None true = content_put l k v (suits l k is f) h
+        by None false = h
+
     -- a call keeps the content well-formed
     effect_form : (room : Bool) (l : Entries K) (effect : Effect K) → Suits effect → is_content order test l ≡ true → IsTrue (effect_writes test effect)
         → is_content order test (effect_step order room l effect).1 ≡ true
@@ -138,6 +174,9 @@ module _ {K : Type 0} (order : Order K) (total : IsTotalOrder order) (same : IsA
     effect_form room l (Remove k) suits h w = content_less l k h
     effect_form room l (Take k) suits h w = content_less l k h
     effect_form room l (RemoveIf k v) suits h w = remove_form l k v h (value_of order l k)
+    effect_form room l (Pop find show lack) suits h w = pop_form l show lack h (find l)
+    effect_form room l (Cut find n) suits h w = cut_form find 0 n l (find l) h
+    effect_form room l (Fill x find index v) suits h w = fill_form room l x find index v suits h w (find l) refl
     effect_form room l Free suits h w = refl
     effect_form room l (Ask answer) suits h w = h
 
@@ -215,24 +254,58 @@ module _ {K : Type 0} (order : Order K) (test : K × ℕ → Bool) where
 
 -- ---- the calls of each kind
 
--- a set has no additions
+-- an absent word that is found is a word
+found_word : (l : Entries ℕ) (x k : ℕ) → first_empty l x ≡ Some k → is_word k ≡ true
+found_word l x k is = by (end_of_run x (filter (λ e. nat_le x e.0) l)) (nat_le (end_of_run x (filter (λ e. nat_le x e.0) l)) max_word) refl is
+  where
+    by : (e : ℕ) (b : Bool) → nat_le e max_word ≡ b → (if b then Some e else None) ≡ Some k → is_word k ≡ true
+    by e true fits is =
+        let same : e ≡ k = cc in
+        ap is_word (sym same) ∙ fits
+    by e false fits is = cc
+
+-- a set has no additions, and fills words
 one_suits : (c : OneCall) → Suits word_order nat_cmp_total nat_cmp-IsAntisymmetric is_one_entry (one_effect c)
+one_suits (one.Fill x) = λ l k is f. and_from (is_word k) _ (found_word l x k is) refl
 one_suits (one.Set x) = tt
 one_suits _ = tt
 
+-- what a call needs of its test to fill a key
+abbrev Fills : {K : Type 0} → (K × ℕ → Bool) → Effect K → Type 0
+Fills {K} test (Fill x find index v) = (l : Entries K) (k : K) → find l ≡ Some k → test (x, v) ≡ true → test (k, v) ≡ true
+Fills test _ = Unit {0}
+
+-- the calls of a map of words have it
+long_fills : (c : LongCall) → Fills is_long_entry (long_effect c)
+long_fills (long.Fill x v) = λ l k is f. and_from (is_word k) _ (found_word l x k is) (and_right (is_word x) _ f)
+long_fills (long.Get x) = tt
+long_fills _ = tt
+
+-- no call of a map of strings or of byte arrays fills
+string_fills : (c : StrCall) → Fills is_string_entry (string_effect c)
+string_fills (str.Get x) = tt
+string_fills _ = tt
+
+bytes_fills : (c : BytesCall) → Fills is_bytes_entry (bytes_effect c)
+bytes_fills (bytes.Get x) = tt
+bytes_fills _ = tt
+
 -- a test that takes words as values suits each call
 suits_all : {K : Type 0} (order : Order K) (total : IsTotalOrder order) (same : IsAntisymmetric order) (test : K × ℕ → Bool)
-    → TakesWords order total same test → (effect : Effect K) → Suits order total same test effect
-suits_all order total same test takes (Insert k (Plus n) reports) = takes
-suits_all order total same test takes (Insert k Nothing reports) = tt
-suits_all order total same test takes (Insert k (Value v) reports) = tt
-suits_all order total same test takes (Keep k v) = tt
-suits_all order total same test takes (Exchange k old new) = tt
-suits_all order total same test takes (Remove k) = tt
-suits_all order total same test takes (Take k) = tt
-suits_all order total same test takes (RemoveIf k v) = tt
-suits_all order total same test takes Free = tt
-suits_all order total same test takes (Ask answer) = tt
+    → TakesWords order total same test → (effect : Effect K) → Fills test effect → Suits order total same test effect
+suits_all order total same test takes (Insert k (Plus n) reports) fills = takes
+suits_all order total same test takes (Insert k Nothing reports) fills = tt
+suits_all order total same test takes (Insert k (Value v) reports) fills = tt
+suits_all order total same test takes (Keep k v) fills = tt
+suits_all order total same test takes (Exchange k old new) fills = tt
+suits_all order total same test takes (Remove k) fills = tt
+suits_all order total same test takes (Take k) fills = tt
+suits_all order total same test takes (RemoveIf k v) fills = tt
+suits_all order total same test takes (Pop find show lack) fills = tt
+suits_all order total same test takes (Cut find n) fills = tt
+suits_all order total same test takes (Fill x find index v) fills = fills
+suits_all order total same test takes Free fills = tt
+suits_all order total same test takes (Ask answer) fills = tt
 
 -- a call of a set keeps its content well-formed
 one_form : (room : Bool) (l : Entries ℕ) (c : OneCall) → is_content word_order is_one_entry l ≡ true → IsTrue (effect_writes is_one_entry (one_effect c))
@@ -240,27 +313,27 @@ one_form : (room : Bool) (l : Entries ℕ) (c : OneCall) → is_content word_ord
 one_form room l c h w = effect_form word_order nat_cmp_total nat_cmp-IsAntisymmetric is_one_entry room l (one_effect c) (one_suits c) h w
 
 -- of a JudyL
-long_form : (room : Bool) (l : Entries ℕ) (effect : Effect ℕ) → is_content word_order is_long_entry l ≡ true → IsTrue (effect_writes is_long_entry effect)
+long_form : (room : Bool) (l : Entries ℕ) (effect : Effect ℕ) → Fills is_long_entry effect → is_content word_order is_long_entry l ≡ true → IsTrue (effect_writes is_long_entry effect)
     → is_content word_order is_long_entry (effect_step word_order room l effect).1 ≡ true
-long_form room l effect h w = effect_form word_order nat_cmp_total nat_cmp-IsAntisymmetric is_long_entry room l effect
+long_form room l effect fills h w = effect_form word_order nat_cmp_total nat_cmp-IsAntisymmetric is_long_entry room l effect
     (suits_all word_order nat_cmp_total nat_cmp-IsAntisymmetric is_long_entry
-    (λ x v u f g. and_from (is_word x) _ (and_left (is_word x) _ f) g) effect) h w
+    (λ x v u f g. and_from (is_word x) _ (and_left (is_word x) _ f) g) effect fills) h w
 
 -- of a JudySL
-string_form : (room : Bool) (l : Entries (List ℕ)) (effect : Effect (List ℕ)) → is_content string_order is_string_entry l ≡ true
+string_form : (room : Bool) (l : Entries (List ℕ)) (effect : Effect (List ℕ)) → Fills is_string_entry effect → is_content string_order is_string_entry l ≡ true
     → IsTrue (effect_writes is_string_entry effect)
     → is_content string_order is_string_entry (effect_step string_order room l effect).1 ≡ true
-string_form room l effect h w = effect_form string_order nat_list_cmp_total names_apart is_string_entry room l effect
+string_form room l effect fills h w = effect_form string_order nat_list_cmp_total names_apart is_string_entry room l effect
     (suits_all string_order nat_list_cmp_total names_apart is_string_entry
-    (λ x v u f g. and_from (is_string x && are_bytes x) _ (and_left (is_string x && are_bytes x) _ f) g) effect) h w
+    (λ x v u f g. and_from (is_string x && are_bytes x) _ (and_left (is_string x && are_bytes x) _ f) g) effect fills) h w
 
 -- of a JudyHS
-byte_form : (room : Bool) (l : Entries (List ℕ)) (effect : Effect (List ℕ)) → is_content string_order is_bytes_entry l ≡ true
+byte_form : (room : Bool) (l : Entries (List ℕ)) (effect : Effect (List ℕ)) → Fills is_bytes_entry effect → is_content string_order is_bytes_entry l ≡ true
     → IsTrue (effect_writes is_bytes_entry effect)
     → is_content string_order is_bytes_entry (effect_step string_order room l effect).1 ≡ true
-byte_form room l effect h w = effect_form string_order nat_list_cmp_total names_apart is_bytes_entry room l effect
+byte_form room l effect fills h w = effect_form string_order nat_list_cmp_total names_apart is_bytes_entry room l effect
     (suits_all string_order nat_list_cmp_total names_apart is_bytes_entry
-    (λ x v u f g. and_from (is_byte_key x && are_bytes x) _ (and_left (is_byte_key x && are_bytes x) _ f) g) effect) h w
+    (λ x v u f g. and_from (is_byte_key x && are_bytes x) _ (and_left (is_byte_key x && are_bytes x) _ f) g) effect fills) h w
 
 -- a call that its right allows keeps the arrays well-formed
 allowed_keeps_form : (quota : Quota) (s : State) (call : Call) → IsWellFormed s → IsTrue (writes_entry call) → IsWellFormed (allowed_step quota s call).1
@@ -278,7 +351,7 @@ allowed_keeps_form quota s (Long name c) h w = record {
   bytes = h.bytes;
   long = let room = has_room quota s (Long name c) in
       arrays_form word_order is_long_entry s.long name (long_step room (content_of s.long name) c).1 h.long
-      (long_form room (content_of s.long name) (long_effect c) (content_form word_order is_long_entry s.long name h.long) w);
+      (long_form room (content_of s.long name) (long_effect c) (long_fills c) (content_form word_order is_long_entry s.long name h.long) w);
 }
 allowed_keeps_form quota s (Str name c) h w = record {
   one = h.one;
@@ -286,7 +359,7 @@ allowed_keeps_form quota s (Str name c) h w = record {
   bytes = h.bytes;
   string = let room = has_room quota s (Str name c) in
       arrays_form string_order is_string_entry s.string name (string_step room (content_of s.string name) c).1 h.string
-      (string_form room (content_of s.string name) (string_effect c) (content_form string_order is_string_entry s.string name h.string) w);
+      (string_form room (content_of s.string name) (string_effect c) (string_fills c) (content_form string_order is_string_entry s.string name h.string) w);
 }
 allowed_keeps_form quota s (Bytes name c) h w = record {
   one = h.one;
@@ -294,7 +367,7 @@ allowed_keeps_form quota s (Bytes name c) h w = record {
   string = h.string;
   bytes = let room = has_room quota s (Bytes name c) in
       arrays_form string_order is_bytes_entry s.bytes name (bytes_step room (content_of s.bytes name) c).1 h.bytes
-      (byte_form room (content_of s.bytes name) (bytes_effect c) (content_form string_order is_bytes_entry s.bytes name h.bytes) w);
+      (byte_form room (content_of s.bytes name) (bytes_effect c) (bytes_fills c) (content_form string_order is_bytes_entry s.bytes name h.bytes) w);
 }
 allowed_keeps_form quota s Used h w = h
 

@@ -2,11 +2,11 @@
 --     short-request    it spells the same request
 --     short-length     it is no longer
 --     short-plain      it has no line feed if the line has none
-use Rattle.std.proofs.Common.{◌≡◌, ◌≢◌, ℕ, ◌<◌, ◌≤◌, ◌+◌, Bool, true, false, not, ◌&&◌, List, [], ◌∷◌, ◌++◌, length, refl, sym, ◌∙◌, ap, subst, arith}
+use Rattle.std.proofs.Common.{◌≡◌, ℕ, ◌≤◌, ◌+◌, Bool, true, false, not, ◌&&◌, List, [], ◌∷◌, ◌++◌, length, refl, sym, ◌∙◌, ap, subst, arith}
 use Rattle.std.proofs.lemmas.List.{length-append}
-use Rattle.std.specs.Prelude.{◌==◌, IsTrue}
+use Rattle.std.specs.Prelude.{◌==◌}
 use Rattle.std.specs.List.{list_all}
-use Rattle.judy_model.specs.Grammar.{is_space, AreSpaces, EndsField, HasFields, IsField, fields_of}
+use Rattle.judy_model.specs.Grammar.{is_space, EndsField, HasFields, IsField, fields_of}
 use Rattle.judy_model.specs.Reading.{request_of, request_of_fields}
 use Rattle.judy_model.proofs.lemmas.FieldLemmas.{HasFields-fields_of, fields_of-HasFields}
 use Rattle.judy_protocol.specs.Plain.{spaced, spaced_more, short_line}

@@ -1,17 +1,15 @@
 -- How many entries a node can have: its blocks are distinct, have numbers below 2^32, and few
 -- entries each.
-use Rattle.std.proofs.Common.{◌≡◌, ℕ, zero, suc, ◌+◌, ◌*◌, ◌<◌, ◌≤◌, Bool, true, false, cond, ◌||◌, ◌==◌, List, [], ◌∷◌, ◌++◌}
-use Rattle.std.proofs.Common.{length, ap, sym, ◌∙◌, refl, subst, arith, length-append}
+use Rattle.std.proofs.Common.{◌≡◌, ℕ, zero, suc, ◌+◌, ◌*◌, ◌<◌, ◌≤◌, Bool, true, false, cond, ◌||◌, ◌==◌, List, [], ◌∷◌}
+use Rattle.std.proofs.Common.{length, ap, sym, ◌∙◌, refl, arith, length-append}
 use Rattle.std.proofs.lemmas.Bool.Decides.{nat_tests}
 use Rattle.judy_arena.specs.Blocks.{Blocks}
 use Rattle.judy_arena.specs.Frame.{holds}
 use Rattle.judy_arena.specs.Totals.{are_distinct}
-use Rattle.judy_arena.proofs.lemmas.FrameLaws.{holds-append}
 use Rattle.judy_model.specs.Contents.{Entries}
 use Rattle.judy_tree.specs.Each.{Each}
-use Rattle.judy_leaf.specs.Leaf.{IsLeaf, leaf_entries, leaf_numbers}
-use Rattle.judy_branch.specs.Branch.{IsBranch, View, branch_view, branch_number}
-use Rattle.judy_tree.specs.Nodes.{head_at, is_branch, joined, IsKid, IsOver, depth, content_at, numbers_at, IsNodeAt}
+use Rattle.judy_branch.specs.Branch.{branch_view, branch_number}
+use Rattle.judy_tree.specs.Nodes.{head_at, is_branch, joined, IsKid, depth, content_at, numbers_at, IsNodeAt}
 use Rattle.judy_tree.specs.Root.{entries, numbers, IsRoot}
 use Rattle.judy_tree.proofs.LeafLaws.{leaf-few, leaf-low}
 use Rattle.judy_tree.proofs.lemmas.Joins.{times, distinct-times, each-weaker}

@@ -1,18 +1,18 @@
 -- What is found in a node.
-use Rattle.std.proofs.Common.{◌≡◌, ◌≢◌, ℕ, ◌+◌, ◌-◌, ◌%◌, ◌<◌, ◌≤◌, inl, inr, Bool, true, false, List, [], ◌∷◌, length, Option, Some, None, ap, sym, ◌∙◌, refl, subst, arith}
+use Rattle.std.proofs.Common.{◌≡◌, ◌≢◌, ℕ, ◌+◌, ◌-◌, ◌%◌, ◌<◌, ◌≤◌, inl, inr, Bool, true, false, Option, Some, None, ap, sym, ◌∙◌, refl, arith}
 use Rattle.std.proofs.lemmas.Bool.{cases_eq}
 use Rattle.std.proofs.lemmas.Bool.Decides.{nat_tests}
 use Rattle.std.specs.Prelude.{nat_lt}
 use Rattle.judy_arena.specs.Blocks.{Blocks}
-use Rattle.judy_model.specs.Contents.{Entries, word_order, value_of}
+use Rattle.judy_model.specs.Contents.{word_order, value_of}
 use Rattle.judy_tree.specs.Each.{Each}
-use Rattle.judy_branch.specs.Branch.{IsBranch, branch_view}
+use Rattle.judy_branch.specs.Branch.{branch_view}
 use Rattle.judy_tree.proofs.lemmas.BranchLaws.{IsPlace}
 use Rattle.judy_tree.specs.Nodes.{head_at, is_branch, joined, IsKid, depth}
-use Rattle.judy_tree.specs.Root.{entries, numbers, IsRoot}
+use Rattle.judy_tree.specs.Root.{entries, IsRoot}
 use Rattle.judy_tree.proofs.lemmas.Heads.{prefix-head}
 use Rattle.judy_tree.proofs.lemmas.Joins.{kid, find-joined, find-outside, each-weaker, each-found, none_there, Heads}
-use Rattle.judy_tree.proofs.lemmas.Trees.{Top, root-top}
+use Rattle.judy_tree.proofs.lemmas.Trees.{root-top}
 use Rattle.judy_tree.proofs.Nodes.{depth-branch}
 
 module _ (v : Bool) (b : Blocks) (w key : ℕ) (is : is_branch w ≡ true) (root : IsRoot v b w) where

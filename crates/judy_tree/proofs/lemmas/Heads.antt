@@ -1,5 +1,5 @@
 -- The bytes of a key up to one level, as a number.
-use Rattle.std.proofs.Common.{◌≡◌, ◌≢◌, ℕ, zero, suc, ◌+◌, ◌-◌, ◌*◌, ◌/◌, ◌%◌, ◌^◌, ◌<◌, ◌≤◌, ap, sym, ◌∙◌, refl, subst, arith}
+use Rattle.std.proofs.Common.{◌≡◌, ◌≢◌, ℕ, zero, suc, ◌+◌, ◌-◌, ◌*◌, ◌/◌, ◌%◌, ◌^◌, ◌<◌, ◌≤◌, ap, sym, ◌∙◌, refl, arith}
 use lib.Pow.{pow_mono}
 use Rattle.std.proofs.Math.Nat.{mul-le-mul_left, div-mul-le_self, div-lt_iff_lt-mul, div-div-eq-div-mul, mul-le-mul_right, mod-eq_of_lt, mul-div_cancel, mul-mod_left}
 use Rattle.std.proofs.lemmas.Nat.{pow-add, pow_pos, mod-pow-add}

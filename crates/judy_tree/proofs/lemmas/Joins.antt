@@ -1,18 +1,17 @@
 -- Joins over children: what is found in one, that it is sorted, and how it splits at a byte.
-use Rattle.std.proofs.Common.{◌≡◌, ◌≢◌, ℕ, zero, suc, ◌+◌, ◌-◌, ◌<◌, ◌≤◌, Bool, true, false, cond, not, ◌||◌, ◌==◌, nat_lt, List, [], ◌∷◌, ◌++◌}
+use Rattle.std.proofs.Common.{◌≡◌, ◌≢◌, ℕ, ◌+◌, ◌<◌, ◌≤◌, Bool, true, false, cond, not, ◌||◌, ◌==◌, nat_lt, List, [], ◌∷◌, ◌++◌}
 use Rattle.std.proofs.Common.{length, Option, Some, None, unwrap_or, ap, sym, ◌∙◌, refl, subst, arith, length-append}
 use Rattle.std.proofs.lemmas.Bool.Decides.{nat_tests}
 use Rattle.std.specs.declared.cmp.Ordering.TheVariants.{Less, Equal, Greater}
 use Rattle.std.specs.Ordering.{nat_cmp, eq_by_cmp, is_eq, is_lt}
 use Rattle.std.specs.Cmp.{nat_cmp_total}
 use Rattle.std.specs.FinMap.{is_sorted, nat_cmp-IsAntisymmetric}
-use Rattle.std.specs.FinMap.Entries.{by_order, below_all, find-put, find-where_key, same_entries, is_sorted-put, is_sorted-where_key}
+use Rattle.std.specs.FinMap.Entries.{by_order, below_all, find-where_key, same_entries, is_sorted-put, is_sorted-where_key}
 use Rattle.std.proofs.lemmas.Bool.{false≢true as not_true, and_from}
 use Rattle.std.proofs.lemmas.Option.{none-some}
 use Rattle.judy_arena.specs.Frame.{holds}
 use Rattle.judy_arena.specs.Totals.{are_distinct}
-use Rattle.judy_arena.proofs.lemmas.FrameLaws.{holds-append}
-use Rattle.judy_model.specs.Contents.{Entries, word_order, value_of, has_key, with_entry, without_key, string_order}
+use Rattle.judy_model.specs.Contents.{Entries, word_order, value_of, with_entry, without_key, string_order}
 use Rattle.judy_model.proofs.lemmas.TestLemmas.{and_right, and_left, from_T, to_T, is_Less}
 use Rattle.judy_model.proofs.lemmas.EntryLemmas.{same_word, word_itself, same_string}
 use Rattle.judy_tree.specs.Each.{Each}

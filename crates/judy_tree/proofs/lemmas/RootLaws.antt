@@ -1,12 +1,12 @@
 -- What callers know of an array, for every layout of its blocks.
-use Rattle.std.proofs.Common.{◌≡◌, ◌≢◌, ℕ, ◌<◌, Bool, true, false, ◌==◌, List, [], ◌∷◌, length, ap, sym, ◌∙◌, refl, subst, arith}
+use Rattle.std.proofs.Common.{◌≡◌, ℕ, ◌<◌, Bool, true, false, ◌==◌, [], ◌∷◌, length, ap, sym, ◌∙◌, refl, subst, arith}
 use Rattle.std.specs.List.{list_all}
-use Rattle.judy_arena.specs.Blocks.{Blocks, block, is_live}
-use Rattle.judy_arena.specs.Frame.{holds, Frame, AreApart}
+use Rattle.judy_arena.specs.Blocks.{Blocks}
+use Rattle.judy_arena.specs.Frame.{holds, Frame}
 use Rattle.judy_arena.specs.Totals.{are_distinct}
 use Rattle.judy_model.specs.Contents.{Entries, IsWordArray, HasWordValues}
 use Rattle.judy_tree.specs.Nodes.{is_branch}
-use Rattle.judy_tree.specs.Root.{IsRoot, entries, numbers, Spells, HasRootSpace}
+use Rattle.judy_tree.specs.Root.{IsRoot, entries, numbers, HasRootSpace}
 use Rattle.judy_tree.specs.Changes.{RootBecomes}
 use Rattle.judy_tree.specs.Calls.{NodeGrows}
 use Rattle.judy_tree.proofs.lemmas.Unchanged.{absent-new}

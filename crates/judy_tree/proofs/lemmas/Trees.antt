@@ -1,30 +1,30 @@
 -- Nodes without a bound on the levels: a leaf, a branch over nodes, what keeps a node, its numbers,
 -- and its entries.
-use Rattle.std.proofs.Common.{◌≡◌, ◌≢◌, ℕ, zero, suc, ◌+◌, ◌-◌, ◌*◌, ◌<◌, ◌≤◌, Bool, true, false, cond, not, ◌||◌, ◌&&◌, ◌==◌}
-use Rattle.std.proofs.Common.{List, [], ◌∷◌, ◌++◌, length, Option, unwrap_or, ap, sym, ◌∙◌, refl, subst, arith, length-append}
+use Rattle.std.proofs.Common.{◌≡◌, ℕ, zero, suc, ◌+◌, ◌≤◌, Bool, true, false, ◌||◌, ◌&&◌, ◌==◌}
+use Rattle.std.proofs.Common.{List, [], ◌∷◌, ◌++◌, ap, sym, ◌∙◌, refl, subst, arith}
 use Rattle.std.proofs.lemmas.Bool.Decides.{nat_tests}
 use Rattle.std.specs.Prelude.{nat_le}
 use Rattle.std.specs.List.{list_all}
 use Rattle.std.specs.FinMap.{is_sorted}
 use Rattle.std.proofs.lemmas.Bool.{false≢true as not_true, and_from}
-use Rattle.judy_arena.specs.Blocks.{Blocks, block, words_of, is_live}
+use Rattle.judy_arena.specs.Blocks.{Blocks, block, is_live}
 use Rattle.judy_arena.specs.Frame.{holds, Frame}
 use Rattle.judy_arena.specs.Totals.{are_distinct}
 use Rattle.judy_arena.proofs.lemmas.FrameLaws.{frame-same, frame-stays, holds-append}
 use Rattle.judy_model.specs.Contents.{Entries, IsWordArray, word_order, max_word, HasWordValues}
 use Rattle.judy_tree.specs.Each.{Each}
 use Rattle.judy_leaf.specs.Leaf.{IsLeaf, leaf_entries, leaf_numbers}
-use Rattle.judy_branch.specs.Branch.{IsBranch, View, branch_view, branch_number}
+use Rattle.judy_branch.specs.Branch.{IsBranch, branch_view, branch_number}
 use Rattle.judy_tree.proofs.lemmas.BranchLaws.{IsView}
 use Rattle.judy_tree.specs.Nodes.{head_at, is_branch, joined, IsKid, IsOver, depth, content_at, numbers_at, IsNodeAt}
 use Rattle.judy_tree.specs.Root.{entries, numbers, IsRoot}
-use Rattle.judy_tree.proofs.LeafLaws.{leaf-live, leaf-once, leaf-words, leaf-values, leaf-zeros, leaf-none, leaf-empty, leaf-kind, leaf-few}
+use Rattle.judy_tree.proofs.LeafLaws.{leaf-live, leaf-once, leaf-words, leaf-values, leaf-zeros, leaf-kind}
 use Rattle.judy_tree.proofs.lemmas.BranchLaws.{branch-live, branch-kind, branch-sound}
 use Rattle.judy_tree.proofs.lemmas.Heads.{head-less}
-use Rattle.judy_tree.proofs.lemmas.Joins.{joined-same, each-weaker, each-both, joined-rises}
+use Rattle.judy_tree.proofs.lemmas.Joins.{joined-same, each-weaker, joined-rises}
 use Rattle.judy_tree.proofs.Nodes.{content-leaf, content-branch, numbers-leaf, numbers-branch, node-leaf, leaf-node}
-use Rattle.judy_tree.proofs.Nodes.{node-branch, branch-node, branch-of, over-of, branch-at, BranchAt, Same, over-along, alike}
-use Rattle.judy_tree.proofs.Nodes.{depth-leaf, depth-branch, leaf_at_zero}
+use Rattle.judy_tree.proofs.Nodes.{node-branch, branch-node, branch-of, over-of, branch-at, Same, over-along, alike}
+use Rattle.judy_tree.proofs.Nodes.{leaf_at_zero}
 
 -- ---- a leaf
 

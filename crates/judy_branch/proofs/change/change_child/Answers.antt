@@ -1,5 +1,4 @@
 use Rattle.std.proofs.Common.{◌≡◌, Some, ap, sym, ◌∙◌, subst}
-use Rattle.judy_model.specs.Contents.{word_order}
 use Rattle.judy_model.proofs.lemmas.EntryLemmas.{put-same}
 use Rattle.judy_branch.specs.Branch.{IsBranchOf, branch_view}
 use Rattle.judy_branch.proofs.Same.{children-rise}

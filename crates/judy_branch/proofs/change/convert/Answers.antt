@@ -11,7 +11,6 @@ use Rattle.judy_branch.proofs.Lists.{used-some}
 use Rattle.judy_branch.proofs.Rooms.{room-covers}
 use Rattle.judy_branch.proofs.Changes.{grown-count, grown-branch, lent-words}
 use Rattle.judy_arena.proofs.lemmas.DrawLaws.{drew-block}
-use Rattle.judy_branch.proofs.Drawing.{small-block}
 use Rattle.judy_branch.proofs.change.convert.Goals as goal
 
 pub insert_child-requires-clause-laid : goal.insert_child-requires-clause-laid

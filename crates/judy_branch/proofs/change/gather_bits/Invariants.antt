@@ -1,4 +1,4 @@
-use Rattle.std.proofs.Common.{◌≡◌, take, length}
+use Rattle.std.proofs.Common.{◌≡◌, take}
 use Rattle.judy_branch.specs.declared.shape.Shape.TheVariants.{Bitmap}
 use Rattle.judy_branch.specs.Children.{children_in, child_bytes}
 use Rattle.judy_branch.specs.Found.{IsPlace}

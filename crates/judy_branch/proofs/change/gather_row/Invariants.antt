@@ -1,4 +1,4 @@
-use Rattle.std.proofs.Common.{◌≡◌, take, length}
+use Rattle.std.proofs.Common.{◌≡◌, take}
 use Rattle.judy_branch.specs.declared.shape.Shape.TheVariants.{Linear}
 use Rattle.judy_branch.specs.Children.{children_in}
 use Rattle.judy_branch.proofs.change.gather_row.Given as goal

@@ -1,4 +1,4 @@
-use Rattle.std.proofs.Common.{◌≡◌, ◌<◌, ◌∷◌, [], length, set, ap, sym, ◌∙◌, subst, arith}
+use Rattle.std.proofs.Common.{◌∷◌, [], length, set, ap, sym, subst, arith}
 use Rattle.judy_arena.specs.Blocks.{words_of, put}
 use Rattle.judy_arena.specs.Frame.{Frame}
 use Rattle.judy_arena.proofs.lemmas.BlockLaws.{live-words}

@@ -1,4 +1,4 @@
-use Rattle.std.proofs.Common.{◌≡◌, ◌+◌, ◌%◌, ◌≤◌, ◌∷◌, [], ◌||◌, false, ℕ, List, length, take, refl, ap, sym, ◌∙◌, subst, arith}
+use Rattle.std.proofs.Common.{◌≡◌, ◌+◌, ◌%◌, ◌≤◌, ◌∷◌, [], ℕ, List, length, take, refl, ap, sym, ◌∙◌, subst, arith}
 use Rattle.judy_arena.specs.Blocks.{Blocks, words_of, put}
 use Rattle.judy_arena.specs.LendingBlocks.{written_over}
 use Rattle.judy_arena.specs.Frame.{Frame}
@@ -14,7 +14,6 @@ use Rattle.judy_branch.proofs.Rooms.{room-covers}
 use Rattle.judy_branch.proofs.Taking.{front_count, front-moved}
 use Rattle.judy_branch.proofs.Changes.{widened-branch, lent-words}
 use Rattle.judy_arena.proofs.lemmas.DrawLaws.{drew-block}
-use Rattle.judy_branch.proofs.Drawing.{small-block}
 use Rattle.judy_branch.proofs.change.widen.Goals as goal
 
 -- the block that was given begins as the old one

@@ -1,5 +1,5 @@
 use Rattle.std.proofs.Common.{◌%◌, ap, sym, ◌∙◌, refl, subst, get_or}
-use Rattle.judy_branch.specs.declared.shape.Shape.TheVariants.{Linear, Bitmap, Full}
+use Rattle.judy_branch.specs.declared.shape.Shape.TheVariants.{Linear, Bitmap}
 use Rattle.judy_branch.specs.Children.{IsLaid, children_in}
 use Rattle.judy_branch.specs.Slots.{child_words}
 use Rattle.judy_branch.proofs.Shapes.{linear-paired, bitmap-paired}

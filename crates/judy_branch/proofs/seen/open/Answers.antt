@@ -1,5 +1,5 @@
 use Rattle.std.proofs.Common.{◌≡◌, ap, sym, ◌∙◌, subst}
-use Rattle.judy_branch.specs.Branch.{View, branch_view, branch_words, view_in}
+use Rattle.judy_branch.specs.Branch.{branch_view, branch_words, view_in}
 use Rattle.judy_branch.specs.Children.{IsShaped, level_in, prefix_in, population_in}
 use Rattle.judy_branch.proofs.Branches.{has-shape, is-shaped, children-are}
 use Rattle.judy_branch.proofs.seen.open.Goals as goal

@@ -1,6 +1,5 @@
 use Rattle.std.proofs.Common.{◌≡◌, ◌≢◌, ◌%◌, ◌∷◌, [], ℕ, List, get_or, length, refl, ap, sym, ◌∙◌, subst, arith}
 use Rattle.std.specs.Prelude.{IsTrue}
-use Rattle.judy_arena.specs.Blocks.{words_of}
 use Rattle.judy_refs.specs.References.{is_reference}
 use Rattle.judy_arena.specs.Frame.{Frame}
 use Rattle.judy_model.specs.Contents.{word_order, has_key, without_key}
@@ -12,7 +11,6 @@ use Rattle.judy_branch.proofs.Branches.{is-some, has-shape}
 use Rattle.judy_branch.proofs.Changes.{own-shaped, own-live, own-children, own-frame, least-two, used-five}
 use Rattle.judy_branch.proofs.Changes.{only-reference, gone-frame}
 use Rattle.judy_branch.proofs.Removed.{Settled, removed, settled}
-use Rattle.judy_branch.proofs.Drawing.{small-block}
 use Rattle.judy_branch.proofs.take.take_child.Goals as goal
 
 pub read_shape-shape-requires : goal.read_shape-shape-requires

@@ -1,4 +1,4 @@
-use Rattle.std.proofs.Common.{◌≡◌, ◌++◌, ◌∷◌, ◌∙◌, ap, append_assoc, ℕ, List, []}
+use Rattle.std.proofs.Common.{◌++◌, ◌∷◌, ◌∙◌, ap, append_assoc, []}
 use Rattle.judy_journal.specs.Leaving.{gone_request}
 use Rattle.judy_journal.proofs.lemmas.LeavingLemmas.{gone_pushed}
 use Rattle.judy_journal.proofs.leaving.add_gone.Goals as goal

@@ -1,7 +1,7 @@
 use Rattle.std.proofs.Common.{◌≡◌, ◌-◌, ◌∙◌, ℕ, List, Bool, true, false, ap, sym, length, take, drop, arith}
 use Rattle.std.specs.Str.{bytes_eq}
 use Rattle.std.proofs.lemmas.Slice.Eq.{bytes_eq-Decides}
-use Rattle.judy_journal.specs.Notes.{is_note, note, number_in, number_told}
+use Rattle.judy_journal.specs.Notes.{note, number_in, number_told}
 use Rattle.judy_journal.proofs.Noticing.{told}
 use Rattle.judy_journal.proofs.notes.read_note.Goals as goal
 

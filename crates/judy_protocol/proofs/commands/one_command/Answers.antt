@@ -6,8 +6,8 @@ use Rattle.judy_protocol.proofs.NoCommands.{has_known_third, one_long}
 use Rattle.judy_protocol.proofs.Texts.{none_passes}
 use Rattle.judy_protocol.proofs.commands.one_command.Goals as goal
 
-pub returns-in_default-8 : goal.returns-in_default-8
-returns-in_default-8 c = sym (none_passes (has_known_third 49) (codes "J1" ++ c.args.letters.now) commands refl (grind (arith, nat_tests)))
+pub returns-in_default-10 : goal.returns-in_default-10
+returns-in_default-10 c = sym (none_passes (has_known_third 49 83 85) (codes "J1" ++ c.args.letters.now) commands refl (grind (arith, nat_tests)))
 
-pub returns-in_default-9 : goal.returns-in_default-9
-returns-in_default-9 c = sym (one_long c.args.letters.now c.in_default.len_at_least)
+pub returns-in_default-11 : goal.returns-in_default-11
+returns-in_default-11 c = sym (one_long c.args.letters.now c.in_default.len_at_least)

@@ -1,4 +1,4 @@
-use Rattle.std.proofs.Common.{◌≡◌, ◌++◌, ◌∷◌, ◌∙◌, ap, sym, subst, length, List, [], ℕ, ◌≤◌, ◌+◌, arith, append-nil}
+use Rattle.std.proofs.Common.{◌≡◌, ◌++◌, ◌∙◌, ap, sym, subst, length, List, [], ℕ, arith, append-nil}
 use Rattle.judy_model.specs.Reading.{request_of}
 use Rattle.judy_model.specs.Grammar.{fields_of}
 use Rattle.judy_protocol.specs.Plain.{short_line, spaced_more}

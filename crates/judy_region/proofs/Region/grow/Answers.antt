@@ -1,4 +1,4 @@
-use Rattle.std.proofs.Common.{length-set, ◌≡◌, ap, sym, subst, ◌∙◌, arith, length, get_or, set, ◌<◌, ◌+◌, ◌++◌, ℕ, suc, List, [], refl}
+use Rattle.std.proofs.Common.{length-set, ◌≡◌, ap, sym, subst, ◌∙◌, arith, length, get_or, ◌<◌, ◌+◌, ◌++◌, [], refl}
 use Rattle.judy_region.specs.Flat.{zeros}
 use Rattle.judy_region.proofs.Places.{Chunks, Grew, IsClosed, room_left, grew, left-sound, left-ok, left-whole, left-full, left-spare}
 use Rattle.judy_region.specs.declared.Refusal.TheVariants.{Full, NoMemory}

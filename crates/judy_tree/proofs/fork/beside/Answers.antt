@@ -3,7 +3,7 @@ use Rattle.judy_arena.specs.Blocks.{count_up}
 use Rattle.judy_arena.specs.Frame.{Frame}
 use Rattle.judy_model.specs.Contents.{word_order, has_key}
 use Rattle.judy_leaf.specs.Leaf.{leaf_numbers}
-use Rattle.judy_tree.specs.Root.{entries, numbers}
+use Rattle.judy_tree.specs.Root.{numbers}
 use Rattle.judy_tree.proofs.lemmas.Trees.{root-top}
 use Rattle.judy_tree.proofs.lemmas.Joins.{kid}
 use Rattle.judy_tree.proofs.Changes.{given-back}

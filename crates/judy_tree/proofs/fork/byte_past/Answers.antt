@@ -1,5 +1,4 @@
-use Rattle.std.proofs.Common.{rules, arith, ◌≡◌, ℕ, ◌+◌, ◌-◌, ◌*◌, ◌/◌, ◌%◌, ◌^◌, ◌<◌, ◌≤◌}
-use Rattle.judy_tree.specs.Nodes.{head_at}
+use Rattle.std.proofs.Common.{arith}
 use Rattle.judy_tree.proofs.lemmas.Heads.{head-small}
 use Rattle.judy_tree.proofs.fork.byte_past.Goals as goal
 

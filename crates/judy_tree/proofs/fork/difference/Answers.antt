@@ -1,5 +1,4 @@
-use Rattle.std.proofs.Common.{rules, ◌≡◌, ◌≢◌, ◌/◌, ◌≤◌, ap, sym, ◌∙◌, arith}
-use Rattle.judy_tree.specs.Nodes.{head_at}
+use Rattle.std.proofs.Common.{rules, arith}
 use Rattle.judy_tree.proofs.lemmas.Heads.{last-head}
 use Rattle.judy_tree.proofs.fork.difference.Goals as goal
 

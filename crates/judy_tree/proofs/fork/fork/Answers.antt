@@ -1,7 +1,4 @@
-use Rattle.std.proofs.Common.{◌≡◌, ◌≢◌, ◌<◌, ◌≤◌, ◌+◌, ◌%◌, ℕ, true, ◌&&◌, ap, sym, ◌∙◌, arith, refl}
-use Rattle.judy_model.specs.Contents.{word_order}
-use Rattle.std.specs.Ordering.{is_lt}
-use Rattle.judy_tree.specs.Nodes.{head_at}
+use Rattle.std.proofs.Common.{◌%◌, true, ◌&&◌, ap, refl}
 use Rattle.judy_tree.proofs.lemmas.Joins.{is_less}
 use Rattle.judy_tree.proofs.Forks.{fork-bytes, fork-low, fork-high, forks, lower-byte}
 use Rattle.judy_tree.proofs.fork.fork.Goals as goal

@@ -1,10 +1,6 @@
-use Rattle.std.proofs.Common.{◌≡◌, ◌+◌, ◌≤◌, true, Some, None, ap, sym, ◌∙◌, [], subst, arith}
+use Rattle.std.proofs.Common.{sym, ◌∙◌, [], subst, arith}
 use Rattle.judy_arena.specs.Frame.{Frame}
 use Rattle.judy_arena.proofs.lemmas.TakeLaws.{same-rests, rests-two}
-use Rattle.judy_model.specs.Contents.{head_of}
-use Rattle.judy_branch.specs.Branch.{branch_view}
-use Rattle.judy_tree.specs.Nodes.{is_branch}
-use Rattle.judy_tree.specs.Parts.{from}
 use Rattle.judy_tree.proofs.lemmas.Trees.{root-leaf, leaf-blocks}
 use Rattle.judy_tree.proofs.Clears.{partly-start, own-here, part-here, part-falls, part-byte, part-above, partly-next, partly-end}
 use Rattle.judy_tree.proofs.node.+clear.Goals as goal

@@ -1,4 +1,4 @@
-use Rattle.std.proofs.Common.{rules, cond, ◌≡◌, ℕ, ap, sym, ◌∙◌, length, subst, arith, is_some, refl}
+use Rattle.std.proofs.Common.{rules, cond, ◌≡◌, ℕ, ap, sym, ◌∙◌, length, arith, is_some}
 use Rattle.judy_arena.specs.Blocks.{count_up}
 use Rattle.judy_arena.proofs.lemmas.TakeLaws.{takes-rests}
 use Rattle.judy_model.specs.Contents.{word_order, has_key, value_of, with_entry}

@@ -1,12 +1,10 @@
-use Rattle.std.proofs.Common.{◌≡◌, ◌<◌, ◌≤◌, ◌+◌, ◌-◌, ◌*◌, ℕ, Some, true, ap, sym, ◌∙◌, length, subst, arith, is_some, refl, []}
-use Rattle.judy_arena.specs.Frame.{Frame}
-use Rattle.judy_model.specs.Contents.{word_order, has_key, value_of, without_key}
-use Rattle.judy_tree.specs.Root.{IsRoot, entries, numbers}
+use Rattle.std.proofs.Common.{◌-◌, ap, sym, ◌∙◌, subst, arith, is_some, refl}
+use Rattle.judy_model.specs.Contents.{word_order, has_key, value_of}
 use Rattle.judy_leaf.specs.Leaf.{leaf_numbers}
 use Rattle.judy_leaf.specs.Calls.{BecomesIn}
 use Rattle.judy_tree.proofs.lemmas.Heads.{at-view, out-view}
 use Rattle.judy_tree.proofs.lemmas.Trees.{root-leaf, leaf-content, root-top}
-use Rattle.judy_tree.proofs.lemmas.Finds.{find-in, find-none, kid-at, deep-branch, low-branch}
+use Rattle.judy_tree.proofs.lemmas.Finds.{find-none, kid-at, deep-branch, low-branch}
 use Rattle.judy_tree.proofs.Steps.{lessened, left-branch, left-only, last-key, not-nothing, own-kept, child-frame}
 use Rattle.judy_tree.proofs.Steps.{length-without-one, kid-sorted, shrinks, shrinks', leaf-shrinks, emptied-frame}
 use Rattle.judy_tree.proofs.Steps.{emptied-none, found-below, one-less, absent-in, branch-some, alone-some}

@@ -1,6 +1,6 @@
-use Rattle.std.proofs.Common.{◌≡◌, ◌<◌, ◌≤◌, ◌+◌, ◌-◌, ◌*◌, ℕ, Some, true, ap, sym, ◌∙◌, length, subst, arith, is_some, refl, []}
+use Rattle.std.proofs.Common.{true, ap, sym, ◌∙◌, arith, is_some}
 use Rattle.std.proofs.lemmas.Bool.{false≢true as not_true}
-use Rattle.judy_model.specs.Contents.{word_order, has_key, value_of, with_entry}
+use Rattle.judy_model.specs.Contents.{word_order, has_key, with_entry}
 use Rattle.judy_tree.specs.Root.{entries}
 use Rattle.judy_tree.proofs.lemmas.Joins.{kid}
 use Rattle.judy_tree.proofs.lemmas.Heads.{at-view, out-view}

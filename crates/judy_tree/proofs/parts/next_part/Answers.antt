@@ -1,4 +1,4 @@
-use Rattle.std.proofs.Common.{◌≡◌, ◌<◌, ◌≤◌, ℕ, ap, sym, ◌∙◌, nat_le, arith}
+use Rattle.std.proofs.Common.{◌<◌, ℕ, ap, sym, ◌∙◌, nat_le, arith}
 use Rattle.std.specs.Ordering.{nat_cmp, is_ge}
 use Rattle.std.proofs.lemmas.List.Elements.{filter_agree}
 use Rattle.judy_model.specs.Contents.{head_of}

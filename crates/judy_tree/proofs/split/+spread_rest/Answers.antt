@@ -1,8 +1,8 @@
-use Rattle.std.proofs.Common.{◌≡◌, ◌≢◌, ◌<◌, ◌≤◌, ◌+◌, ◌-◌, ◌*◌, ◌/◌, ℕ, [], ◌∷◌, length, take, ap, sym, ◌∙◌, subst, refl, arith}
+use Rattle.std.proofs.Common.{◌≡◌, ◌<◌, ◌≤◌, ◌+◌, ◌-◌, ◌*◌, ℕ, [], length, take, ap, sym, ◌∙◌, subst, arith}
 use Rattle.judy_arena.specs.Blocks.{count_up}
 use Rattle.judy_arena.specs.Frame.{Frame}
-use Rattle.judy_leaf.specs.Leaf.{IsLeaf, leaf_entries, leaf_numbers}
-use Rattle.judy_tree.specs.Root.{IsRoot, entries, numbers}
+use Rattle.judy_leaf.specs.Leaf.{leaf_entries, leaf_numbers}
+use Rattle.judy_tree.specs.Root.{IsRoot, numbers}
 use Rattle.judy_tree.proofs.lemmas.Heads.{at-view, out-view}
 use Rattle.judy_tree.proofs.lemmas.Trees.{root-top}
 use Rattle.judy_arena.proofs.lemmas.TakeLaws.{takes-both, takes-rests}

@@ -1,4 +1,4 @@
-use Rattle.std.proofs.Common.{ap, sym, ◌∙◌}
+use Rattle.std.proofs.Common.{ap, ◌∙◌}
 use Rattle.std.specs.FinMap as finite
 use Rattle.judy_directory.proofs.RecentPlaces.{same-keys}
 use Rattle.judy_directory.proofs.directory.Directory.list.Goals as goal

@@ -1,4 +1,4 @@
-use Rattle.std.proofs.Common.{rules, ◌≡◌, Bool, false, None, is_some, cond, ap, sym, ◌∙◌}
+use Rattle.std.proofs.Common.{rules, is_some, cond, ap, sym, ◌∙◌}
 use Rattle.std.specs.FinMap as map
 use Rattle.judy_directory.specs.Recent.{recent_at, with_recent, has_recent}
 use Rattle.judy_directory.proofs.RecentPlaces.{recent-set, recent-insert, get-other, has-insert, none_of}

@@ -1,4 +1,4 @@
-use Rattle.std.proofs.Common.{◌++◌, ◌∷◌, [], ◌∙◌, ap, sym, subst, append_assoc}
+use Rattle.std.proofs.Common.{◌++◌, ◌∷◌, [], ◌∙◌, ap, subst, append_assoc}
 use Rattle.judy_journal.specs.Noting.{HasSeen}
 use Rattle.judy_journal.proofs.Noticing.{rest_seen}
 use Rattle.judy_journal.proofs.Stepping.{cut_more}

@@ -1,10 +1,9 @@
-use Rattle.std.proofs.Common.{◌≡◌, ◌++◌, ◌∷◌, [], ℕ, List, length, ap, sym, subst, ◌∙◌}
+use Rattle.std.proofs.Common.{◌≡◌, ◌++◌, ◌∷◌, [], length, ap, sym, subst, ◌∙◌}
 use Rattle.std.specs.Prelude.{IsTrue}
-use Rattle.std.specs.List.{list_all}
 use Rattle.judy_model.specs.Stream.{lines_of}
-use Rattle.judy_journal.specs.Journals.{is_commit, is_record, joined}
+use Rattle.judy_journal.specs.Journals.{is_commit, joined}
 use Rattle.judy_journal.specs.Notes.{note}
-use Rattle.judy_journal.specs.Writes.{Writing, ended, size_with, with_note}
+use Rattle.judy_journal.specs.Writes.{ended, size_with, with_note}
 use Rattle.judy_journal.proofs.Noticing.{IsNoteText, note_text}
 use Rattle.judy_journal.proofs.Pushing.{whole}
 use Rattle.judy_journal.proofs.writer.Writer.end_noted.Goals as goal

@@ -1,4 +1,4 @@
-use Rattle.std.proofs.Common.{◌≡◌, ◌+◌, ◌∙◌, refl, sym, ap, subst, arith, length}
+use Rattle.std.proofs.Common.{◌≡◌, ◌+◌, ◌∙◌, sym, ap, subst, arith, length}
 use Rattle.std.specs.Prelude.{nat_lt, nat_le, ◌&&◌}
 use Rattle.std.specs.Cmp.{nat_cmp_total}
 use Rattle.std.specs.Cmp.Lexicographic.{nat_list_cmp_total}
@@ -11,7 +11,7 @@ use Rattle.judy_model.specs.Tenant.{content_of, entries_in, pieces_in, used, pie
 use Rattle.judy_model.specs.Tenant.{string_step, bytes_step, one_asks_for_new, long_asks_for_new, string_asks_for_new}
 use Rattle.judy_model.specs.Tenant.{bytes_asks_for_new}
 use Rattle.judy_model.proofs.lemmas.FormLemmas.{names_apart}
-use Rattle.judy_model.proofs.lemmas.GrowthLemmas.{lengths, sizes, one_each, its_size, effect_grows}
+use Rattle.judy_model.proofs.lemmas.GrowthLemmas.{lengths, sizes, one_each, its_size, effect_grows, words_alike, strings_alike, bytes_alike}
 use Rattle.judy_reference.specs.Store.{IsKept}
 use Rattle.judy_reference.proofs.KeptLemmas.{content_sorted}
 use Rattle.judy_reference.proofs.GrowthLemmas.{stay_words}
@@ -37,7 +37,7 @@ invariant_of-self c =
     c.one_step.result kept
     (effect_grows word_order length (λ k. 1) (lengths word_order nat_cmp_total) room l (one_effect call) 1 sorted (one_each (one_effect call)))
     (effect_grows word_order (pieces_of word_pieces) word_pieces (sizes word_order nat_cmp_total nat_cmp-IsAntisymmetric word_pieces) room l
-    (one_effect call) n sorted (its_size word_pieces (one_effect call)))
+    (one_effect call) n sorted (its_size word_pieces (one_effect call) (words_alike (one_effect call))))
     c.one_step.ensures.ok c.one_step.ensures.unchanged is
     (omega (arith, c.used-used.ensures.value, ap used c.self.view_is)) (omega (arith, c.pieces-pieces.ensures, ap pieces c.self.view_is))
     (omega arith) (omega arith) (omega arith) (omega arith) in
@@ -63,7 +63,7 @@ invariant_of-self-in-Long c =
     c.long_step.result kept
     (effect_grows word_order length (λ k. 1) (lengths word_order nat_cmp_total) room l (long_effect call) 1 sorted (one_each (long_effect call)))
     (effect_grows word_order (pieces_of word_pieces) word_pieces (sizes word_order nat_cmp_total nat_cmp-IsAntisymmetric word_pieces) room l
-    (long_effect call) n sorted (its_size word_pieces (long_effect call)))
+    (long_effect call) n sorted (its_size word_pieces (long_effect call) (words_alike (long_effect call))))
     c.long_step.ensures.ok c.long_step.ensures.unchanged is
     (omega (arith, c.used-used.ensures.value, ap used c.self.view_is)) (omega (arith, c.pieces-pieces.ensures, ap pieces c.self.view_is))
     (omega arith) (omega arith) (omega arith) (omega arith) in
@@ -89,7 +89,7 @@ invariant_of-self-in-Str c =
     c.string_step.result kept
     (effect_grows string_order length (λ k. 1) (lengths string_order nat_list_cmp_total) room l (string_effect call) 1 sorted (one_each (string_effect call)))
     (effect_grows string_order (pieces_of string_pieces) string_pieces (sizes string_order nat_list_cmp_total names_apart string_pieces) room l
-    (string_effect call) n sorted (its_size string_pieces (string_effect call)))
+    (string_effect call) n sorted (its_size string_pieces (string_effect call) (strings_alike call)))
     c.string_step.ensures.ok c.string_step.ensures.unchanged is
     (omega (arith, c.used-used.ensures.value, ap used c.self.view_is)) (omega (arith, c.pieces-pieces.ensures, ap pieces c.self.view_is))
     (omega arith) (omega arith) (omega arith) (omega arith) in
@@ -115,7 +115,7 @@ invariant_of-self-in-Bytes c =
     c.bytes_step.result kept
     (effect_grows string_order length (λ k. 1) (lengths string_order nat_list_cmp_total) room l (bytes_effect call) 1 sorted (one_each (bytes_effect call)))
     (effect_grows string_order (pieces_of string_pieces) string_pieces (sizes string_order nat_list_cmp_total names_apart string_pieces) room l
-    (bytes_effect call) n sorted (its_size string_pieces (bytes_effect call)))
+    (bytes_effect call) n sorted (its_size string_pieces (bytes_effect call) (bytes_alike call)))
     c.bytes_step.ensures.ok c.bytes_step.ensures.unchanged is
     (omega (arith, c.used-used.ensures.value, ap used c.self.view_is)) (omega (arith, c.pieces-pieces.ensures, ap pieces c.self.view_is))
     (omega arith) (omega arith) (omega arith) (omega arith) in

@@ -1,13 +1,15 @@
-use Rattle.std.proofs.Common.{◌≡◌, IfOk, not, sym, ◌∙◌, ap, subst}
+use Rattle.std.proofs.Common.{◌≡◌, IfOk, map, not, sym, ◌∙◌, ap, subst}
 use Rattle.std.specs.Prelude.{is_some}
 use Rattle.std.proofs.lemmas.Result.{on_err_weaker}
 use Rattle.judy_model.specs.Contents.{string_order, value_of, without_key, first, next, last, prev}
 use Rattle.judy_model.specs.Tenant.Reports.{ReportsValue}
-use Rattle.judy_model.specs.Tenant.{content_of, insert, keep_over, exchange_over, remove_over, value_or_null, delete}
+use Rattle.judy_model.specs.Tenant.{content_of, insert, keep_over, exchange_over, remove_over, reply_of, value_or_null, delete}
 use Rattle.judy_reference.specs.Store.{on_array}
-use Rattle.judy_reference.proofs.CallLemmas.{looked, searched}
+use Rattle.judy_model.specs.Tenant.Answer.{Listed}
+use Rattle.judy_model.specs.Walks.{key_words, walk}
+use Rattle.judy_reference.proofs.CallLemmas.{looked, searched, walked}
 use Rattle.judy_reference.proofs.store.string.string_step.Goals as goal
-use Rattle.judy_reference.proofs.store.string.string_step.Goals.{in-Delete, in-DeleteIf, in-Take, in-Free, in-Get, in-First, in-Next, in-Last, in-Prev}
+use Rattle.judy_reference.proofs.store.string.string_step.Goals.{in-Delete, in-DeleteIf, in-Pop, in-Take, in-Free, in-Get, in-First, in-Next, in-Last, in-Prev, in-Walk}
 
 pub returns-in-Insert-clause-ok : goal.returns-in-Insert-clause-ok
 returns-in-Insert-clause-ok c =
@@ -52,6 +54,7 @@ returns-clause-ok c = elim c.match-call.branch [
   | in-Take w ↦ rw w.in-Take.is (rw w.maps-is (rw w.reply-is
       (subst (λ k. on_array c.args.maps.now c.args.name.now (λ l. (value_or_null (value_of string_order l k), without_key string_order l k))
       ≡ (w.take-reply.result, w.take-reply.new.maps)) w.of-in-Take.ensures w.take-reply.ensures)))
+  | in-Pop w ↦ rw w.in-Pop.is (rw w.maps-is (rw w.reply-is w.pop_string-reply.ensures))
   | in-Free w ↦ rw w.in-Free.is (rw w.maps-is (rw w.reply-is w.free-reply.ensures))
   | in-Get w ↦ rw w.in-Get.is (rw w.maps-is (rw w.reply-is
       (looked c.args.maps.now c.args.name.now _ _ _ _ w.of-in-Get.ensures w.get.ensures.value w.value_or_null-reply.ensures w.get.ensures.same)))
@@ -67,4 +70,8 @@ returns-clause-ok c = elim c.match-call.branch [
   | in-Prev w ↦ rw w.in-Prev.is (rw w.maps-is (rw w.reply-is
       (searched c.args.maps.now c.args.name.now (λ l. prev string_order l w.in-Prev.x) _ _ _ c.content-entries.ensures.value
       w.prev_string.ensures w.value_key_or_null-reply-in-Prev.ensures c.content-entries.ensures.same)))
+  | in-Walk w ↦ rw w.in-Walk.is (rw w.maps-is (rw w.reply-is
+      (walked c.args.maps.now c.args.name.now
+      (λ l. reply_of (Listed (map key_words (walk string_order l w.in-Walk.search w.in-Walk.x w.in-Walk.n)))) _ _ c.content-entries.ensures.value
+      w.strings-reply.ensures c.content-entries.ensures.same)))
 ]

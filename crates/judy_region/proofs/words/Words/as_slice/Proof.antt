@@ -19,7 +19,7 @@ use denote.Exit.{yes}
 use denote.Memory.{hidden_shr}
 use denote.Opens.{shr_dup, unhide, hide}
 use denote.Plain.{uint_row_laws}
-use denote.RattleType.{RattleType, RowLaws, owns}
+use denote.RattleType.{RowLaws, owns}
 use denote.RawPtr.{Ptr, RawPtr, block_of, count_of, InBlock, ptr_row_laws}
 use denote.Ref.{ShrRef, shr_vals, shr_Tells}
 use denote.Signature.{plain}
@@ -27,7 +27,7 @@ use denote.Slice.{slice_val}
 use denote.Steps.{nothing, heard}
 use denote.Struct.Lending.{in_block_says, lent_out}
 use denote.Struct.Owning.{shape}
-use denote.Struct.Struct.{Struct, Struct-row_laws}
+use denote.Struct.Struct.{Struct-row_laws}
 use denote.Triple.Walked.{Stays, walk_of, says, stay_none_ref, Goes-none_ref, ends_at}
 use Rattle.std.proofs.VecSteps.Shapes.{after}
 use Rattle.judy_region.specs.contracts.words.Words.as_slice as f

@@ -29,14 +29,12 @@ use denote.Index.{whole_in, whole_out}
 use denote.Laws.{shows}
 use denote.Memory.{mem, cell_at, part_at, part_of}
 use denote.Plain.{uint_vals, uint_Tells}
-use denote.RattleType.{RattleType, owns}
+use denote.RattleType.{owns}
 use denote.RawPtr.{Ptr, block_ptr, null_ptr, in_a_block}
 use denote.Ref.{MutRef, mut_vals, mut_Tells}
 use denote.Signature.{plain, mut_ref_to}
 use denote.Slice.{MutSlice, slice_val}
 use denote.Steps.{nothing, opens, peeks, heard}
-use denote.Struct.Owning.{shape}
-use denote.Struct.Struct.{Struct}
 use denote.Triple.Walked.{Stays, walk_of, says, stay_dropped, Goes-dropped, Goes-spent_ref, ends_at}
 use Rattle.std.proofs.VecSteps.Shapes.{after}
 use Rattle.judy_region.specs.Ownership.{words_own, room_after}

@@ -1,4 +1,4 @@
-use Rattle.std.proofs.Common.{refl, sym, ◌∙◌}
+use Rattle.std.proofs.Common.{refl}
 use Rattle.judy_tree.specs.Root.{entries}
 use Rattle.judy_tree.proofs.Steps.{no-value}
 use Rattle.judy_tree.proofs.lemmas.RootLaws.{stays, has-space}

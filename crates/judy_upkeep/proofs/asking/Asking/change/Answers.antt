@@ -1,4 +1,4 @@
-use Rattle.std.proofs.Common.{◌≡◌, ◌∙◌, ap, sym, inl, Some, Ok, Err, slice_get}
+use Rattle.std.proofs.Common.{rules, ◌≡◌, ◌∙◌, ap, sym, inl, Some, Ok, Err, slice_get}
 use Rattle.judy_upkeep.proofs.Asked.{gives, spoken}
 use Rattle.judy_upkeep.proofs.asking.Asking.change.Goals as goal
 
@@ -24,3 +24,8 @@ returns-in-Err-clause-changed g c =
     (gives g.S.Served.who g.S.Served.made c.args.self.now.speakers.items c.args.tenant c.args.line.now (Err c.in-Err.why)
     c.args.self.now.service c.call-reply.new.self c.in-Some-get.speaker.now c.in-Ok-Call.call c.call-reply.result speaks
     (c.in-Ok-Call.ensures.spelled ∙ ap Some c.in-Ok-Call.field-0-is) c.call-reply.ensures c.in-Err.ensures)
+
+pub invariant_of-self-2 : goal.invariant_of-self-2
+invariant_of-self-2 g c =
+    let same = (g.met.S.Served.apart c.args.self.now.service c.call-reply.new.self _ _ c.call-reply.ensures).speakers in
+    record { known = λ k d h. search rules }
