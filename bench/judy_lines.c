@@ -23,9 +23,9 @@
 #include <time.h>
 #include <unistd.h>
 
-enum { LINE_LIMIT = 4096, KEY_LIMIT = 1000, FIELDS = 6 };
+enum { LINE_LIMIT = 4096, KEY_LIMIT = 1000, LIST_LIMIT = 4088, MOST_ENTRIES = 65535, FIELDS = 6 };
 enum kind { ONE, LONG, STRING, BYTES };
-enum call { INSERT, ADD, KEEP, EXCHANGE, REMOVE, TAKE, FREE, LOOK, COUNT, NTH, FIRST, NEXT, LAST, PREV, FIRST_EMPTY, NEXT_EMPTY, LAST_EMPTY, PREV_EMPTY };
+enum call { INSERT, ADD, KEEP, FILL, EXCHANGE, REMOVE, TAKE, POP, CUT, FREE, LOOK, COUNT, NTH, FIRST, NEXT, LAST, PREV, FIRST_EMPTY, NEXT_EMPTY, LAST_EMPTY, PREV_EMPTY };
 
 struct array {
     Pvoid_t root;
@@ -62,48 +62,55 @@ struct request {
 /* python3 tests/calls.py --write writes these rows */
 static const struct command COMMANDS[] = {
     {"J1S", ONE, INSERT, 1, 0},
+    {"J1SE", ONE, FILL, 1, 0},
     {"J1U", ONE, REMOVE, 1, 0},
+    {"J1UF", ONE, POP, 2, 0},
+    {"J1UR", ONE, CUT, 3, 0},
     {"J1T", ONE, LOOK, 1, 0},
     {"J1C", ONE, COUNT, 2, 0},
     {"J1BC", ONE, NTH, 1, 0},
-    {"J1F", ONE, FIRST, 1, 0},
-    {"J1N", ONE, NEXT, 1, 0},
-    {"J1L", ONE, LAST, 1, 0},
-    {"J1P", ONE, PREV, 1, 0},
-    {"J1FE", ONE, FIRST_EMPTY, 1, 0},
-    {"J1NE", ONE, NEXT_EMPTY, 1, 0},
-    {"J1LE", ONE, LAST_EMPTY, 1, 0},
-    {"J1PE", ONE, PREV_EMPTY, 1, 0},
+    {"J1F", ONE, FIRST, 1, 1},
+    {"J1N", ONE, NEXT, 1, 1},
+    {"J1L", ONE, LAST, 1, 1},
+    {"J1P", ONE, PREV, 1, 1},
+    {"J1FE", ONE, FIRST_EMPTY, 1, 1},
+    {"J1NE", ONE, NEXT_EMPTY, 1, 1},
+    {"J1LE", ONE, LAST_EMPTY, 1, 1},
+    {"J1PE", ONE, PREV_EMPTY, 1, 1},
     {"J1FA", ONE, FREE, 0, 0},
     {"JLI", LONG, INSERT, 1, 1},
+    {"JLIE", LONG, FILL, 2, 0},
     {"JLA", LONG, ADD, 2, 0},
     {"JLK", LONG, KEEP, 2, 0},
     {"JLX", LONG, EXCHANGE, 3, 0},
     {"JLD", LONG, REMOVE, 1, 1},
+    {"JLDF", LONG, POP, 2, 0},
+    {"JLDR", LONG, CUT, 3, 0},
     {"JLT", LONG, TAKE, 1, 0},
     {"JLG", LONG, LOOK, 1, 0},
     {"JLC", LONG, COUNT, 2, 0},
     {"JLBC", LONG, NTH, 1, 0},
-    {"JLF", LONG, FIRST, 1, 0},
-    {"JLN", LONG, NEXT, 1, 0},
-    {"JLL", LONG, LAST, 1, 0},
-    {"JLP", LONG, PREV, 1, 0},
-    {"JLFE", LONG, FIRST_EMPTY, 1, 0},
-    {"JLNE", LONG, NEXT_EMPTY, 1, 0},
-    {"JLLE", LONG, LAST_EMPTY, 1, 0},
-    {"JLPE", LONG, PREV_EMPTY, 1, 0},
+    {"JLF", LONG, FIRST, 1, 1},
+    {"JLN", LONG, NEXT, 1, 1},
+    {"JLL", LONG, LAST, 1, 1},
+    {"JLP", LONG, PREV, 1, 1},
+    {"JLFE", LONG, FIRST_EMPTY, 1, 1},
+    {"JLNE", LONG, NEXT_EMPTY, 1, 1},
+    {"JLLE", LONG, LAST_EMPTY, 1, 1},
+    {"JLPE", LONG, PREV_EMPTY, 1, 1},
     {"JLFA", LONG, FREE, 0, 0},
     {"JSLI", STRING, INSERT, 1, 1},
     {"JSLA", STRING, ADD, 2, 0},
     {"JSLK", STRING, KEEP, 2, 0},
     {"JSLX", STRING, EXCHANGE, 3, 0},
     {"JSLD", STRING, REMOVE, 1, 1},
+    {"JSLDF", STRING, POP, 1, 0},
     {"JSLT", STRING, TAKE, 1, 0},
     {"JSLG", STRING, LOOK, 1, 0},
-    {"JSLF", STRING, FIRST, 1, 0},
-    {"JSLN", STRING, NEXT, 1, 0},
-    {"JSLL", STRING, LAST, 1, 0},
-    {"JSLP", STRING, PREV, 1, 0},
+    {"JSLF", STRING, FIRST, 1, 1},
+    {"JSLN", STRING, NEXT, 1, 1},
+    {"JSLL", STRING, LAST, 1, 1},
+    {"JSLP", STRING, PREV, 1, 1},
     {"JSLFA", STRING, FREE, 0, 0},
     {"JHSI", BYTES, INSERT, 1, 1},
     {"JHSA", BYTES, ADD, 2, 0},
@@ -115,6 +122,8 @@ static const struct command COMMANDS[] = {
     {"JHSFA", BYTES, FREE, 0, 0},
 };
 
+#include "judy_requests.h" /* a part of this file: it uses the types above */
+
 static struct tenant tenants[64];
 static size_t tenant_count;
 
@@ -122,114 +131,6 @@ static void die(const char *what)
 {
     fprintf(stderr, "judy_lines: %s: %s\n", what, strerror(errno));
     exit(4);
-}
-
-/* ---- reading a line ---- */
-
-static int is_word(struct field f, const char *word)
-{
-    return f.len == strlen(word) && memcmp(f.at, word, f.len) == 0;
-}
-
-static int is_name(struct field f)
-{
-    static const char letters[] = "ABCDEFGHIJKLMNOPQRSTUVWXYZabcdefghijklmnopqrstuvwxyz0123456789_-.";
-    if (f.len < 1 || f.len > 32)
-        return 0;
-    for (size_t i = 0; i < f.len; i++)
-        if (f.at[i] == 0 || !strchr(letters, f.at[i]))
-            return 0;
-    return 1;
-}
-
-static int is_token(struct field f)
-{
-    if (f.len < 1 || f.len > 128)
-        return 0;
-    for (size_t i = 0; i < f.len; i++)
-        if (f.at[i] < 33 || f.at[i] > 126)
-            return 0;
-    return 1;
-}
-
-static int read_word(struct field f, Word_t *word)
-{
-    unsigned __int128 n = 0;
-    if (is_word(f, "-1")) {
-        *word = UINT64_MAX;
-        return 1;
-    }
-    if (f.len < 1 || f.len > 20)
-        return 0;
-    for (size_t i = 0; i < f.len; i++) {
-        if (f.at[i] < '0' || f.at[i] > '9')
-            return 0;
-        n = 10 * n + (f.at[i] - '0');
-    }
-    *word = (Word_t)n;
-    return n <= UINT64_MAX;
-}
-
-static int digit(uint8_t c)
-{
-    return c >= '0' && c <= '9' ? c - '0' : c >= 'a' && c <= 'f' ? c - 'a' + 10 : c >= 'A' && c <= 'F' ? c - 'A' + 10 : -1;
-}
-
-static int read_key(struct field f, enum kind kind, struct request *r)
-{
-    if (f.len < 1 || f.at[0] != 'x' || f.len % 2 == 0 || f.len > 2 * KEY_LIMIT + 1)
-        return 0;
-    r->key_len = f.len / 2;
-    for (size_t i = 0; i < r->key_len; i++) {
-        int high = digit(f.at[1 + 2 * i]), low = digit(f.at[2 + 2 * i]);
-        if (high < 0 || low < 0 || (kind == STRING && high + low == 0))
-            return 0;
-        r->key[i] = (uint8_t)(16 * high + low);
-    }
-    r->key[r->key_len] = 0;
-    return 1;
-}
-
-/* Cuts a line into at most FIELDS fields, and counts them. */
-static int cut(const uint8_t *line, size_t len, struct field *fields)
-{
-    int count = 0;
-    for (size_t i = 0; i < len && count < FIELDS;) {
-        size_t start = i;
-        while (i < len && line[i] != ' ')
-            i++;
-        if (i > start)
-            fields[count++] = (struct field){line + start, i - start};
-        while (i < len && line[i] == ' ')
-            i++;
-    }
-    return count;
-}
-
-/* Reads the call of an array that the fields spell. */
-static int read_call(const struct field *fields, int count, struct request *r)
-{
-    size_t i, commands = sizeof COMMANDS / sizeof *COMMANDS;
-    for (i = 0; i < commands && !is_word(fields[0], COMMANDS[i].word); i++)
-        ;
-    if (i == commands || count < 2)
-        return 0;
-    const struct command *c = &COMMANDS[i];
-    int given = count - 2, at = 2;
-    if (given < c->must || given > c->must + c->may || !is_name(fields[1]))
-        return 0;
-    r->command = c;
-    r->name[0] = (char)('a' + c->kind);
-    memcpy(r->name + 1, fields[1].at, fields[1].len);
-    r->name[1 + fields[1].len] = 0;
-    r->given = 0;
-    if (c->kind >= STRING && c->must > 0)
-        if (!read_key(fields[at++], c->kind, r))
-            return 0;
-    while (at < count)
-        if (!read_word(fields[at++], &r->words[r->given++]))
-            return 0;
-    return 1;
 }
 
 /* ---- replies ---- */
@@ -330,6 +231,32 @@ static int remove_entry(struct tenant *t, struct array *a, const struct request 
     return removed;
 }
 
+/* Inserts an entry, and stores the value of the request, if it has one. */
+static void insert(struct tenant *t, const struct request *r)
+{
+    enum kind kind = r->command->kind;
+    Word_t entries = t->used, *value = add(t, r);
+    if (!value) {
+        say("FULL");
+    } else if (kind == ONE) {
+        say(t->used > entries ? "1" : "0");
+    } else {
+        say("V %lu", *value);
+        if (r->given > (kind == LONG))
+            *value = r->words[r->given - 1];
+    }
+}
+
+/* Adds to the value of an entry. */
+static void add_to(struct tenant *t, const struct request *r)
+{
+    Word_t *value = add(t, r);
+    if (value)
+        say("V %lu", *value += r->words[r->given - 1]);
+    else
+        say("FULL");
+}
+
 /* Keeps the value of an entry that is present, and otherwise inserts it with the value of the request. */
 static void keep(struct tenant *t, const struct array *a, const struct request *r)
 {
@@ -426,31 +353,141 @@ static Word_t *find_string(const struct array *a, enum call call, uint8_t *key)
     }
 }
 
+/* The bytes of a request that are kept of it. */
+static size_t size_of(const struct request *r)
+{
+    return offsetof(struct request, key) + (r->command->kind >= STRING ? r->key_len + 1 : 0);
+}
+
+/* Whether a search finds an index alone, without a value. */
+static int is_of_indexes(enum kind kind, enum call call)
+{
+    return kind == ONE || call >= FIRST_EMPTY;
+}
+
+/* Whether a search finds something: *x or the key is it, and *value the place of its value, if it has one. */
+static int finds(const struct array *a, enum kind kind, enum call call, Word_t *x, uint8_t *key, Word_t **value)
+{
+    if (is_of_indexes(kind, call))
+        return find_index(a, kind, call, x);
+    *value = kind == LONG ? find_value(a, call, x) : find_string(a, call, key);
+    return *value != NULL;
+}
+
+static void say_found(enum kind kind, enum call call, Word_t x, const uint8_t *key, const Word_t *value)
+{
+    if (is_of_indexes(kind, call))
+        say("1 %lu", x);
+    else if (kind == LONG)
+        say("V %lu %lu", *value, x);
+    else
+        say_string(*value, key);
+}
+
+static void say_nothing(enum kind kind, enum call call)
+{
+    say(is_of_indexes(kind, call) ? "0" : "NULL");
+}
+
+/* Removes the first entries from the one of the request on, of words up to its second, at most so many. How many it
+ * removed. A pop says the one that it removed. */
+static Word_t remove_first(struct tenant *t, struct array *a, const struct request *r, Word_t most)
+{
+    static struct request found;
+    enum kind kind = r->command->kind;
+    Word_t count = 0, *value;
+    memcpy(&found, r, size_of(r));
+    for (; count < most && finds(a, kind, FIRST, found.words, found.key, &value) && (kind == STRING || found.words[0] <= r->words[1]); count++) {
+        if (r->command->call == POP)
+            say_found(kind, FIRST, found.words[0], found.key, value);
+        found.key_len = kind == STRING ? strlen((const char *)found.key) : 0;
+        remove_entry(t, a, &found);
+    }
+    return count;
+}
+
+/* Inserts the first absent word from the one of the request on, and says it. */
+static void fill(struct tenant *t, const struct array *a, const struct request *r)
+{
+    static struct request found;
+    Word_t *value;
+    memcpy(&found, r, size_of(r));
+    if (!find_index(a, r->command->kind, FIRST_EMPTY, found.words)) {
+        say("0");
+    } else if (!(value = add(t, &found))) {
+        say("FULL");
+    } else {
+        if (r->command->kind == LONG)
+            *value = r->words[1];
+        say("1 %lu", found.words[0]);
+    }
+}
+
+/* The search that goes on behind what a search found. */
+static enum call behind(enum call call)
+{
+    switch (call) {
+    case FIRST: case NEXT: return NEXT;
+    case LAST: case PREV: return PREV;
+    case FIRST_EMPTY: case NEXT_EMPTY: return NEXT_EMPTY;
+    default: return PREV_EMPTY;
+    }
+}
+
+/* The text of what a search finds, after a space. Returns its bytes, or 0 if there is nothing. */
+static int text_found(const struct array *a, enum kind kind, enum call call, Word_t *x, uint8_t *key, char *text)
+{
+    Word_t *value;
+    int size;
+    if (!finds(a, kind, call, x, key, &value))
+        return 0;
+    if (is_of_indexes(kind, call))
+        return sprintf(text, " %lu", *x);
+    if (kind == LONG)
+        return sprintf(text, " %lu %lu", *value, *x);
+    size = sprintf(text, " %lu x", *value);
+    for (; *key; key++)
+        size += sprintf(text + size, "%02x", *key);
+    return size;
+}
+
+/* A search with a number of entries. */
+static void walk(const struct array *a, const struct request *r)
+{
+    static char text[2 * KEY_LIMIT + 64], listed[LIST_LIMIT];
+    static uint8_t key[2 * KEY_LIMIT];
+    enum call call = r->command->call;
+    Word_t x = r->words[0], count, len = 0;
+    if (r->command->kind == STRING)
+        memcpy(key, r->key, r->key_len + 1);
+    for (count = 0; count < entries_asked(r); count++) {
+        int size = text_found(a, r->command->kind, call, &x, key, text);
+        if (size == 0 || len + (Word_t)size > LIST_LIMIT)
+            break;
+        memcpy(listed + len, text, (size_t)size);
+        len += (Word_t)size;
+        call = behind(call);
+    }
+    say("E %lu%.*s", count, (int)len, listed);
+}
+
 /* A search of a request in an array. */
 static void search(const struct array *a, const struct request *r)
 {
     static uint8_t key[2 * KEY_LIMIT];
     Word_t x = r->words[0], *value;
+    enum kind kind = r->command->kind;
     enum call call = r->command->call;
-    if (r->command->kind == ONE || call >= FIRST_EMPTY) {
-        if (find_index(a, r->command->kind, call, &x))
-            say("1 %lu", x);
-        else
-            say("0");
+    if (is_walk(r)) {
+        walk(a, r);
         return;
     }
-    if (r->command->kind == LONG) {
-        if ((value = find_value(a, call, &x)))
-            say("V %lu %lu", *value, x);
-        else
-            say("NULL");
-        return;
-    }
-    memcpy(key, r->key, r->key_len + 1);
-    if ((value = find_string(a, call, key)))
-        say_string(*value, key);
+    if (kind == STRING)
+        memcpy(key, r->key, r->key_len + 1);
+    if (finds(a, kind, call, &x, key, &value))
+        say_found(kind, call, x, key, value);
     else
-        say("NULL");
+        say_nothing(kind, call);
 }
 
 /* A call of an array, by a tenant who may change it. */
@@ -459,44 +496,31 @@ static void make_call(struct tenant *t, const struct request *r)
     static struct array none;
     struct array *a = array_of(t, r->name, 0);
     enum kind kind = r->command->kind;
-    Word_t *value, entries = t->used;
     none = (struct array){0};
     if (!a)
         a = &none;
     switch (r->command->call) {
-    case INSERT:
-        if (!(value = add(t, r))) {
-            say("FULL");
-            break;
-        }
-        if (kind == ONE) {
-            say(t->used > entries ? "1" : "0");
-            break;
-        }
-        say("V %lu", *value);
-        if (r->given > (kind == LONG))
-            *value = r->words[r->given - 1];
-        break;
-    case ADD:
-        if (!(value = add(t, r)))
-            say("FULL");
-        else
-            say("V %lu", *value += r->words[r->given - 1]);
-        break;
+    case INSERT: insert(t, r); break;
+    case ADD: add_to(t, r); break;
     case KEEP: keep(t, a, r); break;
+    case FILL: fill(t, a, r); break;
     case EXCHANGE: exchange(a, r); break;
     case REMOVE: say(remove_if(t, a, r) ? "1" : "0"); break;
     case TAKE:
         say_value(find(a, r));
         remove_entry(t, a, r);
         break;
+    case POP:
+        if (!remove_first(t, a, r, 1))
+            say_nothing(kind, FIRST);
+        break;
+    case CUT: say("N %lu", remove_first(t, a, r, entries_asked(r))); break;
     case FREE: say("N %lu", free_array(t, a, kind)); break;
     case LOOK:
-        value = find(a, r);
         if (kind == ONE)
-            say(value ? "1" : "0");
+            say(find(a, r) ? "1" : "0");
         else
-            say_value(value);
+            say_value(find(a, r));
         break;
     case COUNT:
         say("N %lu", kind == ONE ? Judy1Count(a->root, r->words[0], r->words[1], PJE0) : JudyLCount(a->root, r->words[0], r->words[1], PJE0));
@@ -655,7 +679,7 @@ static void time_calls(void)
         int cut_off = cut((uint8_t *)line, (size_t)len, fields);
         if (!cut_off || !read_call(fields, cut_off, &r))
             continue;
-        size_t size = offsetof(struct request, key) + (r.command->kind >= STRING ? r.key_len + 1 : 0);
+        size_t size = size_of(&r);
         if (count == space)
             calls = realloc(calls, (space = 2 * space + 1024) * sizeof *calls);
         calls[count++] = memcpy(malloc(size), &r, size);

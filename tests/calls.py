@@ -20,7 +20,10 @@ from judyd.wording import CALLS, OTHERS, said_of  # noqa: E402
 from oracle import INSERTS, LOOKS, OPERATIONS  # noqa: E402
 
 LETTERS = {"name": "", "key": "K", "i": "W", "k": "W", "n": "W", "v": "W", "old": "W", "new": "W"}
-NAMES = {"Set": "Insert", "Unset": "Remove", "Test": "Look", "Delete": "Remove", "Get": "Look", "ByCount": "Nth", "FreeArray": "Free"}
+NAMES = {
+    "Set": "Insert", "Unset": "Remove", "Test": "Look", "Delete": "Remove", "Get": "Look", "ByCount": "Nth", "FreeArray": "Free",
+    "PopFirst": "Pop", "AddAbsent": "Fill", "InsertAbsent": "Fill", "RemoveRange": "Cut",
+}  # fmt: skip
 PREFIXES = {"One": "J1", "Long": "JL", "Str": "JSL", "Bytes": "JHS"}
 PAGE = "docs/PROTOCOL.md"
 COUNTS = "no one two three four five six seven eight nine ten".split()
@@ -81,7 +84,7 @@ class Row(NamedTuple):
 
     def usage(self, kind):
         """The fields of a kind's words: a key for the index of strings and bytes, and no value in a set."""
-        fields = [field for field in self.fields if kind != "One" or not field.startswith("[")]
+        fields = [field for field in self.fields if kind != "One" or field != "[v]"]
         return ["key" if field == "i" and kind in ("Str", "Bytes") else field for field in fields]
 
 

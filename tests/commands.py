@@ -9,7 +9,7 @@ from typing import NamedTuple
 TOP = os.path.dirname(os.path.dirname(os.path.abspath(__file__)))
 CODE = "crates/judy_model/specs/Commands.antt"
 ROW = re.compile(r'\(codes "(J\w+)", to (\w+) (\w+)\)')
-CALL = re.compile(r"^(\w+)_with (\w+) (key )?(?:numbers\.Nothing|\(numbers\.\w+ ([\w ]+)\)) = Some ", re.M)
+CALL = re.compile(r"^(\w+)_with (\w+) (key )?(?:numbers\.Nothing|\(numbers\.\w+ ([\w ]+)\)) = (?:Some|option_map) ", re.M)
 MAKERS = {"one": "One", "long": "Long", "string": "Str", "bytes": "Bytes"}
 KINDS = {"One": "Judy1", "Long": "JudyL", "Str": "JudySL", "Bytes": "JudyHS"}  # their names in the manual
 FEWEST = 40  # commands: fewer were not read

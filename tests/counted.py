@@ -117,7 +117,7 @@ class Lines:
     def call(self):
         """A call, each with the same chance."""
         word = self.draw.choice(sorted(COMMANDS))
-        return b" ".join([word, self.draw.choice((b"a", b"b")), *map(self.hostile.walk.keys.field, COMMANDS[word].must)])
+        return b" ".join([word, self.draw.choice((b"a", b"b")), *self.hostile.walk.fields(COMMANDS[word])])
 
     def line(self):
         """The next line. It does not end the connection."""

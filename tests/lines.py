@@ -1,6 +1,6 @@
 """Lines of requests from a seed: long walks of well-formed calls, and hostile lines."""
 
-from oracle import COMMANDS, EXCHANGES, FREES, GREATEST, INSERTS, LOOKS, REMOVES, Tenant, read_bytes, read_string, read_word
+from oracle import COMMANDS, EXCHANGES, FREES, GREATEST, INSERTS, LOOKS, OPERATIONS, REMOVES, Tenant, read_bytes, read_most, read_string, read_word
 
 TENANTS = [
     Tenant("alice", "abc", 40000, read_token="look"),
@@ -12,6 +12,9 @@ TENANTS = [
 TABLE = "".join(tenant.toml() for tenant in TENANTS).encode()
 NAMES = [b"a", b"b", b"a.b-c_D9", b"n" * 32]
 EDGES = sorted({(1 << k) + d & GREATEST for k in range(65) for d in (-2, -1, 0, 1)})
+MARCHES = [b"J1S %s %d"] * 2 + [b"JLI %s %d"] * 2 + [b"J1U %s %d", b"JLD %s %d", b"J1N %s %d", b"JLF %s %d", b"JLLE %s %d", b"J1SE %s %d", b"J1UF %s %d -1"]
+FILL, POP, CUT = OPERATIONS["Fill"], OPERATIONS["Pop"], OPERATIONS["Cut"]
+SHARES = {POP: 0.2, CUT: 0.1}  # of operations that would otherwise empty the arrays
 
 
 class Keys:
@@ -80,7 +83,8 @@ class Walk:
         self.left = self.random.choice((500, 5000, 20000))
         grows = self.random.random() < 0.6
         weights = {INSERTS: 8 if grows else 2, EXCHANGES: 2, REMOVES: 1 if grows else 6, LOOKS: 0.5}
-        self.weights = [weights[COMMANDS[word].operation.does] for word in self.commands]
+        operations = [COMMANDS[word].operation for word in self.commands]
+        self.weights = [weights[it.does] * SHARES.get(it, 1) for it in operations]
 
     def log_in(self):
         """A line that logs a tenant in with one of its tokens."""
@@ -96,25 +100,44 @@ class Walk:
         if self.random.random() < 0.0002:
             word = self.random.choice(self.frees)
         command = COMMANDS[word]
-        does, must = command.operation.does, command.must
-        fields = [word, self.random.choice(NAMES), *map(self.keys.field, must if does == LOOKS else must[:1])]
-        fields += [self.value() for _ in must[len(fields) - 2 :]]
-        if command.may and self.random.random() < (0.7 if does == INSERTS else 0.4):
-            fields.append(self.value())
+        fields = [word, self.random.choice(NAMES), *self.fields(command)]
+        if command.may and self.random.random() < (0.7 if command.operation.does == INSERTS else 0.4):
+            fields += [self.most() if read is read_most else self.value() for read in command.may]
         return b" ".join(fields)
+
+    def fields(self, command):
+        """The fields that a command must have."""
+        must, operation = command.must, command.operation
+        if operation in (POP, CUT) and must[0] is read_word:
+            return [*self.range(), *(self.most() for _ in must[2:])]
+        keys = [self.keys.field(read) for read in (must if operation.does == LOOKS else must[:1])]
+        if operation is FILL and self.random.random() < 0.1:  # where few words are absent
+            keys[0] = b"%d" % (GREATEST - self.random.randrange(3))
+        return keys + [self.value() for _ in must[len(keys) :]]
+
+    def range(self):
+        """The fields of two words, from the one to the other. The second is less now and then."""
+        low = self.keys.word()
+        high = self.random.choice((low, low + self.random.randrange(2000), self.keys.word(), GREATEST))
+        low = self.random.choice((low, low, 0))
+        return [b"%d" % low, b"%d" % min(high, GREATEST)]
 
     def value(self):
         """The field of a value. Few values recur often, so that many entries have a value that a line names."""
         return b"%d" % self.random.getrandbits(self.random.choice((1, 1, 4, 64)))
 
+    def most(self):
+        """The field of a number of entries."""
+        return b"%d" % self.random.choice((1, 2, 3, self.random.randrange(4, 300), 65535))
+
     def march(self):
         """Lines of one call on consecutive words, or on words as far apart as the children of a
         branch, upwards or downwards."""
-        letters = self.random.choice((b"J1S", b"J1S", b"JLI", b"JLI", b"J1U", b"JLD", b"J1N", b"JLF", b"JLLE"))
+        line = self.random.choice(MARCHES)
         name, base = self.random.choice(NAMES), self.random.choice(self.keys.bases) & ~255
         step = 1 << self.random.choice((0, 0, 0, 8, 16, 48, 56))
         words = [base + step * i & GREATEST for i in range(self.random.choice((40, 140, 256, 300)))]
-        return [b"%s %s %d" % (letters, name, word) for word in self.random.choice((words, words[::-1]))]
+        return [line % (name, word) for word in self.random.choice((words, words[::-1]))]
 
     def line(self):
         """The next line."""

@@ -22,6 +22,8 @@ import commands
 GREATEST = 2**64 - 1
 LINE_LIMIT = 4096
 KEY_LIMIT = 1000
+LIST_LIMIT = 4088  # the most bytes of the entries in a reply
+MOST_ENTRIES = 65535  # the most entries that a walk or the removal of a range may ask for
 NAME = re.compile(rb"[A-Za-z0-9_.-]{1,32}\Z")
 TOKEN = re.compile(rb"[!-~]{1,128}\Z")
 DIGITS = re.compile(rb"[0-9]{1,20}\Z")
@@ -225,6 +227,14 @@ def read_word(field):
     return int(field)
 
 
+def read_most(field):
+    """The number of entries that a walk or the removal of a range asks for."""
+    most = read_word(field)
+    if not 1 <= most <= MOST_ENTRIES:
+        raise Syntax
+    return most
+
+
 def read_bytes(field):
     """A key of a JudyHS."""
     if not KEY.match(field):
@@ -296,6 +306,34 @@ def remove(owner, kind, name, key, value=None):
     return b"1" if owner.remove(kind, name, key) else b"0"
 
 
+def pop(owner, kind, name, key, most=None):
+    """The removal of the least key from this one on, up to another index: the reply of the search for it."""
+    array = owner.array(kind, name)
+    found = array.first(key)
+    if found is None or (most is not None and found > most):
+        return b"0" if kind == SET else b"NULL"
+    reply = index(found) if kind == SET else b"V " + entry_text(kind, array, found)
+    owner.remove(kind, name, found)
+    return reply
+
+
+def fill(owner, kind, name, key, value=None):
+    """The insertion of the least absent index from this one on, with a value: this index, or that there is none."""
+    found = owner.array(kind, name).first_empty(key)
+    if found is not None:
+        insert(owner, kind, name, found, value)
+    return index(found)
+
+
+def cut(owner, kind, name, low, high, most):
+    """The removal of the indexes from `low` to `high`, the least first and at most so many: how many were removed."""
+    keys = owner.array(kind, name).keys
+    found = keys[bisect_left(keys, low) : bisect_right(keys, high)][:most]
+    for key in found:
+        owner.remove(kind, name, key)
+    return b"N %d" % len(found)
+
+
 def take(owner, kind, name, key):
     """The removal of a key: its value, or NULL."""
     before = look(owner, kind, name, key)
@@ -321,22 +359,58 @@ def count(owner, kind, name, low, high):
     return b"N %d" % owner.array(kind, name).count(low, high)
 
 
-def finds(search):
-    """A search for a key that is present: the key of a set, otherwise the value and the key."""
+def finds(search, on=None):
+    """A search for a key that is present: the key of a set, otherwise the value and the key. With a number of
+    entries: so many, each found behind the one before by the other search."""
 
-    def step(owner, kind, name, field):
+    def step(owner, kind, name, field, most=None):
         array = owner.array(kind, name)
+        if most is not None:
+            return listed(entry_text(kind, array, key) for key in walked(array, search, on, field, most))
         key = search(array, field)
         if kind == SET:
             return index(key)
-        return b"NULL" if key is None else b"V %d %s" % (array.values[key], text_of(key))
+        return b"NULL" if key is None else b"V " + entry_text(kind, array, key)
 
     return step
 
 
-def misses(search):
-    """A search for an absent index."""
-    return lambda owner, kind, name, field: index(search(owner.array(kind, name), field))
+def entry_text(kind, array, key):
+    """An entry: the key of a set, otherwise the value and the key."""
+    return text_of(key) if kind == SET else b"%d %s" % (array.values[key], text_of(key))
+
+
+def misses(search, on):
+    """A search for an absent index, or for so many."""
+
+    def step(owner, kind, name, field, most=None):
+        array = owner.array(kind, name)
+        if most is not None:
+            return listed(map(text_of, walked(array, search, on, field, most)))
+        return index(search(array, field))
+
+    return step
+
+
+def walked(array, search, on, field, most):
+    """What a search finds, and each time what the other search finds behind that: at most so many."""
+    found = search(array, field)
+    for _ in range(most):
+        if found is None:
+            return
+        yield found
+        found = on(array, found)
+
+
+def listed(texts):
+    """The reply that lists as many of these texts as fit."""
+    kept, size = [], 0
+    for text in texts:
+        size += 1 + len(text)
+        if size > LIST_LIMIT:
+            break
+        kept.append(text)
+    return b" ".join([b"E %d" % len(kept), *kept])
 
 
 def index(found):
@@ -345,33 +419,38 @@ def index(found):
 
 
 class Operation(NamedTuple):
-    """An operation: its step; its fields after the name, k for a key of the kind and w for a word; those that
-    may follow, except for a set; and what it does to the entries."""
+    """An operation: its step; its fields after the name, k for a key of the kind, w for a word, n for a number of
+    entries and v for a value, which no set has; those that may follow; what it does to the entries; and the fields
+    that follow an index, but no key."""
 
     step: Callable
     must: str
     may: str = ""
     does: str = LOOKS
+    of_words: str = ""
 
 
 OPERATIONS = {
-    "Insert": Operation(insert, "k", "w", INSERTS),
+    "Insert": Operation(insert, "k", "v", INSERTS),
     "Add": Operation(add, "kw", "", INSERTS),
-    "Keep": Operation(keep, "kw", "", INSERTS),
-    "Exchange": Operation(exchange, "kww", "", EXCHANGES),
-    "Remove": Operation(remove, "k", "w", REMOVES),
+    "Keep": Operation(keep, "kv", "", INSERTS),
+    "Fill": Operation(fill, "kv", "", INSERTS),
+    "Exchange": Operation(exchange, "kvv", "", EXCHANGES),
+    "Remove": Operation(remove, "k", "v", REMOVES),
     "Take": Operation(take, "k", "", REMOVES),
+    "Pop": Operation(pop, "k", "", REMOVES, "w"),
+    "Cut": Operation(cut, "k", "", REMOVES, "wn"),
     "Look": Operation(look, "k"),
     "Count": Operation(count, "kk"),
     "Nth": Operation(finds(Entries.nth), "w"),
-    "First": Operation(finds(Entries.first), "k"),
-    "Next": Operation(finds(Entries.next), "k"),
-    "Last": Operation(finds(Entries.last), "k"),
-    "Prev": Operation(finds(Entries.prev), "k"),
-    "FirstEmpty": Operation(misses(Entries.first_empty), "k"),
-    "NextEmpty": Operation(misses(Entries.next_empty), "k"),
-    "LastEmpty": Operation(misses(Entries.last_empty), "k"),
-    "PrevEmpty": Operation(misses(Entries.prev_empty), "k"),
+    "First": Operation(finds(Entries.first, Entries.next), "k", "n"),
+    "Next": Operation(finds(Entries.next, Entries.next), "k", "n"),
+    "Last": Operation(finds(Entries.last, Entries.prev), "k", "n"),
+    "Prev": Operation(finds(Entries.prev, Entries.prev), "k", "n"),
+    "FirstEmpty": Operation(misses(Entries.first_empty, Entries.next_empty), "k", "n"),
+    "NextEmpty": Operation(misses(Entries.next_empty, Entries.next_empty), "k", "n"),
+    "LastEmpty": Operation(misses(Entries.last_empty, Entries.prev_empty), "k", "n"),
+    "PrevEmpty": Operation(misses(Entries.prev_empty, Entries.prev_empty), "k", "n"),
     "Free": Operation(free, "", "", FREES),
 }
 
@@ -391,9 +470,11 @@ def command_of(word, kind, name):
     if name not in OPERATIONS:
         raise ValueError("tests/oracle.py has no step of the operation %s, which %s makes" % (name, word))
     operation = OPERATIONS[name]
-    readers = {"k": {"Str": read_string, "Bytes": read_bytes}.get(kind, read_word), "w": read_word}
-    may = "" if kind == SET else operation.may
-    return Command(kind, operation, tuple(map(readers.get, operation.must)), tuple(map(readers.get, may)))
+    readers = {"k": {"Str": read_string, "Bytes": read_bytes}.get(kind, read_word), "w": read_word, "n": read_most, "v": read_word}
+    must, may = operation.must + (operation.of_words if kind in ("One", "Long") else ""), operation.may
+    if kind == SET:
+        must, may = must.replace("v", ""), may.replace("v", "")
+    return Command(kind, operation, tuple(map(readers.get, must)), tuple(map(readers.get, may)))
 
 
 COMMANDS = {word.encode(): command_of(word, *it) for word, it in commands.COMMANDS.items()}

@@ -410,6 +410,18 @@ static int search_item(jd *c, const char *word, const char *name, uint64_t *inde
     return call_word(c, word, name, *index, ITEM, index, value);
 }
 
+/* A call with *index and another word, whose result is an index, with its value if there is one. */
+static int call_words(jd *c, const char *word, const char *name, uint64_t *index, uint64_t given, enum form form, uint64_t *value)
+{
+    struct result result = {.form = form, .index = index, .value = value};
+    return call(c, word, name, &(struct fields){.words = 2, .word = {*index, given}}, &result);
+}
+
+static int remove_range(jd *c, const char *word, const char *name, uint64_t low, uint64_t high, uint64_t most, uint64_t *count)
+{
+    return call(c, word, name, &(struct fields){.words = 3, .word = {low, high, most}}, &(struct result){.form = COUNT, .value = count});
+}
+
 /* The length of a string, or more than JD_KEY_LIMIT if it is longer. */
 static size_t length_of(const char *key)
 {
@@ -620,6 +632,13 @@ int jd_j1_next_empty(jd *c, const char *name, uint64_t *index) { return search_i
 int jd_j1_last_empty(jd *c, const char *name, uint64_t *index) { return search_index(c, "J1LE", name, index); }
 int jd_j1_prev_empty(jd *c, const char *name, uint64_t *index) { return search_index(c, "J1PE", name, index); }
 int jd_j1_free_array(jd *c, const char *name, uint64_t *count) { return free_array(c, "J1FA", name, count); }
+int jd_j1_add_absent(jd *c, const char *name, uint64_t *index) { return search_index(c, "J1SE", name, index); }
+int jd_j1_pop_first(jd *c, const char *name, uint64_t *index, uint64_t high) { return call_words(c, "J1UF", name, index, high, INDEX, NULL); }
+
+int jd_j1_remove_range(jd *c, const char *name, uint64_t low, uint64_t high, uint64_t most, uint64_t *count)
+{
+    return remove_range(c, "J1UR", name, low, high, most, count);
+}
 
 /* ---- JudyL ---- */
 
@@ -646,6 +665,18 @@ int jd_jl_exchange(jd *c, const char *name, uint64_t index, uint64_t old, uint64
 int jd_jl_del_if(jd *c, const char *name, uint64_t index, uint64_t value)
 {
     return call(c, "JLD", name, &(struct fields){.words = 2, .word = {index, value}}, &(struct result){.form = FLAG});
+}
+
+int jd_jl_insert_absent(jd *c, const char *name, uint64_t *index, uint64_t value) { return call_words(c, "JLIE", name, index, value, INDEX, NULL); }
+
+int jd_jl_pop_first(jd *c, const char *name, uint64_t *index, uint64_t high, uint64_t *value)
+{
+    return call_words(c, "JLDF", name, index, high, ITEM, value);
+}
+
+int jd_jl_remove_range(jd *c, const char *name, uint64_t low, uint64_t high, uint64_t most, uint64_t *count)
+{
+    return remove_range(c, "JLDR", name, low, high, most, count);
 }
 
 int jd_jl_take(jd *c, const char *name, uint64_t index, uint64_t *value) { return call_word(c, "JLT", name, index, FOUND, NULL, value); }
@@ -708,6 +739,7 @@ int jd_js_first(jd *c, const char *name, char *key, uint64_t *value) { return se
 int jd_js_next(jd *c, const char *name, char *key, uint64_t *value) { return search_string(c, "JSLN", name, key, value); }
 int jd_js_last(jd *c, const char *name, char *key, uint64_t *value) { return search_string(c, "JSLL", name, key, value); }
 int jd_js_prev(jd *c, const char *name, char *key, uint64_t *value) { return search_string(c, "JSLP", name, key, value); }
+int jd_js_pop_first(jd *c, const char *name, char *key, uint64_t *value) { return search_string(c, "JSLDF", name, key, value); }
 int jd_js_free_array(jd *c, const char *name, uint64_t *count) { return free_array(c, "JSLFA", name, count); }
 
 /* ---- JudyHS ---- */

@@ -95,9 +95,15 @@ int jd_line(jd *connection, const char *line, char *reply);
 int jd_begin(jd *connection, int *codes, size_t room);
 int jd_end(jd *connection);
 
-/* Judy1: sets of words. */
+/* Judy1: sets of words.
+ * These search and change in one step, of a JudyL too. add_absent inserts the first absent index from *index on.
+ * pop_first removes the first index from *index up to `high`. Both store the index that they found. remove_range
+ * removes the first indexes from `low` up to `high`, at most `most`, 1 to 65535, and stores how many. */
 int jd_j1_set(jd *connection, const char *name, uint64_t index);
+int jd_j1_add_absent(jd *connection, const char *name, uint64_t *index);
 int jd_j1_unset(jd *connection, const char *name, uint64_t index);
+int jd_j1_pop_first(jd *connection, const char *name, uint64_t *index, uint64_t high);
+int jd_j1_remove_range(jd *connection, const char *name, uint64_t low, uint64_t high, uint64_t most, uint64_t *count);
 int jd_j1_test(jd *connection, const char *name, uint64_t index);
 int jd_j1_count(jd *connection, const char *name, uint64_t low, uint64_t high, uint64_t *count);
 int jd_j1_by_count(jd *connection, const char *name, uint64_t nth, uint64_t *index);
@@ -118,6 +124,7 @@ int jd_j1_scan(jd *connection, const char *name, uint64_t from, jd_j1_visit *vis
  * was `old`. take removes, and tells the value. del_if removes if this is the value. */
 int jd_jl_ins(jd *connection, const char *name, uint64_t index, uint64_t value, uint64_t *before);
 int jd_jl_ensure(jd *connection, const char *name, uint64_t index, uint64_t *value);
+int jd_jl_insert_absent(jd *connection, const char *name, uint64_t *index, uint64_t value);
 int jd_jl_add(jd *connection, const char *name, uint64_t index, uint64_t n, uint64_t *value);
 int jd_jl_keep(jd *connection, const char *name, uint64_t index, uint64_t given, uint64_t *value);
 int jd_jl_exchange(jd *connection, const char *name, uint64_t index, uint64_t old, uint64_t given, uint64_t *before);
@@ -125,6 +132,8 @@ int jd_jl_take(jd *connection, const char *name, uint64_t index, uint64_t *value
 int jd_jl_get(jd *connection, const char *name, uint64_t index, uint64_t *value);
 int jd_jl_del(jd *connection, const char *name, uint64_t index);
 int jd_jl_del_if(jd *connection, const char *name, uint64_t index, uint64_t value);
+int jd_jl_pop_first(jd *connection, const char *name, uint64_t *index, uint64_t high, uint64_t *value);
+int jd_jl_remove_range(jd *connection, const char *name, uint64_t low, uint64_t high, uint64_t most, uint64_t *count);
 int jd_jl_count(jd *connection, const char *name, uint64_t low, uint64_t high, uint64_t *count);
 int jd_jl_by_count(jd *connection, const char *name, uint64_t nth, uint64_t *index, uint64_t *value);
 int jd_jl_first(jd *connection, const char *name, uint64_t *index, uint64_t *value);
@@ -138,7 +147,8 @@ int jd_jl_prev_empty(jd *connection, const char *name, uint64_t *index);
 int jd_jl_free_array(jd *connection, const char *name, uint64_t *count);
 int jd_jl_scan(jd *connection, const char *name, uint64_t from, jd_jl_visit *visit, void *context);
 
-/* JudySL: ordered maps from strings to words. A search has a buffer of JD_KEY_ROOM bytes. */
+/* JudySL: ordered maps from strings to words. A search has a buffer of JD_KEY_ROOM bytes. pop_first is a search
+ * whose entry is removed. */
 int jd_js_ins(jd *connection, const char *name, const char *key, uint64_t value, uint64_t *before);
 int jd_js_ensure(jd *connection, const char *name, const char *key, uint64_t *value);
 int jd_js_add(jd *connection, const char *name, const char *key, uint64_t n, uint64_t *value);
@@ -148,6 +158,7 @@ int jd_js_take(jd *connection, const char *name, const char *key, uint64_t *valu
 int jd_js_get(jd *connection, const char *name, const char *key, uint64_t *value);
 int jd_js_del(jd *connection, const char *name, const char *key);
 int jd_js_del_if(jd *connection, const char *name, const char *key, uint64_t value);
+int jd_js_pop_first(jd *connection, const char *name, char *key, uint64_t *value);
 int jd_js_first(jd *connection, const char *name, char *key, uint64_t *value);
 int jd_js_next(jd *connection, const char *name, char *key, uint64_t *value);
 int jd_js_last(jd *connection, const char *name, char *key, uint64_t *value);

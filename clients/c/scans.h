@@ -1,51 +1,49 @@
 /* The scans of judyd.c: one call visits many entries. It is part of judyd.c, and no program includes it.
  *
- * A Judy1 or a JudyL is read in windows. Ranks say where the cursors of a window begin, and all of them make
- * steps by Next at once. A cursor that reaches the place where the following one began has seen each entry
- * between the two. So other clients that change the ranks cost time, but no entry. A JudySL has no ranks:
- * one cursor reads it. */
+ * A scan asks for as many entries as fit into a reply, visits them, and goes on by Next behind the last of
+ * them. So it finds its place again whatever other clients insert and remove meanwhile. */
 #ifndef JUDYD_SCANS_H
 #define JUDYD_SCANS_H
 
 enum {
-    CURSORS = 64, /* the most of a window */
-    STEPS = 16    /* that each of them makes */
+    FEW = 16,    /* entries that the first line asks for: a visit may end the scan early */
+    MANY = 65535 /* and each other line */
 };
 
-/* A scan of a Judy1, which has `visit_one`, or of a JudyL, which has `visit_long`. */
-struct scan {
-    jd *c;
-    const char *name;
-    jd_j1_visit *visit_one;
-    jd_jl_visit *visit_long;
-    void *context;
-    bool is_done;                                              /* the end of the array was seen */
-    size_t most, cursors;                                      /* of this window: how many it may have, and has */
-    size_t rows[CURSORS];                                      /* how many rows each cursor has entries in */
-    int codes[CURSORS];                                        /* of calls in flight */
-    uint64_t index[STEPS + 1][CURSORS], value[STEPS + 1][CURSORS]; /* by row: where the cursors began, and after each step */
+/* A reply with many entries, and what is not read of it. */
+struct listing {
+    char reply[JD_REPLY_ROOM];
+    struct text rest;
+    uint64_t count;
 };
 
-/* ---- calls of either kind ---- */
-
-static int scan_first(struct scan *s, uint64_t *index, uint64_t *value)
+/* Asks for entries. Returns 1 with the number of them read, or a fault. */
+static int ask_entries(jd *c, const char *word, const char *name, const struct fields *fields, struct listing *l)
 {
-    return s->visit_one ? jd_j1_first(s->c, s->name, index) : jd_jl_first(s->c, s->name, index, value);
+    int code = call(c, word, name, fields, &(struct result){.form = LINE, .reply = l->reply});
+    if (code <= 0)
+        return code;
+    l->rest = (struct text){.at = l->reply, .end = l->reply + strlen(l->reply)};
+    if (skip(&l->rest, "E ") && read_word(&l->rest, &l->count) && (l->count > 0 || l->rest.at == l->rest.end))
+        return 1;
+    return fail(c, JD_REPLY);
 }
 
-static int scan_next(struct scan *s, uint64_t *index, uint64_t *value)
+/* Reads the next number of an entry. */
+static bool read_next(struct listing *l, uint64_t *number)
 {
-    return s->visit_one ? jd_j1_next(s->c, s->name, index) : jd_jl_next(s->c, s->name, index, value);
+    return skip(&l->rest, " ") && read_word(&l->rest, number);
 }
 
-static int scan_by_count(struct scan *s, uint64_t nth, uint64_t *index, uint64_t *value)
+/* Reads the string of an entry. */
+static bool read_string(struct listing *l, char key[JD_KEY_ROOM])
 {
-    return s->visit_one ? jd_j1_by_count(s->c, s->name, nth, index) : jd_jl_by_count(s->c, s->name, nth, index, value);
-}
-
-static int scan_count(struct scan *s, uint64_t low, uint64_t high, uint64_t *number)
-{
-    return s->visit_one ? jd_j1_count(s->c, s->name, low, high, number) : jd_jl_count(s->c, s->name, low, high, number);
+    if (!skip(&l->rest, " "))
+        return false;
+    const char *space = memchr(l->rest.at, ' ', (size_t)(l->rest.end - l->rest.at));
+    struct text field = {.at = l->rest.at, .end = space ? space : l->rest.end};
+    l->rest.at = field.end;
+    return read_key(field, key);
 }
 
 /* What a visit leads to. Returns 1 to go on, 0 if the visit ended the scan, or JD_USE if it left a queue. */
@@ -54,162 +52,94 @@ static int after_visit(const jd *c, int result)
     return result ? 0 : c->is_queueing ? JD_USE : 1;
 }
 
-static int scan_visit(struct scan *s, uint64_t index, uint64_t value)
-{
-    return after_visit(s->c, s->visit_one ? s->visit_one(index, s->context) : s->visit_long(index, value, s->context));
-}
+/* A scan of a Judy1, which has `visit_one`, or of a JudyL, which has `visit_long`. */
+struct scan {
+    jd *c;
+    const char *name;
+    jd_j1_visit *visit_one;
+    jd_jl_visit *visit_long;
+    void *context;
+    uint64_t last; /* the index where the scan goes on */
+    bool is_begun; /* and that index was visited */
+};
 
-/* ---- a window ---- */
-
-/* Begins the cursors of a window. The first stands where the last window ended, the others STEPS entries
- * apart. A place that others have moved in front of the one before is left out. Returns 1, or a fault. */
-static int begin_cursors(struct scan *s)
+/* Visits the entries of a reply. Returns as after_visit does, or a fault. */
+static int visit_words(struct scan *s, struct listing *l)
 {
-    uint64_t *index = s->index[0], *value = s->value[0], rank = 0, left = 0;
-    s->cursors = 1;
-    if (s->most == 1)
-        return 1;
-    jd_begin(s->c, s->codes, CURSORS);
-    scan_count(s, 0, index[0], &rank);
-    scan_count(s, index[0], UINT64_MAX, &left);
-    int code = jd_end(s->c);
-    size_t places = left / STEPS < s->most ? (size_t)(left / STEPS) + 1 : s->most;
-    if (code < 0 || places == 1)
-        return code;
-    jd_begin(s->c, s->codes, CURSORS);
-    for (size_t i = 1; i < places; i++)
-        scan_by_count(s, rank + STEPS * i, &index[i], &value[i]);
-    code = jd_end(s->c);
-    for (size_t i = 1; i < places; i++)
-        if (s->codes[i - 1] == 1 && index[i] > index[s->cursors - 1]) {
-            index[s->cursors] = index[i];
-            value[s->cursors++] = value[i];
-        }
-    return code;
-}
-
-/* Takes all cursors from a row to the next. Returns 1, 0 if none has an entry there, or a fault. */
-static int step_cursors(struct scan *s, size_t row)
-{
-    uint64_t *index = s->index[row];
-    int is_any = 0;
-    memcpy(index, s->index[row - 1], s->cursors * sizeof *index);
-    jd_begin(s->c, s->codes, CURSORS);
-    for (size_t i = 0; i < s->cursors; i++)
-        scan_next(s, &index[i], &s->value[row][i]);
-    int code = jd_end(s->c);
-    for (size_t i = 0; code > 0 && i < s->cursors; i++) {
-        if (s->codes[i] != 1 || s->rows[i] != row)
-            continue; /* this cursor has come to the end */
-        if (index[i] <= s->index[row - 1][i])
+    for (uint64_t i = 0; i < l->count; i++) {
+        uint64_t value = 0, index;
+        if ((s->visit_long && !read_next(l, &value)) || !read_next(l, &index))
             return fail(s->c, JD_REPLY);
-        s->rows[i] = row + 1;
-        is_any = 1;
-    }
-    return code < 0 ? code : is_any;
-}
-
-/* Reads a window. Returns 1, or a fault. */
-static int read_window(struct scan *s)
-{
-    int code = begin_cursors(s);
-    for (size_t i = 0; i < s->cursors; i++)
-        s->rows[i] = 1;
-    int going = code;
-    for (size_t row = 1; going > 0 && row <= STEPS; row++)
-        going = step_cursors(s, row);
-    return going < 0 ? going : 1;
-}
-
-/* Visits what lies between an index and a bound, step by step: entries that others have inserted there.
- * Returns as scan_visit does. */
-static int visit_between(struct scan *s, uint64_t index, uint64_t bound)
-{
-    for (;;) {
-        uint64_t before = index, value = 0;
-        int code = scan_next(s, &index, &value);
-        s->is_done = code == 0;
-        if (code <= 0 || index >= bound)
-            return code < 0 ? code : 1;
-        if (index <= before)
+        if (s->is_begun ? index <= s->last : index < s->last)
             return fail(s->c, JD_REPLY);
-        code = scan_visit(s, index, value);
+        s->last = index;
+        s->is_begun = true;
+        int code = after_visit(s->c, s->visit_one ? s->visit_one(index, s->context) : s->visit_long(index, value, s->context));
         if (code <= 0)
             return code;
     }
+    return l->rest.at == l->rest.end ? 1 : fail(s->c, JD_REPLY);
 }
 
-/* Visits the entries of a cursor, up to where the following one began. The last entry of the last cursor is
- * the first of the next window. Returns as scan_visit does. */
-static int visit_cursor(struct scan *s, size_t i)
+/* Scans from an index on. */
+static int scan_words(struct scan *s, const char *first, const char *next)
 {
-    bool is_last = i + 1 == s->cursors;
-    uint64_t bound = is_last ? 0 : s->index[0][i + 1];
-    for (size_t row = 0; row < s->rows[i]; row++) {
-        if (is_last ? row == STEPS : s->index[row][i] >= bound)
-            return 1;
-        int code = scan_visit(s, s->index[row][i], s->value[row][i]);
-        if (code <= 0)
-            return code;
-    }
-    s->is_done = s->rows[i] <= STEPS;
-    return s->is_done ? 1 : visit_between(s, s->index[STEPS][i], bound);
-}
-
-/* Scans from an index on. The first windows are small, for a scan that a visit ends early. */
-static int scan_words(struct scan *s, uint64_t from)
-{
+    struct listing l;
     if (s->c->is_queueing)
         return JD_USE;
-    s->index[0][0] = from;
-    int code = scan_first(s, &s->index[0][0], &s->value[0][0]);
-    s->is_done = code == 0;
-    for (s->most = 1; code >= 0 && !s->is_done; s->most = s->most < CURSORS / 4 ? 4 * s->most : CURSORS) {
-        code = read_window(s);
-        for (size_t i = 0; code > 0 && i < s->cursors && !s->is_done; i++)
-            code = visit_cursor(s, i);
+    for (uint64_t most = FEW;; most = MANY) {
+        struct fields fields = {.words = 2, .word = {s->last, most}};
+        int code = ask_entries(s->c, s->is_begun ? next : first, s->name, &fields, &l);
+        if (code <= 0 || l.count == 0)
+            return code;
+        code = visit_words(s, &l);
         if (code <= 0)
             return code;
-        s->index[0][0] = s->index[STEPS][s->cursors - 1];
-        s->value[0][0] = s->value[STEPS][s->cursors - 1];
     }
-    return code < 0 ? code : 1;
 }
 
 /* ---- the functions of the header ---- */
 
 int jd_j1_scan(jd *c, const char *name, uint64_t from, jd_j1_visit *visit, void *context)
 {
-    struct scan s = {.c = c, .name = name, .visit_one = visit, .context = context};
-    return scan_words(&s, from);
+    struct scan s = {.c = c, .name = name, .visit_one = visit, .context = context, .last = from};
+    return scan_words(&s, "J1F", "J1N");
 }
 
 int jd_jl_scan(jd *c, const char *name, uint64_t from, jd_jl_visit *visit, void *context)
 {
-    struct scan s = {.c = c, .name = name, .visit_long = visit, .context = context};
-    return scan_words(&s, from);
+    struct scan s = {.c = c, .name = name, .visit_long = visit, .context = context, .last = from};
+    return scan_words(&s, "JLF", "JLN");
 }
 
 int jd_js_scan(jd *c, const char *name, const char *from, jd_js_visit *visit, void *context)
 {
     char key[JD_KEY_ROOM], before[JD_KEY_ROOM];
-    uint64_t value = 0;
+    struct listing l;
+    bool is_begun = false;
     if (c->is_queueing)
         return JD_USE;
     if (length_of(from) > JD_KEY_LIMIT)
         return JD_KEY;
     strcpy(key, from);
-    int code = jd_js_first(c, name, key, &value);
-    while (code > 0) {
-        code = after_visit(c, visit(key, value, context));
-        if (code <= 0)
+    for (uint64_t most = FEW;; most = MANY) {
+        struct fields fields = {.has_key = true, .key = key, .length = strlen(key), .words = 1, .word = {most}};
+        int code = ask_entries(c, is_begun ? "JSLN" : "JSLF", name, &fields, &l);
+        if (code <= 0 || l.count == 0)
             return code;
-        strcpy(before, key);
-        code = jd_js_next(c, name, key, &value);
-        if (code > 0 && strcmp(key, before) <= 0)
+        for (uint64_t i = 0; i < l.count; i++) {
+            uint64_t value;
+            strcpy(before, key);
+            if (!read_next(&l, &value) || !read_string(&l, key) || strcmp(key, before) < is_begun)
+                return fail(c, JD_REPLY);
+            is_begun = true;
+            code = after_visit(c, visit(key, value, context));
+            if (code <= 0)
+                return code;
+        }
+        if (l.rest.at != l.rest.end)
             return fail(c, JD_REPLY);
     }
-    return code < 0 ? code : 1;
 }
 
 #endif

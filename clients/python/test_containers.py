@@ -131,14 +131,30 @@ class Races(Containers):
         for array, key, other in self.arrays()[:2]:
             later = key + 1 if array is self.m else key + b"1"
             array.update({key: 7, later: 8})
-            self.before_next(lambda other=other, key=key: other.delete(key), b"F")
+            self.before_next(lambda other=other, key=key: other.delete(key), b"DF", True)
             self.assertEqual(array.popitem(), (later, 8))
             array[key] = 7
-            self.before_next(lambda other=other, key=key: other.insert(key, 9), b"F")
+            self.before_next(lambda other=other, key=key: other.insert(key, 9), b"DF", True)
             self.assertEqual(array.popitem(), (key, 9))
             array[key] = 7
-            self.before_next(lambda other=other, key=key: other.delete(key), b"F")
-            self.assertRaisesRegex(KeyError, "empty", array.popitem)
+            self.before_next(lambda other=other, key=key: other.delete(key), b"DF", True)
+            self.assertRaisesRegex(KeyError, "the map is empty", array.popitem)
+            array[key] = 7
+            self.before_next(lambda other=other, later=later: other.insert(later, 8), b"DF")
+            self.assertEqual((array.popitem(), array.free_array()), ((key, 7), 1))  # what comes later stays
+
+    def test_pop_and_take_of_a_set(self):
+        ids, other = self.ids, self.alice().judy1("ids")
+        ids.update({5, 6})
+        self.before_next(lambda: other.unset(5), b"UF", True)
+        self.assertEqual(ids.pop(), 6)
+        self.before_next(lambda: other.set(4), b"UF", True)
+        self.assertEqual(ids.pop(), 4)
+        ids.add(5)
+        self.before_next(lambda: other.unset(5), b"UF", True)
+        self.assertRaisesRegex(KeyError, "the set is empty", ids.pop)
+        self.before_next(lambda: other.set(1), b"SE", True)
+        self.assertEqual((ids.take(1), list(ids)), (2, [1, 2]))
 
     def test_setdefault(self):
         for array, key, other in self.arrays():

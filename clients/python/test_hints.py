@@ -128,10 +128,11 @@ class Commands(unittest.TestCase):
         """The lines of each method, once more for each parameter that may be left out."""
         for kind in (Judy1Calls, JudyLCalls, JudySLCalls, JudyHSCalls):
             array = kind(asker, "a")
+            given = {"key": key if kind in (JudySLCalls, JudyHSCalls) else number, "most": 9}
             for name, method in inspect.getmembers(array, inspect.ismethod):
                 if not name.startswith("_"):
                     known = inspect.signature(method).parameters.values()
-                    fields = [key if it.name == "key" and kind in (JudySLCalls, JudyHSCalls) else number for it in known]
+                    fields = [given.get(it.name, number) for it in known]
                     for count in range(sum(it.default is it.empty for it in known), len(fields) + 1):
                         method(*fields[:count])
         return asker.lines
@@ -152,8 +153,9 @@ class Commands(unittest.TestCase):
     def test_what_may_be_sent_twice(self):
         for line in self.made(Recorder()):
             operation = commands.COMMANDS[line.split()[0].decode()].operation
-            self.assertEqual((line, is_query(line)), (line, operation not in ("Insert", "Add", "Keep", "Exchange", "Remove", "Take", "Free")))
-            self.assertEqual((line, is_same_twice(line)), (line, operation != "Add"))
+            changes = ("Insert", "Add", "Keep", "Fill", "Exchange", "Remove", "Take", "Pop", "Cut", "Free")
+            self.assertEqual((line, is_query(line)), (line, operation not in changes))
+            self.assertEqual((line, is_same_twice(line)), (line, operation not in ("Add", "Fill", "Pop", "Cut")))
         for line in (b"USED", b"PING", b"HELLO", b"AUTH alice abc"):
             self.assertTrue(is_query(line), line)
         for line in (b"QUIT", b"", b"PING 1", b"HELLOS", b"J1X a 1", b"J1TT a 1", b"j1t a 1", b"AUTHX a b", b"USED 1"):

@@ -7,7 +7,14 @@ import unittest
 
 sys.path.insert(0, os.path.dirname(os.path.abspath(__file__)))
 
+from judyd.walks import ROOM  # noqa: E402
 from served import WithClient  # noqa: E402
+
+
+def listed(count, size):
+    """The most lines that list so many entries of at most `size` bytes, each with the spaces before its fields: the
+    first line asks for a few, and one or two more find the end. Python may ask for the length too."""
+    return count // (ROOM // size) + 4
 
 
 class Windows(WithClient):
@@ -40,11 +47,12 @@ class Windows(WithClient):
     def test_one_pass_of_a_word_map(self):
         m, n = self.client.judyl("m"), 20000
         items = [(i * i, i) for i in range(n)]
+        most = listed(n, 16)
         self.costs(lambda: m.update(items), n, n // 1000)
-        self.assertEqual(self.costs(lambda: list(m.items()), 1.1 * n, n // 250), items)
-        self.assertEqual(self.costs(lambda: list(m.values()), 1.1 * n, n // 250), list(range(n)))
-        self.assertEqual(self.costs(lambda: list(m), 1.1 * n, n // 250), [key for key, _ in items])
-        self.assertEqual(self.costs(lambda: list(reversed(m)), 1.1 * n, n // 250), [key for key, _ in reversed(items)])
+        self.assertEqual(self.costs(lambda: list(m.items()), most, most), items)
+        self.assertEqual(self.costs(lambda: list(m.values()), most, most), list(range(n)))
+        self.assertEqual(self.costs(lambda: list(m), most, most), [key for key, _ in items])
+        self.assertEqual(self.costs(lambda: list(reversed(m)), most, most), [key for key, _ in reversed(items)])
         self.assertEqual(self.costs(lambda: dict(m.get_many(range(3000))), 3000, 3)[2500], 50)
         self.assertEqual(self.costs(lambda: m.delete_many(range(3000)), 3000, 3), 55)
         self.costs(m.clear, 1, 1)
@@ -61,15 +69,15 @@ class Windows(WithClient):
             ids -= range(0, 3 * n, 6)
 
         self.costs(put_in, n, n // 1000)
-        self.assertEqual(self.costs(lambda: list(ids), 1.1 * n, n // 250), list(range(0, 3 * n, 3)))
+        self.assertEqual(self.costs(lambda: list(ids), listed(n, 6), listed(n, 6)), list(range(0, 3 * n, 3)))
         self.assertEqual(self.costs(lambda: ids & range(10), 10, 1), {0, 3, 6, 9})
         self.costs(take_out, n // 2, n // 1000)
-        self.assertEqual(self.costs(lambda: next(iter(ids)), 26, 4), 3)
+        self.assertEqual(self.costs(lambda: next(iter(ids)), 1, 1), 3)
         self.costs(ids.clear, 1, 1)
         self.costs(lambda: ids.update(range(5000)), 5000, 5)
         ranks = ids.ranks
-        self.assertEqual(self.costs(lambda: list(ranks), 5500, 40), list(range(5000)))
-        self.assertEqual(self.costs(lambda: list(reversed(ranks))[:3], 6000, 60), [4999, 4998, 4997])
+        self.assertEqual(self.costs(lambda: list(ranks), listed(5000, 5), listed(5000, 5)), list(range(5000)))
+        self.assertEqual(self.costs(lambda: list(reversed(ranks))[:3], listed(5000, 5), listed(5000, 5)), [4999, 4998, 4997])
         self.assertEqual(self.costs(lambda: ranks[1000:3000], 2001, 3), list(range(1000, 3000)))
         self.assertEqual(self.costs(lambda: (ranks.index(77), 77 in ranks, 5000 in ranks, ranks.count(4)), 7, 7), (77, True, False, 1))
         self.costs(ids.clear, 1, 1)
@@ -78,10 +86,11 @@ class Windows(WithClient):
         s, n = self.client.judysl("s"), 1000
         items = [(b"word %d" % i, i) for i in range(1000, 1000 + n)]
         passes = 2 if sys.version_info < (3, 10) else 1  # an older list() asks for the length before it asks for an iterator
+        most = listed(n, 25)
         self.costs(lambda: s.update(dict(items)), n, 1)
         for call, wanted in ((s.items, items), (s.values, [v for _, v in items]), (s.keys, [k for k, _ in items]), (lambda: s, [k for k, _ in items])):
-            self.assertEqual(self.costs(lambda call=call: list(call()), passes * 1.25 * n, passes * 250), wanted)
-        self.assertEqual(self.costs(lambda: len(s), 1.25 * n, 250), n)
+            self.assertEqual(self.costs(lambda call=call: list(call()), passes * most, passes * most), wanted)
+        self.assertEqual(self.costs(lambda: len(s), most, most), n)
         keys = iter(s)
         self.assertEqual((len(s), next(keys), len(s), len(list(keys))), (n, b"word 1000", n, n - 1))
         self.costs(s.clear, 1, 1)

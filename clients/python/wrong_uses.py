@@ -31,6 +31,9 @@ def sets(client: judyd.Client) -> None:
     """Judy1."""
     ids = client.judy1("ids")
     free: Optional[int] = ids.take()
+    free = ids.add_absent(1)
+    popped: Optional[int] = ids.pop_first(1, 9)
+    count: int = ids.remove_range(1, 9, 5)
     newest: List[int] = ids.ranks[-10:]
     least: int = ids.ranks[0]
     client.judy1(b"ids")  # wrong
@@ -39,6 +42,10 @@ def sets(client: judyd.Client) -> None:
     ids.add(b"5")  # wrong
     ids.update(["5"])  # wrong
     ids.set(5, 6)  # wrong
+    ids.add_absent("5")  # wrong
+    ids.pop_first(1, "9")  # wrong
+    ids.remove_range(1)  # wrong
+    certain: int = ids.pop_first()  # wrong
     ids.add(5, 2)  # wrong
     ids.insert(5)  # wrong
     is_new: str = ids.set(5)  # wrong
@@ -48,7 +55,7 @@ def sets(client: judyd.Client) -> None:
     ids.walk(0, "9")  # wrong
     ids.walk_back("9")  # wrong
     ids[5]  # wrong
-    print(free, newest, least, is_new, index, item)
+    print(free, popped, count, certain, newest, least, is_new, index, item)
 
 
 def word_maps(client: judyd.Client) -> None:
@@ -83,6 +90,12 @@ def word_maps(client: judyd.Client) -> None:
     before: Optional[int] = m.exchange(5, 6, 7)
     was_there: bool = m.delete_if(5, 6)
     taken: Optional[int] = m.take(5)
+    claimed: Optional[int] = m.insert_absent(0, 5)
+    least: Optional[Tuple[int, int]] = m.pop_first(0, 9)
+    m.insert_absent(0)  # wrong
+    m.insert_absent(0, "5")  # wrong
+    m.pop_first("0")  # wrong
+    index: Optional[int] = m.pop_first()  # wrong
     m.keep(5)  # wrong
     m.keep(5, None)  # wrong
     m.exchange(5, 6)  # wrong
@@ -90,7 +103,7 @@ def word_maps(client: judyd.Client) -> None:
     m.delete_if(5)  # wrong
     m.take("5")  # wrong
     certain: int = m.take(5)  # wrong
-    print(kept, before, was_there, taken, certain)
+    print(kept, before, was_there, taken, certain, claimed, least, index)
     other: int = m.get(5)  # wrong
     text: str = m[5]  # wrong
     first: Tuple[int, int] = m.first()  # wrong
@@ -110,6 +123,10 @@ def string_maps(client: judyd.Client) -> None:
     texts.get(b"tree")  # wrong
     plain.get("tree")  # wrong
     plain.next(5)  # wrong
+    least: Optional[Tuple[str, int]] = texts.pop_first("tree")
+    texts.pop_first(b"tree")  # wrong
+    plain.pop_first(b"t", b"u")  # wrong
+    wrong_least: Optional[Tuple[str, int]] = plain.pop_first()  # wrong
     texts.add(b"tree")  # wrong
     texts.update({b"tree": 3})  # wrong
     list(plain.with_prefix("tr"))  # wrong
@@ -119,7 +136,7 @@ def string_maps(client: judyd.Client) -> None:
     plain.first_empty(5)  # wrong
     plain.ranks  # wrong
     client.judysl("s", encoding=8)  # wrong
-    print(first, key, wrong_first, wrong_key)
+    print(first, key, wrong_first, wrong_key, least, wrong_least)
 
 
 def byte_maps(client: judyd.Client) -> None:
@@ -130,6 +147,7 @@ def byte_maps(client: judyd.Client) -> None:
     plain["a"] = 2  # wrong
     plain[5] = 2  # wrong
     plain.first()  # wrong
+    plain.pop_first()  # wrong
     len(plain)  # wrong
     plain.walk()  # wrong
 
@@ -148,8 +166,11 @@ def pipelines(client: judyd.Client) -> None:
         pipe.judy1("ids").add("5")  # wrong
         hits: int = pipe.judyl("m").add(5)  # wrong
         kept: judyd.Later[Optional[int]] = pipe.judyl("m").keep(5, 6)
+        popped: judyd.Later[Optional[Tuple[int, int]]] = pipe.judyl("m").pop_first()
+        claimed: judyd.Later[Optional[int]] = pipe.judy1("ids").add_absent()
+        pipe.judy1("ids").pop()  # wrong
         was_there: bool = pipe.judyl("m").delete_if(5, 6)  # wrong
-        print(kept, was_there)
+        print(kept, popped, claimed, was_there)
         pipe.judyl("m")[5] = "6"  # wrong
         pipe.judysl("s")["tree"] = 6  # wrong
         is_new: bool = pipe.judy1("ids").set(5)  # wrong
@@ -187,7 +208,9 @@ async def tasks(client: aio.Client) -> None:
     hits: int = client.judyl("m").add(5)  # wrong
     kept: Optional[int] = await client.judyl("m").keep(5, 6)
     taken: Optional[int] = client.judyl("m").take(5)  # wrong
-    print(kept, taken)
+    popped: Optional[int] = await client.judy1("ids").pop_first()
+    claimed: Optional[int] = client.judy1("ids").add_absent()  # wrong
+    print(kept, taken, popped, claimed)
     for index in client.judy1("ids").walk():  # wrong
         print(index)
     async for key, value in client.judysl("s").walk(b"a"):  # wrong

@@ -3,7 +3,8 @@
  * usage: scans all PATH SEED COUNT      a judyd with the tenant alice (token abc); arrays of about COUNT entries,
  *                                       alone and beside a writer
  *        scans plain PATH COUNT         one scan of a JudyL with the entries 0 to COUNT - 1, and nothing else
- *        scans odd PATH                 a server that replies `V 1 5` to each line
+ *        scans odd PATH 1|l|s COUNT     a server whose last reply on each of COUNT connections is none to a scan of this
+ *                                       kind; before it comes the entry 5, 5 with the value 1, or a with the value 1
  *        scans refused PATH             one that replies `ERR FROZEN`, `ERR NEW`, `V 1 5` */
 #define _POSIX_C_SOURCE 200809L
 
@@ -316,14 +317,37 @@ static int visit_five(uint64_t index, uint64_t value, void *context)
     return 0;
 }
 
-/* The same entry again and again is no next entry. */
-static void check_odd(const char *path)
+static int visit_index_five(uint64_t index, void *context)
 {
-    jd *c = open_at(path);
-    CHECK(JD_REPLY, jd_jl_scan(c, "l", 0, visit_five, NULL));
-    CHECK(JD_CLOSED, jd_jl_scan(c, "l", 0, visit_five, NULL));
-    CHECK(-1, jd_fd(c));
-    jd_close(c);
+    return visit_five(index, 1, context);
+}
+
+static int visit_a(const char *key, uint64_t value, void *context)
+{
+    CHECK(0, strcmp(key, "a"));
+    return visit_five(5, value, context);
+}
+
+/* A scan of a kind, which is `1`, `l` or `s`. */
+static int scan(jd *c, char kind)
+{
+    switch (kind) {
+    case '1': return jd_j1_scan(c, "a", 0, visit_index_five, NULL);
+    case 'l': return jd_jl_scan(c, "a", 0, visit_five, NULL);
+    default: return jd_js_scan(c, "a", "", visit_a, NULL);
+    }
+}
+
+/* Replies of which the last one is none to a scan of this kind, on so many connections. */
+static void check_odd(const char *path, char kind, uint64_t count)
+{
+    for (uint64_t i = 0; i < count; i++) {
+        jd *c = open_at(path);
+        CHECK(JD_REPLY, scan(c, kind));
+        CHECK(JD_CLOSED, scan(c, kind));
+        CHECK(-1, jd_fd(c));
+        jd_close(c);
+    }
 }
 
 /* A refusal leaves the connection open. One that the library does not know is a refusal too. */
@@ -361,12 +385,12 @@ int main(int count, char **words)
         check_all(words[2], strtoull(words[3], NULL, 10), strtoul(words[4], NULL, 10));
     else if (count == 4 && !strcmp(words[1], "plain"))
         check_plain(words[2], strtoull(words[3], NULL, 10));
-    else if (count == 3 && !strcmp(words[1], "odd"))
-        check_odd(words[2]);
+    else if (count == 5 && !strcmp(words[1], "odd"))
+        check_odd(words[2], words[3][0], strtoull(words[4], NULL, 10));
     else if (count == 3 && !strcmp(words[1], "refused"))
         check_unknown(words[2]);
     else {
-        fprintf(stderr, "usage: scans all PATH SEED COUNT, scans plain PATH COUNT, scans odd|refused PATH\n");
+        fprintf(stderr, "usage: scans all PATH SEED COUNT, scans plain PATH COUNT, scans odd PATH 1|l|s COUNT, scans refused PATH\n");
         return 2;
     }
     return 0;

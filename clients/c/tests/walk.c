@@ -4,7 +4,7 @@
  * usage: walk PATH SEED CALLS BATCH THREADS [add]
  *     PATH is the socket; tenant alice with token abc. Each thread has its own connection, and arrays
  *     of its own. A BATCH of 0 makes plain calls. Otherwise up to BATCH calls are queued at a time. With `add` the
- *     calls that add to a value, or decide by one, are made too: judyd has them, libjudy has not. */
+ *     calls that libjudy has not are made too: those that add to a value, decide by one, or change what they find. */
 #include <Judy.h>
 #include <pthread.h>
 #include <stdio.h>
@@ -220,6 +220,38 @@ static int ask_one(struct walker *w, struct array *a, struct check *k)
     }
 }
 
+/* The end of a range that begins at a word; now and then one that is less. */
+static uint64_t draw_end(struct walker *w, uint64_t x)
+{
+    uint64_t more = below(w, 600);
+    return below(w, 4) == 0 ? draw_word(w) : x <= UINT64_MAX - more ? x + more : UINT64_MAX;
+}
+
+/* A call of a Judy1 that changes what it finds. */
+static int find_one(struct walker *w, struct array *a, struct check *k)
+{
+    uint64_t x = draw_word(w), high = draw_end(w, x), most = 1 + below(w, 20), which = below(w, 5);
+    k->index = k->wanted_index = x;
+    if (which == 0) {
+        k->what = "jd_j1_remove_range", k->wanted = 1, k->wanted_value = 0;
+        for (; k->wanted_value < most && Judy1First(a->root, &x, PJE0) && x <= high; k->wanted_value++)
+            Judy1Unset(&a->root, x, PJE0);
+        return jd_j1_remove_range(w->connection, a->name, k->index, high, most, &k->value);
+    }
+    if (which <= 2) {
+        k->what = "jd_j1_add_absent";
+        want_flag(k, Judy1FirstEmpty(a->root, &x, PJE0));
+        if (k->wanted)
+            k->wanted_index = x, Judy1Set(&a->root, x, PJE0);
+        return jd_j1_add_absent(w->connection, a->name, &k->index);
+    }
+    k->what = "jd_j1_pop_first";
+    want_flag(k, Judy1First(a->root, &x, PJE0) && x <= high);
+    if (k->wanted)
+        k->wanted_index = x, Judy1Unset(&a->root, x, PJE0);
+    return jd_j1_pop_first(w->connection, a->name, &k->index, high);
+}
+
 static int call_one(struct walker *w, struct check *k)
 {
     struct array *a = &w->one[below(w, NAMES)];
@@ -228,6 +260,8 @@ static int call_one(struct walker *w, struct check *k)
         return free_one(w, a, k);
     if (below(w, 2))
         return ask_one(w, a, k);
+    if (w->adds && below(w, 4) == 0)
+        return find_one(w, a, k);
     if ((int)below(w, 10) < w->grows) {
         k->what = "jd_j1_set";
         want_flag(k, Judy1Set(&a->root, x, PJE0));
@@ -285,6 +319,32 @@ static int decide_long(struct walker *w, struct array *a, uint64_t x, uint64_t v
     }
 }
 
+/* A call of a JudyL that changes what it finds. */
+static int find_long(struct walker *w, struct array *a, uint64_t v, struct check *k)
+{
+    uint64_t x = draw_word(w), high = draw_end(w, x), most = 1 + below(w, 20), which = below(w, 5);
+    k->index = k->wanted_index = x;
+    if (which == 0) {
+        k->what = "jd_jl_remove_range", k->wanted = 1, k->wanted_value = 0;
+        for (; k->wanted_value < most && JudyLFirst(a->root, &x, PJE0) && x <= high; k->wanted_value++)
+            JudyLDel(&a->root, x, PJE0);
+        return jd_jl_remove_range(w->connection, a->name, k->index, high, most, &k->value);
+    }
+    if (which <= 2) {
+        k->what = "jd_jl_insert_absent";
+        want_flag(k, JudyLFirstEmpty(a->root, &x, PJE0));
+        if (k->wanted)
+            k->wanted_index = x, *(Word_t *)JudyLIns(&a->root, x, PJE0) = v;
+        return jd_jl_insert_absent(w->connection, a->name, &k->index, v);
+    }
+    k->what = "jd_jl_pop_first";
+    Word_t *place = (Word_t *)JudyLFirst(a->root, &x, PJE0);
+    want_value(k, x <= high ? place : NULL);
+    if (k->wanted)
+        k->wanted_index = x, JudyLDel(&a->root, x, PJE0);
+    return jd_jl_pop_first(w->connection, a->name, &k->index, high, &k->value);
+}
+
 static int call_long(struct walker *w, struct check *k)
 {
     struct array *a = &w->l[below(w, NAMES)];
@@ -297,7 +357,7 @@ static int call_long(struct walker *w, struct check *k)
     if (below(w, 2))
         return ask_long(w, a, k);
     if (w->adds && below(w, 3) == 0)
-        return decide_long(w, a, x, v, k);
+        return below(w, 2) ? decide_long(w, a, x, v, k) : find_long(w, a, v, k);
     if ((int)below(w, 10) >= w->grows) {
         k->what = "jd_jl_del";
         want_flag(k, JudyLDel(&a->root, x, PJE0));
@@ -367,6 +427,21 @@ static int decide_string(struct walker *w, struct array *a, const struct key *ke
     }
 }
 
+/* Removes the first string from a key on. */
+static int pop_string(struct walker *w, struct array *a, const struct key *key, struct check *k)
+{
+    k->what = "jd_js_pop_first";
+    memcpy(k->wanted_key, key->bytes, key->length + 1);
+    memcpy(k->key, key->bytes, key->length + 1);
+    want_value(k, JudySLFirst(a->root, (uint8_t *)k->wanted_key, PJE0));
+    if (k->wanted)
+        JudySLDel(&a->root, (uint8_t *)k->wanted_key, PJE0);
+    else
+        memcpy(k->wanted_key, key->bytes, key->length + 1);
+    a->entries -= (Word_t)k->wanted;
+    return jd_js_pop_first(w->connection, a->name, k->key, &k->value);
+}
+
 static int call_string(struct walker *w, struct check *k)
 {
     struct array *a = &w->string[below(w, NAMES)];
@@ -381,7 +456,7 @@ static int call_string(struct walker *w, struct check *k)
     if (below(w, 2))
         return ask_string(w, a, &key, k);
     if (w->adds && below(w, 3) == 0)
-        return decide_string(w, a, &key, v, k);
+        return below(w, 3) ? decide_string(w, a, &key, v, k) : pop_string(w, a, &key, k);
     if ((int)below(w, 10) >= w->grows) {
         k->what = "jd_js_del";
         want_flag(k, JudySLDel(&a->root, key.bytes, PJE0));

@@ -7,6 +7,7 @@
         ids.add(5)                          # or ids.set(5), the manual's name, which returns whether 5 was new
         5 in ids, len(ids), list(ids)       # True, 1, [5]
         ids.first_empty(0)                  # 0: the least id that is free
+        ids.add_absent(0)                   # 0: now claimed; each of several clients gets an id of its own
         ids.ranks[:10]                      # the ten least ids
 
         counters = client.judyl("counters")  # words to words

@@ -11,7 +11,7 @@ from .fields import MAX, flags_of, is_word, numbers_of, stop_of, values_of, word
 from .lines import Lines, joined
 from .many import ABSENT, Ahead, add_step, get_key, insert_entry, pairs_of
 from .strings import Item, StringWalk
-from .walks import Ask, RankedWalk, Steps, index_of_item, indexes_of, items_of
+from .walks import Ask, Steps, WordWalk, index_of_item, indexes_in, items_in
 
 T = TypeVar("T")
 K = TypeVar("K")
@@ -77,12 +77,9 @@ class Judy1(Many, Judy1Calls[SoonYes, SoonNumber, SoonFound]):
     """A set of words."""
 
     async def take(self, first: int = 0) -> Optional[int]:
-        """Inserts the least absent index from `first` on, and returns it; None if there is none. If
-        several clients take, each gets an index of its own."""
-        index = await self.first_empty(first)
-        while index is not None and not await self.set(index):
-            index = await self.first_empty(index)
-        return index
+        """Inserts the least absent index from `first` on, and returns it; None if there is none. It is
+        `add_absent`, by its older name: if several clients take, each gets an index of its own."""
+        return await self.add_absent(first)
 
     async def update(self, indexes: Iterable[int]) -> None:
         """Inserts all of these indexes, with many lines in flight at once. A refusal is raised
@@ -105,13 +102,13 @@ class Judy1(Many, Judy1Calls[SoonYes, SoonNumber, SoonFound]):
                 yield index
 
     def walk(self, start: int = 0, stop: Optional[int] = None) -> AsyncIterator[int]:
-        """The indexes in order from `start` on, up to `stop`, which is left out, read in windows of many
-        lines."""
-        return walked(RankedWalk(self, indexes_of, int, False, stop_of(stop, False)).steps(word_of(start)), self._asker)
+        """The indexes in order from `start` on, up to `stop`, which is left out, read many at a
+        time."""
+        return walked(WordWalk(self, indexes_in, int, False, stop_of(stop, False)).steps(word_of(start)), self._asker)
 
     def walk_back(self, start: int = MAX, stop: Optional[int] = None) -> AsyncIterator[int]:
-        """The indexes from `start` down to `stop`, which is left out, read in windows of many lines."""
-        return walked(RankedWalk(self, indexes_of, int, True, stop_of(stop, True)).steps(word_of(start)), self._asker)
+        """The indexes from `start` down to `stop`, which is left out, read many at a time."""
+        return walked(WordWalk(self, indexes_in, int, True, stop_of(stop, True)).steps(word_of(start)), self._asker)
 
     def _in(self, pipe: Any) -> Any:
         return pipe.judy1(self.name)
@@ -171,13 +168,13 @@ class JudyL(Map[int], JudyLCalls[SoonYes, SoonNumber, SoonFound, Coroutine[Any, 
 
     def walk(self, start: int = 0, stop: Optional[int] = None) -> AsyncIterator[Tuple[int, int]]:
         """The entries in order from `start` on, up to `stop`, which is left out, as pairs of index and
-        value, read in windows of many lines."""
-        return walked(RankedWalk(self, items_of, index_of_item, False, stop_of(stop, False)).steps(word_of(start)), self._asker)
+        value, read many at a time."""
+        return walked(WordWalk(self, items_in, index_of_item, False, stop_of(stop, False)).steps(word_of(start)), self._asker)
 
     def walk_back(self, start: int = MAX, stop: Optional[int] = None) -> AsyncIterator[Tuple[int, int]]:
         """The entries from `start` down to `stop`, which is left out, as pairs of index and value, read
-        in windows of many lines."""
-        return walked(RankedWalk(self, items_of, index_of_item, True, stop_of(stop, True)).steps(word_of(start)), self._asker)
+        many at a time."""
+        return walked(WordWalk(self, items_in, index_of_item, True, stop_of(stop, True)).steps(word_of(start)), self._asker)
 
     def _in(self, pipe: Any) -> Any:
         return pipe.judyl(self.name)
@@ -188,7 +185,7 @@ class JudySL(Map[K], JudySLCalls[K, SoonYes, SoonNumber, SoonFound, Coroutine[An
 
     def walk(self, start: Optional[K] = None, stop: Optional[K] = None) -> AsyncIterator[Tuple[K, int]]:
         """The entries in order from `start` on, up to `stop`, which is left out, as pairs of key and
-        value, read in windows of many lines."""
+        value, read many at a time."""
         return self._walk(StringWalk(self, False, self._bound(stop)).steps(self._bound(start)))
 
     def walk_back(self, start: Optional[K] = None, stop: Optional[K] = None) -> AsyncIterator[Tuple[K, int]]:

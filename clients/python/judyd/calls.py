@@ -16,7 +16,7 @@ from typing import Any, Callable, Generic, List, Optional, Sequence, Tuple, Type
 from .bound import Bound
 from .errors import JudyError
 from .fields import (
-    KEY_LIMIT, MAX, bytes_item_of, bytes_of, count_of, flag, index_of, item_of, key_field, name_field, no_zeros, plain_keys,
+    KEY_LIMIT, MAX, MOST, bytes_item_of, bytes_of, count_of, flag, index_of, item_of, key_field, most_field, name_field, no_zeros, plain_keys,
     plain_steps, plain_words, step_field, value_of, value_or_none, word_field,
 )  # fmt: skip
 from .lines import FormedLines, Lines
@@ -32,7 +32,8 @@ Plain = Callable[[Sequence[Any]], Optional[Sequence[int]]]
 """Checks many numbers at once."""
 
 _LOOKS = "|".join(word for word, command in COMMANDS.items() if command.does == "looks")
-_SAME_TWICE = "|".join(word for word, command in COMMANDS.items() if command.does != "looks" and command.operation != "Add")
+_DO_MORE = ("Add", "Fill", "Pop", "Cut")  # operations that run twice change what they did not change before
+_SAME_TWICE = "|".join(word for word, command in COMMANDS.items() if command.does != "looks" and command.operation not in _DO_MORE)
 _QUERY = re.compile(("(?:%s) |(?:USED|PING|HELLO)$|AUTH " % _LOOKS).encode())
 _CHANGE = re.compile(("(?:%s) " % _SAME_TWICE).encode())
 
@@ -103,11 +104,18 @@ class Calls(Bound, Generic[Number]):
 
 
 class Empties(Calls[Number], Generic[Number, Found]):
-    """Count and the searches for absent indexes, which Judy1 and JudyL share."""
+    """Count, the removal of a range, and the searches for absent indexes, which Judy1 and JudyL share."""
+
+    _range = b""  # the letters of the removal of a range
 
     def count(self, low: int = 0, high: int = MAX) -> Number:
         """Count: how many indexes are present from `low` to `high`, both included."""
         return self._ask(b"C", count_of, word_field(low), word_field(high))
+
+    def remove_range(self, low: int, high: int, most: int = MOST) -> Number:
+        """RemoveRange: removes the indexes from `low` to `high`, both included, the least first and at most
+        `most` of them, and returns how many it removed. While that is `most`, there may be more."""
+        return self._ask(self._range, count_of, word_field(low), word_field(high), most_field(most))
 
     def first_empty(self, index: int = 0) -> Found:
         """FirstEmpty: the least absent index from `index` on, or None."""
@@ -130,6 +138,7 @@ class Judy1Calls(Empties[Number, Found], Generic[Yes, Number, Found]):
     """The calls of Judy1."""
 
     _prefix = b"J1"
+    _range = b"UR"
 
     def set(self, index: int) -> Yes:
         """Set: inserts an index, and returns whether it was absent."""
@@ -138,6 +147,15 @@ class Judy1Calls(Empties[Number, Found], Generic[Yes, Number, Found]):
     def unset(self, index: int) -> Yes:
         """Unset: removes an index, and returns whether it was present."""
         return self._ask(b"U", flag, word_field(index))
+
+    def add_absent(self, start: int = 0) -> Found:
+        """AddAbsent: inserts the least absent index from `start` on, and returns it; None if there is none."""
+        return self._put(b"SE", index_of, word_field(start))
+
+    def pop_first(self, low: int = 0, high: int = MAX) -> Found:
+        """PopFirst: removes the least index from `low` to `high`, both included, and returns it; None if
+        there is none."""
+        return self._ask(b"UF", index_of, word_field(low), word_field(high))
 
     def test(self, index: int) -> Yes:
         """Test: whether an index is present."""
@@ -241,6 +259,7 @@ class JudyLCalls(MapCalls[int, Yes, Number, Found], Empties[Number, Found], Gene
     """The calls of JudyL."""
 
     _prefix = b"JL"
+    _range = b"DR"
 
     def _key(self, key: int) -> bytes:
         return word_field(key)
@@ -248,6 +267,16 @@ class JudyLCalls(MapCalls[int, Yes, Number, Found], Empties[Number, Found], Gene
     def _pair_fields(self, fields: List[Any], plain: Plain) -> Optional[Sequence[Any]]:
         words = plain_words(fields)
         return super()._pair_fields(fields, plain) if words is None else words
+
+    def insert_absent(self, start: int, value: int) -> Found:
+        """InsertAbsent: inserts the least absent index from `start` on with a value, and returns the index;
+        None if there is none."""
+        return self._put(b"IE", index_of, word_field(start), word_field(given(value)))
+
+    def pop_first(self, low: int = 0, high: int = MAX) -> Item:
+        """PopFirst: removes the least index from `low` to `high`, both included, and returns it with its
+        value; None if there is none."""
+        return self._ask(b"DF", item_of, word_field(low), word_field(high))
 
     def by_count(self, nth: int) -> Item:
         """ByCount: the n-th index, counted from 1, and its value; or None."""
@@ -319,6 +348,11 @@ class JudySLCalls(KeyCalls[K, Yes, Number, Found], Generic[K, Yes, Number, Found
     def _plain_many(self, keys: Sequence[Any]) -> Optional[List[bytes]]:
         plain = super()._plain_many(keys)
         return None if plain is None or b"\0" in b"".join(plain) else plain
+
+    def pop_first(self, key: Optional[K] = None) -> Item:
+        """PopFirst: removes the least string from `key` on (without a key: of all), and returns it with its
+        value; None if there is none."""
+        return self._ask(b"DF", self._item, b"x" if key is None else self._key(key))
 
     def first(self, key: Optional[K] = None) -> Item:
         """First: the least string from `key` on (without a key: of all), and its value; or None."""

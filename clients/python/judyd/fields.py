@@ -13,6 +13,9 @@ MAX = 2**64 - 1
 
 KEY_LIMIT = 1000
 LINE_LIMIT = 4096
+MOST = 65535
+"""The most entries of a search, or of the removal of a range."""
+
 _NAME = re.compile(r"[A-Za-z0-9_.-]{1,32}\Z")
 _TOKEN = re.compile(r"[!-~]{1,128}\Z")
 _FLAGS = bytes.maketrans(b"01", b"\0\1")
@@ -124,6 +127,11 @@ def _plain_numbers(things: Sequence[Any], low: int) -> Optional[List[int]]:
 def step_field(step: SupportsIndex) -> bytes:
     """What an addition adds: a word, or a negative number, modulo 2^64."""
     return b"%d" % (_number("what is added", step, -MAX, MAX) % (MAX + 1))
+
+
+def most_field(most: SupportsIndex) -> bytes:
+    """How many entries a call may find or remove."""
+    return b"%d" % _number("how many there are at most", most, 1, MOST)
 
 
 def stop_of(stop: Optional[SupportsIndex], is_back: bool) -> int:

@@ -39,8 +39,8 @@ LateFound = Later[Optional[int]]
 
 
 class LateJudy1(Judy1Calls[LateYes, LateNumber, LateFound]):
-    """The set of words of a pipeline. Methods that need a reply before the next line, as `pop` and
-    `take`, are those of the client's set."""
+    """The set of words of a pipeline. Instead of `pop` it has `pop_first`, whose result is None if the set is
+    empty, and instead of `take` it has `add_absent`."""
 
     def add(self, index: int) -> None:
         """Inserts an index."""

@@ -9,7 +9,7 @@ from .connection import SameServer
 from .errors import all_checked
 from .fields import MAX, stop_of, word_of
 from .lines import Lines, joined
-from .walks import RankedWalk, walked
+from .walks import WordWalk, walked
 
 T = TypeVar("T")
 
@@ -140,7 +140,7 @@ class Many:
 
 class Ranks(Sequence[T]):
     """The entries of an array as a sequence, in order. An int gives one entry, a slice a list. `for`
-    and `reversed` walk in windows of many lines.
+    and `reversed` walk.
 
     A slice asks for each rank by itself, and so does a negative rank for the length before. So beside
     other writers they are not exact: if an entry comes or goes below meanwhile, all ranks above it
@@ -207,6 +207,10 @@ class Ranked(Generic[T]):
         raise NotImplementedError
 
     @staticmethod
+    def _entries_in(reply: bytes) -> List[T]:
+        raise NotImplementedError
+
+    @staticmethod
     def _index_of(entry: T) -> int:
         raise NotImplementedError
 
@@ -237,7 +241,7 @@ class Ranked(Generic[T]):
 
     def _walk(self, start: Optional[int] = None, stop: Optional[int] = None, is_back: bool = False) -> Iterator[T]:
         bound = word_of((MAX if is_back else 0) if start is None else start)
-        return walked(RankedWalk(self, self._read, self._index_of, is_back, stop_of(stop, is_back)).steps(bound), self._asker)
+        return walked(WordWalk(self, self._entries_in, self._index_of, is_back, stop_of(stop, is_back)).steps(bound), self._asker)
 
     def clear(self) -> None:
         """Empties the array (FreeArray)."""

@@ -13,7 +13,7 @@ from .catalogue import keys_of
 from .fields import MAX, flags_of, numbers_of, values_of
 from .many import Many, Ranked, add_step, get_key, insert_entry, pairs_of
 from .strings import Item, Listing, StringWalk
-from .walks import Steps, items_of, walked
+from .walks import Steps, items_in, items_of, walked
 
 K = TypeVar("K")
 V = TypeVar("V")
@@ -98,7 +98,7 @@ class MapBase(Many, MapCalls[K, bool, int, Optional[int]], Generic[K]):
         raise NotImplementedError
 
     def __eq__(self, other: object) -> bool:
-        """Whether a mapping has the same entries. It reads all of them, in windows of many lines."""
+        """Whether a mapping has the same entries. It reads all of them."""
         if self is other:
             return True
         if not isinstance(other, Mapping):
@@ -191,20 +191,17 @@ class WalkedMap(MapBase[K], MutableMapping[K, int]):  # type: ignore[misc]
     walk: Callable[..., Iterator[Tuple[K, int]]]
     walk_back: Callable[..., Iterator[Tuple[K, int]]]
 
-    def _least(self) -> Optional[Tuple[K, int]]:
-        """The least key and its value, or None."""
+    def _popped(self) -> Optional[Tuple[K, int]]:
+        """The least key and its value, which are removed, or None."""
         raise NotImplementedError
 
     def popitem(self) -> Tuple[K, int]:
-        """Removes the least key, and returns it with its value. If several clients pop, each gets a key
-        of its own. Raises KeyError if the map is empty."""
-        item = self._least()
-        while item is not None:
-            value = self.take(item[0])
-            if value is not None:
-                return item[0], value
-            item = self._least()
-        raise KeyError("the map is empty")
+        """Removes the least key, and returns it with its value. It is one line: if several clients pop,
+        each gets a key of its own. Raises KeyError if the map is empty."""
+        item = self._popped()
+        if item is None:
+            raise KeyError("the map is empty")
+        return item
 
     def _entries(self) -> Dict[K, int]:
         return dict(self.items())
@@ -241,11 +238,15 @@ class JudyL(Ranked[Tuple[int, int]], WalkedMap[int], JudyLCalls[bool, int, Optio
         return items_of(replies)
 
     @staticmethod
+    def _entries_in(reply: bytes) -> List[Tuple[int, int]]:
+        return items_in(reply)
+
+    @staticmethod
     def _index_of(entry: Tuple[int, int]) -> int:
         return entry[0]
 
-    def _least(self) -> Optional[Tuple[int, int]]:
-        return self.first()
+    def _popped(self) -> Optional[Tuple[int, int]]:
+        return self.pop_first()
 
     def _rank_of(self, entry: object) -> Optional[int]:
         if not isinstance(entry, tuple) or len(entry) != 2 or entry[0] not in self or self.get(entry[0]) != entry[1]:
@@ -254,12 +255,12 @@ class JudyL(Ranked[Tuple[int, int]], WalkedMap[int], JudyLCalls[bool, int, Optio
 
     def walk(self, start: int = 0, stop: Optional[int] = None) -> Iterator[Tuple[int, int]]:
         """The entries in order from `start` on, up to `stop`, which is left out, as pairs of index and
-        value, read in windows of many lines."""
+        value, read many at a time."""
         return self._walk(start, stop)
 
     def walk_back(self, start: int = MAX, stop: Optional[int] = None) -> Iterator[Tuple[int, int]]:
         """The entries from `start` down to `stop`, which is left out, as pairs of index and value, read
-        in windows of many lines."""
+        many at a time."""
         return self._walk(start, stop, is_back=True)
 
     def _in(self, pipe: Any) -> Any:
@@ -287,12 +288,12 @@ class JudySL(WalkedMap[K], JudySLCalls[K, bool, int, Optional[int], Optional[Tup
     def __bool__(self) -> bool:
         return self.first() is not None
 
-    def _least(self) -> Optional[Tuple[K, int]]:
-        return self.first()
+    def _popped(self) -> Optional[Tuple[K, int]]:
+        return self.pop_first()
 
     def walk(self, start: Optional[K] = None, stop: Optional[K] = None) -> Iterator[Tuple[K, int]]:
         """The entries in order from `start` on, up to `stop`, which is left out, as pairs of key and
-        value, read in windows of many lines."""
+        value, read many at a time."""
         return self._walk(StringWalk(self, False, self._bound(stop)).steps(self._bound(start)))
 
     def walk_back(self, start: Optional[K] = None, stop: Optional[K] = None) -> Iterator[Tuple[K, int]]:

@@ -23,12 +23,15 @@ class Retry(Enum):
     `IDEMPOTENT`: also calls that store or remove and whose result is not used: `m[k] = v`,
     `update`, `s.add`, `discard`, `difference_update`, `clear`, and a pipeline with `is_quiet=True`.
 
-    Run twice in a row, such a call leaves what it leaves once. Beside other writers it may not:
+    A call that does more if it runs twice is never repeated: `m.add`, `add_absent`, `insert_absent`,
+    `pop_first`, `remove_range`, and so `take` and `pop` of a set, `popitem` and `add_many`.
+
+    Run twice in a row, a repeated call leaves what it leaves once. Beside other writers it may not:
     what another client does between the two runs is undone by the second. A repeated `discard`
     takes back an id or a lock that another client has acquired since, and a repeated `m[k] = v`
     stores an old value over a newer one. A repeated `keep`, `exchange` or `delete_if` of a quiet
     pipeline does so only if the value that it names has come again meanwhile, and a repeated `take`
-    takes what was stored since. So it is for arrays, or keys, that one client at a time writes to.
+    of a map takes what was stored since. So it is for arrays, or keys, that one client at a time writes to.
     """
 
     QUERIES = "queries"

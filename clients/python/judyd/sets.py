@@ -7,7 +7,7 @@ from typing import Any, Iterable, Iterator, List, MutableSet, Optional, Set
 from .calls import Judy1Calls
 from .fields import MAX, flag, flags_of, is_word, word_field
 from .many import Many, Ranked
-from .walks import indexes_of
+from .walks import indexes_in, indexes_of
 
 
 class Judy1(Ranked[int], Many, Judy1Calls[bool, int, Optional[int]], MutableSet[int]):
@@ -17,6 +17,10 @@ class Judy1(Ranked[int], Many, Judy1Calls[bool, int, Optional[int]], MutableSet[
     @staticmethod
     def _read(replies: List[bytes]) -> List[Optional[int]]:
         return indexes_of(replies)
+
+    @staticmethod
+    def _entries_in(reply: bytes) -> List[int]:
+        return indexes_in(reply)
 
     @staticmethod
     def _index_of(entry: int) -> int:
@@ -39,12 +43,12 @@ class Judy1(Ranked[int], Many, Judy1Calls[bool, int, Optional[int]], MutableSet[
         return self.walk_back()
 
     def walk(self, start: int = 0, stop: Optional[int] = None) -> Iterator[int]:
-        """The indexes in order from `start` on, up to `stop`, which is left out, read in windows of many
-        lines."""
+        """The indexes in order from `start` on, up to `stop`, which is left out, read many at a
+        time."""
         return self._walk(start, stop)
 
     def walk_back(self, start: int = MAX, stop: Optional[int] = None) -> Iterator[int]:
-        """The indexes from `start` down to `stop`, which is left out, read in windows of many lines."""
+        """The indexes from `start` down to `stop`, which is left out, read many at a time."""
         return self._walk(start, stop, is_back=True)
 
     def add(self, index: int) -> None:
@@ -69,22 +73,17 @@ class Judy1(Ranked[int], Many, Judy1Calls[bool, int, Optional[int]], MutableSet[
             raise KeyError(index)
 
     def pop(self) -> int:
-        """Removes the least index, and returns it. If several clients pop, each gets an index of
-        its own. Raises KeyError if the set is empty."""
-        index = self.first()
-        while index is not None and not self.unset(index):
-            index = self.first()
+        """Removes the least index, and returns it. It is one line: if several clients pop, each gets an
+        index of its own. Raises KeyError if the set is empty."""
+        index = self.pop_first()
         if index is None:
             raise KeyError("the set is empty")
         return index
 
     def take(self, first: int = 0) -> Optional[int]:
-        """Inserts the least absent index from `first` on, and returns it; None if there is none. If
-        several clients take, each gets an index of its own."""
-        index = self.first_empty(first)
-        while index is not None and not self.set(index):
-            index = self.first_empty(index)
-        return index
+        """Inserts the least absent index from `first` on, and returns it; None if there is none. It is
+        `add_absent`, by its older name: if several clients take, each gets an index of its own."""
+        return self.add_absent(first)
 
     def update(self, indexes: Iterable[int]) -> None:
         """Inserts all of these indexes, with many lines in flight at once. A refusal is raised

@@ -9,11 +9,10 @@ read everything in between. Keys and values stay as the bytes of the replies.
 
 from bisect import bisect_left
 from itertools import accumulate, chain, islice
-from typing import Iterable, Iterator, List, Tuple
+from typing import Iterable, Iterator, List, Optional, Tuple
 
 from .errors import Error, all_checked, checked
 from .fields import KEY_LIMIT, count_of
-from .strings import middle
 from .wire import Wire
 
 WIDTH = 2000
@@ -143,6 +142,24 @@ class RankedSweep:
 def _joined(prefix: bytes, entries: List[bytes]) -> Block:
     """Lines that begin alike."""
     return prefix + (b"\n" + prefix).join(entries) + b"\n" if entries else b"", len(entries)
+
+
+def middle(low: bytes, high: bytes) -> Optional[bytes]:
+    """A string without a byte 0, about halfway between two strings; or None if there is none
+    nearby."""
+    at = next((at for at, (a, b) in enumerate(zip(low, high)) if a != b), len(low))
+    if at >= len(high):
+        return None
+    below = low[at] if at < len(low) else 0
+    if high[at] - below > 1:
+        return high[:at] + bytes([(below + high[at]) // 2])
+    if at >= len(low):
+        return None
+    for place in range(at + 1, KEY_LIMIT):
+        digit = low[place] if place < len(low) else 0
+        if digit < 254:
+            return low[:place] + bytes([(digit + 256) // 2])
+    return None
 
 
 class Stretch:

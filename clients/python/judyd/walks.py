@@ -1,28 +1,28 @@
-"""Walks of an array in order, with many lines in flight at once.
+"""Walks of an array in order, by lines whose replies have many entries each.
 
-A walk reads ahead, in windows that grow to some thousands of entries. Between two windows it finds
-its place again by the last key that it returned, so entries may be inserted and removed meanwhile,
-by this client or by others. A walk returns each entry that is there all the time exactly once, and
-keys in order; an entry that comes or goes meanwhile may be returned or not.
+Each line goes on behind the last key that the walk returned, so entries may be inserted and removed
+meanwhile, by this client or by others. A walk returns each entry that is there all the time exactly
+once, and keys in order; an entry that comes or goes meanwhile may be returned or not.
 
 The steps of a walk are a generator, which asks for the replies to lines and gives entries. So a
 client and an asyncio client share it.
 """
 
 import operator
-from collections import deque
-from itertools import chain, compress
+from itertools import takewhile
 from typing import Any, Callable, Generator, Generic, Iterator, List, Optional, Tuple, TypeVar, Union
 
 from .connection import SameServer
 from .errors import JudyError, Restarted, checked
-from .fields import MAX, count_of
+from .fields import MOST
 
 T = TypeVar("T")
 
-WINDOWS = ((8, 2), (64, 4), (500, 16))
-"""How many stretches are walked at once, and how many entries each has: in the first window, in the
-second, and in all others."""
+FEW, MANY = 16, MOST
+"""How many entries the first line of a walk asks for, and each other one: as many as fit into a reply."""
+
+ROOM = 4088
+"""The most bytes of the entries in a reply."""
 
 
 class Ask(List[bytes]):
@@ -83,69 +83,81 @@ def _nothing(reply: bytes, nothing: bytes) -> Optional[Any]:
     return None
 
 
-class RankedWalk(Generic[T]):
-    """A walk of a Judy1 or a JudyL. Ranks say where the stretches of a window begin. Each stretch
-    goes on by Next, or by Prev, up to the first entry of the stretch after it."""
+def entries_of(reply: bytes) -> List[bytes]:
+    """The fields of the entries in a reply to a walk."""
+    if reply[:2] != b"E ":
+        raise JudyError("no such answer: %r" % checked(reply))
+    return reply.split(b" ")[2:]
 
-    def __init__(self, array: Any, read: Callable[[List[bytes]], List[Optional[T]]], index_of: Callable[[T], int], is_back: bool, stop: int) -> None:
+
+def indexes_in(reply: bytes) -> List[int]:
+    """The indexes in a reply to a walk over a set."""
+    return list(map(int, entries_of(reply)))
+
+
+def items_in(reply: bytes) -> List[Tuple[int, int]]:
+    """The entries in a reply to a walk over a JudyL."""
+    numbers = indexes_in(reply)
+    return list(zip(numbers[1::2], numbers[::2]))
+
+
+class Walk(Generic[T]):
+    """A walk: it reads as many entries as fit into a reply, and goes on behind the last of them."""
+
+    longest = 0  # the most bytes of an entry in a reply
+
+    def __init__(self, array: Any, is_back: bool) -> None:
+        first, following = (b"L", b"P") if is_back else (b"F", b"N")
+        self._first, self._following = array._line(first), array._line(following)
+
+    def _entries(self, reply: bytes) -> List[T]:
+        """The entries in a reply."""
+        raise NotImplementedError
+
+    def _field(self, entry: T) -> bytes:
+        """The field of an entry's key."""
+        raise NotImplementedError
+
+    def _has(self, entry: T) -> bool:
+        """Whether the walk has this entry, and does not end before it."""
+        raise NotImplementedError
+
+    def _steps(self, start: bytes) -> Steps[T]:
+        """The entries from a key on."""
+        line, field, most = self._first, start, FEW
+        while True:
+            (reply,) = yield Ask([b"%b %b %d" % (line, field, most)])
+            entries = self._entries(reply)
+            kept = entries if entries and self._has(entries[-1]) else list(takewhile(self._has, entries))
+            if kept:
+                yield kept
+            # A reply with fewer entries and with room for another one is the last.
+            if len(kept) < len(entries) or not entries or (len(entries) < most and len(reply) + self.longest < ROOM):
+                return
+            line, field, most = self._following, self._field(entries[-1]), MANY
+
+
+class WordWalk(Walk[T]):
+    """A walk of a Judy1 or a JudyL, up to the index `stop`, which is left out."""
+
+    longest = 42
+
+    def __init__(self, array: Any, read: Callable[[bytes], List[T]], index_of: Callable[[T], int], is_back: bool, stop: int) -> None:
+        super().__init__(array, is_back)
         self._read = read
         self._index_of = index_of
-        self._first = array._line(b"L" if is_back else b"F") + b" %d"
-        self._step = array._line(b"P" if is_back else b"N") + b" %d"
-        self._nth = array._line(b"BC") + b" %d"
-        self._count = array._line(b"C") + b" %d %d"
-        self._is_back = is_back
         self._is_before = operator.gt if is_back else operator.lt
         self._stop = stop  # the first index that is left out; -1 or MAX + 1 without one
 
+    def _entries(self, reply: bytes) -> List[T]:
+        return self._read(reply)
+
+    def _field(self, entry: T) -> bytes:
+        return b"%d" % self._index_of(entry)
+
+    def _has(self, entry: T) -> bool:
+        return bool(self._is_before(self._index_of(entry), self._stop))
+
     def steps(self, bound: int) -> Steps[T]:
         """The entries from the index `bound` on, in a walk back from `bound` down."""
-        at = 0
-        while 0 <= bound <= MAX and self._is_before(bound, self._stop):
-            width, depth = WINDOWS[min(at, len(WINDOWS) - 1)]
-            starts = yield from self._starts(bound, width, depth)
-            if not starts:
-                return
-            entries, is_end = yield from self._window(starts, depth)
-            yield entries
-            if is_end:
-                return
-            bound = self._index_of(entries[-1]) + (-1 if self._is_back else 1)
-            at += 1
-
-    def _starts(self, bound: int, width: int, depth: int) -> Generator[Ask, List[bytes], List[T]]:
-        """The first entries of up to `width` stretches: of the first one by its index, of the
-        others by their ranks, in order. If the array changes meanwhile, stretches are longer or
-        shorter."""
-        ranges = [(0, bound), (self._stop + 1, bound)] if self._is_back else [(0, self._stop - 1), (bound, self._stop - 1)]
-        counts = [count_of(checked(reply)) for reply in (yield Ask([self._count % it for it in ranges]))]
-        left = counts[1]
-        rank, sign = (counts[0], -1) if self._is_back else (counts[0] - left + 1, 1)
-        ranks = [rank + sign * at * depth for at in range(1, min(width, -(-left // depth)))]
-        found = self._read((yield Ask([self._first % bound, *(self._nth % max(it, 0) for it in ranks)])))
-        starts: List[T] = []
-        for entry in found:
-            if entry is not None and (not starts or self._is_before(self._index_of(starts[-1]), self._index_of(entry))):
-                starts.append(entry)
-        if found[0] is None or not self._is_before(self._index_of(found[0]), self._stop):
-            return []
-        return [entry for entry in starts if self._is_before(self._index_of(entry), self._stop)]
-
-    def _window(self, starts: List[T], depth: int) -> Generator[Ask, List[bytes], Tuple[List[T], bool]]:
-        """The entries of stretches, and whether nothing comes after them. The last stretch has at
-        most `depth` entries."""
-        stretches = [[entry] for entry in starts]
-        indexes = list(map(self._index_of, starts))
-        ends, going = [*indexes[1:], self._stop], list(stretches)
-        while going:
-            found: List[Any] = list(self._read((yield Ask([self._step % index for index in indexes]))))
-            if None in found or not all(map(self._is_before, map(self._index_of, found), ends)):
-                if going[-1] is stretches[-1] and (found[-1] is None or not self._is_before(self._index_of(found[-1]), self._stop)):
-                    depth = 0  # nothing comes after it
-                goes_on = [it is not None and self._is_before(self._index_of(it), end) for it, end in zip(found, ends)]
-                going, ends, found = list(compress(going, goes_on)), list(compress(ends, goes_on)), list(compress(found, goes_on))
-            deque(map(list.append, going, found), maxlen=0)
-            indexes = list(map(self._index_of, found))
-            if going and going[-1] is stretches[-1] and len(going[-1]) >= depth:
-                del going[-1:], ends[-1:], indexes[-1:]
-        return list(chain.from_iterable(stretches)), depth == 0
+        return self._steps(b"%d" % bound)

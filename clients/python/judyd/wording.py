@@ -5,7 +5,7 @@ import re
 from difflib import get_close_matches
 from typing import Dict, List, Match, NamedTuple, Optional, Tuple
 
-from .fields import KEY_LIMIT, LINE_LIMIT, MAX
+from .fields import KEY_LIMIT, LINE_LIMIT, MAX, MOST
 from .words import COMMANDS as COMMANDS_OF_ARRAYS
 from .words import Command
 
@@ -37,6 +37,7 @@ _OF_SETS = {
     "Insert": ("Set", "inserts an index: 1 if it was absent, 0 if present; FULL if the quota has no room"),
     "Remove": ("Unset", "removes an index: 1 if it was present, 0 if not"),
     "Look": ("Test", "1 if the index is present, 0 if not"),
+    "Fill": ("AddAbsent", "inserts the least absent index from this one on: 1 i, or 0 if there is none; FULL if the quota has no room"),
 }
 _OPERATIONS = {
     "Insert": ("Ins", "inserts a {thing} and stores v, if given: V and the value before, 0 for a new {thing}; FULL if the quota has no room"),
@@ -44,20 +45,26 @@ _OPERATIONS = {
     "Exchange": ("Exchange", "stores new if the value is old: V and the value before, which is old exactly if new is stored, or NULL if the {thing} is absent"),
     "Remove": ("Del", "removes a {thing}, with v only if it has the value v: 1 if it was removed, 0 if not"),
     "Take": ("Take", "removes a {thing}: V and the value it had, or NULL if it was absent"),
+    "Pop": ("PopFirst", "removes the least {thing} from this one on{limit}: {found}"),
+    "Fill": ("InsertAbsent", "inserts the least absent index from this one on, with the value v: 1 i, or 0 if there is none; FULL if the quota has no room"),
+    "Cut": ("RemoveRange", "removes the least {plural} from the first to the second, both included, at most n of them: N and how many it removed"),
     "Look": ("Get", "V and the value, or NULL if the {thing} is absent"),
     "Add": ("Add", "adds n to the value, modulo 2^64: V and the value afterwards; an absent {thing} counts as 0 and becomes new; FULL if the quota has no room"),
     "Count": ("Count", "N and the number of {plural} from the first to the second, both included"),
     "Nth": ("ByCount", "the n-th {thing}, counted from 1: {found}"),
-    "First": ("First", "the least {thing} from this one on: {found}"),
-    "Next": ("Next", "the least {thing} above this one: {found}"),
-    "Last": ("Last", "the greatest {thing} up to this one: {found}"),
-    "Prev": ("Prev", "the greatest {thing} below this one: {found}"),
-    "FirstEmpty": ("FirstEmpty", "the least absent {thing} from this one on: " + _EMPTY),
-    "NextEmpty": ("NextEmpty", "the least absent {thing} above this one: " + _EMPTY),
-    "LastEmpty": ("LastEmpty", "the greatest absent {thing} up to this one: " + _EMPTY),
-    "PrevEmpty": ("PrevEmpty", "the greatest absent {thing} below this one: " + _EMPTY),
+    "First": ("First", "the least {thing} from this one on: {found}; with n as many in this direction: E, how many, and each"),
+    "Next": ("Next", "the least {thing} above this one: {found}; with n as many in this direction: E, how many, and each"),
+    "Last": ("Last", "the greatest {thing} up to this one: {found}; with n as many in this direction: E, how many, and each"),
+    "Prev": ("Prev", "the greatest {thing} below this one: {found}; with n as many in this direction: E, how many, and each"),
+    "FirstEmpty": ("FirstEmpty", "the least absent {thing} from this one on: " + _EMPTY + "; with n as many in this direction: E, how many, and each"),
+    "NextEmpty": ("NextEmpty", "the least absent {thing} above this one: " + _EMPTY + "; with n as many in this direction: E, how many, and each"),
+    "LastEmpty": ("LastEmpty", "the greatest absent {thing} up to this one: " + _EMPTY + "; with n as many in this direction: E, how many, and each"),
+    "PrevEmpty": ("PrevEmpty", "the greatest absent {thing} below this one: " + _EMPTY + "; with n as many in this direction: E, how many, and each"),
     "Free": ("FreeArray", "empties the array: N and the number of entries it had"),
 }
+_TOLD = {
+    "Ins": "before", "Add": "now", "Keep": "kept", "Exchange": "before", "Take": "taken", "PopFirst": "removed", "AddAbsent": "new", "InsertAbsent": "new",
+}  # fmt: skip
 _THINGS = {"Judy1": ("index", "indexes", "i"), "JudyL": ("index", "indexes", "i"), "JudySL": ("string", "strings", "key"), "JudyHS": ("key", "keys", "key")}
 
 
@@ -72,8 +79,10 @@ def _call_of(word: str, command: Command) -> Call:
     thing, plural, field = _THINGS[command.kind]
     found = _EMPTY if command.kind == "Judy1" else "V v %s, or NULL if there is none" % field
     fields = ("name", *command.fields.split())
+    limit = " up to k, both included" if "k" in fields else ""
     least = sum(not it.startswith("[") for it in fields)
-    return Call(word, command.kind + name, tuple(it.strip("[]") for it in fields), least, what.format(thing=thing, plural=plural, found=found))
+    what = what.format(thing=thing, plural=plural, found=found, limit=limit)
+    return Call(word, command.kind + name, tuple(it.strip("[]") for it in fields), least, what)
 
 
 def _help_of_kind(kind: str) -> str:
@@ -201,7 +210,15 @@ def wrong_in(request: str) -> str:
         wrong = _wrong_field(what, field, call.word.startswith("JSL"))
         if wrong:
             return wrong
+    if _ends_with_entries(call, fields) and (fields[-1] == "-1" or not 1 <= int(fields[-1]) <= MOST):
+        return "a number of entries is 1 to %d, and not %s" % (MOST, fields[-1])
     return ""
+
+
+def _ends_with_entries(call: Call, fields: List[str]) -> bool:
+    """Whether the last of these fields is a number of entries: that of a search, or of the removal of a range."""
+    may_have = call.fields[-1:] == ("n",) and (call.least < len(call.fields) or "k" in call.fields)
+    return may_have and len(fields) == len(call.fields)
 
 
 def _wrong_field(what: str, field: str, is_string: bool) -> Optional[str]:
@@ -243,10 +260,12 @@ def told(request: str, reply: str) -> Tuple[str, str, str]:
         if name == "Del" and len(request.split()) > 3:
             return "removed" if reply == "1" else "not removed", "", ""
         return words[name][reply == "1"], "", ""
+    if fields[0] == "E":
+        return "%s found" % fields[1], " ".join(map(shown_key, fields[2:])), ""
     if fields[0] == "N":
-        return "%s %s" % (fields[1], "freed" if name == "FreeArray" else "counted"), "", ""
+        return "%s %s" % (fields[1], {"FreeArray": "freed", "RemoveRange": "removed"}.get(name, "counted")), "", ""
     if reply in ("0", "NULL"):
         return "new" if name == "Keep" else "none", "", ""
     if fields[0] == "V":
-        return {"Ins": "before", "Add": "now", "Keep": "kept", "Exchange": "before", "Take": "taken"}.get(name, "found"), "".join(map(shown_key, fields[2:])), fields[1]
-    return "found", fields[1] if len(fields) > 1 else "", ""
+        return _TOLD.get(name, "found"), "".join(map(shown_key, fields[2:])), fields[1]
+    return _TOLD.get(name, "found"), fields[1] if len(fields) > 1 else "", ""

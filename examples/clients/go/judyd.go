@@ -9,7 +9,7 @@ import (
 	"strings"
 )
 
-const replyLimit = 4096 // bytes of a reply; no server of today sends more than 2,024
+const replyLimit = 4096 // bytes of a reply with its line feed
 
 // Refused is a reply that refuses its line: FULL, or ERR and a reason. Nothing has changed in any array.
 type Refused struct{ Reply string }

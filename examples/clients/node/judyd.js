@@ -3,7 +3,7 @@
 
 const net = require("node:net");
 
-const REPLY_LIMIT = 4096; // bytes of a reply; no server of today sends more than 2,024
+const REPLY_LIMIT = 4096; // bytes of a reply with its line feed
 
 // A reply that refuses its line: `FULL`, or `ERR` and a reason. Nothing has changed in any array.
 class Refused extends Error {

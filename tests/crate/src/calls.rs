@@ -1,15 +1,20 @@
 //! Every command and the call that it makes, in one place. A new command has its row and its arm here. The
 //! tests of the reader and the random walks make it then, each beside what it tests.
 
-use judy_model::{BytesCall, Call, Given, Key, LongCall, Name, OneCall, Operation, StrCall};
+use judy_model::{
+    BytesCall, Call, Given, Key, Kind, LongCall, Name, OneCall, Operation, Search, StrCall,
+};
 
 /// A command: its word, what it does, and its share of a walk over arrays of its kind.
 pub type Row = (&'static str, Operation, u64);
 
 /// The commands of a set. Most calls of a walk set or unset an index; few free the set.
-pub static OF_SETS: [Row; 14] = [
+pub static OF_SETS: [Row; 17] = [
     ("J1S", Operation::Insert, 30),
+    ("J1SE", Operation::Fill, 6),
     ("J1U", Operation::Remove, 12),
+    ("J1UF", Operation::Pop, 4),
+    ("J1UR", Operation::Cut, 2),
     ("J1T", Operation::Look, 3),
     ("J1C", Operation::Count, 4),
     ("J1BC", Operation::Nth, 3),
@@ -25,12 +30,15 @@ pub static OF_SETS: [Row; 14] = [
 ];
 
 /// The commands of a JudyL, with similar shares.
-pub static OF_WORDS: [Row; 18] = [
+pub static OF_WORDS: [Row; 21] = [
     ("JLI", Operation::Insert, 16),
+    ("JLIE", Operation::Fill, 6),
     ("JLA", Operation::Add, 8),
     ("JLK", Operation::Keep, 8),
     ("JLX", Operation::Exchange, 6),
     ("JLD", Operation::Remove, 12),
+    ("JLDF", Operation::Pop, 4),
+    ("JLDR", Operation::Cut, 2),
     ("JLT", Operation::Take, 5),
     ("JLG", Operation::Look, 3),
     ("JLC", Operation::Count, 4),
@@ -47,12 +55,13 @@ pub static OF_WORDS: [Row; 18] = [
 ];
 
 /// The commands of a JudySL.
-pub static OF_STRINGS: [Row; 12] = [
+pub static OF_STRINGS: [Row; 13] = [
     ("JSLI", Operation::Insert, 16),
     ("JSLA", Operation::Add, 8),
     ("JSLK", Operation::Keep, 8),
     ("JSLX", Operation::Exchange, 6),
     ("JSLD", Operation::Remove, 12),
+    ("JSLDF", Operation::Pop, 4),
     ("JSLT", Operation::Take, 5),
     ("JSLG", Operation::Look, 3),
     ("JSLF", Operation::First, 4),
@@ -97,10 +106,12 @@ pub struct Fields {
     pub index: u64,
     /// The key of a JudySL or a JudyHS.
     pub key: &'static [u8],
-    /// The end of a count, a value, or what is added.
+    /// The end of a range, a value, or what is added.
     pub number: u64,
     /// The value that an exchange stores.
     pub other: u64,
+    /// How many entries a search or the removal of a range asks for. 0: a search asks for one, without a number.
+    pub most: u16,
     /// Whether an insertion or a removal has a value.
     pub stores: bool,
 }
@@ -114,24 +125,80 @@ impl Fields {
         Given::Nothing
     }
 
-    /// How many fields a line of a command has after the name.
-    pub fn count(self, operation: Operation) -> u8 {
+    /// How many entries the removal of a range asks for.
+    fn at_most(self) -> u16 {
+        if self.most == 0 {
+            return 1;
+        }
+        self.most
+    }
+
+    /// How many fields a line of a command of arrays of this kind has after the name.
+    pub fn count(self, operation: Operation, kind: Kind) -> u8 {
         match operation {
             Operation::Free => 0,
             Operation::Insert | Operation::Remove => 1 + u8::from(self.stores),
             Operation::Add | Operation::Keep | Operation::Count => 2,
-            Operation::Exchange => 3,
-            _ => 1,
+            Operation::Fill => 1 + u8::from(kind == Kind::Long),
+            Operation::Pop => 1 + u8::from(kind != Kind::Str),
+            Operation::Exchange | Operation::Cut => 3,
+            Operation::Take | Operation::Look | Operation::Nth => 1,
+            _ => 1 + u8::from(self.most > 0),
         }
     }
+
+    /// The numbers of a line of a command behind its index or key.
+    pub fn numbers(self, operation: Operation) -> (u64, u64) {
+        match operation {
+            Operation::Cut => (self.number, u64::from(self.at_most())),
+            Operation::First | Operation::Next | Operation::Last | Operation::Prev => {
+                (u64::from(self.most), 0)
+            }
+            Operation::FirstEmpty
+            | Operation::NextEmpty
+            | Operation::LastEmpty
+            | Operation::PrevEmpty => (u64::from(self.most), 0),
+            _ => (self.number, self.other),
+        }
+    }
+}
+
+/// The search of an operation, also of one that looks for an absent word.
+fn search(operation: Operation) -> Option<Search> {
+    match operation {
+        Operation::First | Operation::FirstEmpty => Some(Search::First),
+        Operation::Next | Operation::NextEmpty => Some(Search::Next),
+        Operation::Last | Operation::LastEmpty => Some(Search::Last),
+        Operation::Prev | Operation::PrevEmpty => Some(Search::Prev),
+        _ => None,
+    }
+}
+
+/// Whether an operation looks for an absent word.
+fn is_empty_search(operation: Operation) -> bool {
+    matches!(
+        operation,
+        Operation::FirstEmpty | Operation::NextEmpty | Operation::LastEmpty | Operation::PrevEmpty
+    )
 }
 
 /// The call of a set. None: there is no such command.
 pub fn one(operation: Operation, fields: Fields) -> Option<OneCall> {
     let i = fields.index;
+    if fields.most > 0
+        && let Some(search) = search(operation)
+    {
+        if is_empty_search(operation) {
+            return Some(OneCall::WalkEmpty(search, i, fields.most));
+        }
+        return Some(OneCall::Walk(search, i, fields.most));
+    }
     let call = match operation {
         Operation::Insert => OneCall::Set(i),
+        Operation::Fill => OneCall::Fill(i),
         Operation::Remove => OneCall::Unset(i),
+        Operation::Pop => OneCall::Pop(i, fields.number),
+        Operation::Cut => OneCall::Cut(i, fields.number, fields.at_most()),
         Operation::Look => OneCall::Test(i),
         Operation::Count => OneCall::Count(i, fields.number),
         Operation::Nth => OneCall::ByCount(i),
@@ -152,8 +219,19 @@ pub fn one(operation: Operation, fields: Fields) -> Option<OneCall> {
 /// The call of a JudyL.
 pub fn long(operation: Operation, fields: Fields) -> Option<LongCall> {
     let i = fields.index;
+    if fields.most > 0
+        && let Some(search) = search(operation)
+    {
+        if is_empty_search(operation) {
+            return Some(LongCall::WalkEmpty(search, i, fields.most));
+        }
+        return Some(LongCall::Walk(search, i, fields.most));
+    }
     let call = match operation {
         Operation::Insert => LongCall::Insert(i, fields.given()),
+        Operation::Fill => LongCall::Fill(i, fields.number),
+        Operation::Pop => LongCall::Pop(i, fields.number),
+        Operation::Cut => LongCall::Cut(i, fields.number, fields.at_most()),
         Operation::Add => LongCall::Insert(i, Given::Plus(fields.number)),
         Operation::Keep => LongCall::Keep(i, fields.number),
         Operation::Exchange => LongCall::Exchange(i, fields.number, fields.other),
@@ -179,7 +257,14 @@ pub fn long(operation: Operation, fields: Fields) -> Option<LongCall> {
 /// The call of a JudySL. None too: the key is too long.
 pub fn string(operation: Operation, fields: Fields) -> Option<StrCall<'static>> {
     let key = Key::read(fields.key)?;
+    if fields.most > 0
+        && !is_empty_search(operation)
+        && let Some(search) = search(operation)
+    {
+        return Some(StrCall::Walk(search, key, fields.most));
+    }
     let call = match operation {
+        Operation::Pop => StrCall::Pop(key),
         Operation::Insert => StrCall::Insert(key, fields.given()),
         Operation::Add => StrCall::Insert(key, Given::Plus(fields.number)),
         Operation::Keep => StrCall::Keep(key, fields.number),

@@ -1,5 +1,5 @@
 //! Calls by their lines, and replies of rows as plain data that a constant can hold.
-use judy_model::{Call, KEY_LIMIT, Key, Name, Reply};
+use judy_model::{Call, KEY_LIMIT, Key, LIST_LIMIT, Name, Reply, Text};
 use judy_protocol::{Line, read_line};
 use std::test::Fail;
 
@@ -11,6 +11,14 @@ pub fn name(text: &str) -> Name {
 /// A key of at most 1,000 bytes; the empty key if there are more.
 pub fn key(bytes: &[u8]) -> Key<'_> {
     Key::read(bytes).unwrap_or(Key::of(&[]))
+}
+
+/// The text of entries, of at most as many bytes as fit; none if there are more.
+pub fn text(bytes: &[u8]) -> Text<'_> {
+    if bytes.len() > LIST_LIMIT {
+        return Text::of(&[]);
+    }
+    Text::of(bytes)
 }
 
 /// The call of a line.
@@ -36,6 +44,8 @@ pub enum Want {
     ValueAt(u64, u64),
     /// A value and its key.
     ValueKey(u64, &'static [u8]),
+    /// How many entries there are, and their text.
+    Entries(u16, &'static [u8]),
     /// Nothing is found.
     Null,
     /// The entries, their quota, the pieces and their quota.
@@ -59,6 +69,7 @@ pub fn reply_of(want: Want) -> Reply<'static> {
         Want::Value(value) => Reply::Value(value),
         Want::ValueAt(value, index) => Reply::ValueAt(value, index),
         Want::ValueKey(value, bytes) => Reply::ValueKey(value, key(bytes)),
+        Want::Entries(count, bytes) => Reply::Entries(count, text(bytes)),
         Want::Null => Reply::Null,
         Want::Used(entries, quota, pieces, most) => Reply::Used(entries, quota, pieces, most),
         Want::Full => Reply::Full,

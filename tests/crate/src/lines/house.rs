@@ -1,7 +1,6 @@
 //! A service of two tenants over the plain store.
 
-use arrayvec::ArrayVec;
-use judy_model::{Call, KEY_LIMIT, Quota, Reply, Right};
+use judy_model::{Call, Quota, Reply, ReplyRoom, Right};
 use judy_protocol::Served;
 use judy_reference::Store;
 use std::alloc::Global;
@@ -57,7 +56,7 @@ fn answer<'a>(
     right: Right,
     quota: Quota,
     call: &Call<'_>,
-    found: &'a mut ArrayVec<u8, KEY_LIMIT>,
+    found: &'a mut ReplyRoom,
 ) -> Reply<'a> {
     match store.step(alloc, right, quota, call, found) {
         Ok(reply) => reply,
@@ -116,7 +115,7 @@ impl Served for House {
         alloc: Global,
         speaker: Guest,
         call: &Call<'_>,
-        found: &'a mut ArrayVec<u8, KEY_LIMIT>,
+        found: &'a mut ReplyRoom,
     ) -> Reply<'a> {
         match speaker.tenant {
             Tenant::Alice => {

@@ -1,6 +1,6 @@
 //! Keys and replies that own their bytes.
 use crate::checks::same;
-use judy_model::{Key, OwnedKey, OwnedReply, Reply};
+use judy_model::{Key, OwnedKey, OwnedReply, Reply, Text};
 use std::cmp::Ordering;
 use std::test::Fail;
 
@@ -26,6 +26,7 @@ fn replies(rt: HostRuntime) -> Result<(), Fail> {
         Reply::Value(3),
         Reply::ValueAt(4, 5),
         Reply::ValueKey(6, key),
+        Reply::Entries(2, Text::of(b" 7 8")),
         Reply::Null,
         Reply::Used(7, 8, 9, 10),
         Reply::ReadOnly,

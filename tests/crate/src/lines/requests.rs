@@ -4,8 +4,8 @@ use crate::checks::{holds, holds_at, same, same_at};
 use crate::lines::asks::name;
 use arrayvec::ArrayVec;
 use judy_model::{
-    BytesCall, COMMANDS, Call, Given, KEY_LIMIT, Key, Line, LongCall, Name, OneCall, StrCall,
-    Token, command_word,
+    BytesCall, COMMANDS, Call, Given, KEY_LIMIT, Key, Kind, Line, LongCall, Name, OneCall, Search,
+    StrCall, Token, command_word,
 };
 use judy_protocol::{Syntax, read_line};
 use std::alloc::{AllocError, Global};
@@ -18,21 +18,27 @@ const FIELDS: Fields = Fields {
     key: b"\x61\xff",
     number: 7,
     other: 9,
+    most: 0,
     stores: true,
 };
+
+/// The numbers of entries that searches ask for; with 0 they ask for one, without a number.
+const MOST: [u16; 3] = [0, 1, 65_535];
 
 /// The line of a command, of the array `A_b-9.z`, whose fields are these.
 fn line_of(
     alloc: Global,
     (word, operation, _): Row,
+    kind: Kind,
     fields: Fields,
     key: &str,
 ) -> Result<String, AllocError> {
-    match fields.count(operation) {
+    let (number, other) = fields.numbers(operation);
+    match fields.count(operation, kind) {
         0 => format!(in alloc; "{word} A_b-9.z"),
         1 => format!(in alloc; "{word} A_b-9.z {key}"),
-        2 => format!(in alloc; "{word} A_b-9.z {key} 7"),
-        _ => format!(in alloc; "{word} A_b-9.z {key} 7 9"),
+        2 => format!(in alloc; "{word} A_b-9.z {key} {number}"),
+        _ => format!(in alloc; "{word} A_b-9.z {key} {number} {other}"),
     }
 }
 
@@ -58,13 +64,16 @@ fn array() -> Name {
 #[test]
 fn each_request_of_a_set(rt: HostRuntime) -> Result<(), Fail> {
     for row in &OF_SETS {
-        let fields = Fields {
-            stores: false,
-            ..FIELDS
-        };
-        let call = one(row.1, fields).ok_or("a call of a set")?;
-        let line = line_of(rt.alloc(), *row, fields, "5")?;
-        compare(&rt, rt.alloc(), line.as_str(), Call::One(array(), call))?;
+        for most in MOST {
+            let fields = Fields {
+                stores: false,
+                most,
+                ..FIELDS
+            };
+            let call = one(row.1, fields).ok_or("a call of a set")?;
+            let line = line_of(rt.alloc(), *row, Kind::One, fields, "5")?;
+            compare(&rt, rt.alloc(), line.as_str(), Call::One(array(), call))?;
+        }
     }
     Ok(())
 }
@@ -72,10 +81,14 @@ fn each_request_of_a_set(rt: HostRuntime) -> Result<(), Fail> {
 #[test]
 fn each_request_of_a_word_map(rt: HostRuntime) -> Result<(), Fail> {
     for row in &OF_WORDS {
-        for stores in [false, true] {
-            let fields = Fields { stores, ..FIELDS };
+        for (stores, most) in [(false, 0), (true, 1), (true, 65_535)] {
+            let fields = Fields {
+                stores,
+                most,
+                ..FIELDS
+            };
             let call = long(row.1, fields).ok_or("a call of a JudyL")?;
-            let line = line_of(rt.alloc(), *row, fields, "5")?;
+            let line = line_of(rt.alloc(), *row, Kind::Long, fields, "5")?;
             compare(&rt, rt.alloc(), line.as_str(), Call::Long(array(), call))?;
         }
     }
@@ -84,16 +97,20 @@ fn each_request_of_a_word_map(rt: HostRuntime) -> Result<(), Fail> {
 
 #[test]
 fn each_request_of_keys(rt: HostRuntime) -> Result<(), Fail> {
-    for stores in [false, true] {
-        let fields = Fields { stores, ..FIELDS };
+    for (stores, most) in [(false, 0), (true, 1), (true, 65_535)] {
+        let fields = Fields {
+            stores,
+            most,
+            ..FIELDS
+        };
         for row in &OF_STRINGS {
             let call = string(row.1, fields).ok_or("a call of a JudySL")?;
-            let line = line_of(rt.alloc(), *row, fields, "x61fF")?;
+            let line = line_of(rt.alloc(), *row, Kind::Str, fields, "x61fF")?;
             compare(&rt, rt.alloc(), line.as_str(), Call::Str(array(), call))?;
         }
         for row in &OF_KEYS {
             let call = bytes(row.1, fields).ok_or("a call of a JudyHS")?;
-            let line = line_of(rt.alloc(), *row, fields, "x61FF")?;
+            let line = line_of(rt.alloc(), *row, Kind::Bytes, fields, "x61FF")?;
             compare(&rt, rt.alloc(), line.as_str(), Call::Bytes(array(), call))?;
         }
     }
@@ -123,9 +140,12 @@ fn each_command_has_a_row(rt: HostRuntime) {
 }
 
 /// Other spellings of numbers, and spaces.
-static OF_A_SET: [(&[u8], OneCall); 7] = [
+static OF_A_SET: [(&[u8], OneCall); 10] = [
     (b"J1T a 005", OneCall::Test(5)),
     (b"J1C a 0 -1", OneCall::Count(0, u64::MAX)),
+    (b"J1UF a 0  -1", OneCall::Pop(0, u64::MAX)),
+    (b"J1SE a -1", OneCall::Fill(u64::MAX)),
+    (b"J1F a -1 007", OneCall::Walk(Search::First, u64::MAX, 7)),
     (b"J1BC a 0", OneCall::ByCount(0)),
     (b"J1L a 18446744073709551615", OneCall::Last(u64::MAX)),
     (b"J1P a 00000000000000000001", OneCall::Prev(1)),
@@ -175,7 +195,7 @@ fn requests_of_the_connection(rt: HostRuntime) -> Result<(), Fail> {
     Ok(())
 }
 
-static OF_NO_REQUEST: [&[u8]; 45] = [
+static OF_NO_REQUEST: [&[u8]; 61] = [
     b"",
     b"  ",
     b"J1S",
@@ -209,6 +229,22 @@ static OF_NO_REQUEST: [&[u8]; 45] = [
     b"JHSA s x61",
     b"J1A a 1 1",
     b"JHSF s x61",
+    b"J1F a 1 0",
+    b"J1F a 1 65536",
+    b"J1F a 1 -1",
+    b"JSLF s x61 0",
+    b"JLPE a 1 65536",
+    b"J1UF a 1",
+    b"J1UF a 1 2 3",
+    b"J1UR a 1 2",
+    b"J1UR a 1 2 0",
+    b"JLDR a 1 2 65536",
+    b"JLDF a 1",
+    b"JSLDF s x61 1",
+    b"JSLDF s x00",
+    b"J1SE a",
+    b"J1SE a 1 2",
+    b"JLIE a 1",
     b"AUTH bob",
     b"AUTH bob a b",
     b"AUTH bob a\x7f",

@@ -1,8 +1,7 @@
 //! Worked rows: calls of one tenant, each with the reply that it should give.
 use crate::checks::{same, same_at};
 use crate::lines::asks::{Want, call_of, name, reply_of};
-use arrayvec::ArrayVec;
-use judy_model::{Call, ENTRY_PIECES_LIMIT, KEY_LIMIT, OneCall, Quota, Reply, Right};
+use judy_model::{Call, ENTRY_PIECES_LIMIT, KEY_LIMIT, OneCall, Quota, Reply, ReplyRoom, Right};
 use judy_reference::Store;
 use std::alloc::Global;
 use std::process::Abort;
@@ -16,7 +15,7 @@ struct Tenant {
     alloc: Global,
     quota: Quota,
     store: Store,
-    found: ArrayVec<u8, KEY_LIMIT>,
+    found: ReplyRoom,
 }
 
 impl Tenant {
@@ -36,7 +35,7 @@ impl Tenant {
             alloc,
             quota,
             store: Store::new(alloc),
-            found: ArrayVec::new(),
+            found: ReplyRoom::new(),
         }
     }
 
@@ -241,6 +240,52 @@ static OF_UNSIGNED_BYTES: [(&str, Want); 7] = [
 #[test]
 fn unsigned_bytes(rt: HostRuntime) -> Result<(), Fail> {
     compare(&rt, &mut Tenant::new(rt.alloc(), 4), &OF_UNSIGNED_BYTES)?;
+    Ok(())
+}
+
+static WITH_MANY_ENTRIES: [(&str, Want); 12] = [
+    ("J1S a 5", Want::Int(true)),
+    ("J1S a -1", Want::Int(true)),
+    ("J1F a 0 9", Want::Entries(2, b" 5 18446744073709551615")),
+    ("J1P a -1 1", Want::Entries(1, b" 5")),
+    ("J1N a -1 9", Want::Entries(0, b"")),
+    ("J1PE a 5 2", Want::Entries(2, b" 4 3")),
+    ("JLI a 7 70", Want::Value(0)),
+    ("JLL a -1 65535", Want::Entries(1, b" 70 7")),
+    ("JLFE a 7 2", Want::Entries(2, b" 8 9")),
+    ("JSLI a x 1", Want::Value(0)),
+    ("JSLF a x 2", Want::Entries(1, b" 1 x")),
+    ("JSLN a x 2", Want::Entries(0, b"")),
+];
+
+#[test]
+fn many_entries(rt: HostRuntime) -> Result<(), Fail> {
+    compare(&rt, &mut Tenant::new(rt.alloc(), 4), &WITH_MANY_ENTRIES)?;
+    Ok(())
+}
+
+static FIRST_AND_LEAST: [(&str, Want); 16] = [
+    ("J1SE a 5", Want::Index(5)),
+    ("J1SE a 5", Want::Index(6)),
+    ("J1SE a -1", Want::Index(18446744073709551615)),
+    ("J1SE a -1", Want::Int(false)),
+    ("JLIE a 0 7", Want::Index(0)),
+    ("JLIE a 0 7", Want::Full),
+    ("J1SE a 0", Want::Full),
+    ("J1SE a -1", Want::Int(false)),
+    ("J1UF a 7 6", Want::Int(false)),
+    ("J1UF a 0 5", Want::Index(5)),
+    ("JLDF a 1 -1", Want::Null),
+    ("JLDF a 0 0", Want::ValueAt(7, 0)),
+    ("JSLI a x61 3", Want::Value(0)),
+    ("JSLDF a x", Want::ValueKey(3, b"a")),
+    ("JSLDF a x", Want::Null),
+    ("J1UR a 0 -1 9", Want::Count(2)),
+];
+
+#[test]
+fn the_first_of_a_range_and_the_least_absent_word(rt: HostRuntime) -> Result<(), Fail> {
+    compare(&rt, &mut Tenant::new(rt.alloc(), 4), &FIRST_AND_LEAST)?;
     Ok(())
 }
 

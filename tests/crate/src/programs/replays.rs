@@ -4,7 +4,7 @@
 use crate::checks::{holds_at, same, same_at};
 use arrayvec::ArrayVec;
 use judy_journal::Unplayed;
-use judy_model::{KEY_LIMIT, Reply};
+use judy_model::{KEY_LIMIT, Reply, ReplyRoom};
 use judy_programs::{Opens, Replays};
 use judy_protocol::{Line, read_line, write_reply};
 use judy_server::{Halt, Server, Tally, replay, replay_all};
@@ -48,7 +48,14 @@ quota = 900
 static TENANTS: [&str; 3] = ["ann", "bob", "cid"];
 
 /// Commands that change arrays, each with the fields before a number from 0 to 9, and what follows it.
-static CHANGES: [(&str, &str); 16] = [
+static CHANGES: [(&str, &str); 23] = [
+    ("J1SE a ", ""),
+    ("J1UF a ", " 15"),
+    ("J1UR a ", " 12 2"),
+    ("JLIE l 99999", " 4"),
+    ("JLDF l 99999", " -1"),
+    ("JLDR l 99999", " 999995 2"),
+    ("JSLDF s x6", ""),
     ("J1S a ", ""),
     ("J1S b 25", ""),
     ("J1S a 1", ""),
@@ -68,7 +75,9 @@ static CHANGES: [(&str, &str); 16] = [
 ];
 
 /// Lines that read all that those commands can change, each before a number from 0 to 9.
-static LOOKS: [&str; 11] = [
+static LOOKS: [&str; 13] = [
+    "J1N a 1",
+    "JLN l 99999",
     "J1T a ",
     "J1T a 1",
     "J1T b 25",
@@ -136,7 +145,7 @@ fn play_noting(
     record: &str,
 ) -> Result<(), Unplayed> {
     let mut key = [0u8; KEY_LIMIT];
-    let mut found = ArrayVec::new();
+    let mut found = ReplyRoom::new();
     replay(
         alloc,
         service,
@@ -155,7 +164,7 @@ fn play(alloc: Global, service: &mut Service<Sha256Hash>, record: &str) -> Resul
 /// Plays the records of a text.
 fn play_all(alloc: Global, service: &mut Service<Sha256Hash>, text: &str) -> Result<(), Halt> {
     let mut key = [0u8; KEY_LIMIT];
-    let mut found = ArrayVec::new();
+    let mut found = ReplyRoom::new();
     let mut tally = Tally::new();
     replay_all(
         alloc,
@@ -177,7 +186,7 @@ fn ask(
     text: &mut ArrayVec<u8, 4096>,
 ) -> Result<bool, Fail> {
     let mut key = [0u8; KEY_LIMIT];
-    let mut found = ArrayVec::new();
+    let mut found = ReplyRoom::new();
     let Ok(Line::Call(call)) = read_line(line.as_bytes(), &mut key) else {
         return Err("a call")?;
     };
@@ -253,7 +262,7 @@ fn draw(alloc: Global, dice: &mut Dice) -> Result<String, Fail> {
     if dice.roll(60) == 0 {
         return Ok(format!(in alloc; "JLFA l")?);
     }
-    let (front, back) = CHANGES[dice.roll(16) as usize];
+    let (front, back) = CHANGES[dice.roll(23) as usize];
     let number = dice.roll(10);
     Ok(format!(in alloc; "{front}{number}{back}")?)
 }

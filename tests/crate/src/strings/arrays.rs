@@ -2,12 +2,11 @@
 //! method of each call; `held` calls the methods themselves.
 
 use crate::checks::{holds, holds_at};
-use arrayvec::ArrayVec;
 use judy_arena::{Arena, NoMemory};
 use judy_bytes::Sha256Hash;
 use judy_directory::Place;
 use judy_kinds::{answer, is_callable};
-use judy_model::{Call, LongCall, OwnedReply, Reply};
+use judy_model::{Call, Listing, LongCall, OwnedReply, Reply, ReplyRoom};
 use judy_words::JudyL;
 use std::alloc::Global;
 use std::process::Abort;
@@ -39,8 +38,8 @@ impl Arrays {
         }
     }
 
-    /// Answers a call of one of the JudySL arrays. Its string has no byte 0. A reply without a key leaves the
-    /// buffer of keys empty.
+    /// Answers a call of one of the JudySL arrays. Its string has no byte 0. A reply without a key and without
+    /// entries leaves the buffer of keys empty.
     pub(crate) fn string(
         &mut self,
         rt: &impl Abort,
@@ -54,13 +53,13 @@ impl Arrays {
         };
         holds(rt, matches!(call, Call::Str(_, _)) && is_callable(call));
         holds(rt, place.pieces < 1_000_000);
-        let mut found = ArrayVec::new();
+        let mut found = ReplyRoom::new();
         let (reply, place) = answer(alloc, &mut self.arena, Sha256Hash, place, call, &mut found)?;
         let reply = OwnedReply::of(&reply);
-        if !matches!(reply.reply(), Reply::ValueKey(_, _)) {
+        if !matches!(reply.reply(), Reply::ValueKey(_, _) | Reply::Entries(_, _)) {
             holds_at(
                 rt,
-                found.is_empty(),
+                found.key.is_empty(),
                 "what an empty answer leaves in the buffer",
             );
         }
@@ -72,12 +71,12 @@ impl Arrays {
     }
 
     /// Answers a call of the JudyL.
-    pub(crate) fn word(
-        &mut self,
-        alloc: Global,
-        call: LongCall,
-    ) -> Result<Reply<'static>, NoMemory> {
-        self.words.answer(alloc, &mut self.arena, call)
+    pub(crate) fn word(&mut self, alloc: Global, call: LongCall) -> Result<OwnedReply, NoMemory> {
+        let mut listing = Listing::new();
+        let reply = self
+            .words
+            .answer(alloc, &mut self.arena, call, &mut listing)?;
+        Ok(OwnedReply::of(&reply))
     }
 
     /// The words of all live blocks.

@@ -2,9 +2,8 @@
 use crate::calls::{self, Fields, OF_STRINGS, OF_WORDS, drawn};
 use crate::checks::{holds_at, same, same_at};
 use crate::strings::arrays::{Arrays, Which};
-use arrayvec::ArrayVec;
 use judy_arena::NoMemory;
-use judy_model::{Call, LongCall, Name, Operation, OwnedReply, Quota, Reply, Right, StrCall};
+use judy_model::{Call, LongCall, Name, Operation, OwnedReply, Quota, ReplyRoom, Right, StrCall};
 use judy_reference::Store;
 use std::alloc::{AllocError, Global};
 use std::process::Abort;
@@ -42,6 +41,9 @@ const STRINGS: [&[u8]; 16] = [
 /// The words of the walk.
 const WORDS: [u64; 8] = [0, 1, 255, 256, 65_536, 4_294_967_296, MAX - 1, MAX];
 
+/// How many entries the searches of the walk ask for. 0: one, without a number.
+const MOST: [u16; 4] = [0, 0, 3, 65_535];
+
 /// The reply of a JudySL. If memory is refused, nothing has changed, and a second try
 /// succeeds.
 fn ask_strings(
@@ -65,7 +67,7 @@ fn ask_words(
     alloc: Global,
     arrays: &mut Arrays,
     call: LongCall,
-) -> Result<Reply<'static>, NoMemory> {
+) -> Result<OwnedReply, NoMemory> {
     let words = arrays.live_words();
     if let Ok(reply) = arrays.word(alloc, call) {
         return Ok(reply);
@@ -76,7 +78,7 @@ fn ask_words(
 
 /// The reply of the plain store.
 fn try_store(alloc: Global, store: &mut Store, call: &Call<'_>) -> Result<OwnedReply, AllocError> {
-    let mut found = ArrayVec::new();
+    let mut found = ReplyRoom::new();
     let reply = store.step(alloc, Right::Change, AMPLE, call, &mut found)?;
     Ok(OwnedReply::of(&reply))
 }
@@ -102,6 +104,7 @@ fn fields(operation: Operation, seed: u64) -> Fields {
         key: STRINGS[(seed >> 24) as usize % 16],
         number,
         other: WORDS[(seed >> 36) as usize % 8],
+        most: MOST[(seed >> 44) as usize % 4],
         stores: (seed >> 28) % 3 > u64::from(operation == Operation::Remove),
     }
 }
@@ -157,7 +160,7 @@ fn both_words(
     let call = word_call(seed)?;
     let want = ask_store(alloc, store, &Call::Long(name(b"a")?, call))?;
     let reply = ask_words(rt, alloc, arrays, call)?;
-    same_at(rt, reply, want.reply(), call);
+    same_at(rt, reply.reply(), want.reply(), call);
     Ok(())
 }
 

@@ -62,6 +62,9 @@ static KEYS: [&[u8]; 8] = [
     b"abcdefghijklmnopqrstuvwxyz0123456789abcdefghijklmnopqrstuvwxyz0123456789",
 ];
 
+/// How many entries a search asks for. 0: one, without a number.
+static MOST: [u16; 4] = [0, 0, 3, 65_535];
+
 /// A generator of random numbers. Its state is one number.
 #[derive(Clone, Copy)]
 pub(crate) struct Dice {
@@ -82,11 +85,13 @@ impl Dice {
         (self.seed >> 33) % sides
     }
 
-    /// The number after the key: the end of a count, what is added, or a value. Some sums are past the greatest
+    /// The number after the key: the end of a range, what is added, or a value. Some sums are past the greatest
     /// word, and half of the values recur.
     fn number(&mut self, operation: Operation) -> u64 {
         match (operation, self.roll(2)) {
-            (Operation::Count, _) => WORDS[self.roll(16) as usize],
+            (Operation::Count | Operation::Pop | Operation::Cut, _) => {
+                WORDS[self.roll(16) as usize]
+            }
             (Operation::Add, 0) => MAX.wrapping_sub(self.roll(1_000_000)),
             (_, 0) => self.roll(3),
             _ => self.roll(1_000_000),
@@ -107,6 +112,7 @@ impl Dice {
             key: keys[self.roll(keys.len() as u64) as usize],
             number: self.number(operation),
             other: self.roll(3),
+            most: MOST[self.roll(4) as usize],
             stores: (self.roll(4) > 0) != (operation == Operation::Remove),
         }
     }

@@ -1,7 +1,6 @@
 //! A service that is called as a client calls it.
 use crate::checks::{holds_at, same, same_at};
-use arrayvec::ArrayVec;
-use judy_model::{Call, OwnedReply, Reply};
+use judy_model::{Call, OwnedReply, Reply, ReplyRoom};
 use judy_table::read_digest;
 use judy_tenants::{Event, Service, Sha256Hash, Speaker, Table, TableFault, is_callable};
 use std::alloc::{AllocError, Global};
@@ -135,7 +134,7 @@ impl House {
             self.service.has(speaker.tenant),
             "a tenant of another table",
         );
-        let mut found = ArrayVec::new();
+        let mut found = ReplyRoom::new();
         let reply = self.service.call(self.alloc, *speaker, call, &mut found);
         OwnedReply::of(&reply)
     }

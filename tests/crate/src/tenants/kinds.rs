@@ -3,12 +3,11 @@
 
 use crate::checks::{holds, holds_at, same, same_at};
 use crate::tenants::spelled::{call_of, compare};
-use arrayvec::ArrayVec;
 use judy_arena::{Arena, NoMemory};
 use judy_bytes::{KeyHash, Sha256Hash};
 use judy_directory::Place;
 use judy_kinds::{answer, array_of, asks, is_callable};
-use judy_model::{Call, KEY_LIMIT, Key, Kind, Name, OwnedReply, StrCall};
+use judy_model::{Call, KEY_LIMIT, Key, Kind, Name, OwnedReply, ReplyRoom, StrCall};
 use std::alloc::Global;
 use std::process::Abort;
 use std::test::Fail;
@@ -61,7 +60,7 @@ impl<H: KeyHash> Held<H> {
         holds(rt, is_of(call, self.kind));
         holds(rt, is_callable(call));
         holds(rt, self.place.pieces < 1_000_000);
-        let mut found = ArrayVec::new();
+        let mut found = ReplyRoom::new();
         let (reply, place) = answer(
             alloc,
             &mut self.arena,
@@ -131,11 +130,21 @@ fn check(
     Ok(())
 }
 
-static OF_A_SET: [(&str, &str, u64, u64); 6] = [
+static OF_A_SET: [(&str, &str, u64, u64); 16] = [
+    ("J1UF visits 0 -1", "0", 0, 0),
+    ("J1UR visits 0 -1 1", "N 0", 0, 0),
+    ("J1SE visits 7", "1 7", 1, 1),
+    ("J1SE visits -1", "1 18446744073709551615", 2, 2),
+    ("J1SE visits -1", "0", 2, 2),
+    ("J1UF visits 8 -1", "1 18446744073709551615", 1, 1),
+    ("J1SE visits 7", "1 8", 2, 2),
+    ("J1UR visits 0 7 9", "N 1", 1, 1),
+    ("J1UF visits 0 -1", "1 8", 0, 0),
     ("J1S visits 7", "1", 1, 1),
     ("J1S visits 7", "0", 1, 1),
     ("J1S visits -1", "1", 2, 2),
     ("J1N visits 7", "1 18446744073709551615", 2, 2),
+    ("J1F visits 0 9", "E 2 7 18446744073709551615", 2, 2),
     ("J1U visits 7", "1", 1, 1),
     ("J1FA visits", "N 1", 0, 0),
 ];
@@ -145,7 +154,14 @@ fn a_set(rt: HostRuntime) -> Result<(), Fail> {
     check(&rt, rt.alloc(), Kind::One, &OF_A_SET)
 }
 
-static OF_A_WORD_MAP: [(&str, &str, u64, u64); 13] = [
+static OF_A_WORD_MAP: [(&str, &str, u64, u64); 20] = [
+    ("JLIE visits -1 5", "1 18446744073709551615", 1, 1),
+    ("JLIE visits -1 6", "0", 1, 1),
+    ("JLIE visits 3 6", "1 3", 2, 2),
+    ("JLDF visits 4 9", "NULL", 2, 2),
+    ("JLDF visits 4 -1", "V 5 18446744073709551615", 1, 1),
+    ("JLF visits 0 9", "E 1 6 3", 1, 1),
+    ("JLDR visits 0 -1 9", "N 1", 0, 0),
     ("JLI visits 7 70", "V 0", 1, 1),
     ("JLI visits 7 70", "V 70", 1, 1),
     ("JLA visits 7 1", "V 71", 1, 1),
@@ -166,7 +182,11 @@ fn a_word_map(rt: HostRuntime) -> Result<(), Fail> {
     check(&rt, rt.alloc(), Kind::Long, &OF_A_WORD_MAP)
 }
 
-static OF_A_STRING_MAP: [(&str, &str, u64, u64); 13] = [
+static OF_A_STRING_MAP: [(&str, &str, u64, u64); 17] = [
+    ("JSLI visits x3132333435363738 1", "V 0", 1, 2),
+    ("JSLDF visits x32", "NULL", 1, 2),
+    ("JSLF visits x 9", "E 1 1 x3132333435363738", 1, 2),
+    ("JSLDF visits x", "V 1 x3132333435363738", 0, 0),
     ("JSLI visits x3132333435363738 1", "V 0", 1, 2),
     ("JSLI visits x", "V 0", 2, 3),
     ("JSLI visits x", "V 0", 2, 3),

@@ -4,8 +4,7 @@ use crate::calls::frees;
 use crate::checks::{holds_at, same, same_at};
 use crate::tenants::dice::Dice;
 use crate::tenants::house::House;
-use arrayvec::ArrayVec;
-use judy_model::{Call, Name, OwnedReply, Quota, Right};
+use judy_model::{Call, Name, OwnedReply, Quota, ReplyRoom, Right};
 use judy_reference::Store;
 use judy_tenants::Speaker;
 use std::alloc::{AllocError, Global};
@@ -69,7 +68,7 @@ impl Tenant {
         right: Right,
         call: &Call<'_>,
     ) -> Result<OwnedReply, AllocError> {
-        let mut found = ArrayVec::new();
+        let mut found = ReplyRoom::new();
         let reply = self.store.step(alloc, right, self.quota, call, &mut found)?;
         Ok(OwnedReply::of(&reply))
     }

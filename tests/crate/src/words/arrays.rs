@@ -1,6 +1,6 @@
 //! Two sets and two maps in one arena.
 use judy_arena::{Arena, NoMemory};
-use judy_model::{LongCall, OneCall, Reply};
+use judy_model::{Listing, LongCall, OneCall, OwnedReply};
 use judy_words::{Judy1, JudyL};
 use std::alloc::Global;
 
@@ -19,6 +19,7 @@ pub(crate) struct Arrays {
     other_set: Judy1,
     map: JudyL,
     other_map: JudyL,
+    listing: Listing,
 }
 
 impl Arrays {
@@ -30,6 +31,7 @@ impl Arrays {
             other_set: Judy1::new(),
             map: JudyL::new(),
             other_map: JudyL::new(),
+            listing: Listing::new(),
         }
     }
 
@@ -39,11 +41,13 @@ impl Arrays {
         alloc: Global,
         which: Which,
         call: OneCall,
-    ) -> Result<Reply<'static>, NoMemory> {
-        match which {
-            Which::First => self.set.answer(alloc, &mut self.arena, call),
-            Which::Second => self.other_set.answer(alloc, &mut self.arena, call),
-        }
+    ) -> Result<OwnedReply, NoMemory> {
+        let set = match which {
+            Which::First => &mut self.set,
+            Which::Second => &mut self.other_set,
+        };
+        let reply = set.answer(alloc, &mut self.arena, call, &mut self.listing)?;
+        Ok(OwnedReply::of(&reply))
     }
 
     /// Answers a call of one of the maps.
@@ -52,11 +56,13 @@ impl Arrays {
         alloc: Global,
         which: Which,
         call: LongCall,
-    ) -> Result<Reply<'static>, NoMemory> {
-        match which {
-            Which::First => self.map.answer(alloc, &mut self.arena, call),
-            Which::Second => self.other_map.answer(alloc, &mut self.arena, call),
-        }
+    ) -> Result<OwnedReply, NoMemory> {
+        let map = match which {
+            Which::First => &mut self.map,
+            Which::Second => &mut self.other_map,
+        };
+        let reply = map.answer(alloc, &mut self.arena, call, &mut self.listing)?;
+        Ok(OwnedReply::of(&reply))
     }
 
     /// How many entries all four hold.

@@ -2,7 +2,7 @@
 use crate::checks::same_at;
 use crate::words::arrays::{Arrays, Which};
 use judy_arena::NoMemory;
-use judy_model::{LongCall, OneCall, Reply};
+use judy_model::{LongCall, OneCall, OwnedReply, Reply};
 use std::alloc::Global;
 use std::process::Abort;
 
@@ -13,7 +13,7 @@ pub(crate) fn ask_set(
     arrays: &mut Arrays,
     which: Which,
     call: OneCall,
-) -> Result<Reply<'static>, NoMemory> {
+) -> Result<OwnedReply, NoMemory> {
     let words = arrays.live_words();
     let entries = arrays.population();
     if let Ok(reply) = arrays.one(alloc, which, call) {
@@ -31,7 +31,7 @@ pub(crate) fn ask_map(
     arrays: &mut Arrays,
     which: Which,
     call: LongCall,
-) -> Result<Reply<'static>, NoMemory> {
+) -> Result<OwnedReply, NoMemory> {
     let words = arrays.live_words();
     let entries = arrays.population();
     if let Ok(reply) = arrays.long(alloc, which, call) {
@@ -50,12 +50,8 @@ pub(crate) fn one(
     call: OneCall,
     want: Reply<'_>,
 ) -> Result<(), NoMemory> {
-    same_at(
-        rt,
-        ask_set(rt, alloc, arrays, Which::First, call)?,
-        want,
-        call,
-    );
+    let reply = ask_set(rt, alloc, arrays, Which::First, call)?;
+    same_at(rt, reply.reply(), want, call);
     Ok(())
 }
 
@@ -67,11 +63,7 @@ pub(crate) fn long(
     call: LongCall,
     want: Reply<'_>,
 ) -> Result<(), NoMemory> {
-    same_at(
-        rt,
-        ask_map(rt, alloc, arrays, Which::First, call)?,
-        want,
-        call,
-    );
+    let reply = ask_map(rt, alloc, arrays, Which::First, call)?;
+    same_at(rt, reply.reply(), want, call);
     Ok(())
 }

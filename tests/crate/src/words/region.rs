@@ -3,13 +3,13 @@
 use crate::checks::{same, same_at};
 use crate::words::arrays::{Arrays, Which};
 use judy_arena::NoMemory;
-use judy_model::{OneCall, Reply};
+use judy_model::{OneCall, OwnedReply};
 use std::alloc::Global;
 use std::process::Abort;
 use std::test::Fail;
 
 /// Inserts a key into the first set. If memory is refused, a second try succeeds.
-fn put(alloc: Global, arrays: &mut Arrays, key: u64) -> Result<Reply<'static>, NoMemory> {
+fn put(alloc: Global, arrays: &mut Arrays, key: u64) -> Result<OwnedReply, NoMemory> {
     match arrays.one(alloc, Which::First, OneCall::Set(key)) {
         Ok(reply) => Ok(reply),
         Err(_) => arrays.one(alloc, Which::First, OneCall::Set(key)),

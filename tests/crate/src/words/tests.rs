@@ -4,10 +4,9 @@ use crate::calls::{self, Fields, OF_SETS, OF_WORDS, drawn};
 use crate::checks::{holds, same, same_at};
 use crate::words::arrays::{Arrays, Which};
 use crate::words::asked::{ask_map, ask_set, long, one};
-use arrayvec::ArrayVec;
 use judy_arena::{Arena, NoMemory};
 use judy_model::{
-    Call, Given, LongCall, Name, OneCall, Operation, OwnedReply, Quota, Reply, Right,
+    Call, Given, LongCall, Name, OneCall, Operation, OwnedReply, Quota, Reply, ReplyRoom, Right,
 };
 use judy_reference::Store;
 use judy_words::JudyL;
@@ -25,7 +24,7 @@ const AMPLE: Quota = Quota {
 
 /// The reply of the plain store.
 fn try_store(alloc: Global, store: &mut Store, call: &Call<'_>) -> Result<OwnedReply, AllocError> {
-    let mut found = ArrayVec::new();
+    let mut found = ReplyRoom::new();
     let reply = store.step(alloc, Right::Change, AMPLE, call, &mut found)?;
     Ok(OwnedReply::of(&reply))
 }
@@ -237,6 +236,9 @@ const WORDS: [u64; 16] = [
     MAX,
 ];
 
+/// How many entries the searches of the walk ask for. 0: one, without a number.
+const MOST: [u16; 4] = [0, 0, 3, 65_535];
+
 fn word(seed: u64) -> u64 {
     WORDS[(seed % 16) as usize]
 }
@@ -254,6 +256,7 @@ fn fields(operation: Operation, seed: u64) -> Fields {
         key: b"",
         number,
         other: word(seed >> 36),
+        most: MOST[(seed >> 44) as usize % 4],
         stores: (seed >> 28) % 3 > u64::from(operation == Operation::Remove),
     }
 }
@@ -295,12 +298,12 @@ fn both(
         let call = one_call(seed)?;
         let want = ask_store(alloc, store, &Call::One(name(which)?, call))?;
         let reply = ask_set(rt, alloc, arrays, which, call)?;
-        same_at(rt, reply, want.reply(), (call, "of", which));
+        same_at(rt, reply.reply(), want.reply(), (call, "of", which));
     } else {
         let call = long_call(seed)?;
         let want = ask_store(alloc, store, &Call::Long(name(which)?, call))?;
         let reply = ask_map(rt, alloc, arrays, which, call)?;
-        same_at(rt, reply, want.reply(), (call, "of", which));
+        same_at(rt, reply.reply(), want.reply(), (call, "of", which));
     }
     Ok(())
 }
