@@ -389,8 +389,8 @@ static void say_nothing(enum kind kind, enum call call)
     say(is_of_indexes(kind, call) ? "0" : "NULL");
 }
 
-/* Removes the first entries from the one of the request on, of words up to its second, at most so many. How many it
- * removed. A pop says the one that it removed. */
+/* Removes the first entries from the one of the request on, of words up to its second, at most `most` of them. How
+ * many it removed. A pop says the one that it removed. */
 static Word_t remove_first(struct tenant *t, struct array *a, const struct request *r, Word_t most)
 {
     static struct request found;

@@ -326,7 +326,7 @@ def fill(owner, kind, name, key, value=None):
 
 
 def cut(owner, kind, name, low, high, most):
-    """The removal of the indexes from `low` to `high`, the least first and at most so many: how many were removed."""
+    """The removal of the indexes from `low` to `high`, the least first, at most `most` of them: how many were removed."""
     keys = owner.array(kind, name).keys
     found = keys[bisect_left(keys, low) : bisect_right(keys, high)][:most]
     for key in found:
@@ -361,7 +361,7 @@ def count(owner, kind, name, low, high):
 
 def finds(search, on=None):
     """A search for a key that is present: the key of a set, otherwise the value and the key. With a number of
-    entries: so many, each found behind the one before by the other search."""
+    entries it is made again by the other search, each time behind the entry before."""
 
     def step(owner, kind, name, field, most=None):
         array = owner.array(kind, name)
@@ -381,7 +381,7 @@ def entry_text(kind, array, key):
 
 
 def misses(search, on):
-    """A search for an absent index, or for so many."""
+    """A search for an absent index, or with a number for several."""
 
     def step(owner, kind, name, field, most=None):
         array = owner.array(kind, name)
@@ -393,7 +393,7 @@ def misses(search, on):
 
 
 def walked(array, search, on, field, most):
-    """What a search finds, and each time what the other search finds behind that: at most so many."""
+    """What a search finds, and each time what the other search finds behind that: at most `most` of them."""
     found = search(array, field)
     for _ in range(most):
         if found is None:

@@ -338,7 +338,7 @@ static int scan(jd *c, char kind)
     }
 }
 
-/* Replies of which the last one is none to a scan of this kind, on so many connections. */
+/* Replies of which the last one is none to a scan of this kind, on `count` connections. */
 static void check_odd(const char *path, char kind, uint64_t count)
 {
     for (uint64_t i = 0; i < count; i++) {
