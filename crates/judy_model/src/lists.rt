@@ -1,5 +1,5 @@
 //! The text of a reply that lists entries, and the room for it.
-ghost use Rattle.std.specs.Prelude.{◌≡◌, ◌+◌, ◌≤◌, ◌++◌, [], length, nat_le, if◌then◌else◌};
+ghost use Rattle.std.specs.Prelude.{◌*◌, ◌≡◌, ◌+◌, ◌≤◌, ◌++◌, [], length, nat_le, if◌then◌else◌};
 ghost use Rattle.std.specs.Prelude.{nat_eq};
 ghost use Rattle.std.specs.Cmp.{partial_equiv_from_equiv};
 ghost use Rattle.std.specs.Cmp.Lexicographic.{pointwise, nat_list_eq_equiv};
@@ -15,6 +15,9 @@ pub const LIST_LIMIT: usize = 4088;
 
 /// The most bytes of a space and a number.
 pub const SPACED_LIMIT: usize = 21;
+
+// The most digits of a string that have a small room: to clear a large one takes longer than to write these.
+const SHORT_DIGITS: usize = 128;
 
 /// The text of the entries in a reply, which is borrowed. Contracts see it as its bytes.
 #[derive(Debug, Drop)]
@@ -154,6 +157,22 @@ impl Listing {
         self.add(shown) && self.add(index)
     }
 
+    /// Adds a string and its value, if both fit, with room for the digits of the string. Returns whether they do.
+    fn add_shown(&mut self, key: &[u8], value: u64, digits: &mut [u8]) -> bool
+        requires { length digits.old ≡ 2 * length key.now }
+        ensures fits { result ≡ nat_le (length self.old + length (key_words (key.now, value))) LIST_LIMIT }
+        ensures added { self.new
+            ≡ (if result then self.old ++ key_words (key.now, value) else self.old) }
+    {
+        let mut room = [0; SPACED_LIMIT];
+        let shown = spaced(value, &mut room);
+        let _fits = hex::encode_to_slice(key, digits);
+        if self.bytes.len() + shown.len() + 2 + digits.len() > LIST_LIMIT {
+            return false;
+        }
+        self.add(shown) && self.add(b" x") && self.add(digits)
+    }
+
     /// Adds a string and its value, if both fit. Returns whether they do.
     pub fn add_key(&mut self, key: &[u8], value: u64) -> bool
         requires { length key.now ≤ KEY_LIMIT }
@@ -161,15 +180,13 @@ impl Listing {
         ensures added { self.new
             ≡ (if result then self.old ++ key_words (key.now, value) else self.old) }
     {
-        let mut room = [0; SPACED_LIMIT];
-        let shown = spaced(value, &mut room);
         let len = 2 * key.len();
-        let mut digits = [0u8; 2 * KEY_LIMIT];
-        let _fits = hex::encode_to_slice(key, &mut digits[..len]);
-        if self.bytes.len() + shown.len() + 2 + len > LIST_LIMIT {
-            return false;
+        if len <= SHORT_DIGITS {
+            let mut digits = [0u8; SHORT_DIGITS];
+            return self.add_shown(key, value, &mut digits[..len]);
         }
-        self.add(shown) && self.add(b" x") && self.add(&digits[..len])
+        let mut digits = [0u8; 2 * KEY_LIMIT];
+        self.add_shown(key, value, &mut digits[..len])
     }
 }
 

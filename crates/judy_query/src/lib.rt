@@ -5,18 +5,23 @@
 //! tree, or two for a range.
 #![tactic(auto)]
 
+mod cursor;
 mod near;
 mod node;
 mod query;
 
-ghost use Rattle.std.specs.Prelude.{◌≡◌};
+ghost use Rattle.std.specs.Prelude.{◌≡◌, IfSome};
 ghost use Rattle.judy_model.specs.Contents.{word_order, value_of, count, nth, first, next, last, prev};
 ghost use Rattle.judy_model.specs.Gaps.{first_empty, next_empty, last_empty, prev_empty};
+ghost use Rattle.judy_model.specs.Walks.{found_by};
+ghost use Rattle.judy_query.specs.Cursors.{IsCursor};
 ghost use Rattle.judy_query.specs.Fingers.{IsFinger};
 ghost use Rattle.judy_query.specs.Keys.{key_found};
 ghost use Rattle.judy_tree.specs.Root.{IsRoot, entries};
 
+pub use cursor::Cursor;
 use judy_arena::Arena;
+use judy_model::Search;
 use judy_tree::Root;
 pub use near::Finger;
 
@@ -90,6 +95,40 @@ pub fn prev_by<const V: bool>(
     ensures { result ≡ prev word_order (entries V arena.now.blocks root.now.reference) x }
 {
     near::prev_by(V, arena, root.reference(), x, finger)
+}
+
+/// The entry that a search finds, with its cursor. A walk begins with it.
+pub fn begin_walk<const V: bool>(
+    arena: &Arena,
+    root: &Root<V>,
+    search: Search,
+    x: u64,
+    cursor: &mut Cursor,
+) -> Option<(u64, u64)>
+    requires { IsRoot V arena.now.blocks root.now.reference }
+    ensures found { result
+        ≡ found_by word_order (entries V arena.now.blocks root.now.reference) search x }
+    ensures cursor { IfSome result (λ e. IsCursor V arena.now.blocks root.now.reference e.0 cursor.new) }
+{
+    cursor::found_anew(V, arena, root.reference(), search, x, cursor)
+}
+
+/// The entry that a search finds from a present word on, by the word's cursor, which becomes that of the
+/// entry. `Next` and `Prev` seldom go down from the root. None if the search finds nothing.
+pub fn step<const V: bool>(
+    arena: &Arena,
+    root: &Root<V>,
+    search: Search,
+    x: u64,
+    cursor: &mut Cursor,
+) -> Option<(u64, u64)>
+    requires root { IsRoot V arena.now.blocks root.now.reference }
+    requires cursor { IsCursor V arena.now.blocks root.now.reference x cursor.old }
+    ensures found { result
+        ≡ found_by word_order (entries V arena.now.blocks root.now.reference) search x }
+    ensures cursor { IfSome result (λ e. IsCursor V arena.now.blocks root.now.reference e.0 cursor.new) }
+{
+    cursor::step(V, arena, root.reference(), search, x, cursor)
 }
 
 /// The entry of the greatest key that is at most `x`.

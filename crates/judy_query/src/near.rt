@@ -63,7 +63,7 @@ fn leaf_of(values: bool, arena: &Arena, node: Ref, x: u64) -> Option<Near>
 }
 
 // The first child after the word's byte at a branch.
-fn after(arena: &Arena, branch: Ref, x: u64) -> Option<(u8, Ref)>
+pub(crate) fn after(arena: &Arena, branch: Ref, x: u64) -> Option<(u8, Ref)>
     requires { IsBranch arena.now.blocks branch }
     ensures { IfSome result (IsAfter arena.now.blocks branch x) }
 {
@@ -77,7 +77,7 @@ fn after(arena: &Arena, branch: Ref, x: u64) -> Option<(u8, Ref)>
 }
 
 // The last child before the word's byte at a branch.
-fn before(arena: &Arena, branch: Ref, x: u64) -> Option<(u8, Ref)>
+pub(crate) fn before(arena: &Arena, branch: Ref, x: u64) -> Option<(u8, Ref)>
     requires { IsBranch arena.now.blocks branch }
     ensures { IfSome result (IsBefore arena.now.blocks branch x) }
 {

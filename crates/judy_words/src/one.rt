@@ -35,7 +35,7 @@ impl Model for Judy1 {
 }
 
 // The index of an entry.
-fn key_of(entry: Option<(u64, u64)>) -> Option<u64>
+pub(crate) fn key_of(entry: Option<(u64, u64)>) -> Option<u64>
     ensures { result ≡ key_found entry }
 {
     match entry {

@@ -2,7 +2,7 @@
 //! reply.
 ghost use Rattle.std.specs.Prelude.{◌≡◌, [], map};
 ghost use Rattle.judy_model.specs.Contents.{word_order};
-ghost use Rattle.judy_model.specs.Walks.{absent_by, entry_words, found_by, index_by, index_words, listed, walk_from};
+ghost use Rattle.judy_model.specs.Walks.{absent_by, entry_words, index_words, listed, walk, walk_from, walk_indexes};
 ghost use Rattle.judy_model.specs.declared.calls.LongCall.TheVariants as long;
 ghost use Rattle.judy_model.specs.declared.calls.OneCall.TheVariants as one;
 ghost use Rattle.judy_tree.specs.Root.{IsRoot, entries};
@@ -10,9 +10,10 @@ ghost use Rattle.judy_words.specs.LongArrays.{IsLongArray, LongLooks, long_in};
 ghost use Rattle.judy_words.specs.OneArrays.{IsOneArray, OneLooks, one_in};
 
 use crate::long::JudyL;
-use crate::one::Judy1;
+use crate::one::{Judy1, key_of};
 use judy_arena::Arena;
 use judy_model::{Listing, Reply, Search};
+use judy_query::Cursor;
 use judy_refs::Ref;
 use judy_tree::Root;
 
@@ -72,36 +73,18 @@ fn list_absent(
 }
 
 impl Judy1 {
-    /// The index that a search finds.
-    fn index_by(&self, arena: &Arena, search: Search, x: u64) -> Option<u64>
-        requires { IsOneArray arena.now.blocks self.now }
-        ensures { result ≡ index_by (one_in arena.now.blocks self.now) search x }
-    {
-        match search {
-            Search::First => self.first(arena, x),
-            Search::Next => self.next(arena, x),
-            Search::Last => self.last(arena, x),
-            Search::Prev => self.prev(arena, x),
-        }
-    }
-
-    /// Adds indexes to an empty list: this one, and each time the one that the search finds behind it, at most
-    /// `most` and as many as fit. Returns how many.
-    fn list(
-        &self,
-        arena: &Arena,
-        search: Search,
-        start: Option<u64>,
-        most: u16,
-        listing: &mut Listing,
-    ) -> u16
+    /// Adds indexes to an empty list: what the search finds, and each time what follows, at most `most` and as many as
+    /// fit. Returns how many.
+    fn list(&self, arena: &Arena, search: Search, x: u64, most: u16, listing: &mut Listing) -> u16
         requires array { IsOneArray arena.now.blocks self.now }
         requires empty { listing.old ≡ [] }
-        ensures { listed (map index_words (walk_from
-            (λ y. index_by (one_in arena.now.blocks self.now) search y) most start))
-            ≡ (result, listing.new) }
+        ensures { listed (map index_words
+            (walk_indexes (one_in arena.now.blocks self.now) search x most)) ≡ (result, listing.new) }
     {
-        let mut found = start;
+        let root = Root::<false>::from_reference(self.reference());
+        let on = search.on();
+        let mut cursor = Cursor::new();
+        let mut found = key_of(judy_query::begin_walk(arena, &root, search, x, &mut cursor));
         for count in 0..most {
             let Some(index) = found else {
                 return count;
@@ -109,7 +92,7 @@ impl Judy1 {
             if !listing.add_index(index) {
                 return count;
             }
-            found = self.index_by(arena, search, index);
+            found = key_of(judy_query::step(arena, &root, on, index, &mut cursor));
         }
         most
     }
@@ -127,8 +110,7 @@ impl Judy1 {
         ensures { OneLooks arena.now self.now (one.Walk search x most) result }
     {
         listing.clear();
-        let start = self.index_by(arena, search, x);
-        let count = self.list(arena, search.on(), start, most, listing);
+        let count = self.list(arena, search, x, most, listing);
         Reply::Entries(count, listing.text())
     }
 
@@ -153,36 +135,18 @@ impl Judy1 {
 }
 
 impl JudyL {
-    /// The entry that a search finds.
-    fn entry_by(&self, arena: &Arena, search: Search, x: u64) -> Option<(u64, u64)>
-        requires { IsLongArray arena.now.blocks self.now }
-        ensures { result ≡ found_by word_order (long_in arena.now.blocks self.now) search x }
-    {
-        match search {
-            Search::First => self.first(arena, x),
-            Search::Next => self.next(arena, x),
-            Search::Last => self.last(arena, x),
-            Search::Prev => self.prev(arena, x),
-        }
-    }
-
-    /// Adds entries to an empty list: this one, and each time the one that the search finds behind it, at most
-    /// `most` and as many as fit. Returns how many.
-    fn list(
-        &self,
-        arena: &Arena,
-        search: Search,
-        start: Option<(u64, u64)>,
-        most: u16,
-        listing: &mut Listing,
-    ) -> u16
+    /// Adds entries to an empty list: what the search finds, and each time what follows, at most `most` and as many as
+    /// fit. Returns how many.
+    fn list(&self, arena: &Arena, search: Search, x: u64, most: u16, listing: &mut Listing) -> u16
         requires array { IsLongArray arena.now.blocks self.now }
         requires empty { listing.old ≡ [] }
-        ensures { listed (map entry_words (walk_from
-            (λ e. found_by word_order (long_in arena.now.blocks self.now) search e.0) most start))
-            ≡ (result, listing.new) }
+        ensures { listed (map entry_words
+            (walk word_order (long_in arena.now.blocks self.now) search x most)) ≡ (result, listing.new) }
     {
-        let mut found = start;
+        let root = Root::<true>::from_reference(self.reference());
+        let on = search.on();
+        let mut cursor = Cursor::new();
+        let mut found = judy_query::begin_walk(arena, &root, search, x, &mut cursor);
         for count in 0..most {
             let Some((index, value)) = found else {
                 return count;
@@ -190,7 +154,7 @@ impl JudyL {
             if !listing.add_entry(index, value) {
                 return count;
             }
-            found = self.entry_by(arena, search, index);
+            found = judy_query::step(arena, &root, on, index, &mut cursor);
         }
         most
     }
@@ -208,8 +172,7 @@ impl JudyL {
         ensures { LongLooks arena.now self.now (long.Walk search x most) result }
     {
         listing.clear();
-        let start = self.entry_by(arena, search, x);
-        let count = self.list(arena, search.on(), start, most, listing);
+        let count = self.list(arena, search, x, most, listing);
         Reply::Entries(count, listing.text())
     }
 
