@@ -1,7 +1,7 @@
 # Completion of the command line judy in bash. ./install puts it where bash-completion finds it; otherwise
 # source it.
 
-_judy_commands="add status top stop reload kick thaw wait dump load check backup restore compact move table digest help"
+_judy_commands="add status top stop reload kick thaw wait dump load check backup restore compact ship receive move table digest help"
 # python3 tests/calls.py --write writes these words
 _judy_calls="\
 AUTH HELLO J1BC J1C J1F J1FA J1FE J1L J1LE J1N J1NE J1P J1PE J1S J1SE J1T J1U J1UF J1UR JHSA JHSD \
@@ -38,6 +38,8 @@ _judy_words() {
         backup) echo "--folder $_judy_options --help" ;;
         restore) echo "--control --all $_judy_options --help" ;;
         compact) echo "--when --help" ;;
+        ship) echo "--once --status --help" ;;
+        receive) echo "--help" ;;
         move) echo "J1: JL: JSL: JHS: --to --new-token-file --free --part --all $_judy_options --help" ;;
         table) echo "add set drop-old remove --quota --pieces --journal --token --look --keep-old --help" ;;
         digest) echo "--look --help" ;;
@@ -48,7 +50,7 @@ _judy() {
     local current=${COMP_WORDS[COMP_CWORD]} before=${COMP_WORDS[COMP_CWORD - 1]} command words
     COMPREPLY=()
     case $before in
-        -s | --socket | --ca | --control | --token-file | --to | --new-token-file | --folder | -o | --output)
+        --status | -s | --socket | --ca | --control | --token-file | --to | --new-token-file | --folder | -o | --output)
             mapfile -t COMPREPLY < <(compgen -f -- "$current")
             return
             ;;
@@ -61,11 +63,11 @@ _judy() {
     # A path comes next, and no word, if this is no option.
     case $command:$before:$current in
         *:*:-*) ;;
-        table:table:* | status:* | top:* | stop:* | reload:* | kick:* | thaw:* | load:* | check:* | backup:* | restore:* | compact:*) words= ;;
+        table:table:* | status:* | top:* | stop:* | reload:* | kick:* | thaw:* | load:* | check:* | backup:* | restore:* | compact:* | ship:* | receive:*) words= ;;
     esac
     mapfile -t COMPREPLY < <(compgen -W "$words" -- "$current")
     case $command in
-        '' | status | top | stop | reload | kick | thaw | load | check | backup | restore | compact | table)
+        '' | status | top | stop | reload | kick | thaw | load | check | backup | restore | compact | ship | receive | table)
             [ ${#COMPREPLY[@]} -gt 0 ] || mapfile -t COMPREPLY < <(compgen -f -- "$current")
             ;;
     esac

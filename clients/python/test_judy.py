@@ -316,7 +316,7 @@ class Completion(unittest.TestCase):
             wanted = {option for action in subcommand(name)._actions for option in action.option_strings} - {"-h"}
             self.assertEqual({word for word in self.completed("judy", "-u", "alice", name, "-")}, wanted, name)
         self.assertEqual(self.completed("judy", "table", "t.toml", "s"), ["set"])
-        for name in ("status", "top", "stop", "reload", "kick", "load", "check", "backup", "compact", "table"):
+        for name in ("status", "top", "stop", "reload", "kick", "load", "check", "backup", "compact", "ship", "receive", "table"):
             self.assertEqual(set(self.completed("judy", name, "")), set(os.listdir(".")), name)
         self.assertIn("add", self.completed("judy", "table", "t.toml", ""))
         self.assertEqual(self.completed("judy", "help", "ta"), ["table"])

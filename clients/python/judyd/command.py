@@ -8,7 +8,7 @@ import sys
 from difflib import get_close_matches
 from typing import Dict, List, Optional
 
-from . import backups, compactions, metrics, moves, restores, screen, service, tablefaults, tables, transfer
+from . import backups, compactions, metrics, moves, receiving, restores, screen, service, shipping, tablefaults, tables, transfer
 from .client import Client
 from .copies import all_arrays, check, open_input, read_name
 from .dumpfile import Reader, is_regular, verify
@@ -137,6 +137,16 @@ def run_restore(options: argparse.Namespace) -> int:
 def run_compact(options: argparse.Namespace) -> int:
     """judy compact"""
     return compactions.compact(options.folder, options.when)
+
+
+def run_ship(options: argparse.Namespace) -> int:
+    """judy ship"""
+    return shipping.ship(options.folder, options.receiver, options.once, options.status)
+
+
+def run_receive(options: argparse.Namespace) -> int:
+    """judy receive"""
+    return receiving.receive(options.folder)
 
 
 def name_of(path: Optional[str]) -> str:
@@ -299,6 +309,8 @@ SUBCOMMANDS = {
     "backup": run_backup,
     "restore": run_restore,
     "compact": run_compact,
+    "ship": run_ship,
+    "receive": run_receive,
     "move": run_move,
     "table": run_table,
     "digest": run_digest,

@@ -33,6 +33,8 @@ and goes on. If the connection is lost it says how many lines were answered, and
   judy restore --control PATH TENANT DUMP .. frees a tenant's arrays, and loads them from dumps,
                                              while its writers are kept out
   judy compact [--when GROWTH] DIR           makes a journal smaller, if it has grown by 100% or 1G
+  judy ship [--status FILE] DIR -- COMMAND  keeps a copy of a journal in step, while the server runs
+  judy receive DIR                           writes that copy: COMMAND is `ssh HOST judy receive DIR`
   judy move --to WHERE [--free] J1:ids ..    copies arrays to another server, and compares the two
   judy table FILE                            the faults of a table of tenants, with their lines: status 3 if it has any
   judy table FILE add | set | drop-old | remove TENANT  changes a table, if judyd takes the new one
@@ -70,6 +72,8 @@ ABOUT: Dict[str, About] = {
     "backup": About("Writes a dump of each tenant of a list, and keeps the one before it.", "judy backup --folder /var/lib/judyd /etc/judyd/backups", "0 if each tenant was dumped, 1 if one was not, 4 if no connection was made"),
     "restore": About("Frees a tenant's arrays, loads them from dumps and compares, while its writers are kept out.", "judy restore --control /run/judyd-operator/control alice /var/lib/judyd/alice.dump", "0 if the arrays are as in the dumps, 1 if they are not or nothing was done, 4 if no server listens at one of the two sockets"),
     "compact": About("Makes the files of a journal smaller, once it has grown by so much since the last time.", "judy compact --when 100% /var/lib/judyd/journal", "0 if it was compacted or has not grown so much, 1 if it was not compacted"),
+    "ship": About("Sends a journal to a command with judy receive, and then what comes to it.", "judy ship /var/lib/judyd/journal -- ssh b judy receive /var/lib/judyd/journal", "0 with --once, if all that was there at the start is confirmed; 1 if the two differ, or once the command ends"),
+    "receive": About("Writes the copy of a journal that judy ship sends on standard input.", "judy receive /var/lib/judyd/journal", "0 once standard input ends; 1 if it is no stream of judy ship, or a server has the directory"),
     "move": About("Copies arrays to another server, and compares the two.", "judy -s old.sock -u alice move --to new.sock --free J1:ids", "0 if both are alike, 1 if they are not or a call was refused, 4 if a connection failed"),
     "table": About("Tells the faults of a table of tenants, or changes it if judyd takes the new one.", "judy table /etc/judyd/tenants.toml add joe --quota 1000", "0; 1 if the table was not changed or not read, 3 if it has a fault"),
     "digest": About("Asks for a token, and prints the line of a table for it.", "judy digest --look", "0; 1 if it is no token"),
@@ -160,6 +164,13 @@ def subcommand(name: str) -> argparse.ArgumentParser:
     elif name == "compact":
         sub.add_argument("--when", type=grown, metavar="GROWTH", help="do nothing below this growth: 100%% of the snapshot, or 1G")
         sub.add_argument("folder", metavar="DIR", help="the directory of the journal")
+    elif name == "ship":
+        sub.add_argument("--once", action="store_true", help="end once all that was there at the start is confirmed")
+        sub.add_argument("--status", metavar="FILE", help="a file for where the receiver is, and for what it has not confirmed")
+        sub.add_argument("folder", metavar="DIR", help="the directory of the journal")
+        sub.add_argument("receiver", nargs="+", metavar="COMMAND", help="after --: judy receive DIR, or ssh HOST judy receive DIR")
+    elif name == "receive":
+        sub.add_argument("folder", metavar="DIR", help="the directory of the copy; it is made if it is not there")
     elif name == "move":
         sub.add_argument("--to", required=True, metavar="WHERE", help="the second server: the path of its socket, or HOST:PORT")
         sub.add_argument("--new-token-file", metavar="FILE", help="the tenant's token there, if it is another one (else JUDY_NEW_TOKEN)")
