@@ -3,7 +3,7 @@ which order, what arrays they make, and which of them must be there at each mome
 
 import functools
 import sys
-from bisect import bisect_left
+from bisect import bisect_left, insort
 from collections import namedtuple
 
 from commands import COMMANDS
@@ -12,6 +12,7 @@ from disks import after, renumbered
 WORD = 2**64
 STEP = 16384  # bytes between two places of a text whose arrays are kept
 KEPT = 256  # of so many places
+QUEUE = b"q"  # begins the names of the arrays whose keys are kept in order: of them some calls search
 
 # The arrays that texts make, by a sum of each text. The newest stand last.
 PLAYED = {}
@@ -32,6 +33,7 @@ class Arrays:
 
     def __init__(self, other=None):
         self.entries = dict(other.entries) if other else {}
+        self.queues = {array: list(keys) for array, keys in other.queues.items()} if other else {}
         self.sum = other.sum if other else 0
 
     def put(self, place, value):
@@ -43,9 +45,25 @@ class Arrays:
             self.entries[place] = value
             self.sum += hash((place, value))
         self.sum %= WORD
+        if place[2].startswith(QUEUE) and (old is None) != (value is None):
+            keys = self.queues.setdefault(place[:3], [])
+            if old is None:
+                insort(keys, place[3])
+            else:
+                keys.remove(place[3])
 
-    def play(self, record):
-        """Runs the line of a record."""
+    def found(self, place, operation, numbers):
+        """The keys that a call finds from a place on, and changes: at most as many as it may."""
+        keys, key = self.queues.get(place[:3], []), place[3]
+        if operation == "Fill":
+            while (*place[:3], key) in self.entries:
+                key += 1
+            return [key] if key < WORD else []
+        last, most = (numbers[0], 1) if operation == "Pop" else numbers
+        return [it for it in keys[bisect_left(keys, key) :] if it <= last][:most]
+
+    def changes(self, record):
+        """What the line of a record changes: places, each with its new value, or None if the entry goes."""
         tenant, word, name, key, *more = record.split(b" ")
         kind, operation = COMMANDS.get(word.decode(), (None, None))
         numbers = list(map(int, more)) or [0]
@@ -53,16 +71,27 @@ class Arrays:
             key = int(key)
         place = (tenant, kind, name, key)
         before = self.entries.get(place)
+        if operation in ("Pop", "Fill", "Cut"):
+            value = numbers[0] if operation == "Fill" else None
+            return [((*place[:3], it), value) for it in self.found(place, operation, numbers)]
         if operation == "Take" or (operation == "Remove" and (not more or before == numbers[0])):
-            self.put(place, None)
-        elif operation == "Add":
-            self.put(place, ((before or 0) + numbers[0]) % WORD)
-        elif operation == "Insert" or (operation == "Keep" and before is None):
-            self.put(place, numbers[0])
-        elif operation == "Exchange" and before == numbers[0]:
-            self.put(place, numbers[1])
-        elif operation not in ("Remove", "Keep", "Exchange"):
+            return [(place, None)]
+        if operation == "Add":
+            return [(place, ((before or 0) + numbers[0]) % WORD)]
+        if operation == "Insert" or (operation == "Keep" and before is None):
+            return [(place, numbers[0])]
+        if operation == "Exchange" and before == numbers[0]:
+            return [(place, numbers[1])]
+        if operation not in ("Remove", "Keep", "Exchange"):
             raise ValueError("a record of an unknown call: %r" % record[:100])
+        return []
+
+    def play(self, record):
+        """Runs the line of a record. Returns the places that it changed."""
+        changes = self.changes(record)
+        for place, value in changes:
+            self.put(place, value)
+        return [place for place, _ in changes]
 
 
 class Story:
@@ -198,11 +227,9 @@ class Story:
 
     def all_places(self):
         """The places of all entries that there ever were, by tenant."""
-        places = set(self.arrays.entries)
+        arrays, places = Arrays(self.arrays), set(self.arrays.entries)
         for record in self.records:
-            arrays = Arrays()
-            arrays.play(record)
-            places.update(arrays.entries)
+            places.update(arrays.play(record))
         found = {}
         for place in sorted(places, key=repr):
             found.setdefault(place[0], []).append(place)
