@@ -293,14 +293,14 @@ impl<'a, F: Files> Folder<'a, F> {
 }
 
 /// The names of a directory's files, as the system lists them.
-pub(crate) type Listing<'a, F> = ReadDir<(&'a F, Global), Global>;
+pub(crate) type FolderEntries<'a, F> = ReadDir<(&'a F, Global), Global>;
 
 /// A file of a directory, as the system lists it.
 pub(crate) type Entry<'a, F> = DirEntry<(&'a F, Global), Global>;
 
 impl<'a, F: Files + Clone + Drop> Folder<'a, F> {
     /// Begins a listing of the directory.
-    pub(crate) fn list(&mut self) -> Result<Listing<'a, F>, DiskFault>
+    pub(crate) fn list(&mut self) -> Result<FolderEntries<'a, F>, DiskFault>
         ensures { Asks ListNames result (asked_of self.old) (asked_of self.new) }
     {
         let listing = fs::read_dir(&(self.files, self.alloc), self.path.as_str());
@@ -312,7 +312,7 @@ impl<'a, F: Files + Clone + Drop> Folder<'a, F> {
     /// The next file of a listing. None if it has listed all.
     pub(crate) fn next_listed(
         &mut self,
-        listing: &mut Listing<'a, F>,
+        listing: &mut FolderEntries<'a, F>,
     ) -> Result<Option<Entry<'a, F>>, DiskFault>
         ensures given { GivesName result (asked_of self.old) (asked_of self.new) }
         ensures fewer { IfOk result (λ next. OnSome next (read_dir_left listing.new < read_dir_left listing.old)) }

@@ -87,7 +87,8 @@ fn asks_for_time<S: Served, N: Network>(clients: &Clients<S, N>, limits: Limits)
 
 /// Whether something is left to do after a second: to tell the operator, or to sync the journal.
 fn is_owed<S: Shows>(warnings: &Warnings, service: &S, keeper: &Keeper) -> bool
-    ensures { result ≡ (are_owed warnings.now (S.refused service.now) (S.short service.now) || is_owed_lem keeper.now) }
+    ensures { result ≡
+        (are_owed warnings.now (S.refused service.now) (S.short service.now) || is_owed_lem keeper.now) }
 {
     warnings.are_owed(service) || keeper.is_owed()
 }

@@ -53,8 +53,8 @@ pub enum OneCall {
     Pop(u64, u64),
     /// Adds the least index from this one on that is absent. The reply is that index, or that there is none.
     Fill(u64),
-    /// Removes the least indexes from the first argument to the second, inclusive, at most so many. The reply is
-    /// how many it removed.
+    /// Removes the least indexes from the first argument to the second, inclusive: at most as many as the third.
+    /// The reply is how many it removed.
     Cut(u64, u64, u16),
     /// Whether the index is in the set.
     Test(u64),
@@ -122,8 +122,8 @@ pub enum LongCall {
     /// Inserts the least index from the first argument on that is absent, with the value of the second. The reply
     /// is that index, or that there is none.
     Fill(u64, u64),
-    /// Removes the least indexes from the first argument to the second, inclusive, at most so many. The reply is
-    /// how many it removed.
+    /// Removes the least indexes from the first argument to the second, inclusive: at most as many as the third.
+    /// The reply is how many it removed.
     Cut(u64, u64, u16),
     /// The value of the index.
     Get(u64),

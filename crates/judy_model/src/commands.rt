@@ -87,7 +87,7 @@ pub enum Operation {
     Pop,
     /// Inserts the least absent index from this one on, and shows it.
     Fill,
-    /// Removes the indexes of a range, the least first, at most so many.
+    /// Removes the indexes of a range, the least first, up to a number of them.
     Cut,
 }
 

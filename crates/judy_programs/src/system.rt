@@ -184,7 +184,8 @@ impl<'a, F: Locks + Net + Clock + Eprint + Clone + Drop> System<'a, F> {
     /// Keeps the path of a file that was opened, if it is the first: that is the file of the table.
     fn keep_path(&mut self, path: &str)
         ensures log { self.new.notes ≡ self.old.notes }
-        ensures path { length path.now ≤ PATH_LIMIT → self.new.path.items ≡ first_of self.old.path.items path.now }
+        ensures path { length path.now ≤ PATH_LIMIT →
+            self.new.path.items ≡ first_of self.old.path.items path.now }
     {
         if self.path.is_empty() {
             let _fits = self.path.try_extend_from_slice(path.as_bytes());

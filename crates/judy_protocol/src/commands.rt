@@ -8,7 +8,7 @@ use judy_model::{
     BytesCall, Command, Given, Key, Kind, LongCall, Numbers, OneCall, Operation, Search, StrCall,
 };
 
-/// The most entries that a walk may ask for.
+/// The most entries that a walk, or the removal of a range, may ask for.
 const MOST_ENTRIES: u64 = 65535;
 
 /// The command of a set with these letters after `J1`.
@@ -135,7 +135,7 @@ pub fn command_of(word: &[u8]) -> Option<Command>
     }
 }
 
-/// The number of entries that a walk asks for, if it may ask for so many.
+/// The number of entries that a walk or the removal of a range asks for. None if it is 0 or too great.
 fn entries_in(number: u64) -> Option<u16>
     ensures { result ≡ entries_of number }
 {

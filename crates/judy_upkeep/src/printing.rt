@@ -113,7 +113,8 @@ fn lines_for(records: &[u8], tenant: Option<&[u8]>) -> Option<ArrayVec<u8, COMMI
 impl<'a, W: Write> Printing<'a, W> {
     /// Writes all of these bytes. False if the output refuses.
     fn write(&mut self, bytes: &[u8]) -> bool
-        ensures written { IsTrue result → Appends (W.contents self.old.output) (W.contents self.new.output) bytes.now }
+        ensures written { IsTrue result →
+            Appends (W.contents self.old.output) (W.contents self.new.output) bytes.now }
         ensures tenant { self.new.tenant ≡ self.old.tenant }
     {
         if bytes.is_empty() {
