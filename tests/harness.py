@@ -171,6 +171,13 @@ class Server:
             self.said = None
 
 
+def resident_kib(process):
+    """The memory of a process that is in no file, exactly, in KiB. What /proc/PID/status says of it is counted by each
+    processor for itself, and some hundred KiB may be missing."""
+    with open("/proc/%d/smaps_rollup" % process, encoding="ascii") as file:
+        return next(int(line.split()[1]) for line in file if line.startswith("Anonymous:"))
+
+
 def is_listening(path):
     """Whether a process listens on a path, by the kernel's list of sockets. It makes no
     connection."""
