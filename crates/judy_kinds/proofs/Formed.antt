@@ -1,5 +1,5 @@
 -- The content of every array is well-formed.
-use Rattle.std.proofs.Common.{◌≡◌, ℕ, Bool, true, false, ◌&&◌, ◌==◌, List, [], ◌∷◌, refl}
+use Rattle.std.proofs.Common.{◌≡◌, Bool, true, false, ◌&&◌, ◌==◌, List, [], ◌∷◌, refl}
 use Rattle.std.specs.List.{list_all}
 use Rattle.std.specs.FinMap.{is_sorted}
 use Rattle.std.proofs.lemmas.Bool.{and_from}

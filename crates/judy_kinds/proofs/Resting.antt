@@ -1,5 +1,5 @@
 -- A call that changes nothing leaves the entries.
-use Rattle.std.proofs.Common.{◌≡◌, ℕ, true, false, ap, sym}
+use Rattle.std.proofs.Common.{◌≡◌, true, false, ap, sym}
 use Rattle.judy_model.specs.declared.replies.Reply.{Reply}
 use Rattle.judy_model.specs.Contents.{Entries, Order}
 use Rattle.judy_model.specs.Tenant.{Effect, effect_changes, effect_step}

@@ -1,5 +1,5 @@
 -- A call of an array of any kind.
---     is_of_array call             the call names an array
+--     is_of_array call             the call is of one array
 --     kind_of_call, name_of_call   the kind and the name of its array
 --     has_string call              the call's key is a string, if it is a JudySL call
 --     asks_at b w call             the call asks for an entry that the array at w does not have
@@ -25,8 +25,9 @@ use Rattle.judy_string.specs.StringArrays.{string_in}
 use Rattle.judy_bytes.specs.BytesArrays.{bytes_in}
 use Rattle.judy_kinds.specs.Kinds.{IsPlaceOf, numbers_of_array}
 
--- the call names an array
+-- the call is of one array: not an intersection, which names two, and not one of the tenant as a whole
 abbrev pub is_of_array : Call → Bool
+is_of_array (call.Intersect name other i n) = false
 is_of_array call.Used = false
 is_of_array _ = true
 
@@ -36,6 +37,7 @@ kind_of_call (call.One name c) = One
 kind_of_call (call.Long name c) = Long
 kind_of_call (call.Str name c) = Str
 kind_of_call (call.Bytes name c) = Bytes
+kind_of_call (call.Intersect name other i n) = One
 kind_of_call call.Used = One
 
 -- the name of its array
@@ -44,6 +46,7 @@ name_of_call (call.One name c) = name
 name_of_call (call.Long name c) = name
 name_of_call (call.Str name c) = name
 name_of_call (call.Bytes name c) = name
+name_of_call (call.Intersect name other i n) = []
 name_of_call call.Used = []
 
 -- the key of a JudySL call
@@ -74,6 +77,7 @@ asks_at b w (call.One name c) = one_asks_for_new (one_in b w) c
 asks_at b w (call.Long name c) = long_asks_for_new (long_in b w) c
 asks_at b w (call.Str name c) = string_asks_for_new (string_in b w) c
 asks_at b w (call.Bytes name c) = bytes_asks_for_new (bytes_in b w) c
+asks_at b w (call.Intersect name other i n) = false
 asks_at b w call.Used = false
 
 -- the blocks that an insertion into an array of this kind takes at most
@@ -93,6 +97,7 @@ AnswersAt a w (call.One name c) reply b x = one_step true (one_in a w) c ≡ (re
 AnswersAt a w (call.Long name c) reply b x = long_step true (long_in a w) c ≡ (reply, long_in b x)
 AnswersAt a w (call.Str name c) reply b x = string_step true (string_in a w) c ≡ (reply, string_in b x)
 AnswersAt a w (call.Bytes name c) reply b x = bytes_step true (bytes_in a w) c ≡ (reply, bytes_in b x)
+AnswersAt a w (call.Intersect name other i n) reply b x = ⊥
 AnswersAt a w call.Used reply b x = ⊥
 
 -- the array at the place p in a is the one at q in b after the change, and no block of another

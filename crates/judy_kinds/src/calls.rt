@@ -4,7 +4,8 @@ ghost use Rattle.judy_kinds.specs.Calls.{is_of_array, kind_of_call, name_of_call
 
 use judy_model::{Call, Kind, Name, StrCall, is_string};
 
-/// The kind and the name of the array that a call names. None for `Used`, which names no array.
+/// The kind and the name of the array that a call names. None for `Intersect`, which names two, and
+/// for `Used`, which names none.
 pub fn array_of<'c>(call: &'c Call<'_>) -> Option<(Kind, &'c Name)>
     ensures none { MatchOption result (IsFalse (is_of_array call.now))
         (λ a. IsTrue (is_of_array call.now)) }
@@ -16,7 +17,7 @@ pub fn array_of<'c>(call: &'c Call<'_>) -> Option<(Kind, &'c Name)>
         Call::Long(name, _) => Some((Kind::Long, name)),
         Call::Str(name, _) => Some((Kind::Str, name)),
         Call::Bytes(name, _) => Some((Kind::Bytes, name)),
-        Call::Used => None,
+        Call::Intersect(..) | Call::Used => None,
     }
 }
 

@@ -9,7 +9,9 @@ mod counts;
 pub mod laws;
 mod long;
 mod one;
+mod shared;
 mod string;
 
 pub use answers::{answer, asks};
 pub use calls::{array_of, is_callable};
+pub use shared::intersection;

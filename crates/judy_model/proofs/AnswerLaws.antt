@@ -5,7 +5,7 @@ use Rattle.std.specs.Ordering.{eq_by_cmp}
 use Rattle.std.proofs.lemmas.Bool.{and_from}
 use Rattle.std.proofs.lemmas.Bool.Decides.{nat_tests}
 use Rattle.judy_model.specs.declared.calls.Call.{Call}
-use Rattle.judy_model.specs.declared.calls.Call.TheVariants.{One, Long, Str, Bytes, Used}
+use Rattle.judy_model.specs.declared.calls.Call.TheVariants.{One, Long, Str, Bytes, Intersect, Used}
 use Rattle.judy_model.specs.declared.quotas.Quota.{Quota}
 use Rattle.judy_model.specs.declared.replies.Reply.{Reply}
 use Rattle.judy_model.specs.Contents.{Entries, string_order}
@@ -70,6 +70,7 @@ allowed_keeps_others quota s (Str name c) =
     (others_stay s.string name (string_step (has_room quota s (Str name c)) (content_of s.string name) c).1, refl, refl, refl)
 allowed_keeps_others quota s (Bytes name c) =
     (others_stay s.bytes name (bytes_step (has_room quota s (Bytes name c)) (content_of s.bytes name) c).1, refl, refl, refl)
+allowed_keeps_others quota s (Intersect name other i n) = refl
 allowed_keeps_others quota s Used = refl
 
 same_others : (s : State) (call : Call) → OtherArraysStay call s s
@@ -77,6 +78,7 @@ same_others s (One name c) = (λ other apart. refl, refl, refl, refl)
 same_others s (Long name c) = (λ other apart. refl, refl, refl, refl)
 same_others s (Str name c) = (λ other apart. refl, refl, refl, refl)
 same_others s (Bytes name c) = (λ other apart. refl, refl, refl, refl)
+same_others s (Intersect name other i n) = refl
 same_others s Used = refl
 
 pub calls_keep_others : CallsKeepOthers

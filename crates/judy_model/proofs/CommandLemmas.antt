@@ -3,16 +3,18 @@ use Rattle.std.proofs.Common.{◌≡◌, ◌⊎◌, inl, inr, ℕ, Bool, true, f
 use Rattle.std.specs.Prelude.{IsTrue, option_map, option_and_then, codes}
 use Rattle.std.specs.Ordering.{eq_by_cmp}
 use Rattle.judy_model.specs.declared.calls.Call.{Call}
-use Rattle.judy_model.specs.declared.calls.Call.TheVariants.{One, Long, Str, Bytes, Used}
+use Rattle.judy_model.specs.declared.calls.Call.TheVariants.{One, Long, Str, Bytes, Intersect, Used}
 use Rattle.judy_model.specs.declared.commands.Command.{Command}
 use Rattle.judy_model.specs.declared.commands.Kind.{Kind}
 use Rattle.judy_model.specs.declared.commands.Kind.TheVariants as kind
+use Rattle.judy_model.specs.declared.commands.Numbers.{Numbers}
+use Rattle.judy_model.specs.declared.commands.Numbers.TheVariants as numbers
 use Rattle.judy_model.specs.declared.commands.Operation.{Operation}
 use Rattle.judy_model.specs.declared.requests.Line.{Line}
 use Rattle.judy_model.specs.declared.requests.Line.TheVariants as request
-use Rattle.judy_model.specs.Commands.{commands}
+use Rattle.judy_model.specs.Commands.{commands, entries_of}
 use Rattle.judy_model.specs.Contents.{string_order}
-use Rattle.judy_model.specs.Grammar.{Spell, SpellCall, is_name, is_token, at_command, call_by, one_call, long_call, string_call, bytes_call}
+use Rattle.judy_model.specs.Grammar.{Spell, SpellCall, is_name, is_token, at_command, call_by, intersection_call, intersection_with, names_another, numbers_of_fields, one_call, long_call, string_call, bytes_call}
 use Rattle.judy_model.specs.Reading.{auth_of, named_request, request_by, request_of_fields}
 use Rattle.judy_model.proofs.lemmas.TestLemmas.{is_Equal}
 use Rattle.judy_model.proofs.lemmas.StateLemmas.{equal_names}
@@ -45,6 +47,7 @@ Spell-request_of_fields fields request.Quit e = rw e refl
 Spell-request_of_fields fields request.Ping e = rw e refl
 Spell-request_of_fields fields request.Hello e = rw e refl
 Spell-request_of_fields fields (request.Call Used) e = rw e refl
+Spell-request_of_fields fields (request.Call (Intersect name other i n)) s = call_request fields (Intersect name other i n) s
 Spell-request_of_fields fields (request.Call (One name call)) s = call_request fields (One name call) s
 Spell-request_of_fields fields (request.Call (Long name call)) s = call_request fields (Long name call) s
 Spell-request_of_fields fields (request.Call (Str name call)) s = call_request fields (Str name call) s
@@ -78,9 +81,29 @@ auth_Spell command name (token ∷ []) r n h =
 no_value : {A B : Type 0} (f : A → B) (o : Option A) (y : B) → ((x : A) → f x ≡ y → ⊥) → option_map f o ≡ Some y → ⊥
 no_value f o y never h = let (x, is, same) = from_map f o y h in never x same
 
+-- an intersection is not that
+no_intersection_is_Used : (name : List ℕ) (more : List (List ℕ)) → intersection_call name more ≡ Some Used → ⊥
+no_intersection_is_Used name [] h = absurd (let none : None ≡ Some Used = h in cc)
+no_intersection_is_Used name (other ∷ more) h =
+    elim (from_if (is_name other) _ None Used h) [
+      | inr out ↦ absurd (let none : None ≡ Some Used = out.1 in cc)
+      | inl hit ↦ by_numbers (numbers_of_fields more) hit.1
+    ]
+  where
+    by_numbers : (o : Option Numbers) → option_and_then (λ numbers. intersection_with name other numbers) o ≡ Some Used → ⊥
+    by_numbers None h = cc
+    by_numbers (Some numbers.Nothing) h = cc
+    by_numbers (Some (numbers.One i)) h = cc
+    by_numbers (Some (numbers.Two i n)) h = no_value (λ most. Intersect name other i most) (entries_of n) Used (λ most e. cc) h
+    by_numbers (Some (numbers.Three i j k)) h = cc
+
 -- a command of the table asks for an array, and not for the tenant's entries
 no_Used : (kind : Kind) (operation : Operation) (name : List ℕ) (more : List (List ℕ)) → call_by kind operation name more ≡ Some Used → ⊥
-no_Used kind.One operation name more h = no_value (λ c. One name c) (one_call operation more) Used (λ c e. cc) h
+no_Used kind.One operation name more h =
+    elim (from_if (names_another operation) (intersection_call name more) _ Used h) [
+      | inl hit ↦ no_intersection_is_Used name more hit.1
+      | inr out ↦ no_value (λ c. One name c) (one_call operation more) Used (λ c e. cc) out.1
+    ]
 no_Used kind.Long operation name more h = no_value (λ c. Long name c) (long_call operation more) Used (λ c e. cc) h
 no_Used kind.Str operation name more h = no_value (λ c. Str name c) (string_call operation more) Used (λ c e. cc) h
 no_Used kind.Bytes operation name more h = no_value (λ c. Bytes name c) (bytes_call operation more) Used (λ c e. cc) h
@@ -93,6 +116,7 @@ call_Spell word name more command call n found made = by call made
   where
     by : (x : Call) → call_by command.kind command.operation name more ≡ Some x → Spell (word ∷ name ∷ more) (request.Call x)
     by Used h = absurd (no_Used command.kind command.operation name more h)
+    by (Intersect first second i k) h = (word, name, more, refl, n, ap (option_and_then (λ x. call_by x.kind x.operation name more)) found ∙ h)
     by (One other c) h = (word, name, more, refl, n, ap (option_and_then (λ x. call_by x.kind x.operation name more)) found ∙ h)
     by (Long other c) h = (word, name, more, refl, n, ap (option_and_then (λ x. call_by x.kind x.operation name more)) found ∙ h)
     by (Str other c) h = (word, name, more, refl, n, ap (option_and_then (λ x. call_by x.kind x.operation name more)) found ∙ h)

@@ -15,3 +15,4 @@ mod UnchangedLaws
 mod GrowthLaws
 mod AnswerLaws
 mod WalkLaws
+mod IntersectionLaws

@@ -3,7 +3,7 @@ use Rattle.std.proofs.Common.{◌≡◌, Bool, true, false, not, cond, List, [],
 use Rattle.std.specs.Prelude.{MatchBool}
 use Rattle.judy_model.specs.declared.quotas.Quota.{Quota}
 use Rattle.judy_model.specs.declared.replies.Reply.{Reply}
-use Rattle.judy_model.specs.declared.replies.Reply.TheVariants.{Int, Index, Count, Value, ValueAt, ValueKey, Entries, Null, Used, ReadOnly, Frozen, Full, Memory}
+use Rattle.judy_model.specs.declared.replies.Reply.TheVariants.{Int, Index, Count, Value, ValueAt, ValueKey, Entries, Intersection, Null, Used, ReadOnly, Frozen, Full, Memory}
 use Rattle.judy_model.specs.Tenant.{State, Attempt, attempt_step, replies_alone, state_alone, AloneGoesOn}
 use Rattle.judy_model.specs.Solo.{Exchanges, attempts_of, replies_of, is_memory, kept, refusals, MayLackMemory, IsAnswered}
 use Rattle.judy_model.specs.Solo.{AreAnswered, IsSolo, SoloIsDetermined, SoloIsStepwise, SoloGoesOn}
@@ -18,6 +18,7 @@ memory_only (ValueAt v i) e = cc
 memory_only (ValueKey v k) e = cc
 memory_only (Entries k text) e = cc
 memory_only Null e = cc
+memory_only (Intersection next k text) e = cc
 memory_only (Used u q p m) e = cc
 memory_only ReadOnly e = cc
 memory_only Frozen e = cc

@@ -13,4 +13,5 @@ pub mod StateLemmas
 pub mod StreamLemmas
 pub mod TestLemmas
 pub mod WalkLemmas
+pub mod IntersectionLemmas
 pub mod WordLemmas

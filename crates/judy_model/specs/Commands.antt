@@ -28,7 +28,7 @@ use Rattle.judy_model.specs.declared.commands.Kind.TheVariants.{One, Long, Str, 
 use Rattle.judy_model.specs.declared.commands.Numbers.{Numbers}
 use Rattle.judy_model.specs.declared.commands.Numbers.TheVariants as numbers
 use Rattle.judy_model.specs.declared.commands.Operation.{Operation}
-use Rattle.judy_model.specs.declared.commands.Operation.TheVariants.{Insert, Add, Keep, Exchange, Remove, Take, Look, Count, Nth, First, Next, Last, Prev, Free, Pop, Fill, Cut}
+use Rattle.judy_model.specs.declared.commands.Operation.TheVariants.{Insert, Add, Keep, Exchange, Remove, Take, Look, Count, Nth, First, Next, Last, Prev, Free, Pop, Fill, Cut, Intersect}
 use Rattle.judy_model.specs.declared.commands.Operation.TheVariants.{FirstEmpty, NextEmpty, LastEmpty, PrevEmpty}
 
 -- what does this to an array of this kind
@@ -42,7 +42,7 @@ commands =
     ∷ (codes "J1UR", to One Cut) ∷ (codes "J1T", to One Look) ∷ (codes "J1C", to One Count) ∷ (codes "J1BC", to One Nth)
     ∷ (codes "J1F", to One First) ∷ (codes "J1N", to One Next) ∷ (codes "J1L", to One Last) ∷ (codes "J1P", to One Prev)
     ∷ (codes "J1FE", to One FirstEmpty) ∷ (codes "J1NE", to One NextEmpty)
-    ∷ (codes "J1LE", to One LastEmpty) ∷ (codes "J1PE", to One PrevEmpty) ∷ (codes "J1FA", to One Free)
+    ∷ (codes "J1LE", to One LastEmpty) ∷ (codes "J1PE", to One PrevEmpty) ∷ (codes "J1I", to One Intersect) ∷ (codes "J1FA", to One Free)
     ∷ (codes "JLI", to Long Insert) ∷ (codes "JLIE", to Long Fill) ∷ (codes "JLA", to Long Add) ∷ (codes "JLK", to Long Keep) ∷ (codes "JLX", to Long Exchange)
     ∷ (codes "JLD", to Long Remove) ∷ (codes "JLDF", to Long Pop) ∷ (codes "JLDR", to Long Cut)
     ∷ (codes "JLT", to Long Take) ∷ (codes "JLG", to Long Look) ∷ (codes "JLC", to Long Count) ∷ (codes "JLBC", to Long Nth)
@@ -98,6 +98,7 @@ operation_number Free = 17
 operation_number Pop = 18
 operation_number Fill = 19
 operation_number Cut = 20
+operation_number Intersect = 21
 
 -- whether two commands are one
 abbrev pub is_same : Command → Command → Bool
@@ -325,4 +326,5 @@ command_of (call.One name c) = Some (to One (one_operation c))
 command_of (call.Long name c) = Some (to Long (long_operation c))
 command_of (call.Str name c) = Some (to Str (string_operation c))
 command_of (call.Bytes name c) = Some (to Bytes (bytes_operation c))
+command_of (call.Intersect name other i n) = Some (to One Intersect)
 command_of call.Used = None

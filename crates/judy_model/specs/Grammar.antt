@@ -8,7 +8,7 @@ use Rattle.std.specs.FinMap.{find}
 use Rattle.hex.specs.Hex.{decode_of}
 use Rattle.hex.specs.declared.error.FromHexError.{FromHexError}
 use Rattle.judy_model.specs.declared.calls.Call.{Call}
-use Rattle.judy_model.specs.declared.calls.Call.TheVariants.{One, Long, Str, Bytes, Used}
+use Rattle.judy_model.specs.declared.calls.Call.TheVariants.{One, Long, Str, Bytes, Intersect, Used}
 use Rattle.judy_model.specs.declared.calls.OneCall.{OneCall}
 use Rattle.judy_model.specs.declared.calls.LongCall.{LongCall}
 use Rattle.judy_model.specs.declared.calls.StrCall.{StrCall}
@@ -20,10 +20,11 @@ use Rattle.judy_model.specs.declared.commands.Kind.TheVariants as kind
 use Rattle.judy_model.specs.declared.commands.Numbers.{Numbers}
 use Rattle.judy_model.specs.declared.commands.Numbers.TheVariants as numbers
 use Rattle.judy_model.specs.declared.commands.Operation.{Operation}
+use Rattle.judy_model.specs.declared.commands.Operation.TheVariants as operations
 use Rattle.judy_model.specs.declared.names.TheConstants.{NAME_LIMIT, TOKEN_LIMIT, KEY_LIMIT}
 use Rattle.judy_model.specs.declared.requests.Line.{Line}
 use Rattle.judy_model.specs.declared.requests.Line.TheVariants as request
-use Rattle.judy_model.specs.Commands.{commands, one_with, long_with, string_with, bytes_with, free_with}
+use Rattle.judy_model.specs.Commands.{commands, operation_number, entries_of, one_with, long_with, string_with, bytes_with, free_with}
 use Rattle.judy_model.specs.Contents.{max_word, string_order}
 
 -- ---- fields
@@ -131,6 +132,21 @@ at_command command table = find string_order command table
 abbrev pub one_call : Operation → List (List ℕ) → Option OneCall
 one_call operation more = option_and_then (λ numbers. one_with operation numbers) (numbers_of_fields more)
 
+-- whether an operation names another set
+abbrev pub names_another : Operation → Bool
+names_another operation = operation_number operation == operation_number operations.Intersect
+
+-- the intersection of two sets, with its numbers: where it begins, and how many indexes it asks for
+abbrev pub intersection_with : List ℕ → List ℕ → Numbers → Option Call
+intersection_with name other (numbers.Two i n) = option_map (λ most. Intersect name other i most) (entries_of n)
+intersection_with name other _ = None
+
+-- the intersection that a name and the fields after it make: the name of the other set comes before the numbers
+abbrev pub intersection_call : List ℕ → List (List ℕ) → Option Call
+intersection_call name [] = None
+intersection_call name (other ∷ more) =
+    if is_name other then option_and_then (λ numbers. intersection_with name other numbers) (numbers_of_fields more) else None
+
 -- that of a JudyL
 abbrev pub long_call : Operation → List (List ℕ) → Option LongCall
 long_call operation more = option_and_then (λ numbers. long_with operation numbers) (numbers_of_fields more)
@@ -149,7 +165,8 @@ bytes_call operation (key ∷ more) =
 
 -- the call of an array of this kind and name
 abbrev pub call_by : Kind → Operation → List ℕ → List (List ℕ) → Option Call
-call_by kind.One operation name more = option_map (λ call. One name call) (one_call operation more)
+call_by kind.One operation name more =
+    if names_another operation then intersection_call name more else option_map (λ call. One name call) (one_call operation more)
 call_by kind.Long operation name more = option_map (λ call. Long name call) (long_call operation more)
 call_by kind.Str operation name more = option_map (λ call. Str name call) (string_call operation more)
 call_by kind.Bytes operation name more = option_map (λ call. Bytes name call) (bytes_call operation more)
@@ -172,6 +189,7 @@ Spell fields request.Quit = fields ≡ codes "QUIT" ∷ []
 Spell fields request.Ping = fields ≡ codes "PING" ∷ []
 Spell fields request.Hello = fields ≡ codes "HELLO" ∷ []
 Spell fields (request.Call Used) = fields ≡ codes "USED" ∷ []
+Spell fields (request.Call (Intersect name other i n)) = SpellCall fields (Intersect name other i n)
 Spell fields (request.Call (One name call)) = SpellCall fields (One name call)
 Spell fields (request.Call (Long name call)) = SpellCall fields (Long name call)
 Spell fields (request.Call (Str name call)) = SpellCall fields (Str name call)

@@ -1,6 +1,7 @@
 pub mod Contents
 pub mod Gaps
 pub mod Walks
+pub mod Intersections
 pub mod Pieces
 pub mod Tenant
 pub mod Speakers

@@ -3,7 +3,7 @@ use Rattle.std.specs.Prelude.{◌≡◌, ℕ, zero, suc, cond, ◌+◌, ◌%◌,
 use Rattle.std.specs.Ordering.{eq_by_cmp}
 use Rattle.std.specs.FinMap.{find, put}
 use Rattle.judy_model.specs.declared.calls.Call.{Call}
-use Rattle.judy_model.specs.declared.calls.Call.TheVariants.{One, Long, Str, Bytes, Used}
+use Rattle.judy_model.specs.declared.calls.Call.TheVariants.{One, Long, Str, Bytes, Intersect, Used}
 use Rattle.judy_model.specs.declared.calls.OneCall.{OneCall}
 use Rattle.judy_model.specs.declared.calls.OneCall.TheVariants as one
 use Rattle.judy_model.specs.declared.calls.LongCall.{LongCall}
@@ -22,6 +22,7 @@ use Rattle.judy_model.specs.declared.replies.Reply.TheVariants as reply
 use Rattle.judy_model.specs.Contents.{Order, Entries, word_order, string_order, value_of, has_key, with_entry, without_key, first, next, last, prev, count, nth}
 use Rattle.judy_model.specs.Gaps.{first_empty, last_empty, next_empty, prev_empty}
 use Rattle.judy_model.specs.Pieces.{word_pieces, string_pieces, pieces_of}
+use Rattle.judy_model.specs.Intersections.{intersect, intersection_reply}
 use Rattle.judy_model.specs.Walks.{entry_words, index_words, key_words, listed, walk, walk_empty, walk_indexes}
 
 -- the arrays of one kind, sorted by name; an array without entries is left out
@@ -426,6 +427,7 @@ changes (One name c) = one_changes c
 changes (Long name c) = long_changes c
 changes (Str name c) = string_changes c
 changes (Bytes name c) = bytes_changes c
+changes (Intersect name other i n) = false
 changes Used = false
 
 -- whether the right forbids the call
@@ -448,6 +450,7 @@ asks_for_new Change s (One name c) = one_asks_for_new (content_of s.one name) c
 asks_for_new Change s (Long name c) = long_asks_for_new (content_of s.long name) c
 asks_for_new Change s (Str name c) = string_asks_for_new (content_of s.string name) c
 asks_for_new Change s (Bytes name c) = bytes_asks_for_new (content_of s.bytes name) c
+asks_for_new Change s (Intersect name other i n) = false
 asks_for_new Change s Used = false
 
 -- the pieces of the entry that a call would insert
@@ -456,6 +459,7 @@ new_pieces (One name c) = effect_pieces word_pieces (one_effect c)
 new_pieces (Long name c) = effect_pieces word_pieces (long_effect c)
 new_pieces (Str name c) = effect_pieces string_pieces (string_effect c)
 new_pieces (Bytes name c) = effect_pieces string_pieces (bytes_effect c)
+new_pieces (Intersect name other i n) = 0
 new_pieces Used = 0
 
 -- whether the call may insert a key
@@ -464,6 +468,7 @@ inserts (One name c) = effect_inserts (one_effect c)
 inserts (Long name c) = effect_inserts (long_effect c)
 inserts (Str name c) = effect_inserts (string_effect c)
 inserts (Bytes name c) = effect_inserts (bytes_effect c)
+inserts (Intersect name other i n) = false
 inserts Used = false
 
 -- whether the quota has room for one more entry with the pieces of this call
@@ -484,6 +489,8 @@ allowed_step quota s (Str name c) =
 allowed_step quota s (Bytes name c) =
     let (r, l) = bytes_step (has_room quota s (Bytes name c)) (content_of s.bytes name) c in
     (r, record s { bytes = with_content s.bytes name l })
+allowed_step quota s (Intersect name other i n) =
+    (intersection_reply (intersect (content_of s.one name) (content_of s.one other) i n), s)
 allowed_step quota s Used = (reply.Used (used s) quota.entries (pieces s) quota.pieces, s)
 
 -- the reply to a call, and the tenant's arrays afterwards

@@ -3,7 +3,7 @@ use Rattle.std.specs.Prelude.{◌≡◌, ◌≢◌, ℕ, ◌+◌, ◌≤◌, Boo
 use Rattle.std.specs.List.{list_all}
 use Rattle.std.specs.FinMap.{is_sorted}
 use Rattle.judy_model.specs.declared.calls.Call.{Call}
-use Rattle.judy_model.specs.declared.calls.Call.TheVariants.{One, Long, Str, Bytes, Used}
+use Rattle.judy_model.specs.declared.calls.Call.TheVariants.{One, Long, Str, Bytes, Intersect, Used}
 use Rattle.judy_model.specs.declared.quotas.Quota.{Quota}
 use Rattle.judy_model.specs.declared.quotas.Right.{Right}
 use Rattle.judy_model.specs.declared.quotas.Right.TheVariants.{Look, Frozen}
@@ -71,6 +71,7 @@ writes_entry (One name c) = effect_writes is_one_entry (one_effect c)
 writes_entry (Long name c) = effect_writes is_long_entry (long_effect c)
 writes_entry (Str name c) = effect_writes is_string_entry (string_effect c)
 writes_entry (Bytes name c) = effect_writes is_bytes_entry (bytes_effect c)
+writes_entry (Intersect name other i n) = true
 writes_entry Used = true
 
 -- a call keeps a well-formed state well-formed
@@ -131,6 +132,7 @@ OtherArraysStay (Str name c) before after =
     OthersOfKindStay name before.string after.string × (after.one ≡ before.one) × (after.long ≡ before.long) × (after.bytes ≡ before.bytes)
 OtherArraysStay (Bytes name c) before after =
     OthersOfKindStay name before.bytes after.bytes × (after.one ≡ before.one) × (after.long ≡ before.long) × (after.string ≡ before.string)
+OtherArraysStay (Intersect name other i n) before after = after ≡ before
 OtherArraysStay Used before after = after ≡ before
 
 -- each call leaves them unchanged

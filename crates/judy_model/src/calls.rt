@@ -22,6 +22,9 @@ pub enum Call<'a> {
     Str(Name, StrCall<'a>),
     /// A call of a map from byte keys to words.
     Bytes(Name, BytesCall<'a>),
+    /// The indexes that two sets of words share: from the third argument on, at most as many as the fourth. The
+    /// reply also says where the next call goes on.
+    Intersect(Name, Name, u64, u16),
     /// The tenant's entries and pieces, and its quota of both.
     Used,
 }
@@ -222,6 +225,7 @@ impl<'a> Call<'a> {
             Call::Long(_, call) => (Kind::Long, call.operation()),
             Call::Str(_, call) => (Kind::Str, call.operation()),
             Call::Bytes(_, call) => (Kind::Bytes, call.operation()),
+            Call::Intersect(..) => (Kind::One, Operation::Intersect),
             Call::Used => return None,
         };
         Some(Command { kind, operation })
@@ -236,7 +240,7 @@ impl<'a> Call<'a> {
             Call::Long(_, call) => call.changes(),
             Call::Str(_, call) => call.changes(),
             Call::Bytes(_, call) => call.changes(),
-            Call::Used => false,
+            Call::Intersect(..) | Call::Used => false,
         }
     }
 
@@ -254,7 +258,7 @@ impl<'a> Call<'a> {
             }
             Call::Str(_, call) => matches!(call, StrCall::Insert(..) | StrCall::Keep(..)),
             Call::Bytes(_, call) => matches!(call, BytesCall::Insert(..) | BytesCall::Keep(..)),
-            Call::Used => false,
+            Call::Intersect(..) | Call::Used => false,
         }
     }
 

@@ -4,30 +4,31 @@ ghost use Rattle.std.specs.Prelude.{◌≡◌, ◌<◌, ◌≤◌, Some, length,
 ghost use Rattle.judy_model.specs.Commands.{command_place, command_words, kind_number, kind_with};
 
 /// How many commands there are.
-pub const COMMANDS: usize = 59;
+pub const COMMANDS: usize = 60;
 
 /// Their words, in the order of the table.
 static WORDS: [&'static str; COMMANDS] = [
     "J1S", "J1SE", "J1U", "J1UF", "J1UR", "J1T", "J1C", "J1BC", "J1F", "J1N", "J1L", "J1P", "J1FE",
-    "J1NE", "J1LE", "J1PE", "J1FA", "JLI", "JLIE", "JLA", "JLK", "JLX", "JLD", "JLDF", "JLDR",
-    "JLT", "JLG", "JLC", "JLBC", "JLF", "JLN", "JLL", "JLP", "JLFE", "JLNE", "JLLE", "JLPE",
-    "JLFA", "JSLI", "JSLA", "JSLK", "JSLX", "JSLD", "JSLDF", "JSLT", "JSLG", "JSLF", "JSLN",
-    "JSLL", "JSLP", "JSLFA", "JHSI", "JHSA", "JHSK", "JHSX", "JHSD", "JHST", "JHSG", "JHSFA",
+    "J1NE", "J1LE", "J1PE", "J1I", "J1FA", "JLI", "JLIE", "JLA", "JLK", "JLX", "JLD", "JLDF",
+    "JLDR", "JLT", "JLG", "JLC", "JLBC", "JLF", "JLN", "JLL", "JLP", "JLFE", "JLNE", "JLLE",
+    "JLPE", "JLFA", "JSLI", "JSLA", "JSLK", "JSLX", "JSLD", "JSLDF", "JSLT", "JSLG", "JSLF",
+    "JSLN", "JSLL", "JSLP", "JSLFA", "JHSI", "JHSA", "JHSK", "JHSX", "JHSD", "JHST", "JHSG",
+    "JHSFA",
 ];
 
 /// For each kind and operation, in the order of their types, the place of the command in the table.
-static PLACES: [[usize; 21]; 4] = [
+static PLACES: [[usize; 22]; 4] = [
     [
-        0, 59, 59, 59, 2, 59, 5, 6, 7, 8, 9, 10, 11, 12, 13, 14, 15, 16, 3, 1, 4,
+        0, 60, 60, 60, 2, 60, 5, 6, 7, 8, 9, 10, 11, 12, 13, 14, 15, 17, 3, 1, 4, 16,
     ],
     [
-        17, 19, 20, 21, 22, 25, 26, 27, 28, 29, 30, 31, 32, 33, 34, 35, 36, 37, 23, 18, 24,
+        18, 20, 21, 22, 23, 26, 27, 28, 29, 30, 31, 32, 33, 34, 35, 36, 37, 38, 24, 19, 25, 60,
     ],
     [
-        38, 39, 40, 41, 42, 44, 45, 59, 59, 46, 47, 48, 49, 59, 59, 59, 59, 50, 43, 59, 59,
+        39, 40, 41, 42, 43, 45, 46, 60, 60, 47, 48, 49, 50, 60, 60, 60, 60, 51, 44, 60, 60, 60,
     ],
     [
-        51, 52, 53, 54, 55, 56, 57, 59, 59, 59, 59, 59, 59, 59, 59, 59, 59, 58, 59, 59, 59,
+        52, 53, 54, 55, 56, 57, 58, 60, 60, 60, 60, 60, 60, 60, 60, 60, 60, 59, 60, 60, 60, 60,
     ],
 ];
 
@@ -89,6 +90,8 @@ pub enum Operation {
     Fill,
     /// Removes the indexes of a range, the least first, up to a number of them.
     Cut,
+    /// The indexes that two sets share.
+    Intersect,
 }
 
 /// What a word of a line stands for.

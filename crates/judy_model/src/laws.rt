@@ -1,5 +1,6 @@
 //! Laws of the definitions. The functions are empty: each contract is the law.
 ghost use Rattle.judy_model.specs.Gaps.{GapsAreFound, GapsHaveOneAnswer};
+ghost use Rattle.judy_model.specs.Intersections.{IntersectionsAreExact};
 ghost use Rattle.judy_model.specs.Service.{IdleTenantsRest, ServingGoesOn, ServingIsDetermined, ServingIsStepwise};
 ghost use Rattle.judy_model.specs.Solo.{MemoryIsForNew, SoloGoesOn, SoloIsDetermined, SoloIsStepwise, StepHasMemory};
 ghost use Rattle.judy_model.specs.Tenant.{AloneGoesOn};
@@ -37,6 +38,12 @@ pub fn gaps_have_one_answer()
 /// A walk is the first n entries that its search looks among, in the search's direction.
 pub fn walks_are_takes()
     ensures { WalksAreTakes }
+{}
+
+/// The indexes of an intersection are all that both sets have below the word where the next call goes on, or all
+/// that they have, if there is no such word; and calls come to an end.
+pub fn intersections_are_exact()
+    ensures { IntersectionsAreExact }
 {}
 
 /// A call keeps well-formed arrays well-formed: names and keys are sorted, no array is empty, and

@@ -19,7 +19,10 @@ mod unchanged;
 pub use calls::{BytesCall, Call, Given, LongCall, OneCall, Search, StrCall};
 pub use commands::{COMMANDS, Command, Kind, Numbers, Operation, command_word};
 pub use grammar::{is_name_letter, is_string, name_ok, token_ok};
-pub use lists::{LIST_LIMIT, Listing, ReplyRoom, SPACED_LIMIT, Text, spaced};
+pub use lists::{
+    INTERSECTION_LIMIT, INTERSECTION_STEPS, IndexText, LIST_LIMIT, Listing, ReplyRoom,
+    SPACED_LIMIT, Text, spaced,
+};
 pub use names::{KEY_LIMIT, Key, NAME_LIMIT, Name, TOKEN_LIMIT};
 pub use owned::{OwnedKey, OwnedReply};
 pub use quotas::{ENTRIES_LIMIT, ENTRY_PIECES_LIMIT, PIECE, PIECES_LIMIT, Quota, Right};

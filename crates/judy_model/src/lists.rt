@@ -13,6 +13,12 @@ use std::marker::Model;
 /// The most bytes of the entries in a reply.
 pub const LIST_LIMIT: usize = 4088;
 
+/// The most bytes of the indexes in the reply to an intersection, which also has a word.
+pub const INTERSECTION_LIMIT: usize = 4067;
+
+/// The most steps of an intersection. Each looks once into each of the two sets.
+pub const INTERSECTION_STEPS: u16 = 2048;
+
 /// The most bytes of a space and a number.
 pub const SPACED_LIMIT: usize = 21;
 
@@ -68,6 +74,57 @@ impl<'a> Eq for Text<'a> {
     ghost laws = { nat_list_eq_equiv };
 }
 
+/// The text of the indexes in the reply to an intersection, which is borrowed. Contracts see it as its bytes.
+#[derive(Debug, Drop)]
+pub struct IndexText<'a> {
+    text: Text<'a>,
+}
+
+impl<'a> Model for IndexText<'a> {
+    ghost use Rattle.std.specs.Prelude.{ℕ, List, ◌≤◌, length};
+    ghost use Rattle.judy_model.specs.declared.lists.TheConstants.{INTERSECTION_LIMIT};
+
+    ghost Value = { List ℕ };
+
+    ghost view = { λ t. t.text };
+
+    ghost invariant = { λ t. length t.text ≤ INTERSECTION_LIMIT };
+}
+
+impl<'a> IndexText<'a> {
+    /// The text of these bytes.
+    pub fn of(bytes: &'a [u8]) -> IndexText<'a>
+        requires { length bytes.now ≤ INTERSECTION_LIMIT }
+        ensures { result ≡ bytes.now }
+    {
+        IndexText {
+            text: Text::of(bytes),
+        }
+    }
+
+    /// The bytes of the text.
+    pub fn as_bytes(&self) -> &'a [u8]
+        ensures value { result.now ≡ self.now }
+        ensures fits { length result.now ≤ INTERSECTION_LIMIT }
+    {
+        self.text.as_bytes()
+    }
+}
+
+impl<'a> PartialEq for IndexText<'a> {
+    ghost eq = { λ a b. pointwise nat_eq a b };
+
+    ghost laws = { partial_equiv_from_equiv nat_list_eq_equiv };
+
+    fn eq(&self, other: &Self) -> bool {
+        self.as_bytes() == other.as_bytes()
+    }
+}
+
+impl<'a> Eq for IndexText<'a> {
+    ghost laws = { nat_list_eq_equiv };
+}
+
 /// Room for the text of entries. Contracts see it as the bytes that are in it.
 #[derive(Debug, Drop)]
 pub struct Listing {
@@ -117,6 +174,14 @@ impl Listing {
         Text::of(self.bytes.as_slice())
     }
 
+    /// The text of indexes.
+    pub fn indexes(&self) -> IndexText<'_>
+        requires { length self.now ≤ INTERSECTION_LIMIT }
+        ensures { result ≡ self.now }
+    {
+        IndexText::of(self.bytes.as_slice())
+    }
+
     /// Replaces the entries by this text.
     pub fn put(&mut self, text: &Text<'_>)
         ensures { self.new ≡ text.now }
@@ -140,6 +205,19 @@ impl Listing {
     {
         let mut room = [0; SPACED_LIMIT];
         self.add(spaced(index, &mut room))
+    }
+
+    /// Adds an index of an intersection, if it fits. Returns whether it does.
+    pub fn add_shared(&mut self, index: u64) -> bool
+        ensures fits { result ≡ nat_le (length self.old + length (index_words index)) INTERSECTION_LIMIT }
+        ensures added { self.new ≡ (if result then self.old ++ index_words index else self.old) }
+    {
+        let mut room = [0; SPACED_LIMIT];
+        let text = spaced(index, &mut room);
+        if self.bytes.len() + text.len() > INTERSECTION_LIMIT {
+            return false;
+        }
+        self.add(text)
     }
 
     /// Adds an index and its value, if both fit. Returns whether they do.

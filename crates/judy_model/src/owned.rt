@@ -4,7 +4,7 @@ ghost use Rattle.std.specs.Ordering.{nat_cmp};
 ghost use Rattle.std.specs.Cmp.{partial_equiv_from_equiv};
 ghost use Rattle.std.specs.Cmp.Lexicographic.{pointwise, slice_cmp, nat_list_eq_equiv, nat_list_cmp_total, texts_po, texts_ties};
 
-use crate::lists::{ReplyRoom, Text};
+use crate::lists::{IndexText, ReplyRoom, Text};
 use crate::names::{KEY_LIMIT, Key};
 use crate::replies::Reply;
 use arrayvec::ArrayVec;
@@ -91,11 +91,13 @@ pub struct OwnedReply {
 
 impl Model for OwnedReply {
     ghost use Rattle.judy_model.specs.declared.replies.Reply.{Reply};
-    ghost use Rattle.judy_model.specs.Owned.{with_room};
+    ghost use Rattle.judy_model.specs.Owned.{IsRoomOf, with_room};
 
     ghost Value = { Reply };
 
     ghost view = { λ r. with_room r.room r.bare };
+
+    ghost invariant = { λ r. IsRoomOf r.room r.bare };
 }
 
 impl OwnedReply {
@@ -117,6 +119,10 @@ impl OwnedReply {
             Reply::Entries(count, text) => {
                 room.listing.put(text);
                 Reply::Entries(*count, Text::of(&[]))
+            }
+            Reply::Intersection(next, count, text) => {
+                room.listing.put(&Text::of(text.as_bytes()));
+                Reply::Intersection(*next, *count, IndexText::of(&[]))
             }
             Reply::Null => Reply::Null,
             Reply::Used(used, quota, pieces, most) => Reply::Used(*used, *quota, *pieces, *most),
@@ -140,6 +146,9 @@ impl OwnedReply {
             Reply::ValueAt(v, i) => Reply::ValueAt(*v, *i),
             Reply::ValueKey(v, _) => Reply::ValueKey(*v, Key::of(self.room.key.as_slice())),
             Reply::Entries(count, _) => Reply::Entries(*count, self.room.listing.text()),
+            Reply::Intersection(next, count, _) => {
+                Reply::Intersection(*next, *count, self.room.listing.indexes())
+            }
             Reply::Null => Reply::Null,
             Reply::Used(used, quota, pieces, most) => Reply::Used(*used, *quota, *pieces, *most),
             Reply::ReadOnly => Reply::ReadOnly,

@@ -1,5 +1,5 @@
 //! The replies to calls.
-use crate::lists::Text;
+use crate::lists::{IndexText, Text};
 use crate::names::Key;
 
 /// The reply to a call.
@@ -20,6 +20,9 @@ pub enum Reply<'a> {
     ValueKey(u64, Key<'a>),
     /// The entries of a walk: how many they are, and their text.
     Entries(u16, Text<'a>),
+    /// The indexes that two sets share: the word where the next call goes on, or 0 if there is none; how many
+    /// indexes this reply has; and their text.
+    Intersection(u64, u16, IndexText<'a>),
     /// There is no such key, or the search found none.
     Null,
     /// The tenant's entries, its quota of entries, its pieces, and its quota of pieces.

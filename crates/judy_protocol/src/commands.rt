@@ -32,6 +32,7 @@ fn one_command(letters: &[u8]) -> Option<Command>
         b"NE" => Operation::NextEmpty,
         b"LE" => Operation::LastEmpty,
         b"PE" => Operation::PrevEmpty,
+        b"I" => Operation::Intersect,
         b"FA" => Operation::Free,
         _ => return None,
     };
@@ -136,7 +137,7 @@ pub fn command_of(word: &[u8]) -> Option<Command>
 }
 
 /// The number of entries that a walk or the removal of a range asks for. None if it is 0 or too great.
-fn entries_in(number: u64) -> Option<u16>
+pub fn entries_in(number: u64) -> Option<u16>
     ensures { result ≡ entries_of number }
 {
     if number < 1 || number > MOST_ENTRIES {

@@ -84,6 +84,12 @@ fn put_words(line: &mut ArrayVec<u8, REPLY_LIMIT>, reply: &Reply<'_>)
             put_count(line, *count);
             put(line, text.as_bytes());
         }
+        Reply::Intersection(next, count, text) => {
+            put(line, b"I");
+            put_number(line, *next);
+            put_count(line, *count);
+            put(line, text.as_bytes());
+        }
         Reply::Null => put(line, b"NULL"),
         Reply::Used(used, quota, pieces, most) => {
             put(line, b"Q");

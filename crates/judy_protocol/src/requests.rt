@@ -1,10 +1,10 @@
 //! Reads the request that a line spells.
 ghost use Rattle.std.specs.Prelude.{◌≡◌, None, Some, [], ◌∷◌, IfOk, OnErr, codes, option_map, if◌then◌else◌};
 ghost use Rattle.judy_model.specs.declared.calls.Call.TheVariants as calls;
-ghost use Rattle.judy_model.specs.Grammar.{bytes_call, call_by, fields_of, is_token, long_call, numbers_of_fields, one_call, string_call};
+ghost use Rattle.judy_model.specs.Grammar.{bytes_call, call_by, fields_of, intersection_call, is_token, long_call, numbers_of_fields, one_call, string_call};
 ghost use Rattle.judy_model.specs.Reading.{auth_of, named_request, request_of, request_of_fields};
 
-use crate::commands::{bytes_with, command_of, long_with, one_with, string_with};
+use crate::commands::{bytes_with, command_of, entries_in, long_with, one_with, string_with};
 use crate::fields::{next_field, to_field};
 use crate::numbers::{key, next_number, string};
 use judy_model::{
@@ -44,6 +44,22 @@ fn of_one(operation: Operation, name: Name, after_name: &[u8]) -> Option<Call<'s
     ensures { result ≡ option_map (λ c. calls.One name c) (one_call operation (fields_of after_name.now)) }
 {
     Some(Call::One(name, one_with(operation, numbers_in(after_name)?)?))
+}
+
+/// An intersection: what comes after the name is the name of the other set, and two numbers.
+fn of_two(name: Name, after_name: &[u8]) -> Option<Call<'static>>
+    ensures { result ≡ intersection_call name (fields_of after_name.now) }
+{
+    let Some((field, after_other)) = next_field(after_name) else {
+        return None;
+    };
+    let Some(other) = Name::read(field) else {
+        return None;
+    };
+    match numbers_in(after_other) {
+        Some(Numbers::Two(i, n)) => Some(Call::Intersect(name, other, i, entries_in(n)?)),
+        _ => None,
+    }
 }
 
 /// A call of a map from words.
@@ -101,6 +117,7 @@ fn call_by<'a>(
     ensures { result ≡ call_by command.kind command.operation name (fields_of after_name.now) }
 {
     match command.kind {
+        Kind::One if command.operation == Operation::Intersect => of_two(name, after_name),
         Kind::One => of_one(command.operation, name, after_name),
         Kind::Long => of_long(command.operation, name, after_name),
         Kind::Str => of_string(command.operation, name, after_name, room),

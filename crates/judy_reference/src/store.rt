@@ -13,6 +13,7 @@ mod long;
 mod one;
 mod pops;
 mod replies;
+mod shared;
 mod string;
 mod walks;
 mod writes;
@@ -123,6 +124,10 @@ impl Store {
             Call::Long(name, call) => long_step(alloc, &mut self.long, room, name, call, found),
             Call::Str(name, call) => string_step(alloc, &mut self.string, room, name, call, found),
             Call::Bytes(name, call) => bytes_step(alloc, &mut self.bytes, room, name, call),
+            Call::Intersect(name, other, x, n) => {
+                let (entries, others) = (self.one.content(name), self.one.content(other));
+                Ok(shared::intersection(entries, others, *x, *n, &mut found.listing))
+            }
             Call::Used => Ok(Reply::Used(used, quota.entries, pieces, quota.pieces)),
         }
     }

@@ -4,12 +4,12 @@ use Rattle.std.specs.Prelude.{IfSome, IsTrue, codes, option_map, option_and_then
 use Rattle.std.specs.Ordering.{eq_by_cmp}
 use Rattle.judy_model.specs.Commands.{commands, entries_of, free_with, string_with}
 use Rattle.judy_model.specs.Contents.{string_order}
-use Rattle.judy_model.specs.Grammar.{at_command, call_by, fields_of, is_name, is_string, key_of, numbers_of_fields, one_call, long_call}
+use Rattle.judy_model.specs.Grammar.{at_command, call_by, fields_of, intersection_call, intersection_with, is_name, is_string, key_of, long_call, names_another, numbers_of_fields, one_call}
 use Rattle.judy_model.specs.Grammar.{bytes_call, string_call, string_of}
 use Rattle.judy_model.specs.Reading.{auth_of, named_request, request_by, request_of_fields}
 use Rattle.judy_model.specs.Speakers.{Speaker}
 use Rattle.judy_model.specs.declared.calls.Call.{Call}
-use Rattle.judy_model.specs.declared.calls.Call.TheVariants.{One, Long, Str, Bytes, Used}
+use Rattle.judy_model.specs.declared.calls.Call.TheVariants.{One, Long, Str, Bytes, Intersect, Used}
 use Rattle.judy_model.specs.declared.calls.Search.{Search}
 use Rattle.judy_model.specs.declared.calls.Search.TheVariants as search
 use Rattle.judy_model.specs.declared.calls.StrCall.{StrCall}
@@ -21,6 +21,7 @@ use Rattle.judy_model.specs.declared.commands.Numbers.{Numbers}
 use Rattle.judy_model.specs.declared.commands.Numbers.TheVariants as numbers
 use Rattle.judy_model.specs.declared.commands.Operation.{Operation}
 use Rattle.judy_model.specs.declared.commands.Operation.TheVariants.{Insert, Add, Keep, Exchange, Remove, Take, Look, Count, Nth, First, Next, Last, Prev, Free, Pop, Fill, Cut}
+use Rattle.judy_model.specs.declared.commands.Operation.TheVariants as operations
 use Rattle.judy_model.specs.declared.commands.Operation.TheVariants.{FirstEmpty, NextEmpty, LastEmpty, PrevEmpty}
 use Rattle.judy_model.specs.declared.requests.Line.TheVariants as request
 use Rattle.judy_kinds.specs.Calls.{has_key_string, has_string}
@@ -95,6 +96,7 @@ with_passes Pop key (numbers.Two i j) h = tt
 with_passes Pop key (numbers.Three i j k) h = tt
 with_passes Fill key ns h = tt
 with_passes Cut key ns h = tt
+with_passes operations.Intersect key ns h = tt
 with_passes Count key ns h = tt
 with_passes Nth key ns h = tt
 with_passes FirstEmpty key ns h = tt
@@ -115,6 +117,7 @@ free_passes Take = tt
 free_passes Pop = tt
 free_passes Fill = tt
 free_passes Cut = tt
+free_passes operations.Intersect = tt
 free_passes Look = tt
 free_passes Count = tt
 free_passes Nth = tt
@@ -168,13 +171,39 @@ not_auth command other (token ∷ []) name c h = by (eq_by_cmp string_order comm
     by true false h = cc
     by false b h = cc
 
+-- nor is an intersection, or another call of a set
+no_intersection : (other : List ℕ) (more : List (List ℕ)) (name : List ℕ) (c : StrCall)
+    → option_map (λ x. request.Call x) (intersection_call other more) ≡ Some (request.Call (Str name c)) → ⊥
+no_intersection other [] name c h = cc
+no_intersection other (field ∷ more) name c h = by (is_name field) (numbers_of_fields more) h
+  where
+    of_most : (i : ℕ) (o : Option ℕ)
+        → option_map (λ x. request.Call x) (option_map (λ most. Intersect other field i most) o) ≡ Some (request.Call (Str name c)) → ⊥
+    of_most i None h = cc
+    of_most i (Some most) h = cc
+
+    by : (b : Bool) (o : Option Numbers)
+        → option_map (λ x. request.Call x) (cond b (option_and_then (λ ns. intersection_with other field ns) o) None) ≡ Some (request.Call (Str name c)) → ⊥
+    by false o h = cc
+    by true None h = cc
+    by true (Some numbers.Nothing) h = cc
+    by true (Some (numbers.One i)) h = cc
+    by true (Some (numbers.Two i n)) h = of_most i (entries_of n) h
+    by true (Some (numbers.Three i j k)) h = cc
+
+set_no_string : (operation : Operation) (other : List ℕ) (more : List (List ℕ)) (name : List ℕ) (c : StrCall) (b : Bool)
+    → option_map (λ x. request.Call x) (cond b (intersection_call other more) (option_map (λ x. One other x) (one_call operation more)))
+    ≡ Some (request.Call (Str name c)) → ⊥
+set_no_string operation other more name c true h = no_intersection other more name c h
+set_no_string operation other more name c false h = not_string (λ x. One other x) (one_call operation more) name c (λ x e. cc) h
+
 -- a request of an array
 request_passes : (c : Command) (other : List ℕ) (more : List (List ℕ)) (name : List ℕ) (call : StrCall)
     → option_map (λ x. request.Call x) (call_by c.kind c.operation other more) ≡ Some (request.Call (Str name call)) → has_key_string call ≡ true
 request_passes c other more name call = by c.kind
   where
     by : (k : Kind) → option_map (λ x. request.Call x) (call_by k c.operation other more) ≡ Some (request.Call (Str name call)) → has_key_string call ≡ true
-    by kind.One h = absurd (not_string (λ x. One other x) (one_call c.operation more) name call (λ x e. cc) h)
+    by kind.One h = absurd (set_no_string c.operation other more name call (names_another c.operation) h)
     by kind.Long h = absurd (not_string (λ x. Long other x) (long_call c.operation more) name call (λ x e. cc) h)
     by kind.Str h = subst Passes (the_string other name (string_call c.operation more) call h) (string_call_passes c.operation more)
     by kind.Bytes h = absurd (not_string (λ x. Bytes other x) (bytes_call c.operation more) name call (λ x e. cc) h)
@@ -208,6 +237,7 @@ asked_string (One name c) asked = refl
 asked_string (Long name c) asked = refl
 asked_string (Str name c) (line, is) = fields_pass (fields_of line) name c is
 asked_string (Bytes name c) asked = refl
+asked_string (Intersect name other i n) asked = refl
 asked_string Used asked = refl
 
 -- ---- speakers

@@ -72,6 +72,7 @@ fn outcome(reply: &Reply<'_>) -> Result<(), Unplayed>
         Reply::ValueAt(_, _) => Ok(()),
         Reply::ValueKey(_, _) => Ok(()),
         Reply::Entries(_, _) => Ok(()),
+        Reply::Intersection(_, _, _) => Ok(()),
         Reply::Null => Ok(()),
         Reply::Used(_, _, _, _) => Ok(()),
     }

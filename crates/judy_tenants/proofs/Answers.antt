@@ -13,7 +13,8 @@ use Rattle.judy_model.specs.WellFormed.{FullIsForNew, LooksKeepAll}
 use Rattle.judy_model.specs.Service.{IsServed, Quotas, States}
 use Rattle.judy_model.specs.Solo.{IsAnswered, MayLackMemory, StepHasMemory, is_memory}
 use Rattle.judy_model.specs.Speakers.{Event}
-use Rattle.judy_kinds.specs.Calls.{is_of_array}
+use Rattle.judy_arena.specs.Blocks.{Blocks}
+use Rattle.judy_kinds.specs.Calls.{is_of_array, asks_at, AnswersAt}
 use Rattle.judy_tenants.specs.Held.{Held, HasCause, IsQuiet, IsShortService, IsUnplaced, is_refusal}
 use Rattle.judy_tenants.proofs.Steps.{HasWay}
 
@@ -30,13 +31,22 @@ answered-allowed memory quota s new right c r allowed e =
 pub not-memory : StepHasMemory → (quota : Quota) (s new : State) (c : Call) (r : Reply) → allowed_step quota s c ≡ (r, new) → is_memory r ≡ false
 not-memory memory quota s new c r e = sym (ap (λ z. is_memory z.0) e) ∙ memory Change quota s c
 
--- a call that names no array asks for the counts
-pub is-used : (c : Call) → is_of_array c ≡ false → c ≡ call.Used
-is-used call.Used h = refl
-is-used (call.One name c) h = cc
-is-used (call.Long name c) h = cc
-is-used (call.Str name c) h = cc
-is-used (call.Bytes name c) h = cc
+-- a call that names no array, or two, is answered at no place, and asks for nothing there
+pub answered-nowhere : (c : Call) → is_of_array c ≡ false → (a : Blocks) (w : ℕ) (r : Reply) (b : Blocks) (x : ℕ) → AnswersAt a w c r b x → ⊥
+answered-nowhere (call.Intersect name other i n) h a w r b x e = absurd e
+answered-nowhere call.Used h a w r b x e = absurd e
+answered-nowhere (call.One name c) h a w r b x e = cc
+answered-nowhere (call.Long name c) h a w r b x e = cc
+answered-nowhere (call.Str name c) h a w r b x e = cc
+answered-nowhere (call.Bytes name c) h a w r b x e = cc
+
+pub asks-nowhere : (c : Call) → is_of_array c ≡ false → (b : Blocks) (w : ℕ) → asks_at b w c ≡ false
+asks-nowhere (call.Intersect name other i n) h b w = refl
+asks-nowhere call.Used h b w = refl
+asks-nowhere (call.One name c) h b w = cc
+asks-nowhere (call.Long name c) h b w = cc
+asks-nowhere (call.Str name c) h b w = cc
+asks-nowhere (call.Bytes name c) h b w = cc
 
 -- an allowed call that can change arrays is made under the right to change
 pub asks-under : (right : Right) (s : State) (c : Call) → is_read_only right c ≡ false → changes c ≡ true → asks_for_new Change s

@@ -22,7 +22,7 @@ use Rattle.judy_directory.specs.Places.{at}
 use Rattle.judy_directory.specs.Kinds.{spot_of}
 use Rattle.judy_table.specs.declared.tenant.Tenant.{Tenant}
 use Rattle.judy_kinds.specs.Kinds.{IsPlaceOf, kind_of_key}
-use Rattle.judy_kinds.specs.Calls.{is_of_array, kind_of_call, name_of_call, asks_at, AnswersAt, blocks_of_kind, blocks_of_call}
+use Rattle.judy_kinds.specs.Calls.{kind_of_call, name_of_call, asks_at, blocks_of_kind, blocks_of_call}
 use Rattle.judy_kinds.specs.Laws.{InsertionsAloneAsk}
 use Rattle.judy_model.specs.declared.commands.Kind.{Kind}
 use Rattle.judy_model.specs.declared.commands.Kind.TheVariants.{One, Long, Str, Bytes}
@@ -40,7 +40,7 @@ use Rattle.judy_tenants.specs.Stocks.{held_of, IsStocked, IsExchange, IsRefusedI
 use Rattle.judy_tenants.proofs.Counts.{quota-read}
 use Rattle.judy_tenants.proofs.Seen.{seen-state, seen-sizes, seen-served}
 use Rattle.judy_tenants.proofs.Rooms.{room-is, way-of, full-of, room-of}
-use Rattle.judy_tenants.proofs.Answers.{answered-allowed, not-memory, is-used, asks-under, not-refused}
+use Rattle.judy_tenants.proofs.Answers.{answered-allowed, answered-nowhere, asks-nowhere, not-memory, asks-under, not-refused}
 use Rattle.judy_tenants.proofs.Exchanges.{own-step, others-rest, other-sizes-rest, before-entries, before-pieces, used-moved, pieces-moved}
 use Rattle.judy_tenants.proofs.Exchanges.{used-fits, pieces-fit, settled-stock, refused-stock, refused-rest, refused-sizes}
 
@@ -89,7 +89,7 @@ whole-keeps event held r = record {
   room = refl;
   granted = refl;
   refused = λ h. refl;
-  counts = λ h. refl;
+  whole = λ h. refl;
   memory = record { words = omega arith; peak = omega arith; rises = omega arith; region = omega arith; kept = omega arith; reserved = refl; refused = inl refl };
   others = λ u h. refl;
 }
@@ -120,24 +120,11 @@ module _ {H : List ℕ → ℕ} {tenants : List Tenant} {old : Stock} {t : ℕ} 
   quota-is : quotas_of tenants t ≡ quota
   quota-is = quota-read tenants t quota m.quota_is
 
-  -- the reply with the counts
-  pub used-served : is_of_array c ≡ false
-      → IsServed (quotas_of tenants) (states_of (held_of tenants old)) event
-      (reply.Used account.entries quota.entries account.pieces quota.pieces) (states_of (held_of tenants old))
-  used-served none = served old m.stocked (reply.Used account.entries quota.entries account.pieces quota.pieces)
-      (answered-allowed m.memory (quotas_of tenants t) was was right c (reply.Used account.entries quota.entries account.pieces quota.pieces) m.allowed
-      (subst (λ d. allowed_step (quotas_of tenants t) was d ≡ (
-        reply.Used account.entries quota.entries account.pieces
-            quota.pieces,
-        was,
-      )) (sym (is-used c none)) told))
-      (λ u h. refl)
-    where
-      told : allowed_step (quotas_of tenants t) was call.Used ≡ (reply.Used account.entries quota.entries account.pieces quota.pieces, was)
-      told =
-          ap (λ n. (reply.Used n (quotas_of tenants t).entries (pieces was) (quotas_of tenants t).pieces, was)) (sym (m.entries ∙ m.stocked.entries t))
-          ∙ ap (λ n. (reply.Used account.entries (quotas_of tenants t).entries n (quotas_of tenants t).pieces, was)) (sym (m.pieces ∙ m.stocked.pieces t))
-          ∙ ap (λ (q : Quota). (reply.Used account.entries q.entries account.pieces q.pieces, was)) quota-is
+  -- the reply to a call that names no array, or two
+  pub whole-served : (r : Reply) → allowed_step quota was c ≡ (r, was)
+      → IsServed (quotas_of tenants) (states_of (held_of tenants old)) event r (states_of (held_of tenants old))
+  whole-served r told = served old m.stocked r (answered-allowed m.memory (quotas_of tenants t) was was right c r m.allowed
+      (ap (λ q. allowed_step q was c) quota-is ∙ told)) (λ u h. refl)
 
   module _ {key : List ℕ} (k : key ≡ key_of_call t c) where
     -- the place at the key leads to an array of the call's kind
@@ -261,6 +248,8 @@ module _ {H : List ℕ → ℕ} {tenants : List Tenant} {old : Stock} {t : ℕ} 
         none-at (call.Long name f) i h = absent-in m.laws Long old.arena.blocks old.directory.0 t name h
         none-at (call.Str name f) i h = absent-in m.laws Str old.arena.blocks old.directory.0 t name h
         none-at (call.Bytes name f) i h = absent-in m.laws Bytes old.arena.blocks old.directory.0 t name h
+        none-at (call.Intersect name other x n) i h =
+            absurd (let no : false ≡ true = ap (λ d. asks_at old.arena.blocks (at old.directory.0 (key_of_call t c)).root d) i ∙ asked in cc)
         none-at call.Used i h = absurd (unlike (ap (λ d. asks_at old.arena.blocks (at old.directory.0 (key_of_call t c)).root d) i ∙ asked))
           where
             unlike : false ≡ true → ⊥
@@ -274,7 +263,7 @@ module _ {H : List ℕ → ℕ} {tenants : List Tenant} {old : Stock} {t : ℕ} 
           room = ap (λ f. f.room) y.footing;
           granted = y.granted;
           refused = λ h. absurd (unlike h);
-          counts = λ h. absurd (unlike (ap (λ d. asks_at old.arena.blocks (at old.directory.0 (key_of_call t c)).root d) (sym h) ∙ asked));
+          whole = λ h. absurd (unlike (sym (asks-nowhere c h old.arena.blocks (at old.directory.0 (key_of_call t c)).root) ∙ asked));
           memory = takes-are new.arena takes;
           others = λ u h. seen-sizes tenants new short-stocked u ∙ refused-sizes m.stocked key c y u ∙ sym (seen-sizes tenants old m.stocked u);
         }
@@ -395,7 +384,7 @@ module _ {H : List ℕ → ℕ} {tenants : List Tenant} {old : Stock} {t : ℕ} 
                 (state_in new.arena.blocks new.directory.0 t) right c answer.reply m.allowed
                 (own-step m.laws m.stocked t c m.known answer x m.adds way)
                 (subst (λ b. HasWay b (has_room (quotas_of tenants t) was c)) (asks-in m.laws old.arena.blocks old.directory.0 t c) way) h);
-            counts = λ h. absurd (subst (λ d. AnswersAt old.arena.blocks answer.before.root d answer.reply new.arena.blocks answer.after.root) h z.step);
+            whole = λ h. absurd (answered-nowhere c h old.arena.blocks answer.before.root answer.reply new.arena.blocks answer.after.root z.step);
             memory = takes-are last.arena
                 (subst (Takes (blocks_of_call old.arena.blocks (at old.directory.0 key).root c) old.arena) (sym arena) takes);
             others = λ u h. seen-sizes tenants last n u ∙ same-sizes u

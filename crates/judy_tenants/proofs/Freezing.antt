@@ -2,7 +2,7 @@
 --     frozen-stocked    it is sound
 --     frozen-granted    its words are bounded by the quotas
 --     frozen-held       what contracts see of it
-use Rattle.std.proofs.Common.{◌≡◌, ◌≤◌, ◌+◌, ◌*◌, ℕ, List, [], ◌∷◌, Option, length, map, get_or, ap, ap₂, sym, ◌∙◌, refl, subst}
+use Rattle.std.proofs.Common.{◌≡◌, ◌≤◌, ◌+◌, ◌*◌, ℕ, List, [], ◌∷◌, Option, length, map, get_or, ap, ap₂, sym, refl, subst}
 use Rattle.std.proofs.lemmas.List.{length-map}
 use Rattle.judy_model.specs.declared.quotas.Quota.{Quota}
 use Rattle.judy_table.specs.declared.tenant.Tenant.{Tenant}

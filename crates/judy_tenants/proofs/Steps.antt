@@ -1,5 +1,5 @@
 -- Room matters only to a call that asks for a new entry.
-use Rattle.std.proofs.Common.{◌≡◌, ℕ, ◌⊎◌, inl, inr, Bool, true, false, not, List, Option, Some, None, is_some, ap, refl}
+use Rattle.std.proofs.Common.{◌≡◌, ℕ, ◌⊎◌, inl, inr, Bool, true, false, not, Option, Some, None, is_some, ap, refl}
 use Rattle.judy_model.specs.declared.calls.Given.{Given}
 use Rattle.judy_model.specs.declared.replies.Reply.TheVariants.{Full}
 use Rattle.judy_model.specs.Contents.{Order, Entries, value_of}

@@ -21,13 +21,13 @@
 --     HasNoReserve words old new     the machine did not have that much
 --     IsCallOf old event reply new   how one call changes a service
 use Rattle.std.specs.Prelude.{◌≡◌, ◌⊎◌, ◌+◌, ◌≤◌, ◌*◌, ℕ, zero, suc, Bool, true, false, List, [], length, map, get_or, count_by}
-use Rattle.std.specs.Prelude.{sum_by, unwrap_or, IsTrue, MatchBool, ◌≢◌, if◌then◌else◌, max, ◌%◌, ◌<◌}
+use Rattle.std.specs.Prelude.{sum_by, unwrap_or, IsFalse, IsTrue, MatchBool, ◌≢◌, if◌then◌else◌, max, ◌%◌, ◌<◌}
 use Rattle.std.specs.List.{range_with_len}
 use Rattle.std.specs.FinMap.{find}
 use Rattle.judy_arena.specs.Blocks.{count_up}
 use Rattle.judy_arena.specs.Takes.{Rise}
 use Rattle.judy_model.specs.declared.calls.Call.{Call}
-use Rattle.judy_model.specs.declared.calls.Call.TheVariants.{One, Long, Str, Bytes, Used}
+use Rattle.judy_model.specs.declared.calls.Call.TheVariants.{One, Long, Str, Bytes, Intersect, Used}
 use Rattle.judy_model.specs.declared.quotas.Quota.{Quota}
 use Rattle.judy_model.specs.declared.replies.Reply.{Reply}
 use Rattle.judy_model.specs.declared.replies.Reply.TheVariants as reply
@@ -38,7 +38,7 @@ use Rattle.judy_model.specs.Solo.{is_memory}
 use Rattle.judy_model.specs.Service.{Quotas, States, IsServed, all_pieces}
 use Rattle.judy_model.specs.Speakers.{Event}
 use Rattle.judy_kinds.specs.Laws.{AreFewWords}
-use Rattle.judy_kinds.specs.Calls.{kind_of_call, blocks_of_kind}
+use Rattle.judy_kinds.specs.Calls.{is_of_array, kind_of_call, blocks_of_kind}
 use Rattle.judy_table.specs.declared.tenant.Tenant.{Tenant}
 
 -- the words in the blocks of each array of a tenant, by the array's name
@@ -203,6 +203,7 @@ NamesNothing s (One name c) = content_of s.one name ≡ []
 NamesNothing s (Long name c) = content_of s.long name ≡ []
 NamesNothing s (Str name c) = content_of s.string name ≡ []
 NamesNothing s (Bytes name c) = content_of s.bytes name ≡ []
+NamesNothing s (Intersect name other i n) = ⊥
 NamesNothing s Used = ⊥
 
 -- no request was refused
@@ -244,7 +245,7 @@ ServiceTakes n old new = Rise n old.refusals old.words old.peak old.region old.r
 
 -- What a call leaves unchanged. Every call keeps the table, what its quotas allow, the start of the
 -- hashes, the room for names, and the words of each array of the other tenants. A call refused for its right or for the quota keeps the whole
--- service, and so does a call that asks for the counts. The words taken from the machine are part of
+-- service, and so does a call that names no array, or two. The words taken from the machine are part of
 -- the service; a call takes at most a run of 512 words for each of its blocks, and none if it asks for
 -- no new entry.
 pub record Keeps (event : Event) (old : Held) (reply : Reply) (new : Held) : Type 0 where
@@ -253,7 +254,7 @@ pub record Keeps (event : Event) (old : Held) (reply : Reply) (new : Held) : Typ
   pub room : new.room ≡ old.room
   pub granted : new.granted ≡ old.granted
   pub refused : IsTrue (is_refusal reply) → new ≡ old
-  pub counts : event.call ≡ Used → new ≡ old
+  pub whole : IsFalse (is_of_array event.call) → new ≡ old
   pub memory : ServiceTakes (blocks_of_event (states_of old event.speaker.tenant) event) old new
   pub others : (t : ℕ) → t ≢ event.speaker.tenant → sizes_of new t ≡ sizes_of old t
 

@@ -11,6 +11,7 @@ mod replay;
 mod service;
 mod serving;
 mod stock;
+mod whole;
 
 pub use judy_bytes::{KeyHash, Sha256Hash};
 pub use judy_kinds::is_callable;

@@ -10,6 +10,7 @@ ghost use Rattle.judy_tenants.specs.Stocks.{held_of, IsGranted, IsStocked};
 use crate::accounts::{account_of, settle};
 use crate::laws;
 use crate::stock::{Stock, exchange, is_full};
+use crate::whole::overlook;
 use judy_bytes::KeyHash;
 use judy_directory::Spot;
 use judy_kinds::array_of;
@@ -57,7 +58,15 @@ pub fn serve<'a, H: KeyHash>(
     let account = account_of(&stock.accounts, tenant);
     let quota = table.quota(tenant);
     let Some((kind, name)) = array_of(call) else {
-        return Reply::Used(account.entries, quota.entries, account.pieces, quota.pieces);
+        return overlook(
+            stock,
+            hash,
+            tenant,
+            account,
+            quota,
+            call,
+            &mut found.listing,
+        );
     };
     let spot = Spot::new(tenant.place(), kind, name.copied());
     if is_full(stock, hash, account, quota, &spot, call) {

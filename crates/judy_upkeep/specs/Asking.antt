@@ -29,6 +29,7 @@ came_at (reply.Index index) = Ok (what.At index 0)
 came_at (reply.Count count) = Ok (what.Count count)
 came_at (reply.ValueAt value index) = Ok (what.At index value)
 came_at (reply.ValueKey value key) = Ok (what.AtKey value)
+came_at (reply.Intersection next k text) = Err reason.Record
 came_at (reply.Used entries quota pieces most) = Err reason.Record
 came_at (reply.Entries count text) = Err reason.Record
 came_at reply.Full = Err reason.Full

@@ -66,7 +66,9 @@ fn came_of(reply: &Reply<'_>) -> Result<Came, Reason>
         Reply::Count(count) => Ok(Came::Count(*count)),
         Reply::ValueAt(value, index) => Ok(Came::At(*index, *value)),
         Reply::ValueKey(value, _) => Ok(Came::AtKey(*value)),
-        Reply::Used(_, _, _, _) | Reply::Entries(_, _) => Err(Reason::Record),
+        Reply::Used(_, _, _, _) | Reply::Entries(_, _) | Reply::Intersection(_, _, _) => {
+            Err(Reason::Record)
+        }
         Reply::Full => Err(Reason::Full),
         Reply::ReadOnly | Reply::Frozen => Err(Reason::Full),
         Reply::Memory => Err(Reason::Memory),

@@ -37,7 +37,7 @@ fn insertion_by(call: &Call<'_>, text: &mut KeyText) -> Option<Array>
         Call::One(_, _) => None,
         Call::Long(_, _) => None,
         Call::Str(_, _) => None,
-        Call::Used => None,
+        Call::Intersect(..) | Call::Used => None,
     }
 }
 

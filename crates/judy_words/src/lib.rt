@@ -4,6 +4,7 @@
 
 mod long;
 mod one;
+mod shared;
 mod walks;
 
 pub use judy_query::Finger;

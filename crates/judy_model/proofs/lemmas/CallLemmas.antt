@@ -1,9 +1,10 @@
 -- A call that a command makes is of that command.
-use Rattle.std.proofs.Common.{◌≡◌, ℕ, List, [], ◌∷◌, refl, ap, ◌∙◌, sym, Option, Some, None}
+use Rattle.std.proofs.Common.{◌≡◌, ℕ, Bool, true, false, cond, List, [], ◌∷◌, refl, ap, ◌∙◌, sym, Option, Some, None}
 use Rattle.std.specs.Prelude.{IfSome, option_map, option_and_then}
 use Rattle.judy_model.specs.declared.calls.BytesCall.TheVariants as bytes
 use Rattle.judy_model.specs.declared.calls.Call.{Call}
 use Rattle.judy_model.specs.declared.calls.Call.TheVariants.{One, Long, Str, Bytes}
+use Rattle.judy_model.specs.declared.calls.Call.TheVariants as calls
 use Rattle.judy_model.specs.declared.calls.LongCall.TheVariants as long
 use Rattle.judy_model.specs.declared.calls.OneCall.TheVariants as one
 use Rattle.judy_model.specs.declared.calls.Search.TheVariants as search
@@ -13,11 +14,11 @@ use Rattle.judy_model.specs.declared.commands.Kind.TheVariants as kind
 use Rattle.judy_model.specs.declared.commands.Numbers.{Numbers}
 use Rattle.judy_model.specs.declared.commands.Numbers.TheVariants as numbers
 use Rattle.judy_model.specs.declared.commands.Operation.{Operation}
-use Rattle.judy_model.specs.declared.commands.Operation.TheVariants.{Insert, Add, Keep, Exchange, Remove, Take, Look, Count, Nth, First, Next, Last, Prev, Free, Pop, Fill, Cut}
+use Rattle.judy_model.specs.declared.commands.Operation.TheVariants.{Insert, Add, Keep, Exchange, Remove, Take, Look, Count, Nth, First, Next, Last, Prev, Free, Pop, Fill, Cut, Intersect}
 use Rattle.judy_model.specs.declared.commands.Operation.TheVariants.{FirstEmpty, NextEmpty, LastEmpty, PrevEmpty}
 use Rattle.judy_model.specs.Commands.{bytes_operation, bytes_with, entries_of, command_of, free_with, long_operation, long_with, one_operation, one_with}
 use Rattle.judy_model.specs.Commands.{string_operation, string_with, to}
-use Rattle.judy_model.specs.Grammar.{bytes_call, call_by, key_of, long_call, numbers_of_fields, one_call, string_call, string_of}
+use Rattle.judy_model.specs.Grammar.{bytes_call, call_by, intersection_call, intersection_with, is_name, key_of, long_call, names_another, numbers_of_fields, one_call, string_call, string_of}
 
 -- the call, if there is one, is of this operation
 abbrev IsOf : {C : Type 0} → (C → Operation) → Operation → Option C → Type 0
@@ -157,10 +158,49 @@ in_call operation_of kind operation f (Some c) call same is e =
     let call_is : f c ≡ call = cc in
     ap command_of (sym call_is) ∙ same c ∙ ap (λ x. Some (to kind x)) is
 
+-- an intersection is of the command that makes it
+intersection_made : (name : List ℕ) (more : List (List ℕ)) (call : Call) → intersection_call name more ≡ Some call
+    → command_of call ≡ Some (to kind.One Intersect)
+intersection_made name [] call e = cc
+intersection_made name (other ∷ more) call e = by_name (is_name other) e
+  where
+    by_numbers : (o : Option Numbers) → option_and_then (λ ns. intersection_with name other ns) o ≡ Some call
+        → command_of call ≡ Some (to kind.One Intersect)
+    by_numbers None h = cc
+    by_numbers (Some numbers.Nothing) h = cc
+    by_numbers (Some (numbers.One i)) h = cc
+    by_numbers (Some (numbers.Two i n)) h = by_most (entries_of n) h
+      where
+        by_most : (o : Option ℕ) → option_map (λ most. calls.Intersect name other i most) o ≡ Some call → command_of call ≡ Some (to kind.One Intersect)
+        by_most None h = cc
+        by_most (Some most) h = let call_is : calls.Intersect name other i most ≡ call = cc in ap command_of (sym call_is)
+    by_numbers (Some (numbers.Three i j k)) h = cc
+
+    by_name : (b : Bool) → cond b (option_and_then (λ ns. intersection_with name other ns) (numbers_of_fields more)) None ≡ Some call
+        → command_of call ≡ Some (to kind.One Intersect)
+    by_name true h = by_numbers (numbers_of_fields more) h
+    by_name false h = cc
+
+-- an operation that names another set is the intersection
+another_is : (operation : Operation) → names_another operation ≡ true → operation ≡ Intersect
+another_is Intersect e = refl
+another_is _ e = cc
+
+-- a call of a set, or an intersection
+set_call_made : (operation : Operation) (name : List ℕ) (more : List (List ℕ)) (call : Call)
+    → call_by kind.One operation name more ≡ Some call → command_of call ≡ Some (to kind.One operation)
+set_call_made operation name more call e = by (names_another operation) refl e
+  where
+    by : (b : Bool) → names_another operation ≡ b
+        → cond b (intersection_call name more) (option_map (λ c. One name c) (one_call operation more)) ≡ Some call
+        → command_of call ≡ Some (to kind.One operation)
+    by true is h = intersection_made name more call h ∙ ap (λ x. Some (to kind.One x)) (sym (another_is operation is))
+    by false is h = in_call one_operation kind.One operation (λ c. One name c) (one_call operation more) call (λ c. refl)
+        (then_made one_operation operation (λ ns. one_with operation ns) (numbers_of_fields more) (one_made operation)) h
+
 pub made_call : (kind : Kind) (operation : Operation) (name : List ℕ) (more : List (List ℕ)) (call : Call)
     → call_by kind operation name more ≡ Some call → command_of call ≡ Some (to kind operation)
-made_call kind.One operation name more call = in_call one_operation kind.One operation (λ c. One name c) (one_call operation more) call (λ c. refl)
-    (then_made one_operation operation (λ ns. one_with operation ns) (numbers_of_fields more) (one_made operation))
+made_call kind.One operation name more call = set_call_made operation name more call
 made_call kind.Long operation name more call = in_call long_operation kind.Long operation (λ c. Long name c) (long_call operation more) call (λ c. refl)
     (then_made long_operation operation (λ ns. long_with operation ns) (numbers_of_fields more) (long_made operation))
 made_call kind.Str operation name more call = in_call string_operation kind.Str operation (λ c. Str name c) (string_call operation more) call (λ c. refl)

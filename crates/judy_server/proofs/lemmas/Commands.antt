@@ -12,7 +12,7 @@ use Rattle.judy_model.specs.Contents.{string_order}
 use Rattle.judy_model.specs.Grammar.{Spell, SpellCall, at_command, call_by}
 use Rattle.judy_model.specs.Stream.Heard.{Asked, TooLong, Unclear}
 use Rattle.judy_model.specs.declared.calls.Call.{Call}
-use Rattle.judy_model.specs.declared.calls.Call.TheVariants.{One, Long, Str, Bytes, Used}
+use Rattle.judy_model.specs.declared.calls.Call.TheVariants.{One, Long, Str, Bytes, Intersect, Used}
 use Rattle.judy_model.specs.declared.commands.Command.{Command}
 use Rattle.judy_model.specs.declared.requests.Line.{Line}
 use Rattle.judy_model.specs.declared.requests.Line.TheVariants as request
@@ -76,6 +76,7 @@ counted-by-its-command fields request.Quit s = first fields (codes "QUIT") [] (s
 counted-by-its-command fields request.Ping s = first fields (codes "PING") [] (slice_get call_names PING) s two_names.0
 counted-by-its-command fields request.Hello s = first fields (codes "HELLO") [] (slice_get call_names HELLO) s two_names.1
 counted-by-its-command fields (request.Call Used) s = first fields (codes "USED") [] (slice_get call_names 2) s three_names.2
+counted-by-its-command fields (request.Call (Intersect name other i n)) s = counted_call fields (Intersect name other i n) s
 counted-by-its-command fields (request.Call (One name c)) s = counted_call fields (One name c) s
 counted-by-its-command fields (request.Call (Long name c)) s = counted_call fields (Long name c) s
 counted-by-its-command fields (request.Call (Str name c)) s = counted_call fields (Str name c) s

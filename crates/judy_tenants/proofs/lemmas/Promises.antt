@@ -1,7 +1,7 @@
 -- What a call and a service promise, in the words of docs/PROMISES.md, from their public contracts.
 --     overwrites-rest   a call that asks for no new entry takes nothing and is not refused for memory
 --     refusals-keep     `FULL` and `ERR READONLY` change nothing and take nothing
---     counts-keep       nor does a call that asks for the counts
+--     whole-keep        nor does a call that names no array, or two
 --     start-stays       names are looked up by the same hashes after every call
 --     others-rest       the words of the other tenants' arrays are the same after every call
 --     memory-means      `ERR MEMORY` has one of two causes
@@ -30,7 +30,7 @@ use Rattle.judy_model.specs.WellFormed.{has_entries}
 use Rattle.judy_model.specs.Solo.{is_memory, MayLackMemory}
 use Rattle.judy_model.specs.Speakers.{Event, Speaker}
 use Rattle.judy_kinds.specs.Laws.{AreFewWords}
-use Rattle.judy_kinds.specs.Calls.{kind_of_call, blocks_of_kind}
+use Rattle.judy_kinds.specs.Calls.{is_of_array, kind_of_call, blocks_of_kind}
 use Rattle.judy_tenants.specs.Held.{Held, ServiceTakes, all_quotas, words_for, states_of, sizes_of, quotas_of, tenant_words, words_named, all_words, all_arrays}
 use Rattle.judy_tenants.specs.Held.{IsQuiet, IsShortService, IsUnplaced, IsSoundService, IsCallOf, is_refusal}
 
@@ -78,9 +78,9 @@ module _ (old : Held) (event : Event) (r : Reply) (new : Held) (call_of : IsCall
       by (inr (inl e)) = call_of.keeps.refused (ap is_refusal e)
       by (inr (inr e)) = call_of.keeps.refused (ap is_refusal e)
 
-  -- nor does a call that asks for the counts
-  pub counts-keep : event.call ≡ call.Used → ((t : ℕ) → states_of new t ≡ states_of old t) × (new.region ≡ old.region) × (new ≡ old)
-  counts-keep h = let same = call_of.keeps.counts h in (λ t. ap (λ (s : Held). states_of s t) same, ap (λ (s : Held). s.region) same, same)
+  -- nor does a call that names no array, or two
+  pub whole-keep : is_of_array event.call ≡ false → ((t : ℕ) → states_of new t ≡ states_of old t) × (new.region ≡ old.region) × (new ≡ old)
+  whole-keep h = let same = call_of.keeps.whole h in (λ t. ap (λ (s : Held). states_of s t) same, ap (λ (s : Held). s.region) same, same)
 
   -- names are looked up by the same hashes, and by the same table, and there is room for as many; the
   -- quotas allow as many words

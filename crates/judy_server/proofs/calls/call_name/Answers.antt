@@ -11,13 +11,13 @@ in_first (x ∷ xs) ys zero few = refl
 in_first (x ∷ xs) ys (suc place) few = in_first xs ys place (omega (arith, few))
 
 -- the names from the fourth on are the words of the commands
-at_command : (place : ℕ) → 3 ≤ place → place < 62 → slice_get call_names place ≡ slice_get command_words (place - 3)
+at_command : (place : ℕ) → 3 ≤ place → place < 63 → slice_get call_names place ≡ slice_get command_words (place - 3)
 unfolding call_names
 at_command zero low few = absurd (omega (arith, low))
 at_command (suc zero) low few = absurd (omega (arith, low))
 at_command (suc (suc zero)) low few = absurd (omega (arith, low))
 at_command (suc (suc (suc place))) low few =
-    let small : place < 59 = omega (arith, few) in
+    let small : place < 60 = omega (arith, few) in
     let same : place ≡ suc (suc (suc place)) - 3 = omega arith in
     in_first command_words (codes "PING" ∷ codes "HELLO" ∷ codes "none" ∷ []) place small ∙ ap (slice_get command_words) same
 

@@ -15,7 +15,7 @@ use Rattle.judy_tenants.specs.Held.{HasCause, quotas_of, states_of}
 use Rattle.judy_tenants.specs.States.{key_of_call}
 use Rattle.judy_tenants.specs.Stocks.{held_of}
 use Rattle.judy_tenants.proofs.Answers.{forbidden-cause, forbidden-served}
-use Rattle.judy_tenants.proofs.CallsServed.{Premises, Ends, AtKey, CanSettle, key-is, used-served, full-served, at-key, short}
+use Rattle.judy_tenants.proofs.CallsServed.{Premises, Ends, AtKey, CanSettle, key-is, whole-served, full-served, at-key, short}
 use Rattle.judy_tenants.proofs.CallsServed.{can-settle, settled-stocked, answered, whole-keeps}
 use Rattle.judy_tenants.proofs.Counts.{has-account}
 use Rattle.judy_tenants.proofs.Rooms.{pieces-fit}
@@ -56,7 +56,7 @@ key g c =
 
 pub returns-in_default-clause-served : goal.returns-in_default-clause-served
 returns-in_default-clause-served g c =
-    used-served (known g (goal.at.returns-in_default-clause-served g c).After-quota-quota) c.in_default.ensures.none
+    whole-served (known g (goal.at.returns-in_default-clause-served g c).After-quota-quota) c.overlook.result c.overlook.ensures
 
 pub is_full-requires-clause-within : goal.is_full-requires-clause-within
 is_full-requires-clause-within g c =

@@ -9,7 +9,8 @@ use Rattle.judy_model.specs.Pieces.{word_pieces, string_pieces, pieces_of}
 use Rattle.judy_model.specs.Tenant.{one_effect, long_effect, string_effect, bytes_effect}
 use Rattle.judy_model.specs.Tenant.{content_of, entries_in, pieces_in, used, pieces, new_pieces, one_step, long_step}
 use Rattle.judy_model.specs.Tenant.{string_step, bytes_step, one_asks_for_new, long_asks_for_new, string_asks_for_new}
-use Rattle.judy_model.specs.Tenant.{bytes_asks_for_new}
+use Rattle.judy_model.specs.Tenant.{State, allowed_step, bytes_asks_for_new}
+use Rattle.judy_model.specs.Intersections.{intersect, intersection_reply}
 use Rattle.judy_model.proofs.lemmas.FormLemmas.{names_apart}
 use Rattle.judy_model.proofs.lemmas.GrowthLemmas.{lengths, sizes, one_each, its_size, effect_grows, words_alike, strings_alike, bytes_alike}
 use Rattle.judy_reference.specs.Store.{IsKept}
@@ -120,3 +121,15 @@ invariant_of-self-in-Bytes c =
     (omega (arith, c.used-used.ensures.value, ap used c.self.view_is)) (omega (arith, c.pieces-pieces.ensures, ap pieces c.self.view_is))
     (omega arith) (omega arith) (omega arith) (omega arith) in
     (omega (arith, both.0), omega (arith, both.1))
+
+pub returns-in-Intersect-clause-ok : goal.returns-in-Intersect-clause-ok
+returns-in-Intersect-clause-ok c =
+    let s = c.args.self.now in
+    let call = c.in-Intersect in
+    let one_is : c.self.inside.one ≡ s.one = ap (λ (t : State). t.one) c.self.view_is in
+    let entries : c.content-entries.result.now ≡ content_of s.one call.name = c.content-entries.ensures.value ∙ ap (λ sets. content_of sets call.name) one_is in
+    let others : c.content-others.result.now ≡ content_of s.one call.other = c.content-others.ensures.value ∙ ap (λ sets. content_of sets call.other) one_is in
+    ap (λ d. allowed_step c.args.quota s d) call.is
+    ∙ ap (λ r. (r, s)) (sym (c.intersection.ensures
+    ∙ ap (λ l. intersection_reply (intersect l c.content-others.result.now call.x call.n)) entries
+    ∙ ap (λ m. intersection_reply (intersect (content_of s.one call.name) m call.x call.n)) others))
