@@ -23,9 +23,9 @@
 #include <time.h>
 #include <unistd.h>
 
-enum { LINE_LIMIT = 4096, KEY_LIMIT = 1000, LIST_LIMIT = 4088, MOST_ENTRIES = 65535, FIELDS = 6 };
+enum { LINE_LIMIT = 4096, KEY_LIMIT = 1000, LIST_LIMIT = 4088, SHARED_LIMIT = 4067, SHARED_STEPS = 2048, MOST_ENTRIES = 65535, FIELDS = 6 };
 enum kind { ONE, LONG, STRING, BYTES };
-enum call { INSERT, ADD, KEEP, FILL, EXCHANGE, REMOVE, TAKE, POP, CUT, FREE, LOOK, COUNT, NTH, FIRST, NEXT, LAST, PREV, FIRST_EMPTY, NEXT_EMPTY, LAST_EMPTY, PREV_EMPTY };
+enum call { INSERT, ADD, KEEP, FILL, EXCHANGE, REMOVE, TAKE, POP, CUT, FREE, LOOK, COUNT, INTERSECT, NTH, FIRST, NEXT, LAST, PREV, FIRST_EMPTY, NEXT_EMPTY, LAST_EMPTY, PREV_EMPTY };
 
 struct array {
     Pvoid_t root;
@@ -52,7 +52,8 @@ struct command {
 
 struct request {
     const struct command *command;
-    char name[40]; /* a letter for the kind, and the name */
+    char name[40];  /* a letter for the kind, and the name */
+    char other[40]; /* the same of the other set of an intersection */
     Word_t words[3];
     int given; /* how many words were given */
     size_t key_len;
@@ -77,6 +78,7 @@ static const struct command COMMANDS[] = {
     {"J1NE", ONE, NEXT_EMPTY, 1, 1},
     {"J1LE", ONE, LAST_EMPTY, 1, 1},
     {"J1PE", ONE, PREV_EMPTY, 1, 1},
+    {"J1I", ONE, INTERSECT, 3, 0},
     {"J1FA", ONE, FREE, 0, 0},
     {"JLI", LONG, INSERT, 1, 1},
     {"JLIE", LONG, FILL, 2, 0},
@@ -179,6 +181,13 @@ static struct array *array_of(struct tenant *t, const char *name, int make)
     if (!*place)
         *place = (Word_t)calloc(1, sizeof(struct array));
     return (struct array *)*place;
+}
+
+/* The array of libjudy under a name. */
+static Pvoid_t root_of(struct tenant *t, const char *name)
+{
+    struct array *a = array_of(t, name, 0);
+    return a ? a->root : NULL;
 }
 
 static Word_t *find(const struct array *a, const struct request *r)
@@ -471,6 +480,40 @@ static void walk(const struct array *a, const struct request *r)
     say("E %lu%.*s", count, (int)len, listed);
 }
 
+/* Whether two sets have indexes from *x on. If so, *x is then the least index of the second from that of the first on,
+ * and *is_shared says whether it is an index of the first too. */
+static int meets(Pvoid_t one, Pvoid_t other, Word_t *x, int *is_shared)
+{
+    Word_t least = *x;
+    if (!Judy1First(one, &least, PJE0))
+        return 0;
+    *x = least;
+    if (!Judy1First(other, x, PJE0))
+        return 0;
+    *is_shared = *x == least;
+    return 1;
+}
+
+/* The indexes that two sets share, up to the first that does not fit into the reply. */
+static void intersect(Pvoid_t one, Pvoid_t other, const struct request *r)
+{
+    static char text[32], listed[SHARED_LIMIT];
+    Word_t x = r->words[0], count = 0, len = 0;
+    int is_shared, more = 1;
+    for (int step = 0; more && step < SHARED_STEPS && count < entries_asked(r); step++) {
+        more = meets(one, other, &x, &is_shared);
+        if (!more || !is_shared)
+            continue;
+        Word_t size = (Word_t)sprintf(text, " %lu", x);
+        if (len + size > SHARED_LIMIT)
+            break;
+        memcpy(listed + len, text, size);
+        len += size, count++;
+        more = ++x != 0;
+    }
+    say("I %lu %lu%.*s", more ? x : 0, count, (int)len, listed);
+}
+
 /* A search of a request in an array. */
 static void search(const struct array *a, const struct request *r)
 {
@@ -525,6 +568,7 @@ static void make_call(struct tenant *t, const struct request *r)
     case COUNT:
         say("N %lu", kind == ONE ? Judy1Count(a->root, r->words[0], r->words[1], PJE0) : JudyLCount(a->root, r->words[0], r->words[1], PJE0));
         break;
+    case INTERSECT: intersect(a->root, root_of(t, r->other), r); break;
     default: search(a, r);
     }
 }

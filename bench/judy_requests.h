@@ -89,10 +89,21 @@ static int is_walk(const struct request *r)
     return r->command->call >= FIRST && r->given > (r->command->kind != STRING);
 }
 
-/* The number of entries of a search, or of a removal of many. */
+/* The number of entries of a search, of an intersection, or of a removal of many. */
 static Word_t entries_asked(const struct request *r)
 {
     return r->words[r->given - 1];
+}
+
+/* Reads the name of an array: a letter for its kind, and the name. */
+static int read_name(struct field f, enum kind kind, char name[40])
+{
+    if (!is_name(f))
+        return 0;
+    name[0] = (char)('a' + kind);
+    memcpy(name + 1, f.at, f.len);
+    name[1 + f.len] = 0;
+    return 1;
 }
 
 /* Reads the call of an array that the fields spell. */
@@ -105,20 +116,19 @@ static int read_call(const struct field *fields, int count, struct request *r)
         return 0;
     const struct command *c = &COMMANDS[i];
     int given = count - 2, at = 2;
-    if (given < c->must || given > c->must + c->may || !is_name(fields[1]))
+    if (given < c->must || given > c->must + c->may || !read_name(fields[1], c->kind, r->name))
         return 0;
     r->command = c;
-    r->name[0] = (char)('a' + c->kind);
-    memcpy(r->name + 1, fields[1].at, fields[1].len);
-    r->name[1 + fields[1].len] = 0;
     r->given = 0;
+    if (c->call == INTERSECT && !read_name(fields[at++], c->kind, r->other))
+        return 0;
     if (c->kind >= STRING && c->must > 0)
         if (!read_key(fields[at++], c->kind, r))
             return 0;
     while (at < count)
         if (!read_word(fields[at++], &r->words[r->given++]))
             return 0;
-    if (c->call != CUT && !is_walk(r))
+    if (c->call != CUT && c->call != INTERSECT && !is_walk(r))
         return 1;
     return entries_asked(r) >= 1 && entries_asked(r) <= MOST_ENTRIES;
 }

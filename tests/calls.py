@@ -19,7 +19,7 @@ from commands import CODE, COMMANDS, FORMS, KINDS, usage  # noqa: E402
 from judyd.wording import CALLS, OTHERS, said_of  # noqa: E402
 from oracle import INSERTS, LOOKS, OPERATIONS  # noqa: E402
 
-LETTERS = {"name": "", "key": "K", "i": "W", "k": "W", "n": "W", "v": "W", "old": "W", "new": "W"}
+LETTERS = {"name": "", "other": "N", "key": "K", "i": "W", "k": "W", "n": "W", "v": "W", "old": "W", "new": "W"}
 NAMES = {
     "Set": "Insert", "Unset": "Remove", "Test": "Look", "Delete": "Remove", "Get": "Look", "ByCount": "Nth", "FreeArray": "Free",
     "PopFirst": "Pop", "AddAbsent": "Fill", "InsertAbsent": "Fill", "RemoveRange": "Cut",
@@ -37,7 +37,8 @@ def read(path):
 
 
 def source():
-    """Each command: the forms of its fields after the name, K for a key and W for a word."""
+    """Each command: the forms of its fields after the name, K for a key, W for a word and N for the name of another
+    array."""
     return {word: {"".join(map(LETTERS.get, form)) for form in FORMS[word]} for word in COMMANDS}
 
 

@@ -1,6 +1,6 @@
 """The commands of the protocol, from the one table that defines them: the word of each, the kind of its
-array, what it does there, and the forms of its fields. A new command of a known operation needs no
-other list in the tests."""
+array, what it does there, and the forms of its fields. Those of a call that names another array are in
+the grammar. A new command of a known operation needs no other list in the tests."""
 
 import os
 import re
@@ -8,8 +8,10 @@ from typing import NamedTuple
 
 TOP = os.path.dirname(os.path.dirname(os.path.abspath(__file__)))
 CODE = "crates/judy_model/specs/Commands.antt"
+GRAMMAR = "crates/judy_model/specs/Grammar.antt"
 ROW = re.compile(r'\(codes "(J\w+)", to (\w+) (\w+)\)')
 CALL = re.compile(r"^(\w+)_with (\w+) (key )?(?:numbers\.Nothing|\(numbers\.\w+ ([\w ]+)\)) = (?:Some|option_map) ", re.M)
+OF_TWO = re.compile(r"^\w+_with name (\w+) \(numbers\.\w+ ([\w ]+)\) = option_map \(λ \w+\. (\w+) name \1 ", re.M)
 MAKERS = {"one": "One", "long": "Long", "string": "Str", "bytes": "Bytes"}
 KINDS = {"One": "Judy1", "Long": "JudyL", "Str": "JudySL", "Bytes": "JudyHS"}  # their names in the manual
 FEWEST = 40  # commands: fewer were not read
@@ -22,9 +24,9 @@ class Command(NamedTuple):
     operation: str
 
 
-def definition():
-    """The text of the table."""
-    with open(os.path.join(TOP, CODE), encoding="utf-8") as file:
+def definition(path=CODE):
+    """The text of the table, or of the grammar."""
+    with open(os.path.join(TOP, path), encoding="utf-8") as file:
         return file.read()
 
 
@@ -41,6 +43,8 @@ def forms():
     made = {}
     for maker, operation, key, letters in CALL.findall(definition()):
         made.setdefault(Command(MAKERS[maker], operation), []).append((*(["key"] if key else []), *letters.split()))
+    for other, letters, operation in OF_TWO.findall(definition(GRAMMAR)):
+        made.setdefault(Command("One", operation), []).append((other, *letters.split()))
     found = {}
     for word, it in COMMANDS.items():
         if it not in made and it.operation != "Free":  # no function of the table makes the call that takes no key

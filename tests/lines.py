@@ -1,6 +1,7 @@
 """Lines of requests from a seed: long walks of well-formed calls, and hostile lines."""
 
-from oracle import COMMANDS, EXCHANGES, FREES, GREATEST, INSERTS, LOOKS, OPERATIONS, REMOVES, Tenant, read_bytes, read_most, read_string, read_word
+from oracle import COMMANDS, EXCHANGES, FREES, GREATEST, INSERTS, LOOKS, OPERATIONS, REMOVES, SHARED_STEPS, Tenant
+from oracle import read_bytes, read_most, read_name, read_string, read_word
 
 TENANTS = [
     Tenant("alice", "abc", 40000, read_token="look"),
@@ -13,8 +14,8 @@ TABLE = "".join(tenant.toml() for tenant in TENANTS).encode()
 NAMES = [b"a", b"b", b"a.b-c_D9", b"n" * 32]
 EDGES = sorted({(1 << k) + d & GREATEST for k in range(65) for d in (-2, -1, 0, 1)})
 MARCHES = [b"J1S %s %d"] * 2 + [b"JLI %s %d"] * 2 + [b"J1U %s %d", b"JLD %s %d", b"J1N %s %d", b"JLF %s %d", b"JLLE %s %d", b"J1SE %s %d", b"J1UF %s %d -1"]
-FILL, POP, CUT = OPERATIONS["Fill"], OPERATIONS["Pop"], OPERATIONS["Cut"]
-SHARES = {POP: 0.2, CUT: 0.1}  # of operations that would otherwise empty the arrays
+FILL, POP, CUT, INTERSECT = OPERATIONS["Fill"], OPERATIONS["Pop"], OPERATIONS["Cut"], OPERATIONS["Intersect"]
+SHARES = {POP: 0.2, CUT: 0.1, INTERSECT: 2}  # of operations that would otherwise empty the arrays, or come seldom
 
 
 class Keys:
@@ -110,6 +111,8 @@ class Walk:
         must, operation = command.must, command.operation
         if operation in (POP, CUT) and must[0] is read_word:
             return [*self.range(), *(self.most() for _ in must[2:])]
+        if operation is INTERSECT:
+            return [self.random.choice(NAMES), self.random.choice((b"0", b"%d" % self.keys.word())), self.most()]
         keys = [self.keys.field(read) for read in (must if operation.does == LOOKS else must[:1])]
         if operation is FILL and self.random.random() < 0.1:  # where few words are absent
             keys[0] = b"%d" % (GREATEST - self.random.randrange(3))
@@ -139,12 +142,25 @@ class Walk:
         words = [base + step * i & GREATEST for i in range(self.random.choice((40, 140, 256, 300)))]
         return [line % (name, word) for word in self.random.choice((words, words[::-1]))]
 
+    def weave(self):
+        """Lines that put words in turn into two sets, so that an intersection makes all steps that it may make and
+        finds few; then intersections of the two."""
+        one, other = self.random.sample(NAMES, 2)
+        low = self.random.choice(self.keys.bases) & ~65535
+        words = range(low, low + 2 * SHARED_STEPS + self.random.randrange(9, 200))
+        lines = [b"J1S %s %d" % (name, it) for it in words for name in ((one, other) if it % 99 == 0 else (one,) if it % 2 else (other,))]
+        lines += [b"J1I %s %s %d %s" % (*self.random.sample((one, other), 2), low + at, self.most()) for at in (0, 1, 2, 9)]
+        return [b"AUTH e e", *lines, b"J1I %s %s %d 65535" % (one, other, low)][::-1]
+
     def line(self):
         """The next line."""
         if self.run:
             return self.run.pop()
-        if self.random.random() < 0.0005:
+        draw = self.random.random()
+        if draw < 0.0005:
             self.run = self.march()
+        elif draw < 0.00051:
+            self.run = self.weave()
         self.left -= 1
         if self.left <= 0:
             self.enter_a_time()
@@ -195,7 +211,7 @@ class Hostile:
         if at == 0:
             others = [field.lower(), field + b"E", field[:-1], field + field, b"QUITE", b"AUTH", b"USED", b"PING", b"HELLO", b"\xff" + field]
             return self.random.choice(others + sorted(COMMANDS))
-        if at == 1:
+        if at == 1 or (at == 2 and fields[0] in COMMANDS and COMMANDS[fields[0]].must[:1] == (read_name,)):
             length = self.random.choice((1, 31, 32, 33, 64))
             return self.random.choice((field * 33, b"n" * length, field + b"/", b"\xc3\xa4", b"a\0b", b"a.B_-9", b"nobody", field.upper()))
         if field.startswith(b"x") or fields[0][:2] in (b"JS", b"JH"):

@@ -23,7 +23,9 @@ GREATEST = 2**64 - 1
 LINE_LIMIT = 4096
 KEY_LIMIT = 1000
 LIST_LIMIT = 4088  # the most bytes of the entries in a reply
-MOST_ENTRIES = 65535  # the most entries that a walk or the removal of a range may ask for
+SHARED_LIMIT = 4067  # the most bytes of the indexes in the reply of an intersection
+SHARED_STEPS = 2048  # the most steps of an intersection
+MOST_ENTRIES = 65535  # the most entries that a walk, an intersection or the removal of a range may ask for
 NAME = re.compile(rb"[A-Za-z0-9_.-]{1,32}\Z")
 TOKEN = re.compile(rb"[!-~]{1,128}\Z")
 DIGITS = re.compile(rb"[0-9]{1,20}\Z")
@@ -228,7 +230,7 @@ def read_word(field):
 
 
 def read_most(field):
-    """The number of entries that a walk or the removal of a range asks for."""
+    """The number of entries that a walk, an intersection or the removal of a range asks for."""
     most = read_word(field)
     if not 1 <= most <= MOST_ENTRIES:
         raise Syntax
@@ -413,6 +415,26 @@ def listed(texts):
     return b" ".join([b"E %d" % len(kept), *kept])
 
 
+def intersect(owner, kind, name, other, word, most):
+    """The indexes from a word on that two sets share, at most so many: the word where the next intersection goes on,
+    how many indexes there are, and each of them."""
+    one, two = owner.array(kind, name), owner.array(kind, other)
+    found, size, going_on = [], 0, word
+    for _ in range(SHARED_STEPS):
+        if going_on is None or len(found) == most:
+            break
+        least = one.first(going_on)
+        going_on = None if least is None else two.first(least)
+        if going_on is None or going_on != least:
+            continue
+        size += 1 + len(text_of(least))
+        if size > SHARED_LIMIT:
+            break
+        found.append(least)
+        going_on = least + 1 if least < GREATEST else None
+    return b" ".join([b"I %d %d" % (going_on or 0, len(found)), *map(text_of, found)])
+
+
 def index(found):
     """The reply of an index that a search found, or of none."""
     return b"0" if found is None else b"1 %d" % found
@@ -420,8 +442,8 @@ def index(found):
 
 class Operation(NamedTuple):
     """An operation: its step; its fields after the name, k for a key of the kind, w for a word, n for a number of
-    entries and v for a value, which no set has; those that may follow; what it does to the entries; and the fields
-    that follow an index, but no key."""
+    entries, o for the name of another array and v for a value, which no set has; those that may follow; what it does
+    to the entries; and the fields that follow an index, but no key."""
 
     step: Callable
     must: str
@@ -451,6 +473,7 @@ OPERATIONS = {
     "NextEmpty": Operation(misses(Entries.next_empty, Entries.next_empty), "k", "n"),
     "LastEmpty": Operation(misses(Entries.last_empty, Entries.prev_empty), "k", "n"),
     "PrevEmpty": Operation(misses(Entries.prev_empty, Entries.prev_empty), "k", "n"),
+    "Intersect": Operation(intersect, "okn"),
     "Free": Operation(free, "", "", FREES),
 }
 
@@ -470,7 +493,7 @@ def command_of(word, kind, name):
     if name not in OPERATIONS:
         raise ValueError("tests/oracle.py has no step of the operation %s, which %s makes" % (name, word))
     operation = OPERATIONS[name]
-    readers = {"k": {"Str": read_string, "Bytes": read_bytes}.get(kind, read_word), "w": read_word, "n": read_most, "v": read_word}
+    readers = {"k": {"Str": read_string, "Bytes": read_bytes}.get(kind, read_word), "w": read_word, "n": read_most, "v": read_word, "o": read_name}
     must, may = operation.must + (operation.of_words if kind in ("One", "Long") else ""), operation.may
     if kind == SET:
         must, may = must.replace("v", ""), may.replace("v", "")
@@ -497,6 +520,11 @@ def read_line(line):
     if not len(command.must) <= len(given) <= len(readers):
         raise Syntax
     return fields[0], (read_name(fields[1]), *(read(field) for read, field in zip(readers, given)))
+
+
+def names_of(word, fields):
+    """The names of the arrays that a call of an array asks for, from its word and the values of its fields."""
+    return [fields[0], *(field for read, field in zip(COMMANDS[word].must, fields[1:]) if read is read_name)]
 
 
 def text_of(key):

@@ -13,7 +13,7 @@ import traceback
 
 import lines as made
 from harness import connect
-from oracle import COMMANDS, Syntax, Tenant, read_line
+from oracle import COMMANDS, Syntax, Tenant, names_of, read_line
 
 TENANTS = [
     Tenant("alice", "abc", 1000001, read_token="look"),
@@ -53,7 +53,7 @@ def own_line(draw, hostile, names):
             fields = read_line(line[:-1] if line.endswith(b"\r") else line)
         except Syntax:
             return line
-        if fields[0] in COMMANDS and fields[1][0] in names:
+        if fields[0] in COMMANDS and set(names_of(*fields)) <= set(names):
             return line
         if fields[0] in (b"AUTH", b"PING", b"HELLO"):
             return line
