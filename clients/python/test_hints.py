@@ -17,7 +17,7 @@ sys.path[:0] = [HERE, os.path.join(TOP, "tests")]
 import commands  # noqa: E402
 import harness  # noqa: E402
 import judyd  # noqa: E402
-from judyd import Client, Pool, Visitor, aio  # noqa: E402
+from judyd import Client, Pool, Shared, Visitor, aio  # noqa: E402
 from judyd.calls import Judy1Calls, JudyHSCalls, JudyLCalls, JudySLCalls, is_query, is_same_twice  # noqa: E402
 from oracle import Store, Tenant  # noqa: E402
 
@@ -98,7 +98,7 @@ class Answerer(Recorder):
     """Answers each call as tests/oracle.py does, of arrays with a few entries, and keeps the lines, the replies and
     what the client reads in them."""
 
-    ENTRIES = (b"J1S a 3", b"J1S a 7", b"JLI a 3 9", b"JLI a 7 0", b"JSLI a x6b 9", b"JSLI a x6b6b 0", b"JHSI a x6b 9", b"JHSI a x 0")
+    ENTRIES = (b"J1S a 3", b"J1S a 7", b"J1S b 7", b"JLI a 3 9", b"JLI a 7 0", b"JSLI a x6b 9", b"JSLI a x6b6b 0", b"JHSI a x6b 9", b"JHSI a x 0")
 
     def __init__(self):
         super().__init__()
@@ -113,6 +113,9 @@ class Answerer(Recorder):
 
 def meant(reply):
     """What a reply means, as a method may return it. `1` and `0` are a truth, but `0` of a search is nothing."""
+    if reply.startswith(b"I "):
+        _, following, _, *indexes = reply.split(b" ")
+        return (Shared(list(map(int, indexes)), int(following) or None),)
     fields = [bytes.fromhex(it[1:].decode()) if it.startswith(b"x") else it if it.isalpha() else int(it) for it in reply.split(b" ")]
     if fields[0] == b"NULL":
         return (None,)
@@ -128,7 +131,7 @@ class Commands(unittest.TestCase):
         """The lines of each method, once more for each parameter that may be left out."""
         for kind in (Judy1Calls, JudyLCalls, JudySLCalls, JudyHSCalls):
             array = kind(asker, "a")
-            given = {"key": key if kind in (JudySLCalls, JudyHSCalls) else number, "most": 9}
+            given = {"key": key if kind in (JudySLCalls, JudyHSCalls) else number, "most": 9, "other": "b"}
             for name, method in inspect.getmembers(array, inspect.ismethod):
                 if not name.startswith("_"):
                     known = inspect.signature(method).parameters.values()

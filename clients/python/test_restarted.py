@@ -33,10 +33,11 @@ class Jobs(WithServer):
         yield client.judy1("ids").walk_back()
         yield client.judyl("m").walk()
         yield client.judysl("s").walk()
+        yield client.judy1("ids").intersection("ids")
 
     def test_walks(self):
         for client in self.both():
-            for number in range(4):
+            for number in range(5):
                 walk = list(self.walks(client))[number]
                 next(walk)
                 self.served.restart()

@@ -114,7 +114,9 @@ class Walks(WithServer):
 
     def test_indexes(self):
         ids, stays = self.alice().judy1("ids"), set(range(0, 30000, 3))
+        some, few = self.alice().judy1("some"), set(range(0, 30000, 9))
         ids.update(stays)
+        some.update(few | {1, 4, 7, 29999})
 
         def change(client, draw):
             low, others = draw.randrange(30000), client.judy1("ids")
@@ -124,9 +126,12 @@ class Walks(WithServer):
         def read():
             self.check(list(ids), stays)
             self.check(list(ids.walk_back())[::-1], stays)
+            self.check(list(ids.intersection("some")), few)
+            self.check(list(some.intersection("ids")), few)
 
         self.changed(change, read)
         ids.clear()
+        some.clear()
 
     def test_strings(self):
         s, stays = self.alice().judysl("s"), {b"%04d" % i for i in range(0, 3000, 3)}

@@ -35,6 +35,8 @@ def sets(client: judyd.Client) -> None:
     popped: Optional[int] = ids.pop_first(1, 9)
     count: int = ids.remove_range(1, 9, 5)
     newest: List[int] = ids.ranks[-10:]
+    shared: List[int] = [*ids.intersect("mine", 0, 9).indexes, *ids.intersection("mine", 0, 9)]
+    going_on: Optional[int] = ids.intersect("mine").next
     least: int = ids.ranks[0]
     client.judy1(b"ids")  # wrong
     client.judy1("ids", "utf-8")  # wrong
@@ -55,6 +57,13 @@ def sets(client: judyd.Client) -> None:
     ids.walk(0, "9")  # wrong
     ids.walk_back("9")  # wrong
     ids[5]  # wrong
+    ids.intersect(ids)  # wrong
+    ids.intersect("mine", "0")  # wrong
+    ids.intersection(ids)  # wrong
+    ids.intersection("mine", 0, "9")  # wrong
+    ids.intersect()  # wrong
+    further: int = ids.intersect("mine").next  # wrong
+    print(shared, going_on, further)
     print(free, popped, count, certain, newest, least, is_new, index, item)
 
 
@@ -169,8 +178,10 @@ def pipelines(client: judyd.Client) -> None:
         popped: judyd.Later[Optional[Tuple[int, int]]] = pipe.judyl("m").pop_first()
         claimed: judyd.Later[Optional[int]] = pipe.judy1("ids").add_absent()
         pipe.judy1("ids").pop()  # wrong
+        both: judyd.Later[judyd.Shared] = pipe.judy1("ids").intersect("mine")
+        list(pipe.judy1("ids").intersection("mine"))  # wrong
         was_there: bool = pipe.judyl("m").delete_if(5, 6)  # wrong
-        print(kept, popped, claimed, was_there)
+        print(kept, popped, claimed, was_there, both)
         pipe.judyl("m")[5] = "6"  # wrong
         pipe.judysl("s")["tree"] = 6  # wrong
         is_new: bool = pipe.judy1("ids").set(5)  # wrong
@@ -210,6 +221,10 @@ async def tasks(client: aio.Client) -> None:
     taken: Optional[int] = client.judyl("m").take(5)  # wrong
     popped: Optional[int] = await client.judy1("ids").pop_first()
     claimed: Optional[int] = client.judy1("ids").add_absent()  # wrong
+    both: judyd.Shared = await client.judy1("ids").intersect("mine")
+    print(both, [it async for it in client.judy1("ids").intersection("mine")])
+    for index in client.judy1("ids").intersection("mine"):  # wrong
+        print(index)
     print(kept, taken, popped, claimed)
     for index in client.judy1("ids").walk():  # wrong
         print(index)

@@ -9,6 +9,7 @@
         ids.first_empty(0)                  # 0: the least id that is free
         ids.add_absent(0)                   # 0: now claimed; each of several clients gets an id of its own
         ids.ranks[:10]                      # the ten least ids
+        list(ids.intersection("mine"))      # what this set shares with the one of another name
 
         counters = client.judyl("counters")  # words to words
         counters.add(7)                     # the new value; exact with any number of clients
@@ -40,7 +41,7 @@ from .errors import (
     Closed, ConnectionLost, Error, Frozen, Full, JournalFull, JudyError, KeyTooLong, Long, NoMemory, NoServer, NotAuthorized, PoolEmpty, ReadOnly,
     Refused, Restarted, Syntax, TimedOut, TooManyClients,
 )  # fmt: skip
-from .fields import MAX, Hello, Used
+from .fields import MAX, Hello, Shared, Used
 from .late import Later
 from .maps import JudyHS, JudyL, JudySL
 from .pipeline import Pipeline
@@ -49,7 +50,7 @@ from .retry import IDEMPOTENT, QUERIES, Retry
 from .sets import Judy1
 
 __all__ = [
-    "MAX", "TIMEOUT", "QUERIES", "IDEMPOTENT", "Retry", "Client", "Visitor", "Pool", "Pipeline", "Later", "Used", "Hello", "Judy1", "JudyL", "JudySL", "JudyHS",
+    "MAX", "TIMEOUT", "QUERIES", "IDEMPOTENT", "Retry", "Client", "Visitor", "Pool", "Pipeline", "Later", "Used", "Hello", "Shared", "Judy1", "JudyL", "JudySL", "JudyHS",
     "JudyError", "Error", "Closed", "NoServer", "ConnectionLost", "TimedOut", "Restarted",
     "PoolEmpty", "Refused", "Full", "NoMemory", "ReadOnly", "Frozen", "JournalFull", "NotAuthorized", "TooManyClients", "Syntax", "Long", "KeyTooLong",
 ]  # fmt: skip

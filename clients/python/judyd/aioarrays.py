@@ -7,11 +7,11 @@ from typing import Any, AsyncIterator, Callable, Coroutine, Generic, Iterable, L
 from .calls import Judy1Calls, JudyHSCalls, JudyLCalls, JudySLCalls, MapCalls
 from .connection import SameServer
 from .errors import all_checked
-from .fields import MAX, flags_of, is_word, numbers_of, stop_of, values_of, word_of
+from .fields import MAX, Shared, flags_of, is_word, name_field, numbers_of, stop_of, values_of, word_of
 from .lines import Lines, joined
 from .many import ABSENT, Ahead, add_step, get_key, insert_entry, pairs_of
 from .strings import Item, StringWalk
-from .walks import Ask, Steps, WordWalk, index_of_item, indexes_in, items_in
+from .walks import Ask, Steps, WordWalk, index_of_item, indexes_in, intersected, items_in
 
 T = TypeVar("T")
 K = TypeVar("K")
@@ -73,7 +73,7 @@ class Many:
         raise NotImplementedError
 
 
-class Judy1(Many, Judy1Calls[SoonYes, SoonNumber, SoonFound]):
+class Judy1(Many, Judy1Calls[SoonYes, SoonNumber, SoonFound, Coroutine[Any, Any, Shared]]):
     """A set of words."""
 
     async def take(self, first: int = 0) -> Optional[int]:
@@ -109,6 +109,11 @@ class Judy1(Many, Judy1Calls[SoonYes, SoonNumber, SoonFound]):
     def walk_back(self, start: int = MAX, stop: Optional[int] = None) -> AsyncIterator[int]:
         """The indexes from `start` down to `stop`, which is left out, read many at a time."""
         return walked(WordWalk(self, indexes_in, int, True, stop_of(stop, True)).steps(word_of(start)), self._asker)
+
+    def intersection(self, other: str, start: int = 0, stop: Optional[int] = None) -> AsyncIterator[int]:
+        """The indexes that this set shares with the tenant's set of another name, in order from `start` on,
+        up to `stop`, which is left out, read many at a time."""
+        return walked(intersected(self._line(b"I", name_field(other)), start, stop), self._asker)
 
     def _in(self, pipe: Any) -> Any:
         return pipe.judy1(self.name)

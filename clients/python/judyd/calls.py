@@ -2,8 +2,8 @@
 
 What a call returns depends on who is asked: a client returns the result itself, a pipeline a
 `Later` of it, and an asyncio client an awaitable of it. So the result types are parameters: `Yes`
-stands for a bool, `Number` for an int, `Found` for an int or None, and `Item` for a pair of key and
-value or None. `K` is the type of keys: int, bytes, or str.
+stands for a bool, `Number` for an int, `Found` for an int or None, `Item` for a pair of key and
+value or None, and `Both` for a `Shared`. `K` is the type of keys: int, bytes, or str.
 """
 
 # mypy: no-warn-return-any
@@ -17,7 +17,7 @@ from .bound import Bound
 from .errors import JudyError
 from .fields import (
     KEY_LIMIT, MAX, MOST, bytes_item_of, bytes_of, count_of, flag, index_of, item_of, key_field, most_field, name_field, no_zeros, plain_keys,
-    plain_steps, plain_words, step_field, value_of, value_or_none, word_field,
+    plain_steps, plain_words, shared_of, step_field, value_of, value_or_none, word_field,
 )  # fmt: skip
 from .lines import FormedLines, Lines
 from .words import COMMANDS
@@ -27,6 +27,7 @@ Yes = TypeVar("Yes", covariant=True)
 Number = TypeVar("Number", covariant=True)
 Found = TypeVar("Found", covariant=True)
 Item = TypeVar("Item", covariant=True)
+Both = TypeVar("Both", covariant=True)
 
 Plain = Callable[[Sequence[Any]], Optional[Sequence[int]]]
 """Checks many numbers at once."""
@@ -134,7 +135,7 @@ class Empties(Calls[Number], Generic[Number, Found]):
         return self._ask(b"PE", index_of, word_field(index))
 
 
-class Judy1Calls(Empties[Number, Found], Generic[Yes, Number, Found]):
+class Judy1Calls(Empties[Number, Found], Generic[Yes, Number, Found, Both]):
     """The calls of Judy1."""
 
     _prefix = b"J1"
@@ -180,6 +181,12 @@ class Judy1Calls(Empties[Number, Found], Generic[Yes, Number, Found]):
     def prev(self, index: int) -> Found:
         """Prev: the greatest index below `index`, or None."""
         return self._ask(b"P", index_of, word_field(index))
+
+    def intersect(self, other: str, start: int = 0, most: int = MOST) -> Both:
+        """Intersect: the indexes that this set shares with the tenant's set of another name, from `start` on and
+        at most `most` of them, as a `Shared`. One call looks for a limited time and gives what fits into a
+        reply: go on at the `next` of the result until that is None."""
+        return self._ask(b"I", shared_of, name_field(other), word_field(start), most_field(most))
 
 
 class MapCalls(Calls[Number], Generic[K, Yes, Number, Found]):

@@ -14,7 +14,7 @@ MAX = 2**64 - 1
 KEY_LIMIT = 1000
 LINE_LIMIT = 4096
 MOST = 65535
-"""The most entries of a search, or of the removal of a range."""
+"""The most entries of a search, of an intersection, or of the removal of a range."""
 
 _NAME = re.compile(r"[A-Za-z0-9_.-]{1,32}\Z")
 _TOKEN = re.compile(r"[!-~]{1,128}\Z")
@@ -29,6 +29,14 @@ class Used(NamedTuple):
     quota: int
     pieces: int
     most: int
+
+
+class Shared(NamedTuple):
+    """Indexes that two sets share, and the index where the next `intersect` goes on: None if the sets share no
+    more."""
+
+    indexes: List[int]
+    next: Optional[int]
 
 
 class Hello(NamedTuple):
@@ -228,6 +236,17 @@ def value_of(reply: bytes) -> int:
 def value_or_none(reply: bytes) -> Optional[int]:
     """A value, or None."""
     return None if reply == b"NULL" else value_of(reply)
+
+
+def shared_of(reply: bytes) -> Shared:
+    """What an intersection found."""
+    fields = reply.split(b" ")
+    if fields[0] != b"I" or len(fields) < 3 or not all(field.isdigit() for field in fields[1:]):
+        raise JudyError("no such answer: %r" % reply)
+    following, count, *indexes = map(int, fields[1:])
+    if len(indexes) != count:
+        raise JudyError("no such answer: %r" % reply)
+    return Shared(indexes, following or None)
 
 
 def flags_of(replies: bytes) -> Iterable[int]:

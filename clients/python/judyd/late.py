@@ -5,7 +5,7 @@ from typing import Any, Callable, Generic, Iterable, List, Mapping, Optional, Tu
 from .bound import Bound
 from .calls import Judy1Calls, JudyHSCalls, JudyLCalls, JudySLCalls, MapCalls, given
 from .errors import Closed, JudyError, checked, is_refusal
-from .fields import Used, used_of
+from .fields import Shared, Used, used_of
 
 T = TypeVar("T")
 K = TypeVar("K")
@@ -38,7 +38,7 @@ LateNumber = Later[int]
 LateFound = Later[Optional[int]]
 
 
-class LateJudy1(Judy1Calls[LateYes, LateNumber, LateFound]):
+class LateJudy1(Judy1Calls[LateYes, LateNumber, LateFound, Later[Shared]]):
     """The set of words of a pipeline. Instead of `pop` it has `pop_first`, whose result is None if the set is
     empty, and instead of `take` it has `add_absent`."""
 

@@ -5,12 +5,12 @@ from itertools import compress
 from typing import Any, Iterable, Iterator, List, MutableSet, Optional, Set
 
 from .calls import Judy1Calls
-from .fields import MAX, flag, flags_of, is_word, word_field
+from .fields import MAX, Shared, flag, flags_of, is_word, name_field, word_field
 from .many import Many, Ranked
-from .walks import indexes_in, indexes_of
+from .walks import indexes_in, indexes_of, intersected, walked
 
 
-class Judy1(Ranked[int], Many, Judy1Calls[bool, int, Optional[int]], MutableSet[int]):
+class Judy1(Ranked[int], Many, Judy1Calls[bool, int, Optional[int], Shared], MutableSet[int]):
     """A set of words. Besides the manual's calls it is a Python set: `5 in s`, `s.add(5)`, `s |=
     ids`, `for i in s` (in order)."""
 
@@ -50,6 +50,12 @@ class Judy1(Ranked[int], Many, Judy1Calls[bool, int, Optional[int]], MutableSet[
     def walk_back(self, start: int = MAX, stop: Optional[int] = None) -> Iterator[int]:
         """The indexes from `start` down to `stop`, which is left out, read many at a time."""
         return self._walk(start, stop, is_back=True)
+
+    def intersection(self, other: str, start: int = 0, stop: Optional[int] = None) -> Iterator[int]:
+        """The indexes that this set shares with the tenant's set of another name, in order from `start` on,
+        up to `stop`, which is left out, read many at a time. Beside writers each index that is in both sets
+        all the time comes exactly once."""
+        return walked(intersected(self._line(b"I", name_field(other)), start, stop), self._asker)
 
     def add(self, index: int) -> None:
         """Inserts an index."""
@@ -122,6 +128,8 @@ class Judy1(Ranked[int], Many, Judy1Calls[bool, int, Optional[int]], MutableSet[
         return self
 
     def __and__(self, indexes: Iterable[int]) -> Set[int]:
+        if isinstance(indexes, Judy1) and indexes._asker is self._asker:
+            return set(self.intersection(indexes.name))
         return set(self.among(indexes)) if isinstance(indexes, Iterable) else NotImplemented
 
     __rand__ = __and__

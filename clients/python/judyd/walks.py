@@ -1,8 +1,10 @@
 """Walks of an array in order, by lines whose replies have many entries each.
 
-Each line goes on behind the last key that the walk returned, so entries may be inserted and removed
-meanwhile, by this client or by others. A walk returns each entry that is there all the time exactly
-once, and keys in order; an entry that comes or goes meanwhile may be returned or not.
+Each line goes on behind the last key that the walk returned, or where an intersection stopped to
+look. So entries may be inserted and removed meanwhile, by this client or by others. A walk returns
+each entry that is there all the time exactly once, and keys in order; an entry that comes or goes
+meanwhile may be returned or not. The same holds for the indexes that two sets share: each that is in
+both all the time is returned.
 
 The steps of a walk are a generator, which asks for the replies to lines and gives entries. So a
 client and an asyncio client share it.
@@ -14,7 +16,7 @@ from typing import Any, Callable, Generator, Generic, Iterator, List, Optional, 
 
 from .connection import SameServer
 from .errors import JudyError, Restarted, checked
-from .fields import MOST
+from .fields import MOST, shared_of, stop_of, word_of
 
 T = TypeVar("T")
 
@@ -161,3 +163,21 @@ class WordWalk(Walk[T]):
     def steps(self, bound: int) -> Steps[T]:
         """The entries from the index `bound` on, in a walk back from `bound` down."""
         return self._steps(b"%d" % bound)
+
+
+def intersected(line: bytes, start: int, stop: Optional[int]) -> Steps[int]:
+    """The indexes that two sets share from `start` on, up to the index `stop`, which is left out. The line has the
+    call with the names of both."""
+    return _intersected(line, word_of(start), stop_of(stop, False))
+
+
+def _intersected(line: bytes, start: int, stop: int) -> Steps[int]:
+    at: Optional[int] = start
+    most = FEW
+    while at is not None and at < stop:
+        (reply,) = yield Ask([b"%b %d %d" % (line, at, most)])
+        indexes, following = shared_of(checked(reply))
+        if following is not None and following <= at:
+            raise JudyError("no such answer: %r" % reply)
+        yield [index for index in indexes if index < stop]
+        at, most = following, MANY

@@ -60,6 +60,7 @@ _OPERATIONS = {
     "NextEmpty": ("NextEmpty", "the least absent {thing} above this one: " + _EMPTY + "; with n as many in this direction: E, how many, and each"),
     "LastEmpty": ("LastEmpty", "the greatest absent {thing} up to this one: " + _EMPTY + "; with n as many in this direction: E, how many, and each"),
     "PrevEmpty": ("PrevEmpty", "the greatest absent {thing} below this one: " + _EMPTY + "; with n as many in this direction: E, how many, and each"),
+    "Intersect": ("Intersect", "the {plural} that two sets share, from i on, at most n of them: I, the index where the next one goes on, 0 if there are no more, how many, and each"),
     "Free": ("FreeArray", "empties the array: N and the number of entries it had"),
 }
 _TOLD = {
@@ -216,14 +217,15 @@ def wrong_in(request: str) -> str:
 
 
 def _ends_with_entries(call: Call, fields: List[str]) -> bool:
-    """Whether the last of these fields is a number of entries: that of a search, or of the removal of a range."""
-    may_have = call.fields[-1:] == ("n",) and (call.least < len(call.fields) or "k" in call.fields)
+    """Whether the last of these fields is a number of entries: that of a search, of an intersection, or of the removal
+    of a range."""
+    may_have = call.fields[-1:] == ("n",) and (call.least < len(call.fields) or "k" in call.fields or "other" in call.fields)
     return may_have and len(fields) == len(call.fields)
 
 
 def _wrong_field(what: str, field: str, is_string: bool) -> Optional[str]:
     """What is wrong with a field."""
-    if what in ("name", "tenant"):
+    if what in ("name", "other", "tenant"):
         return None if _NAME.match(field) else "a name is 1 to 32 of A-Z a-z 0-9 _ - . and not %s" % field
     if what == "token":
         return None if _TOKEN.match(field) else "a token is 1 to 128 characters from ! to ~"
@@ -262,6 +264,8 @@ def told(request: str, reply: str) -> Tuple[str, str, str]:
         return words[name][reply == "1"], "", ""
     if fields[0] == "E":
         return "%s found" % fields[1], " ".join(map(shown_key, fields[2:])), ""
+    if fields[0] == "I":
+        return "%s found" % fields[2] + (", go on at %s" % fields[1] if fields[1] != "0" else ""), " ".join(fields[3:]), ""
     if fields[0] == "N":
         return "%s %s" % (fields[1], {"FreeArray": "freed", "RemoveRange": "removed"}.get(name, "counted")), "", ""
     if reply in ("0", "NULL"):

@@ -30,6 +30,7 @@ COMMANDS: Dict[str, Command] = {
     "J1NE": Command("Judy1", "NextEmpty", "i [n]", "looks"),
     "J1LE": Command("Judy1", "LastEmpty", "i [n]", "looks"),
     "J1PE": Command("Judy1", "PrevEmpty", "i [n]", "looks"),
+    "J1I": Command("Judy1", "Intersect", "other i n", "looks"),
     "J1FA": Command("Judy1", "Free", "", "frees"),
     "JLI": Command("JudyL", "Insert", "i [v]", "inserts"),
     "JLIE": Command("JudyL", "Fill", "i v", "inserts"),
