@@ -35,6 +35,7 @@ enum {
 
 /* The fields of a line after the name. */
 struct fields {
+    const char *other; /* the name of another array, or null */
     bool has_key;
     const void *key;
     size_t length;
@@ -279,6 +280,10 @@ static void put_key(jd *c, const unsigned char *key, size_t length)
 
 static void put_fields(jd *c, const struct fields *fields)
 {
+    if (fields->other) {
+        put_text(c, " ");
+        put_text(c, fields->other);
+    }
     if (fields->has_key) {
         put_text(c, " ");
         put_key(c, fields->key, fields->length);
@@ -347,7 +352,7 @@ static int start(jd *c, struct result *result)
 /* A call of an array. */
 static int call(jd *c, const char *word, const char *name, const struct fields *fields, struct result *result)
 {
-    if (!is_name(name))
+    if (!is_name(name) || (fields->other && !is_name(fields->other)))
         return refuse(c, result, JD_NAME);
     if (fields->length > JD_KEY_LIMIT)
         return refuse(c, result, JD_KEY);

@@ -98,7 +98,8 @@ int jd_end(jd *connection);
 /* Judy1: sets of words.
  * These search and change in one step, of a JudyL too. add_absent inserts the first absent index from *index on.
  * pop_first removes the first index from *index up to `high`. Both store the index that they found. remove_range
- * removes the first indexes from `low` up to `high`, at most `most`, 1 to 65535, and stores how many. */
+ * removes the first indexes from `low` up to `high`, at most `most`, 1 to 65535, and stores how many.
+ * intersect is a scan of the indexes that the set shares with another one. */
 int jd_j1_set(jd *connection, const char *name, uint64_t index);
 int jd_j1_add_absent(jd *connection, const char *name, uint64_t *index);
 int jd_j1_unset(jd *connection, const char *name, uint64_t index);
@@ -117,6 +118,7 @@ int jd_j1_last_empty(jd *connection, const char *name, uint64_t *index);
 int jd_j1_prev_empty(jd *connection, const char *name, uint64_t *index);
 int jd_j1_free_array(jd *connection, const char *name, uint64_t *count);
 int jd_j1_scan(jd *connection, const char *name, uint64_t from, jd_j1_visit *visit, void *context);
+int jd_j1_intersect(jd *connection, const char *name, const char *other, uint64_t from, jd_j1_visit *visit, void *context);
 
 /* JudyL: maps from words to words.
  * These look and change in one step, of a JudySL and a JudyHS too. keep stores a value if there is none: 0; a

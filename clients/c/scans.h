@@ -1,7 +1,8 @@
 /* The scans of judyd.c: one call visits many entries. It is part of judyd.c, and no program includes it.
  *
  * A scan asks for as many entries as fit into a reply, visits them, and goes on by Next behind the last of
- * them. So it finds its place again whatever other clients insert and remove meanwhile. */
+ * them, or where the reply of an intersection says. So it finds its place again whatever other clients insert
+ * and remove meanwhile. */
 #ifndef JUDYD_SCANS_H
 #define JUDYD_SCANS_H
 
@@ -17,14 +18,34 @@ struct listing {
     uint64_t count;
 };
 
+/* Asks for a line. Returns 1 with nothing of it read, or a fault. */
+static int ask_line(jd *c, const char *word, const char *name, const struct fields *fields, struct listing *l)
+{
+    int code = call(c, word, name, fields, &(struct result){.form = LINE, .reply = l->reply});
+    if (code > 0)
+        l->rest = (struct text){.at = l->reply, .end = l->reply + strlen(l->reply)};
+    return code;
+}
+
 /* Asks for entries. Returns 1 with the number of them read, or a fault. */
 static int ask_entries(jd *c, const char *word, const char *name, const struct fields *fields, struct listing *l)
 {
-    int code = call(c, word, name, fields, &(struct result){.form = LINE, .reply = l->reply});
+    int code = ask_line(c, word, name, fields, l);
     if (code <= 0)
         return code;
-    l->rest = (struct text){.at = l->reply, .end = l->reply + strlen(l->reply)};
     if (skip(&l->rest, "E ") && read_word(&l->rest, &l->count) && (l->count > 0 || l->rest.at == l->rest.end))
+        return 1;
+    return fail(c, JD_REPLY);
+}
+
+/* Asks for indexes that two sets share. Returns 1 with the number of them read, and where the next line goes on, 0
+ * if they share no more; or a fault. */
+static int ask_shared(jd *c, const char *name, const struct fields *fields, struct listing *l, uint64_t *next)
+{
+    int code = ask_line(c, "J1I", name, fields, l);
+    if (code <= 0)
+        return code;
+    if (skip(&l->rest, "I ") && read_word(&l->rest, next) && skip(&l->rest, " ") && read_word(&l->rest, &l->count))
         return 1;
     return fail(c, JD_REPLY);
 }
@@ -104,6 +125,25 @@ int jd_j1_scan(jd *c, const char *name, uint64_t from, jd_j1_visit *visit, void 
 {
     struct scan s = {.c = c, .name = name, .visit_one = visit, .context = context, .last = from};
     return scan_words(&s, "J1F", "J1N");
+}
+
+int jd_j1_intersect(jd *c, const char *name, const char *other, uint64_t from, jd_j1_visit *visit, void *context)
+{
+    struct scan s = {.c = c, .name = name, .visit_one = visit, .context = context, .last = from};
+    struct listing l;
+    if (c->is_queueing)
+        return JD_USE;
+    for (uint64_t most = FEW, next;; most = MANY, s.last = next, s.is_begun = false) {
+        struct fields fields = {.other = other, .words = 2, .word = {s.last, most}};
+        int code = ask_shared(c, name, &fields, &l, &next);
+        if (code <= 0)
+            return code;
+        code = visit_words(&s, &l);
+        if (code <= 0 || next == 0)
+            return code;
+        if (next <= s.last)
+            return fail(c, JD_REPLY);
+    }
 }
 
 int jd_jl_scan(jd *c, const char *name, uint64_t from, jd_jl_visit *visit, void *context)

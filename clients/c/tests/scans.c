@@ -1,9 +1,10 @@
-/* jd_j1_scan, jd_jl_scan and jd_js_scan. Ends with status 1 and a line for the first that is wrong.
+/* jd_j1_scan, jd_j1_intersect, jd_jl_scan and jd_js_scan. Ends with status 1 and a line for the first that is wrong.
  *
  * usage: scans all PATH SEED COUNT      a judyd with the tenant alice (token abc); arrays of about COUNT entries,
  *                                       alone and beside a writer
  *        scans plain PATH COUNT         one scan of a JudyL with the entries 0 to COUNT - 1, and nothing else
- *        scans odd PATH 1|l|s COUNT     a server whose last reply on each of COUNT connections is none to a scan of this
+ *        scans shared PATH COUNT        what the sets twos and threes, multiples of 2 and of 3 below COUNT, share
+ *        scans odd PATH 1|i|l|s COUNT   a server whose last reply on each of COUNT connections is none to a scan of this
  *                                       kind; before it comes the entry 5, 5 with the value 1, or a with the value 1
  *        scans refused PATH             one that replies `ERR FROZEN`, `ERR NEW`, `V 1 5` */
 #define _POSIX_C_SOURCE 200809L
@@ -123,6 +124,81 @@ static void check_words(jd *c, size_t count, uint64_t *state)
     free(index);
 }
 
+/* ---- what two sets share ---- */
+
+/* The indexes from one on that the sets `one` and `two` share, in both orders, to the end or to a visit. */
+static void check_shared_from(jd *c, const uint64_t *index, size_t count, uint64_t from, size_t visits)
+{
+    size_t at = 0;
+    while (at < count && index[at] < from)
+        at++;
+    size_t last = visits > 0 ? at + visits - 1 : SIZE_MAX;
+    for (int order = 0; order < 2; order++) {
+        struct wanted w = {c, index, count, at, last};
+        bool is_ended = last < count;
+        CHECK(is_ended ? 0 : 1, jd_j1_intersect(c, order ? "two" : "one", order ? "one" : "two", from, visit_one, &w));
+        CHECK(1, w.at == (is_ended ? last + 1 : count));
+    }
+}
+
+/* Puts indexes into both sets, or into one of them. Those of both are left, sorted. Returns how many. */
+static size_t put_indexes(jd *c, uint64_t *index, size_t count, uint64_t *state)
+{
+    size_t shared = 0;
+    CHECK(1, jd_begin(c, NULL, 0));
+    for (size_t i = 0; i < count; i++) {
+        uint64_t which = draw(state) % 4, put = index[i];
+        if (which != 0)
+            jd_j1_set(c, "one", put);
+        if (which != 1)
+            jd_j1_set(c, "two", put);
+        if (which > 1)
+            index[shared++] = put;
+    }
+    CHECK(1, jd_end(c));
+    return shared;
+}
+
+static void free_sets(jd *c)
+{
+    CHECK(1, jd_j1_free_array(c, "one", NULL));
+    CHECK(1, jd_j1_free_array(c, "two", NULL));
+}
+
+static void check_shared(jd *c, size_t count, uint64_t *state)
+{
+    uint64_t *index = malloc((count + 1) * sizeof *index);
+    if (!index)
+        exit(1);
+    count = put_indexes(c, index, draw_indexes(index, count, state), state);
+    check_shared_from(c, index, count, 0, 0);
+    check_shared_from(c, index, count, UINT64_MAX, 0);
+    for (size_t visits = 1; visits < 2 * count; visits *= 5)
+        check_shared_from(c, index, count, 0, visits);
+    for (int i = 0; i < 8; i++) {
+        uint64_t from = count > 0 ? index[draw(state) % count] + draw(state) % 3 : 5;
+        check_shared_from(c, index, count, from, 0);
+        check_shared_from(c, index, count, from, 1 + draw(state) % 40);
+    }
+    free_sets(c);
+    free(index);
+}
+
+/* Sets whose indexes come in turns, so that lines end without one that they share. At the end comes one. */
+static void check_turns(jd *c)
+{
+    static const uint64_t last[] = {20000};
+    CHECK(1, jd_begin(c, NULL, 0));
+    for (uint64_t i = 0; i <= last[0]; i++)
+        jd_j1_set(c, i % 2 ? "one" : "two", i);
+    jd_j1_set(c, "one", last[0]);
+    CHECK(1, jd_end(c));
+    check_shared_from(c, last, 1, 0, 0);
+    check_shared_from(c, last, 1, 1, 1);
+    check_shared_from(c, last, 0, last[0] + 1, 0);
+    free_sets(c);
+}
+
 /* ---- strings ---- */
 
 struct strings {
@@ -168,9 +244,27 @@ enum { STAYS = 3 /* an index stays if STAYS divides it; the others come and go *
 
 struct writer {
     const char *path;
+    void (*change)(jd *c, uint64_t index, uint64_t drawn); /* of an index that does not stay */
     uint64_t state, most;
     atomic_bool ends;
 };
+
+static void change_map(jd *c, uint64_t index, uint64_t drawn)
+{
+    if (drawn % 2)
+        jd_jl_ins(c, "l", index, FAR * index, NULL);
+    else
+        jd_jl_del(c, "l", index);
+}
+
+static void change_sets(jd *c, uint64_t index, uint64_t drawn)
+{
+    const char *name = drawn % 4 < 2 ? "one" : "two";
+    if (drawn % 2)
+        jd_j1_set(c, name, index);
+    else
+        jd_j1_unset(c, name, index);
+}
 
 static void *write_on(void *context)
 {
@@ -181,12 +275,8 @@ static void *write_on(void *context)
         CHECK(1, jd_begin(c, NULL, 0));
         for (int i = 0; i < 500; i++) {
             uint64_t index = draw(&w->state) % w->most;
-            if (index % STAYS == 0)
-                continue;
-            if (draw(&w->state) % 2)
-                jd_jl_ins(c, "l", index, FAR * index, NULL);
-            else
-                jd_jl_del(c, "l", index);
+            if (index % STAYS != 0)
+                w->change(c, index, draw(&w->state));
         }
         CHECK(1, jd_end(c));
     }
@@ -209,25 +299,33 @@ static int visit_beside(uint64_t index, uint64_t value, void *context)
     return 0;
 }
 
-/* Each entry that stays comes exactly once, and the indexes rise. */
-static void check_beside(const char *path, jd *c, size_t count, uint64_t seed)
+static int visit_shared_beside(uint64_t index, void *context)
 {
-    struct writer w = {.path = path, .state = seed, .most = STAYS * count};
-    uint64_t freed;
+    return visit_beside(index, FAR * index, context);
+}
+
+/* Each entry that stays comes exactly once, and the indexes rise; of a JudyL, or of what two sets share. */
+static void check_beside(const char *path, jd *c, size_t count, uint64_t seed, bool is_of_sets)
+{
+    struct writer w = {.path = path, .change = is_of_sets ? change_sets : change_map, .state = seed, .most = STAYS * count};
     pthread_t thread;
     CHECK(1, jd_begin(c, NULL, 0));
-    for (uint64_t index = 0; index < w.most; index += STAYS)
+    for (uint64_t index = 0; index < w.most; index += STAYS) {
         jd_jl_ins(c, "l", index, FAR * index, NULL);
+        jd_j1_set(c, "one", index);
+        jd_j1_set(c, "two", index);
+    }
     CHECK(1, jd_end(c));
     CHECK(0, pthread_create(&thread, NULL, write_on, &w));
     for (int i = 0; i < 10; i++) {
         struct seen seen = {0, 0};
-        CHECK(1, jd_jl_scan(c, "l", 0, visit_beside, &seen));
+        CHECK(1, is_of_sets ? jd_j1_intersect(c, "one", "two", 0, visit_shared_beside, &seen) : jd_jl_scan(c, "l", 0, visit_beside, &seen));
         CHECK(1, seen.stays == w.most);
     }
     atomic_store(&w.ends, true);
     CHECK(0, pthread_join(thread, NULL));
-    CHECK(1, jd_jl_free_array(c, "l", &freed));
+    CHECK(1, jd_jl_free_array(c, "l", NULL));
+    free_sets(c);
 }
 
 /* ---- visits that call ---- */
@@ -274,9 +372,13 @@ static void check_refused(jd *c)
     memset(key, 'k', sizeof key - 1);
     key[sizeof key - 1] = 0;
     CHECK(JD_NAME, jd_j1_scan(c, "no name", 0, visit_none, NULL));
+    CHECK(JD_NAME, jd_j1_intersect(c, "no name", "one", 0, visit_none, NULL));
+    CHECK(JD_NAME, jd_j1_intersect(c, "one", "no name", 0, visit_none, NULL));
+    CHECK(JD_NAME, jd_j1_intersect(c, "one", "", 0, visit_none, NULL));
     CHECK(JD_KEY, jd_js_scan(c, "words", key, NULL, NULL));
     CHECK(1, jd_begin(c, codes, 2));
     CHECK(JD_USE, jd_j1_scan(c, "one", 0, visit_none, NULL));
+    CHECK(JD_USE, jd_j1_intersect(c, "one", "one", 0, visit_none, NULL));
     CHECK(JD_USE, jd_jl_scan(c, "l", 0, NULL, NULL));
     CHECK(JD_USE, jd_js_scan(c, "words", "", NULL, NULL));
     CHECK(JD_QUEUED, jd_j1_set(c, "one", 5));
@@ -284,11 +386,15 @@ static void check_refused(jd *c)
     CHECK(1, codes[0]);
     CHECK(JD_USE, jd_j1_scan(c, "one", 0, visit_and_begin, c));
     CHECK(1, jd_end(c));
+    CHECK(JD_USE, jd_j1_intersect(c, "one", "one", 5, visit_and_begin, c));
+    CHECK(1, jd_end(c));
     CHECK(JD_AUTH, jd_auth(c, "alice", "wrong"));
     CHECK(JD_AUTH, jd_j1_scan(c, "one", 0, visit_none, NULL));
+    CHECK(JD_AUTH, jd_j1_intersect(c, "one", "one", 0, visit_none, NULL));
     CHECK(1, jd_auth(c, "alice", "abc"));
     CHECK(1, jd_j1_unset(c, "one", 5));
     CHECK(1, jd_j1_scan(c, "one", 0, visit_none, NULL));
+    CHECK(1, jd_j1_intersect(c, "one", "one", 0, visit_none, NULL));
 }
 
 static void check_all(const char *path, uint64_t seed, size_t count)
@@ -297,13 +403,19 @@ static void check_all(const char *path, uint64_t seed, size_t count)
     jd *c = open_at(path);
     CHECK(1, jd_auth(c, "alice", "abc"));
     check_refused(c);
-    for (size_t some = 0; some < 20; some++)
+    for (size_t some = 0; some < 20; some++) {
         check_words(c, some, &state);
+        check_shared(c, some, &state);
+    }
     check_words(c, 1 + draw(&state) % 2000, &state);
     check_words(c, count, &state);
+    check_shared(c, 1 + draw(&state) % 2000, &state);
+    check_shared(c, count, &state);
+    check_turns(c);
     check_strings(c, count / 10);
     check_calls(c, count / 4);
-    check_beside(path, c, count / 4, seed);
+    check_beside(path, c, count / 4, seed, false);
+    check_beside(path, c, count / 4, seed, true);
     jd_close(c);
 }
 
@@ -328,11 +440,12 @@ static int visit_a(const char *key, uint64_t value, void *context)
     return visit_five(5, value, context);
 }
 
-/* A scan of a kind, which is `1`, `l` or `s`. */
+/* A scan of a kind, which is `1`, `i` for what two sets share, `l` or `s`. */
 static int scan(jd *c, char kind)
 {
     switch (kind) {
     case '1': return jd_j1_scan(c, "a", 0, visit_index_five, NULL);
+    case 'i': return jd_j1_intersect(c, "a", "b", 0, visit_index_five, NULL);
     case 'l': return jd_jl_scan(c, "a", 0, visit_five, NULL);
     default: return jd_js_scan(c, "a", "", visit_a, NULL);
     }
@@ -379,18 +492,38 @@ static void check_plain(const char *path, uint64_t count)
     jd_close(c);
 }
 
+static int visit_sixth(uint64_t index, void *context)
+{
+    uint64_t *next = context;
+    CHECK(1, index == *next);
+    *next += 6;
+    return 0;
+}
+
+static void check_sixths(const char *path, uint64_t count)
+{
+    uint64_t next = 0;
+    jd *c = open_at(path);
+    CHECK(1, jd_auth(c, "alice", "abc"));
+    CHECK(1, jd_j1_intersect(c, "twos", "threes", 0, visit_sixth, &next));
+    CHECK(1, next >= count && next < count + 6);
+    jd_close(c);
+}
+
 int main(int count, char **words)
 {
     if (count == 5 && !strcmp(words[1], "all"))
         check_all(words[2], strtoull(words[3], NULL, 10), strtoul(words[4], NULL, 10));
     else if (count == 4 && !strcmp(words[1], "plain"))
         check_plain(words[2], strtoull(words[3], NULL, 10));
+    else if (count == 4 && !strcmp(words[1], "shared"))
+        check_sixths(words[2], strtoull(words[3], NULL, 10));
     else if (count == 5 && !strcmp(words[1], "odd"))
         check_odd(words[2], words[3][0], strtoull(words[4], NULL, 10));
     else if (count == 3 && !strcmp(words[1], "refused"))
         check_unknown(words[2]);
     else {
-        fprintf(stderr, "usage: scans all PATH SEED COUNT, scans plain PATH COUNT, scans odd PATH 1|l|s COUNT, scans refused PATH\n");
+        fprintf(stderr, "usage: scans all PATH SEED COUNT, scans plain|shared PATH COUNT, scans odd PATH 1|i|l|s COUNT, scans refused PATH\n");
         return 2;
     }
     return 0;
