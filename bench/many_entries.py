@@ -5,10 +5,14 @@ Each load runs through a Unix socket, with 1 and with 100 calls in flight, by th
 servers. A row has the calls a second, and the server's processor time of a call and of an entry: the
 medians of N runs, in which the servers take turns. Calls that change entries run without a journal and with
 one (`--sync round`; redis's append-only file with `appendfsync always`), in a folder of DIR, which should be on
-a disk. Last, eight processes take entries, with one call in flight each.
+a disk. Last, one client asks for what three sets share, and eight processes take entries, with one call in flight
+each.
 
 redis gets the nearest command: a sorted set by score for a JudyL, one by text for a JudySL, and a script for
-`JLT`, which takes an entry. The program is the path in JUDYD, otherwise crates/judyd/out/judyd.
+`JLT`, which takes an entry. It intersects three sets, or sorted sets, by one command. judyd has none for three: the
+client asks for the words that two of them share (`J1I`), and with each next line it tests the words of the reply
+before in the third (`J1T`), all of these in flight at once. So the third set costs a search for each shared word,
+where `J1I` of another two would cost two for each of its steps, of which there are more. The program is the path in JUDYD, otherwise crates/judyd/out/judyd.
 """
 
 import argparse
@@ -30,6 +34,7 @@ PROGRAM = os.environ.get("JUDYD", os.path.join(TOP, "crates", "judyd", "out", "j
 ENTRIES = 100_000
 TAKE = b"local v = redis.call('HGET', KEYS[1], ARGV[1]); redis.call('HDEL', KEYS[1], ARGV[1]); return v"
 TAKERS = 8
+SETS, INDEXES, BELOW = (b"a", b"b", b"c"), 20_000, 200_000  # names of the sets that are intersected, and what is in each
 
 # A load: the lines before it that are not timed, its lines, both for redis too, the name of redis's command, how
 # many entries a line has, and whether it changes any.
@@ -139,6 +144,23 @@ class Judyd:
         return load.before, load.lines
 
     @staticmethod
+    def put_in(name, word):
+        """A call that puts a word into a set."""
+        return b"J1S %s %d\n" % (name, word)
+
+    @staticmethod
+    def shared(client, replies, _):
+        """The words that three sets share."""
+        found, going_on, words = [], 0, []
+        while going_on is not None or words:
+            line = b"" if going_on is None else b"J1I a b %d 65535\n" % going_on
+            client.sendall(line + b"".join(b"J1T c %d\n" % it for it in words))
+            _, following, _, *shared = map(bytes.decode, replies.readline().split()) if line else ("I", "0", "0")
+            found += [it for it in words if replies.readline() == b"1\n"]
+            going_on, words = int(following) or None, list(map(int, shared))
+        return found
+
+    @staticmethod
     def take(word):
         """A call that takes an entry."""
         return b"JLT m %d\n" % word
@@ -169,6 +191,18 @@ class Redis:
     def lines(load):
         """The commands before a load, and those of it."""
         return load.redis_before, load.redis
+
+    @staticmethod
+    def put_in(name, word):
+        """Commands that put a word into a set, and into a sorted set."""
+        return resp(b"SADD", name, b"%d" % word) + resp(b"ZADD", b"z" + name, b"%d" % word, b"%d" % word)
+
+    @staticmethod
+    def shared(client, replies, command):
+        """The words that three sets share."""
+        client.sendall(resp(b"SINTER", *SETS) if command == "SINTER" else resp(b"ZINTER", b"3", *(b"z" + it for it in SETS)))
+        count = int(replies.readline()[1:])
+        return sorted(int([replies.readline(), replies.readline()][1]) for _ in range(count))
 
     @staticmethod
     def take(word):
@@ -238,6 +272,28 @@ def takes(count):
     return run
 
 
+def shares(command, times):
+    """A run of so many intersections of three sets, by this command of redis, and how many words these share."""
+    draw = random.Random(2026)
+    sets = {name: draw.sample(range(BELOW), INDEXES) for name in SETS}
+    wanted = sorted(set.intersection(*map(set, sets.values())))
+
+    def run(server):
+        client, peer = server.client()
+        with client, client.makefile("rb") as replies:
+            lines = [server.put_in(name, it) for name, words in sets.items() for it in words]
+            peer.exchange(b"".join(lines), len(lines) * (2 if isinstance(server, Redis) else 1))
+            client.setblocking(True)
+            wall, cpu = time.monotonic(), peer.cpu()
+            found = [server.shared(client, replies, command) for _ in range(times)]
+            figures = Figures(times / (time.monotonic() - wall), (peer.cpu() - cpu) / times)
+        if any(it != wanted for it in found):
+            sys.exit("many_entries: %s found other words than three sets share" % server.name)
+        return figures
+
+    return run, len(wanted)
+
+
 def row(name, durable, entries, run, options):
     """Prints a row: both servers take turns."""
     found = {kind: [] for kind in (Judyd, Redis)}
@@ -247,7 +303,7 @@ def row(name, durable, entries, run, options):
     cells = []
     for all_of_it in found.values():
         rate, cpu = (statistics.median(column) for column in zip(*all_of_it))
-        cells.append("%.1f (%.2f; %.0f)" % (rate / 1e3, cpu * 1e6, cpu * 1e9 / entries))
+        cells.append("%.*f (%.2f; %.0f)" % (1 if rate >= 10_000 else 2, rate / 1e3, cpu * 1e6, cpu * 1e9 / entries))
     print("| %s | %s | %s |" % (name, "yes" if durable else "no", " | ".join(cells)), flush=True)
 
 
@@ -267,6 +323,11 @@ def main():
                 name = "%s (%s), %d in flight" % (load.name, load.asks, window)
                 if options.only in name:
                     row(name, durable, load.entries, of_load(load, window), options)
+    for command in ("SINTER", "ZINTER"):
+        name = "words that three sets share (%s)" % command
+        if options.only in name:
+            run, entries = shares(command, 200)
+            row(name, False, entries, run, options)
     for durable in (False, True):
         if options.only in "take by eight processes":
             row("take by eight processes (EVAL)", durable, 1, takes(40000), options)
