@@ -144,13 +144,14 @@ class Walk:
 
     def weave(self):
         """Lines that put words in turn into two sets, so that an intersection makes all steps that it may make and
-        finds few; then intersections of the two. The last line is the first of the list."""
+        finds few; then intersections of the two, and of one with itself, which fills its reply. The last line is the first of the list."""
         one, other = self.random.sample(NAMES, 2)
         low = self.random.getrandbits(63) & ~65535  # where there are no other words
         words = range(low, low + 2 * SHARED_STEPS + self.random.randrange(9, 200))
         lines = [b"J1S %s %d" % (name, it) for it in words for name in ((one, other) if it % 99 == 0 else (one,) if it % 2 else (other,))]
         lines += [b"J1I %s %s %d %s" % (*self.random.sample((one, other), 2), low + at, self.most()) for at in (0, 1, 2, 9)]
-        return [b"AUTH e e", *lines, b"J1I %s %s %d 65535" % (one, other, low)][::-1]
+        lines += [b"J1I %s %s %d 65535" % (one, it, low) for it in (other, one)]
+        return [b"AUTH e e", *lines][::-1]
 
     def line(self):
         """The next line."""
