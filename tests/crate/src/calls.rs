@@ -29,6 +29,9 @@ pub static OF_SETS: [Row; 17] = [
     ("J1FA", Operation::Free, 1),
 ];
 
+/// The command of two sets: its call names both.
+pub static OF_TWO_SETS: [Row; 1] = [("J1I", Operation::Intersect, 1)];
+
 /// The commands of a JudyL, with similar shares.
 pub static OF_WORDS: [Row; 21] = [
     ("JLI", Operation::Insert, 16),
@@ -250,6 +253,7 @@ pub fn long(operation: Operation, fields: Fields) -> Option<LongCall> {
         Operation::LastEmpty => LongCall::LastEmpty(i),
         Operation::PrevEmpty => LongCall::PrevEmpty(i),
         Operation::Free => LongCall::Free,
+        Operation::Intersect => return None,
     };
     Some(call)
 }

@@ -46,6 +46,8 @@ pub enum Want {
     ValueKey(u64, &'static [u8]),
     /// How many entries there are, and their text.
     Entries(u16, &'static [u8]),
+    /// Where an intersection goes on, how many indexes there are, and their text.
+    Intersection(u64, u16, &'static [u8]),
     /// Nothing is found.
     Null,
     /// The entries, their quota, the pieces and their quota.
@@ -70,6 +72,7 @@ pub fn reply_of(want: Want) -> Reply<'static> {
         Want::ValueAt(value, index) => Reply::ValueAt(value, index),
         Want::ValueKey(value, bytes) => Reply::ValueKey(value, key(bytes)),
         Want::Entries(count, bytes) => Reply::Entries(count, text(bytes)),
+        Want::Intersection(next, count, bytes) => Reply::Intersection(next, count, text(bytes)),
         Want::Null => Reply::Null,
         Want::Used(entries, quota, pieces, most) => Reply::Used(entries, quota, pieces, most),
         Want::Full => Reply::Full,

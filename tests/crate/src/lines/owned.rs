@@ -27,6 +27,7 @@ fn replies(rt: HostRuntime) -> Result<(), Fail> {
         Reply::ValueAt(4, 5),
         Reply::ValueKey(6, key),
         Reply::Entries(2, Text::of(b" 7 8")),
+        Reply::Intersection(9, 2, Text::of(b" 7 8")),
         Reply::Null,
         Reply::Used(7, 8, 9, 10),
         Reply::ReadOnly,

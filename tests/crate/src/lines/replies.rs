@@ -4,7 +4,7 @@ use crate::lines::asks::{Want, reply_of};
 use arrayvec::ArrayVec;
 use judy_protocol::write_reply;
 
-static LINES: [(Want, &[u8]); 16] = [
+static LINES: [(Want, &[u8]); 18] = [
     (Want::Int(true), b"1\n"),
     (Want::Int(false), b"0\n"),
     (Want::Index(0), b"1 0\n"),
@@ -15,6 +15,8 @@ static LINES: [(Want, &[u8]); 16] = [
     (Want::ValueKey(3, b""), b"V 3 x\n"),
     (Want::Entries(0, b""), b"E 0\n"),
     (Want::Entries(2, b" 7 500 8 x"), b"E 2 7 500 8 x\n"),
+    (Want::Intersection(0, 0, b""), b"I 0 0\n"),
+    (Want::Intersection(9, 2, b" 7 8"), b"I 9 2 7 8\n"),
     (Want::Null, b"NULL\n"),
     (Want::Used(0, 4, 0, 504), b"Q 0 4 0 504\n"),
     (Want::ReadOnly, b"ERR READONLY\n"),
@@ -40,6 +42,18 @@ fn the_longest_list(rt: HostRuntime) {
     write_reply(&reply_of(Want::Entries(u16::MAX, LONGEST_LIST)), &mut line);
     same(&rt, line.len(), 4096);
     holds(&rt, line.starts_with(b"E 65535  "));
+    holds(&rt, line.ends_with(b"  \n"));
+}
+
+const LONGEST_INTERSECTION: &[u8] = &[b' '; 4067];
+
+#[test]
+fn the_longest_intersection(rt: HostRuntime) {
+    let mut line = ArrayVec::new();
+    let longest = Want::Intersection(u64::MAX, u16::MAX, LONGEST_INTERSECTION);
+    write_reply(&reply_of(longest), &mut line);
+    same(&rt, line.len(), 4096);
+    holds(&rt, line.starts_with(b"I 18446744073709551615 65535  "));
     holds(&rt, line.ends_with(b"  \n"));
 }
 

@@ -1,5 +1,7 @@
 //! Lines of each request, and lines that are no request.
-use crate::calls::{Fields, OF_KEYS, OF_SETS, OF_STRINGS, OF_WORDS, Row, bytes, long, one, string};
+use crate::calls::{
+    Fields, OF_KEYS, OF_SETS, OF_STRINGS, OF_TWO_SETS, OF_WORDS, Row, bytes, long, one, string,
+};
 use crate::checks::{holds, holds_at, same, same_at};
 use crate::lines::asks::name;
 use arrayvec::ArrayVec;
@@ -117,6 +119,22 @@ fn each_request_of_keys(rt: HostRuntime) -> Result<(), Fail> {
     Ok(())
 }
 
+#[test]
+fn each_request_of_two_sets(rt: HostRuntime) -> Result<(), Fail> {
+    let alloc = rt.alloc();
+    for most in [1, 7, 65_535] {
+        let line = format!(in alloc; "J1I A_b-9.z b 5 {most}")?;
+        let call = Call::Intersect(array(), name("b"), 5, most);
+        compare(&rt, alloc, line.as_str(), call)?;
+    }
+    let mut room = [0; KEY_LIMIT];
+    let want = Line::Call(Call::Intersect(name("a"), name("a"), u64::MAX, 9));
+    same(&rt, read_line(b" J1I  a a -1 009 ", &mut room), Ok(want));
+    let want = Line::Call(Call::Intersect(name("a"), name("7"), 0, 1));
+    same(&rt, read_line(b"J1I a 7 0 1", &mut room), Ok(want));
+    Ok(())
+}
+
 /// Whether the rows have this word.
 fn has(rows: &[Row], word: &str) -> bool {
     rows.iter().any(|row| row.0 == word)
@@ -129,13 +147,15 @@ fn each_command_has_a_row(rt: HostRuntime) {
         holds_at(
             &rt,
             has(&OF_SETS, word)
+                || has(&OF_TWO_SETS, word)
                 || has(&OF_WORDS, word)
                 || has(&OF_STRINGS, word)
                 || has(&OF_KEYS, word),
             word,
         );
     }
-    let rows = OF_SETS.len() + OF_WORDS.len() + OF_STRINGS.len() + OF_KEYS.len();
+    let of_sets = OF_SETS.len() + OF_TWO_SETS.len();
+    let rows = of_sets + OF_WORDS.len() + OF_STRINGS.len() + OF_KEYS.len();
     same(&rt, rows, COMMANDS);
 }
 
@@ -195,7 +215,7 @@ fn requests_of_the_connection(rt: HostRuntime) -> Result<(), Fail> {
     Ok(())
 }
 
-static OF_NO_REQUEST: [&[u8]; 61] = [
+static OF_NO_REQUEST: [&[u8]; 70] = [
     b"",
     b"  ",
     b"J1S",
@@ -245,6 +265,15 @@ static OF_NO_REQUEST: [&[u8]; 61] = [
     b"J1SE a",
     b"J1SE a 1 2",
     b"JLIE a 1",
+    b"J1I",
+    b"J1I a b 1",
+    b"J1I a b 1 2 3",
+    b"J1I a b 1 0",
+    b"J1I a b 1 65536",
+    b"J1I a b/ 1 2",
+    b"J1I a abcdefghijklmnopqrstuvwxyz0123456 1 2",
+    b"J1I a b x61 2",
+    b"JLI a b 1 2",
     b"AUTH bob",
     b"AUTH bob a b",
     b"AUTH bob a\x7f",
