@@ -1,5 +1,5 @@
 //! Calls by their lines, and replies of rows as plain data that a constant can hold.
-use judy_model::{Call, KEY_LIMIT, Key, LIST_LIMIT, Name, Reply, Text};
+use judy_model::{Call, IndexText, KEY_LIMIT, Key, LIST_LIMIT, Name, Reply, Text};
 use judy_protocol::{Line, read_line};
 use std::test::Fail;
 
@@ -72,7 +72,9 @@ pub fn reply_of(want: Want) -> Reply<'static> {
         Want::ValueAt(value, index) => Reply::ValueAt(value, index),
         Want::ValueKey(value, bytes) => Reply::ValueKey(value, key(bytes)),
         Want::Entries(count, bytes) => Reply::Entries(count, text(bytes)),
-        Want::Intersection(next, count, bytes) => Reply::Intersection(next, count, text(bytes)),
+        Want::Intersection(next, count, bytes) => {
+            Reply::Intersection(next, count, IndexText::of(bytes))
+        }
         Want::Null => Reply::Null,
         Want::Used(entries, quota, pieces, most) => Reply::Used(entries, quota, pieces, most),
         Want::Full => Reply::Full,

@@ -1,6 +1,6 @@
 //! Keys and replies that own their bytes.
 use crate::checks::same;
-use judy_model::{Key, OwnedKey, OwnedReply, Reply, Text};
+use judy_model::{IndexText, Key, OwnedKey, OwnedReply, Reply, Text};
 use std::cmp::Ordering;
 use std::test::Fail;
 
@@ -27,7 +27,7 @@ fn replies(rt: HostRuntime) -> Result<(), Fail> {
         Reply::ValueAt(4, 5),
         Reply::ValueKey(6, key),
         Reply::Entries(2, Text::of(b" 7 8")),
-        Reply::Intersection(9, 2, Text::of(b" 7 8")),
+        Reply::Intersection(9, 2, IndexText::of(b" 7 8")),
         Reply::Null,
         Reply::Used(7, 8, 9, 10),
         Reply::ReadOnly,

@@ -145,13 +145,20 @@ impl Dice {
         Ok(Call::Bytes(name, call.ok_or("a call of a JudyHS")?))
     }
 
-    /// A call of an array of this name.
-    pub(crate) fn call(&mut self, name: Name) -> Result<Call<'static>, Fail> {
+    /// The intersection of the sets of these names.
+    fn intersection(&mut self, name: Name, other: Name) -> Call<'static> {
+        let word = WORDS[self.roll(16) as usize];
+        Call::Intersect(name, other, word, 1 + self.roll(4) as u16)
+    }
+
+    /// A call of an array of the first name, or of the sets of both.
+    pub(crate) fn call(&mut self, name: Name, other: Name) -> Result<Call<'static>, Fail> {
         match self.roll(20) {
             0..=4 => self.one(name),
             5..=9 => self.long(name),
             10..=14 => self.strings(name),
-            15..=18 => self.bytes(name),
+            15..=17 => self.bytes(name),
+            18 => Ok(self.intersection(name, other)),
             _ => Ok(Call::Used),
         }
     }

@@ -22,8 +22,8 @@ fn drawn(
     let mut dice = Dice::new(seed);
     for _ in 0..calls {
         let place = dice.roll(5) as usize;
-        let which = dice.roll(2);
-        let call = dice.call(name(place, which)?)?;
+        let (which, other) = (dice.roll(2), dice.roll(2));
+        let call = dice.call(name(place, which)?, name(place, other)?)?;
         let speaker = tenants[place].any_speaker(&mut dice);
         events.push(Event { speaker, call })?;
     }

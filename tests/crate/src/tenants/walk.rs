@@ -191,8 +191,8 @@ fn step(
     dice: &mut Dice,
 ) -> Result<(), Fail> {
     let place = dice.roll(5) as usize;
-    let which = dice.roll(2);
-    let call = dice.call(name(place, which)?)?;
+    let (which, other) = (dice.roll(2), dice.roll(2));
+    let call = dice.call(name(place, which)?, name(place, other)?)?;
     let tenant = &mut tenants[place];
     let speaker = tenant.any_speaker(dice);
     let _reply = tenant.ask(rt, alloc, house, &speaker, &call)?;
