@@ -106,7 +106,7 @@ no_Used kind.One operation name more h =
     ]
 no_Used kind.Long operation name more h = no_value (λ c. Long name c) (long_call operation more) Used (λ c e. cc) h
 no_Used kind.Str operation name more h = no_value (λ c. Str name c) (string_call operation more) Used (λ c e. cc) h
-no_Used kind.Bytes operation name more h = no_value (λ c. Bytes name c) (bytes_call operation more) Used (λ c e. cc) h
+no_Used kind.Bytes operation name more h = no_value (λ c. Bytes name c) _ Used (λ c e. cc) h
 
 -- a call of an array that is read is spelled
 call_Spell : (word name : List ℕ) (more : List (List ℕ)) (command : Command) (call : Call) → IsTrue (is_name name)

@@ -1,5 +1,5 @@
 -- A walk, which goes from each entry to the next by a search, is the first n entries that its search looks among.
-use Rattle.std.proofs.Common.{◌≡◌, ◌∙◌, ◌∷◌, ◌&&◌, ℕ, zero, suc, Bool, true, false, cond, List, [], Option, Some, None, map, take, reverse, refl, sym, ap, subst}
+use Rattle.std.proofs.Common.{◌≡◌, ◌∙◌, ◌∷◌, ◌&&◌, ℕ, zero, suc, Bool, true, false, cond, List, [], Option, Some, None, map, take, drop, reverse, refl, sym, ap, subst}
 use Rattle.std.specs.Prelude.{filter, option_map}
 use mathlib.Core.List.{reverse_aux}
 use Rattle.std.specs.declared.cmp.Ordering.{Ordering}
@@ -12,7 +12,8 @@ use Rattle.std.specs.FinMap.Entries.{below_all}
 use Rattle.judy_model.specs.declared.calls.Search.{Search}
 use Rattle.judy_model.specs.declared.calls.Search.TheVariants.{First, Next, Last, Prev}
 use Rattle.judy_model.specs.Contents.{Order, Entries, word_order, string_order, head_of, last_of}
-use Rattle.judy_model.specs.Walks.{WalksAreTakes, found_by, in_direction, search_on, walk, walk_from}
+use Rattle.judy_model.specs.Walks.{ByteWalksAreWhole, WalksAreTakes, by_hash, found_by, in_direction, search_on, walk, walk_from}
+use Rattle.judy_model.proofs.lemmas.ByteLemmas.{by_hash_rises, length_by_hash, value_by_hash}
 use Rattle.judy_model.proofs.lemmas.TestLemmas.{and_left, and_right, is_Less}
 
 -- ---- comparisons
@@ -278,4 +279,12 @@ walks_are_takes = (
   λ l search x n rising. mapped (λ e. e.0) (λ y. found_by word_order l (search_on search) y) n (found_by word_order l search x)
       ∙ ap (map (λ e. e.0)) (walks word_order nat_cmp_total l search x n rising),
   λ l search x n rising. walks string_order nat_list_cmp_total l search x n rising,
+)
+
+pub byte_walks_are_whole : ByteWalksAreWhole
+byte_walks_are_whole l rising = (
+  by_hash_rises l,
+  length_by_hash l rising,
+  λ key. value_by_hash l key,
+  λ from n. ap (map (λ e. (drop 1 e.0, e.1))) (walks string_order nat_list_cmp_total (by_hash l) Next from n (by_hash_rises l)),
 )

@@ -2,6 +2,7 @@
 --     commands                 each word, the kind of its array, and what it does there
 --     one_with, long_with      the call of an operation with these numbers
 --     string_with, bytes_with  the same with a key
+--     first_keys               the call that begins a walk over byte keys
 --     command_of call          the command that makes a call
 --     command_words            the words of the table
 --     command_place command    the place of a command in the table
@@ -55,7 +56,7 @@ commands =
     ∷ (codes "JSLFA", to Str Free)
     ∷ (codes "JHSI", to Bytes Insert) ∷ (codes "JHSA", to Bytes Add) ∷ (codes "JHSK", to Bytes Keep) ∷ (codes "JHSX", to Bytes Exchange)
     ∷ (codes "JHSD", to Bytes Remove) ∷ (codes "JHST", to Bytes Take) ∷ (codes "JHSG", to Bytes Look)
-    ∷ (codes "JHSFA", to Bytes Free) ∷ []
+    ∷ (codes "JHSF", to Bytes First) ∷ (codes "JHSN", to Bytes Next) ∷ (codes "JHSFA", to Bytes Free) ∷ []
 
 -- their words
 abbrev pub command_words : List (List ℕ)
@@ -215,7 +216,13 @@ bytes_with Remove key numbers.Nothing = Some (bytes.Delete key)
 bytes_with Remove key (numbers.One v) = Some (bytes.DeleteIf key v)
 bytes_with Take key numbers.Nothing = Some (bytes.Take key)
 bytes_with Look key numbers.Nothing = Some (bytes.Get key)
+bytes_with Next key (numbers.One n) = option_map (λ k. bytes.Next key k) (entries_of n)
 bytes_with _ key _ = None
+
+-- the first keys of a JudyHS, which takes no key
+abbrev pub first_keys : Numbers → Option BytesCall
+first_keys (numbers.One n) = option_map (λ k. bytes.First k) (entries_of n)
+first_keys _ = None
 
 -- the call that frees an array, which takes no key
 abbrev pub free_with : {C : Type 0} → Operation → C → Option C
@@ -318,6 +325,8 @@ bytes_operation (bytes.Delete key) = Remove
 bytes_operation (bytes.DeleteIf key v) = Remove
 bytes_operation (bytes.Take key) = Take
 bytes_operation (bytes.Get key) = Look
+bytes_operation (bytes.First n) = First
+bytes_operation (bytes.Next key n) = Next
 bytes_operation bytes.Free = Free
 
 -- the command that makes a call; None for `USED`, which asks for no array

@@ -24,7 +24,7 @@ use Rattle.judy_model.specs.declared.commands.Operation.TheVariants as operation
 use Rattle.judy_model.specs.declared.names.TheConstants.{NAME_LIMIT, TOKEN_LIMIT, KEY_LIMIT}
 use Rattle.judy_model.specs.declared.requests.Line.{Line}
 use Rattle.judy_model.specs.declared.requests.Line.TheVariants as request
-use Rattle.judy_model.specs.Commands.{commands, operation_number, entries_of, one_with, long_with, string_with, bytes_with, free_with}
+use Rattle.judy_model.specs.Commands.{commands, operation_number, entries_of, one_with, long_with, string_with, bytes_with, first_keys, free_with}
 use Rattle.judy_model.specs.Contents.{max_word, string_order}
 
 -- ---- fields
@@ -163,13 +163,22 @@ bytes_call operation [] = free_with operation bytes.Free
 bytes_call operation (key ∷ more) =
     option_and_then (λ k. option_and_then (λ numbers. bytes_with operation k numbers) (numbers_of_fields more)) (key_of key)
 
+-- whether an operation on a JudyHS begins a walk; it takes no key
+abbrev pub begins_walk : Operation → Bool
+begins_walk operation = operation_number operation == operation_number operations.First
+
+-- the call that begins a walk over a JudyHS, with its number
+abbrev pub first_keys_call : List (List ℕ) → Option BytesCall
+first_keys_call more = option_and_then (λ numbers. first_keys numbers) (numbers_of_fields more)
+
 -- the call of an array of this kind and name
 abbrev pub call_by : Kind → Operation → List ℕ → List (List ℕ) → Option Call
 call_by kind.One operation name more =
     if names_another operation then intersection_call name more else option_map (λ call. One name call) (one_call operation more)
 call_by kind.Long operation name more = option_map (λ call. Long name call) (long_call operation more)
 call_by kind.Str operation name more = option_map (λ call. Str name call) (string_call operation more)
-call_by kind.Bytes operation name more = option_map (λ call. Bytes name call) (bytes_call operation more)
+call_by kind.Bytes operation name more =
+    option_map (λ call. Bytes name call) (if begins_walk operation then first_keys_call more else bytes_call operation more)
 
 -- the call that a word of the table makes with a name and the fields after it
 abbrev pub call_of : List ℕ → List ℕ → List (List ℕ) → Option Call

@@ -23,7 +23,7 @@ use Rattle.judy_model.specs.Contents.{Order, Entries, word_order, string_order, 
 use Rattle.judy_model.specs.Gaps.{first_empty, last_empty, next_empty, prev_empty}
 use Rattle.judy_model.specs.Pieces.{word_pieces, string_pieces, pieces_of}
 use Rattle.judy_model.specs.Intersections.{intersect, intersection_reply}
-use Rattle.judy_model.specs.Walks.{entry_words, index_words, key_words, listed, walk, walk_empty, walk_indexes}
+use Rattle.judy_model.specs.Walks.{entry_words, hashed_key, index_words, key_words, listed, walk, walk_bytes, walk_empty, walk_indexes}
 
 -- the arrays of one kind, sorted by name; an array without entries is left out
 abbrev pub Arrays : Type 0 → Type 0
@@ -378,6 +378,8 @@ bytes_effect (bytes.Delete k) = Remove k
 bytes_effect (bytes.Take k) = Take k
 bytes_effect (bytes.DeleteIf k v) = RemoveIf k v
 bytes_effect (bytes.Get k) = Ask (λ l. ValueOf (value_of string_order l k))
+bytes_effect (bytes.First n) = Ask (λ l. Listed (map key_words (walk_bytes l [] n)))
+bytes_effect (bytes.Next k n) = Ask (λ l. Listed (map key_words (walk_bytes l (hashed_key k) n)))
 bytes_effect bytes.Free = Free
 
 -- a call of each kind: its reply, and the entries afterwards

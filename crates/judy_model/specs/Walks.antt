@@ -4,15 +4,19 @@
 --     walk, walk_indexes, walk_empty           at most n of them, one after another
 --     index_words, entry_words, key_words      the text of one of them, after a space
 --     listed texts                             how many of these texts fit into a reply, and the text of these
+--     hashed_key, by_hash, walk_bytes          the order of byte keys, and a walk in it
+--     ByteWalksAreWhole                        which entries it shows
 --     in_direction, WalksAreTakes              the entries that a search looks among; a walk is the first n of them
 use Rattle.std.specs.Prelude.{ℕ, zero, suc, ◌+◌, List, [], ◌∷◌, ◌++◌, length, Option, Some, None, option_map, nat_le, if◌then◌else◌, codes, decimal}
-use Rattle.std.specs.Prelude.{◌≡◌, map, take, filter, reverse}
+use Rattle.std.specs.Prelude.{◌≡◌, map, take, drop, filter, reverse}
 use Rattle.std.specs.Ordering.{is_ge, is_gt, is_le, is_lt}
 use Rattle.hex.specs.Hex.{encode_lower}
+use Rattle.std.specs.Int.{from_be_bytes, w64}
+use Rattle.sha2.specs.Sha256.{sha256}
 use Rattle.judy_model.specs.declared.calls.Search.{Search}
 use Rattle.judy_model.specs.declared.calls.Search.TheVariants.{First, Next, Last, Prev}
 use Rattle.judy_model.specs.declared.lists.TheConstants.{LIST_LIMIT}
-use Rattle.judy_model.specs.Contents.{Order, Entries, IsRising, word_order, string_order, first, next, last, prev}
+use Rattle.judy_model.specs.Contents.{Order, Entries, IsRising, word_order, string_order, value_of, with_entry, first, next, last, prev}
 use Rattle.judy_model.specs.Gaps.{first_empty, last_empty, next_empty, prev_empty}
 
 -- ---- what is found
@@ -75,6 +79,34 @@ WalksAreTakes = ((l : Entries ℕ) (search : Search) (x n : ℕ) → IsRising wo
     → walk_indexes l search x n ≡ map (λ e. e.0) (take n (in_direction word_order l search x)))
     × ((l : Entries (List ℕ)) (search : Search) (x : List ℕ) (n : ℕ) → IsRising string_order l
     → walk string_order l search x n ≡ take n (in_direction string_order l search x))
+
+-- ---- byte keys
+
+-- the first 8 bytes of a key's SHA-256 as a number, the first byte highest
+unfoldable pub key_word : List ℕ → ℕ
+key_word key = from_be_bytes w64 (take 8 (sha256 key))
+
+-- A byte key behind its word. Walks over byte keys are in the order of these lists.
+abbrev pub hashed_key : List ℕ → List ℕ
+hashed_key key = key_word key ∷ key
+
+-- the entries of a JudyHS in that order, each under its hashed key
+abbrev pub by_hash : Entries (List ℕ) → Entries (List ℕ)
+by_hash [] = []
+by_hash (e ∷ es) = with_entry string_order (by_hash es) (hashed_key e.0) e.1
+
+-- the entries of a walk over a JudyHS, at most n, behind a hashed key; [] comes before all of them
+abbrev pub walk_bytes : Entries (List ℕ) → List ℕ → ℕ → Entries (List ℕ)
+walk_bytes l from n = map (λ e. (drop 1 e.0, e.1)) (walk string_order (by_hash l) Next from n)
+
+-- Walks over a JudyHS are in the order of the keys' words, then of the keys. They go over all of its entries, each
+-- once, and over no others.
+abbrev pub ByteWalksAreWhole : Type 0
+ByteWalksAreWhole = (l : Entries (List ℕ)) → IsRising string_order l
+    → IsRising string_order (by_hash l)
+    × (length (by_hash l) ≡ length l)
+    × ((key : List ℕ) → value_of string_order (by_hash l) (hashed_key key) ≡ value_of string_order l key)
+    × ((from : List ℕ) (n : ℕ) → walk_bytes l from n ≡ map (λ e. (drop 1 e.0, e.1)) (take n (in_direction string_order (by_hash l) Next from)))
 
 -- ---- their text
 

@@ -194,7 +194,8 @@ pub enum StrCall<'a> {
     Free,
 }
 
-/// A call of a map from byte keys to words (JudyHS(3)). The map has no order.
+/// A call of a map from byte keys to words (JudyHS(3)). Only walks have an order: that of the first 8 bytes of
+/// the keys' SHA-256 (FIPS 180-4), then that of the keys as strings.
 #[derive(Debug, PartialEq, Eq, Drop)]
 pub enum BytesCall<'a> {
     /// Inserts the key, as `LongCall::Insert` does an index.
@@ -211,6 +212,10 @@ pub enum BytesCall<'a> {
     Take(Key<'a>),
     /// The value of the key.
     Get(Key<'a>),
+    /// The first keys of a walk, each with its value, at most this many.
+    First(u16),
+    /// The keys behind this one in a walk, each with its value, at most this many.
+    Next(Key<'a>, u16),
     /// Removes all keys. The reply is how many there were.
     Free,
 }
@@ -507,6 +512,8 @@ impl<'a> BytesCall<'a> {
             BytesCall::Delete(_) | BytesCall::DeleteIf(..) => Operation::Remove,
             BytesCall::Take(_) => Operation::Take,
             BytesCall::Get(_) => Operation::Look,
+            BytesCall::First(_) => Operation::First,
+            BytesCall::Next(..) => Operation::Next,
             BytesCall::Free => Operation::Free,
         }
     }

@@ -4,7 +4,7 @@ ghost use Rattle.std.specs.Prelude.{◌≡◌, ◌<◌, ◌≤◌, Some, length,
 ghost use Rattle.judy_model.specs.Commands.{command_place, command_words, kind_number, kind_with};
 
 /// How many commands there are.
-pub const COMMANDS: usize = 60;
+pub const COMMANDS: usize = 62;
 
 /// Their words, in the order of the table.
 static WORDS: [&'static str; COMMANDS] = [
@@ -13,22 +13,22 @@ static WORDS: [&'static str; COMMANDS] = [
     "JLDR", "JLT", "JLG", "JLC", "JLBC", "JLF", "JLN", "JLL", "JLP", "JLFE", "JLNE", "JLLE",
     "JLPE", "JLFA", "JSLI", "JSLA", "JSLK", "JSLX", "JSLD", "JSLDF", "JSLT", "JSLG", "JSLF",
     "JSLN", "JSLL", "JSLP", "JSLFA", "JHSI", "JHSA", "JHSK", "JHSX", "JHSD", "JHST", "JHSG",
-    "JHSFA",
+    "JHSF", "JHSN", "JHSFA",
 ];
 
 /// For each kind and operation, in the order of their types, the place of the command in the table.
 static PLACES: [[usize; 22]; 4] = [
     [
-        0, 60, 60, 60, 2, 60, 5, 6, 7, 8, 9, 10, 11, 12, 13, 14, 15, 17, 3, 1, 4, 16,
+        0, 62, 62, 62, 2, 62, 5, 6, 7, 8, 9, 10, 11, 12, 13, 14, 15, 17, 3, 1, 4, 16,
     ],
     [
-        18, 20, 21, 22, 23, 26, 27, 28, 29, 30, 31, 32, 33, 34, 35, 36, 37, 38, 24, 19, 25, 60,
+        18, 20, 21, 22, 23, 26, 27, 28, 29, 30, 31, 32, 33, 34, 35, 36, 37, 38, 24, 19, 25, 62,
     ],
     [
-        39, 40, 41, 42, 43, 45, 46, 60, 60, 47, 48, 49, 50, 60, 60, 60, 60, 51, 44, 60, 60, 60,
+        39, 40, 41, 42, 43, 45, 46, 62, 62, 47, 48, 49, 50, 62, 62, 62, 62, 51, 44, 62, 62, 62,
     ],
     [
-        52, 53, 54, 55, 56, 57, 58, 60, 60, 60, 60, 60, 60, 60, 60, 60, 60, 59, 60, 60, 60, 60,
+        52, 53, 54, 55, 56, 57, 58, 62, 62, 59, 60, 62, 62, 62, 62, 62, 62, 61, 62, 62, 62, 62,
     ],
 ];
 

@@ -5,7 +5,7 @@ ghost use Rattle.judy_model.specs.Service.{IdleTenantsRest, ServingGoesOn, Servi
 ghost use Rattle.judy_model.specs.Solo.{MemoryIsForNew, SoloGoesOn, SoloIsDetermined, SoloIsStepwise, StepHasMemory};
 ghost use Rattle.judy_model.specs.Tenant.{AloneGoesOn};
 ghost use Rattle.judy_model.specs.Unchanged.{UnchangedAreTold};
-ghost use Rattle.judy_model.specs.Walks.{WalksAreTakes};
+ghost use Rattle.judy_model.specs.Walks.{ByteWalksAreWhole, WalksAreTakes};
 ghost use Rattle.judy_model.specs.WellFormed.{AnswersKeepAll, CallsKeepOthers, FullIsForNew, LooksKeepAll, QueriesKeepAll, StepKeepsForm, StepKeepsQuota};
 ghost use Rattle.judy_model.specs.Reading.{CallsAreOfTheirCommand, SpellsAtMostOne};
 
@@ -38,6 +38,12 @@ pub fn gaps_have_one_answer()
 /// A walk is the first n entries that its search looks among, in the search's direction.
 pub fn walks_are_takes()
     ensures { WalksAreTakes }
+{}
+
+/// Walks over a JudyHS are in the order of the keys' words, then of the keys. They go over all of its entries, each
+/// once.
+pub fn byte_walks_are_whole()
+    ensures { ByteWalksAreWhole }
 {}
 
 /// The indexes of an intersection are all that both sets have below the word where the next call goes on, or all

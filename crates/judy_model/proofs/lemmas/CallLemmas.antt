@@ -1,5 +1,5 @@
 -- A call that a command makes is of that command.
-use Rattle.std.proofs.Common.{◌≡◌, ℕ, Bool, true, false, cond, List, [], ◌∷◌, refl, ap, ◌∙◌, sym, Option, Some, None}
+use Rattle.std.proofs.Common.{◌≡◌, ℕ, Bool, true, false, cond, List, [], ◌∷◌, refl, ap, ◌∙◌, sym, subst, Option, Some, None}
 use Rattle.std.specs.Prelude.{IfSome, option_map, option_and_then}
 use Rattle.judy_model.specs.declared.calls.BytesCall.TheVariants as bytes
 use Rattle.judy_model.specs.declared.calls.Call.{Call}
@@ -16,9 +16,9 @@ use Rattle.judy_model.specs.declared.commands.Numbers.TheVariants as numbers
 use Rattle.judy_model.specs.declared.commands.Operation.{Operation}
 use Rattle.judy_model.specs.declared.commands.Operation.TheVariants.{Insert, Add, Keep, Exchange, Remove, Take, Look, Count, Nth, First, Next, Last, Prev, Free, Pop, Fill, Cut, Intersect}
 use Rattle.judy_model.specs.declared.commands.Operation.TheVariants.{FirstEmpty, NextEmpty, LastEmpty, PrevEmpty}
-use Rattle.judy_model.specs.Commands.{bytes_operation, bytes_with, entries_of, command_of, free_with, long_operation, long_with, one_operation, one_with}
+use Rattle.judy_model.specs.Commands.{bytes_operation, bytes_with, entries_of, command_of, first_keys, free_with, long_operation, long_with, one_operation, one_with}
 use Rattle.judy_model.specs.Commands.{string_operation, string_with, to}
-use Rattle.judy_model.specs.Grammar.{bytes_call, call_by, intersection_call, intersection_with, is_name, key_of, long_call, names_another, numbers_of_fields, one_call, string_call, string_of}
+use Rattle.judy_model.specs.Grammar.{begins_walk, bytes_call, call_by, first_keys_call, intersection_call, intersection_with, is_name, key_of, long_call, names_another, numbers_of_fields, one_call, string_call, string_of}
 
 -- the call, if there is one, is of this operation
 abbrev IsOf : {C : Type 0} → (C → Operation) → Operation → Option C → Type 0
@@ -124,7 +124,12 @@ bytes_made Keep key (numbers.One i) = refl
 bytes_made Exchange key (numbers.Two i j) = refl
 bytes_made Remove key (numbers.One i) = refl
 bytes_made Take key numbers.Nothing = refl
+bytes_made Next key (numbers.One n) = walked_made bytes_operation Next (λ k. bytes.Next key k) (entries_of n) (λ k. refl)
 bytes_made _ key _ = tt
+
+first_keys_made : (ns : Numbers) → IsOf bytes_operation First (first_keys ns)
+first_keys_made (numbers.One n) = walked_made bytes_operation First (λ k. bytes.First k) (entries_of n) (λ k. refl)
+first_keys_made _ = tt
 
 free_made : {C : Type 0} (operation_of : C → Operation) (operation : Operation) (call : C) → operation_of call ≡ Free
     → IsOf operation_of operation (free_with operation call)
@@ -198,6 +203,22 @@ set_call_made operation name more call e = by (names_another operation) refl e
     by false is h = in_call one_operation kind.One operation (λ c. One name c) (one_call operation more) call (λ c. refl)
         (then_made one_operation operation (λ ns. one_with operation ns) (numbers_of_fields more) (one_made operation)) h
 
+-- an operation that begins a walk over byte keys is the search for the first
+beginning_is : (operation : Operation) → begins_walk operation ≡ true → operation ≡ First
+beginning_is First e = refl
+beginning_is _ e = cc
+
+-- a call of a JudyHS
+bytes_kind_made : (operation : Operation) (name : List ℕ) (more : List (List ℕ)) (call : Call)
+    → call_by kind.Bytes operation name more ≡ Some call → command_of call ≡ Some (to kind.Bytes operation)
+bytes_kind_made operation name more call e =
+    in_call bytes_operation kind.Bytes operation (λ c. Bytes name c) _ call (λ c. refl) (by (begins_walk operation) refl) e
+  where
+    by : (b : Bool) → begins_walk operation ≡ b → IsOf bytes_operation operation (cond b (first_keys_call more) (bytes_call operation more))
+    by true is = subst (λ o. IsOf bytes_operation o (first_keys_call more)) (sym (beginning_is operation is))
+        (then_made bytes_operation First first_keys (numbers_of_fields more) first_keys_made)
+    by false is = bytes_call_made operation more
+
 pub made_call : (kind : Kind) (operation : Operation) (name : List ℕ) (more : List (List ℕ)) (call : Call)
     → call_by kind operation name more ≡ Some call → command_of call ≡ Some (to kind operation)
 made_call kind.One operation name more call = set_call_made operation name more call
@@ -205,5 +226,4 @@ made_call kind.Long operation name more call = in_call long_operation kind.Long 
     (then_made long_operation operation (λ ns. long_with operation ns) (numbers_of_fields more) (long_made operation))
 made_call kind.Str operation name more call = in_call string_operation kind.Str operation (λ c. Str name c) (string_call operation more) call (λ c. refl)
     (string_call_made operation more)
-made_call kind.Bytes operation name more call = in_call bytes_operation kind.Bytes operation (λ c. Bytes name c) (bytes_call operation more) call (λ c. refl)
-    (bytes_call_made operation more)
+made_call kind.Bytes operation name more call = bytes_kind_made operation name more call
