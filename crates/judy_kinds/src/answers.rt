@@ -7,7 +7,7 @@ ghost use Rattle.judy_tree.specs.Changes.{IsShort};
 
 use crate::{bytes, long, one, string};
 use judy_arena::{Arena, NoMemory};
-use judy_bytes::KeyHash;
+use judy_bytes::{KeyHash, OrderHash};
 use judy_directory::Place;
 use judy_model::{Call, Reply, ReplyRoom};
 use std::alloc::Global;
@@ -32,7 +32,7 @@ pub fn asks<H: KeyHash>(arena: &Arena, hash: H, place: &Place, call: &Call<'_>) 
 ///
 /// Err: the arena refused a block for a new entry. No block changed, and the array is still at its
 /// old place.
-pub fn answer<'a, H: KeyHash>(
+pub fn answer<'a, H: OrderHash>(
     alloc: Global,
     arena: &mut Arena,
     hash: H,
@@ -58,7 +58,7 @@ pub fn answer<'a, H: KeyHash>(
         Call::One(_, call) => one::answer(alloc, arena, place, *call, &mut found.listing),
         Call::Long(_, call) => long::answer(alloc, arena, place, *call, &mut found.listing),
         Call::Str(_, call) => string::answer(alloc, arena, place, call, found),
-        Call::Bytes(_, call) => bytes::answer(alloc, arena, hash, place, call),
+        Call::Bytes(_, call) => bytes::answer(alloc, arena, hash, place, call, found),
         Call::Intersect(..) | Call::Used => unreachable!(),
     }
 }

@@ -7,16 +7,16 @@ ghost use Rattle.judy_kinds.specs.Calls.{blocks_of_kind};
 ghost use Rattle.judy_kinds.specs.Counts.{HasCounts};
 ghost use Rattle.judy_model.specs.Contents.{string_order, has_key};
 ghost use Rattle.judy_model.specs.Pieces.{string_pieces};
-ghost use Rattle.judy_model.specs.Tenant.{bytes_asks_for_new};
+ghost use Rattle.judy_model.specs.Tenant.{bytes_asks_for_new, bytes_changes};
 ghost use Rattle.judy_model.specs.declared.calls.BytesCall.TheVariants as bytes;
 ghost use Rattle.judy_tree.specs.Changes.{IsShort};
 
 use crate::counts;
 use crate::string::value_reply;
 use judy_arena::{Arena, NoMemory};
-use judy_bytes::{JudyHS, KeyHash};
+use judy_bytes::{JudyHS, KeyHash, OrderHash};
 use judy_directory::Place;
-use judy_model::{BytesCall, Given, Key, Reply};
+use judy_model::{BytesCall, Given, Key, Reply, ReplyRoom};
 use judy_refs::Ref;
 use std::alloc::Global;
 
@@ -34,13 +34,14 @@ pub(crate) fn asks<H: KeyHash>(arena: &Arena, hash: H, root: Ref, call: &BytesCa
 }
 
 /// Answers a call. Returns the reply and the map's new place. Err: out of memory; no block changed.
-pub(crate) fn answer<H: KeyHash>(
+pub(crate) fn answer<'a, H: OrderHash>(
     alloc: Global,
     arena: &mut Arena,
     hash: H,
     place: Place,
     call: &BytesCall<'_>,
-) -> Result<(Reply<'static>, Place), NoMemory>
+    found: &'a mut ReplyRoom,
+) -> Result<(Reply<'a>, Place), NoMemory>
     requires array { IsBytesArray H.hashed arena.old.blocks place.root }
     requires counts { HasCounts string_pieces (bytes_in arena.old.blocks place.root) place }
     requires room { place.pieces < 2 ^ 63 }
@@ -68,9 +69,9 @@ pub(crate) fn answer<H: KeyHash>(
         BytesCall::DeleteIf(key, value) => Ok(delete_if(arena, hash, place, key, *value)),
         BytesCall::Take(key) => Ok(take(arena, hash, place, key)),
         BytesCall::Free => Ok(clear(arena, hash, place)),
-        BytesCall::Get(key) => {
+        BytesCall::Get(_) | BytesCall::First(_) | BytesCall::Next(..) => {
             judy_bytes::laws::blocks_are_live();
-            Ok((get(arena, hash, place.root, key), place))
+            Ok((look(arena, hash, place.root, call, found), place))
         }
     }
 }
@@ -260,10 +261,29 @@ fn clear<H: KeyHash>(arena: &mut Arena, hash: H, place: Place) -> (Reply<'static
     (Reply::Count(count), counts::emptied(map.reference()))
 }
 
-/// The value of a key, as a reply.
-fn get<H: KeyHash>(arena: &Arena, hash: H, root: Ref, key: &Key<'_>) -> Reply<'static>
-    requires { IsBytesArray H.hashed arena.now.blocks root }
-    ensures { BytesLooks arena.now root (bytes.Get key.now) result }
+/// Answers a call that changes nothing.
+fn look<'a, H: OrderHash>(
+    arena: &Arena,
+    hash: H,
+    root: Ref,
+    call: &BytesCall<'_>,
+    found: &'a mut ReplyRoom,
+) -> Reply<'a>
+    requires array { IsBytesArray H.hashed arena.now.blocks root }
+    requires query { IsFalse (bytes_changes call.now) }
+    ensures { BytesLooks arena.now root call.now result }
 {
-    value_reply(JudyHS::from_reference(hash, root).get(arena, key.as_bytes()))
+    let map = JudyHS::from_reference(hash, root);
+    match call {
+        BytesCall::Get(key) => value_reply(map.get(arena, key.as_bytes())),
+        BytesCall::First(n) => map.walk(arena, *n, found),
+        BytesCall::Next(key, n) => map.walk_on(arena, key.as_bytes(), *n, found),
+        BytesCall::Insert(..)
+        | BytesCall::Keep(..)
+        | BytesCall::Exchange(..)
+        | BytesCall::Delete(_)
+        | BytesCall::DeleteIf(..)
+        | BytesCall::Take(_)
+        | BytesCall::Free => unreachable!(),
+    }
 }

@@ -1,6 +1,6 @@
 //! The commands of lines, and the calls that they make.
 ghost use Rattle.std.specs.Prelude.{◌≡◌, ◌++◌, codes};
-ghost use Rattle.judy_model.specs.Commands.{bytes_with, commands, entries_of, long_with, one_with, string_with};
+ghost use Rattle.judy_model.specs.Commands.{bytes_with, commands, entries_of, first_keys, long_with, one_with, string_with};
 ghost use Rattle.judy_model.specs.Grammar.{at_command};
 ghost use Rattle.judy_model.specs.declared.commands.Numbers.TheVariants as numbers;
 
@@ -114,6 +114,8 @@ fn bytes_command(letters: &[u8]) -> Option<Command>
         b"D" => Operation::Remove,
         b"T" => Operation::Take,
         b"G" => Operation::Look,
+        b"F" => Operation::First,
+        b"N" => Operation::Next,
         b"FA" => Operation::Free,
         _ => return None,
     };
@@ -272,6 +274,16 @@ pub fn string_with<'a>(operation: Operation, key: Key<'a>, numbers: Numbers) -> 
     Some(call)
 }
 
+/// The call that begins a walk over a map from byte keys.
+pub fn first_keys(numbers: Numbers) -> Option<BytesCall<'static>>
+    ensures { result ≡ first_keys numbers }
+{
+    match numbers {
+        Numbers::One(n) => Some(BytesCall::First(entries_in(n)?)),
+        _ => None,
+    }
+}
+
 /// The call of a map from byte keys, with a key.
 pub fn bytes_with<'a>(operation: Operation, key: Key<'a>, numbers: Numbers) -> Option<BytesCall<'a>>
     ensures { result ≡ bytes_with operation key.entry numbers }
@@ -286,6 +298,7 @@ pub fn bytes_with<'a>(operation: Operation, key: Key<'a>, numbers: Numbers) -> O
         (Operation::Remove, Numbers::One(v)) => BytesCall::DeleteIf(key, v),
         (Operation::Take, Numbers::Nothing) => BytesCall::Take(key),
         (Operation::Look, Numbers::Nothing) => BytesCall::Get(key),
+        (Operation::Next, Numbers::One(n)) => BytesCall::Next(key, entries_in(n)?),
         _ => return None,
     };
     Some(call)

@@ -123,7 +123,7 @@ impl Store {
             Call::One(name, call) => one_step(alloc, &mut self.one, room, name, call, found),
             Call::Long(name, call) => long_step(alloc, &mut self.long, room, name, call, found),
             Call::Str(name, call) => string_step(alloc, &mut self.string, room, name, call, found),
-            Call::Bytes(name, call) => bytes_step(alloc, &mut self.bytes, room, name, call),
+            Call::Bytes(name, call) => bytes_step(alloc, &mut self.bytes, room, name, call, found),
             Call::Intersect(name, other, x, n) => {
                 let (entries, others) = (self.one.content(name), self.one.content(other));
                 Ok(shared::intersection(entries, others, *x, *n, &mut found.listing))

@@ -9,7 +9,7 @@ use arrayvec::ArrayVec;
 use judy_journal::{add_gone, begin_gone};
 use judy_model::{LINE_LIMIT, Name};
 use judy_table::{Table, TableFault, TenantId};
-use judy_tenants::{KeyHash, Service};
+use judy_tenants::{OrderHash, Service};
 use std::alloc::{AllocError, Global};
 
 /// Adds a name to those that leave. False if there is no room for it, or if it is no name.
@@ -26,7 +26,7 @@ fn add_leaver(first: &mut Option<Name>, name: &[u8], request: &mut ArrayVec<u8, 
 }
 
 /// Whether no tenant has this place, or the table has its name.
-fn is_kept<H: KeyHash>(service: &Service<H>, table: &Table, tenant: TenantId) -> bool
+fn is_kept<H: OrderHash>(service: &Service<H>, table: &Table, tenant: TenantId) -> bool
     requires { tenant < length service.now.tenants }
     ensures { slice_get (map (is_kept table.now) service.now.tenants) tenant ≡ Some result }
 {
@@ -34,7 +34,7 @@ fn is_kept<H: KeyHash>(service: &Service<H>, table: &Table, tenant: TenantId) ->
 }
 
 /// Adds the tenant of a row to those that leave, if the table lacks it. False if there is no room for it.
-fn add_row<H: KeyHash>(
+fn add_row<H: OrderHash>(
     service: &Service<H>,
     table: &Table,
     row: usize,
@@ -54,7 +54,7 @@ fn add_row<H: KeyHash>(
 }
 
 /// Finds the tenants that a table lacks.
-fn find_lacking<H: KeyHash>(
+fn find_lacking<H: OrderHash>(
     service: &Service<H>,
     table: &Table,
     request: &mut ArrayVec<u8, LINE_LIMIT>,
@@ -87,7 +87,7 @@ fn without_table(fault: TableFault) -> Result<Option<Name>, AllocError>
 /// a text that is no table.
 ///
 /// Err: out of memory.
-pub fn find_leavers<H: KeyHash>(
+pub fn find_leavers<H: OrderHash>(
     alloc: Global,
     service: &Service<H>,
     text: &[u8],

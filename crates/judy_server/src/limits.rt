@@ -8,11 +8,11 @@ use crate::tally::Tally;
 use judy_model::Name;
 use judy_recovery::JournalFault;
 use judy_table::{Table, TenantId};
-use judy_tenants::{KeyHash, Service};
+use judy_tenants::{OrderHash, Service};
 use std::alloc::Global;
 
 /// The name of a tenant; none if the place has no tenant.
-fn name_of<H: KeyHash>(service: &Service<H>, tenant: TenantId) -> Name {
+fn name_of<H: OrderHash>(service: &Service<H>, tenant: TenantId) -> Name {
     if service.has(tenant)
         && let Some(name) = Name::read(service.name(tenant))
     {
@@ -22,7 +22,7 @@ fn name_of<H: KeyHash>(service: &Service<H>, tenant: TenantId) -> Name {
 }
 
 /// Takes the quotas away, and returns the table that has them. None if there is no memory for it.
-pub fn lift<H: KeyHash>(alloc: Global, service: &mut Service<H>) -> Option<Table>
+pub fn lift<H: OrderHash>(alloc: Global, service: &mut Service<H>) -> Option<Table>
     ensures { IfSome result (λ table. (tally : TallyLem)
         → IsLifted (tallied service.old tally) table (tallied service.new tally)) }
 {
@@ -35,7 +35,7 @@ pub fn lift<H: KeyHash>(alloc: Global, service: &mut Service<H>) -> Option<Table
 /// Puts a table in force, and forgets what the quotas before it allowed.
 ///
 /// Err: a record named a tenant that the table lacks, or a tenant holds more than its quota.
-pub fn limit<H: KeyHash>(
+pub fn limit<H: OrderHash>(
     alloc: Global,
     service: &mut Service<H>,
     tally: &Tally,

@@ -9,7 +9,7 @@ ghost use Rattle.judy_server.specs.Tally.{tallied};
 use crate::reload::{forget, tell};
 use crate::tally::{Tally, is_text};
 use judy_table::read_digest;
-use judy_tenants::{KeyHash, Service};
+use judy_tenants::{OrderHash, Service};
 
 /// How many bytes a space and the digits of a digest are.
 const LAST: usize = 65;
@@ -81,7 +81,7 @@ pub fn read_order(text: &[u8]) -> Option<Order<'_>>
 }
 
 /// Freezes or thaws a tenant. False if no tenant has the name.
-fn mark<H: KeyHash>(service: &mut Service<H>, order: &Order<'_>) -> bool
+fn mark<H: OrderHash>(service: &mut Service<H>, order: &Order<'_>) -> bool
     ensures known { result ≡ has_tenant_of order.now.name.now service.old.tenants }
     ensures frozen { service.new ≡ record service.old {
       tenants = with_freeze order.now.name.now order.now.frozen service.old.tenants;
@@ -96,7 +96,7 @@ fn mark<H: KeyHash>(service: &mut Service<H>, order: &Order<'_>) -> bool
 
 /// Carries out an order. False if no tenant has the name, and then nothing has changed. Tells what became
 /// of the tenant.
-pub fn carry_out<H: KeyHash>(
+pub fn carry_out<H: OrderHash>(
     service: &mut Service<H>,
     tally: &mut Tally,
     order: &Order<'_>,

@@ -17,7 +17,7 @@ use judy_journal::{Unplayed, read_gone};
 use judy_model::{Call, KEY_LIMIT, Name, Reply, ReplyRoom, Right, name_ok};
 use judy_protocol::{Line, cut_line, read_line};
 use judy_table::{Speaker, TenantId};
-use judy_tenants::{KeyHash, Service};
+use judy_tenants::{OrderHash, Service};
 use std::alloc::Global;
 
 /// Where the playing of records stopped.
@@ -98,7 +98,7 @@ fn told<'a, 'k>(bytes: &'a [u8], key: &'k mut [u8; KEY_LIMIT]) -> Option<(&'a [u
 }
 
 /// Makes the call of a record for the tenant at a place, with the right to change arrays.
-fn make_again<H: KeyHash>(
+fn make_again<H: OrderHash>(
     alloc: Global,
     service: &mut Service<H>,
     tenant: TenantId,
@@ -137,7 +137,7 @@ fn pass_over(tally: &mut Tally, name: &[u8]) -> Result<(), Unplayed>
 }
 
 /// Makes the call of a record for the tenant of its name. If there is none, the record is passed over.
-fn play_change<H: KeyHash>(
+fn play_change<H: OrderHash>(
     alloc: Global,
     service: &mut Service<H>,
     tally: &mut Tally,
@@ -158,7 +158,7 @@ fn play_change<H: KeyHash>(
 }
 
 /// The marks of the places whose tenant has one of these names.
-fn marks_of<H: KeyHash>(service: &Service<H>, left: &Left<'_>) -> [bool; PLACES]
+fn marks_of<H: OrderHash>(service: &Service<H>, left: &Left<'_>) -> [bool; PLACES]
     ensures { (t : ℕ) → get_or result t false
         ≡ get_or (marks_of left.now service.now.tenants) t false }
 {
@@ -171,7 +171,7 @@ fn marks_of<H: KeyHash>(service: &Service<H>, left: &Left<'_>) -> [bool; PLACES]
 }
 
 /// Frees the arrays of the tenants that left. They are absent no more.
-fn leave<H: KeyHash>(alloc: Global, service: &mut Service<H>, tally: &mut Tally, left: &Left<'_>)
+fn leave<H: OrderHash>(alloc: Global, service: &mut Service<H>, tally: &mut Tally, left: &Left<'_>)
     ensures { HaveLeft (tallied service.old tally.old) left.now (tallied service.new tally.new) }
 {
     let marks = marks_of(&*service, left);
@@ -180,7 +180,7 @@ fn leave<H: KeyHash>(alloc: Global, service: &mut Service<H>, tally: &mut Tally,
 }
 
 /// Plays a record of tenants that left, if it is one.
-fn play_leaving<H: KeyHash>(
+fn play_leaving<H: OrderHash>(
     alloc: Global,
     service: &mut Service<H>,
     tally: &mut Tally,
@@ -201,7 +201,7 @@ fn play_leaving<H: KeyHash>(
 /// absent no more. The call's key, and a key that it finds, are put into `key` and `found`.
 ///
 /// Err: no array changed.
-pub fn replay<H: KeyHash>(
+pub fn replay<H: OrderHash>(
     alloc: Global,
     service: &mut Service<H>,
     tally: &mut Tally,
@@ -220,7 +220,7 @@ pub fn replay<H: KeyHash>(
 
 /// Plays the records of a text, each of which ends with an LF, one after another, up to the first that
 /// cannot be played.
-pub fn replay_all<H: KeyHash>(
+pub fn replay_all<H: OrderHash>(
     alloc: Global,
     service: &mut Service<H>,
     tally: &mut Tally,

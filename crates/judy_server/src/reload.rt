@@ -10,7 +10,7 @@ use crate::tally::{Tally, clear_if};
 use itoa::Buffer;
 use judy_programs::fault_name;
 use judy_table::{Blame, Table, TableFault, TenantId};
-use judy_tenants::{KeyHash, Service};
+use judy_tenants::{OrderHash, Service};
 use std::alloc::Global;
 
 /// Appends bytes. Without memory for them nothing is told.
@@ -55,7 +55,7 @@ fn tell_blame(alloc: Global, told: &mut Vec<u8>, text: &[u8], fault: TableFault)
 }
 
 /// The name of a tenant. Empty if there is none.
-pub fn name_of<H: KeyHash>(service: &Service<H>, tenant: TenantId) -> &[u8]
+pub fn name_of<H: OrderHash>(service: &Service<H>, tenant: TenantId) -> &[u8]
     ensures { result.now ≡ name_at service.now.tenants tenant }
 {
     if service.has(tenant) {
@@ -66,7 +66,7 @@ pub fn name_of<H: KeyHash>(service: &Service<H>, tenant: TenantId) -> &[u8]
 }
 
 /// Tells that a table was not put in force, since this tenant holds more than its quota there.
-fn tell_reason<H: KeyHash>(told: &mut Vec<u8>, service: &Service<H>, tenant: TenantId)
+fn tell_reason<H: OrderHash>(told: &mut Vec<u8>, service: &Service<H>, tenant: TenantId)
     ensures { TellsAll (reason_parts service.now.tenants tenant) told.old.items told.new.items }
 {
     tell(told, b"the quota of ");
@@ -75,7 +75,7 @@ fn tell_reason<H: KeyHash>(told: &mut Vec<u8>, service: &Service<H>, tenant: Ten
 }
 
 /// Forgets the counts of places that have no tenant.
-fn forget_in<H: KeyHash>(service: &Service<H>, counts: &mut [u64])
+fn forget_in<H: OrderHash>(service: &Service<H>, counts: &mut [u64])
     ensures { counts.new ≡ forgotten 0 service.now.tenants counts.old }
 {
     for place in 0..service.tenants() {
@@ -85,7 +85,7 @@ fn forget_in<H: KeyHash>(service: &Service<H>, counts: &mut [u64])
 }
 
 /// Forgets what is counted of places that have no tenant.
-pub fn forget<H: KeyHash>(service: &Service<H>, tally: &mut Tally)
+pub fn forget<H: OrderHash>(service: &Service<H>, tally: &mut Tally)
     ensures { tally.new ≡ without_gone service.now.tenants tally.old }
 {
     forget_in(service, &mut tally.refused);
@@ -95,7 +95,7 @@ pub fn forget<H: KeyHash>(service: &Service<H>, tally: &mut Tally)
 
 /// Puts the table of a text in force. False if it is not, and then nothing has changed. Tells how many
 /// tenants it has, or why it is not put in force.
-fn change_table<H: KeyHash>(
+fn change_table<H: OrderHash>(
     alloc: Global,
     service: &mut Service<H>,
     tally: &mut Tally,
@@ -131,7 +131,7 @@ fn change_table<H: KeyHash>(
 
 /// Puts the table of a text in force, or carries out the order that the text is. False if it does not,
 /// and then nothing has changed. Tells what it did, or why it did nothing.
-pub fn change<H: KeyHash>(
+pub fn change<H: OrderHash>(
     alloc: Global,
     service: &mut Service<H>,
     tally: &mut Tally,

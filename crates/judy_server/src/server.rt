@@ -32,7 +32,7 @@ use judy_protocol::{Batch, Line, Refusal, Served};
 use judy_recovery::{Halt as Stopped, JournalFault, Reason};
 use judy_stream::{Sink, Source};
 use judy_table::{Speaker, Table};
-use judy_tenants::{KeyHash, Service, Sha256Hash};
+use judy_tenants::{OrderHash, Service, Sha256Hash};
 use std::alloc::{AllocError, Global};
 use std::marker::Model;
 
@@ -44,7 +44,7 @@ const MEGABYTE: u64 = 131_072;
 const NAMES: usize = 64;
 
 /// A hash of byte keys that can be made from nothing.
-pub trait Chosen: KeyHash {
+pub trait Chosen: OrderHash {
     /// The hash.
     fn chosen() -> Self;
 }

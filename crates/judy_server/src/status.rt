@@ -14,7 +14,7 @@ use crate::tally::{CALLS, KINDS, Tally, count_at};
 use itoa::Buffer;
 use judy_command::VERSION;
 use judy_table::{Speaker, TenantId};
-use judy_tenants::{KeyHash, Service};
+use judy_tenants::{OrderHash, Service};
 use std::alloc::AllocError;
 
 /// The numbers of the whole service that come first.
@@ -120,7 +120,7 @@ fn add_metric(text: &mut Vec<u8>, metric: Metric, n: u64) -> Result<(), AllocErr
 }
 
 /// A number of the whole service.
-fn total<H: KeyHash>(service: &Service<H>, tally: &Tally, total: Total) -> u64
+fn total<H: OrderHash>(service: &Service<H>, tally: &Tally, total: Total) -> u64
     ensures { result ≡ total_of (tallied service.now tally.now) total }
 {
     match total {
@@ -137,7 +137,7 @@ fn total<H: KeyHash>(service: &Service<H>, tally: &Tally, total: Total) -> u64
 
 /// Appends a number of the whole service.
 #[tactic(auto, unfolding(crate::specs::Status::one_total))]
-fn add_total<H: KeyHash>(
+fn add_total<H: OrderHash>(
     text: &mut Vec<u8>,
     service: &Service<H>,
     tally: &Tally,
@@ -149,7 +149,7 @@ fn add_total<H: KeyHash>(
 }
 
 /// Appends the numbers of the whole service that come first.
-fn add_totals<H: KeyHash>(
+fn add_totals<H: OrderHash>(
     text: &mut Vec<u8>,
     service: &Service<H>,
     tally: &Tally,
@@ -164,7 +164,7 @@ fn add_totals<H: KeyHash>(
 }
 
 /// A number of a tenant.
-fn number<H: KeyHash>(service: &Service<H>, tally: &Tally, share: Share, tenant: TenantId) -> u64
+fn number<H: OrderHash>(service: &Service<H>, tally: &Tally, share: Share, tenant: TenantId) -> u64
     requires { tenant < length service.now.tenants }
     ensures { result ≡ number_of (tallied service.now tally.now) share tenant }
 {
@@ -180,7 +180,7 @@ fn number<H: KeyHash>(service: &Service<H>, tally: &Tally, share: Share, tenant:
 }
 
 /// Appends a line for each tenant.
-fn add_shares<H: KeyHash>(
+fn add_shares<H: OrderHash>(
     text: &mut Vec<u8>,
     service: &Service<H>,
     tally: &Tally,
@@ -205,7 +205,7 @@ fn add_shares<H: KeyHash>(
 
 /// Appends a number of each tenant.
 #[tactic(auto, unfolding(crate::specs::Status::by_tenant))]
-fn add_by_tenant<H: KeyHash>(
+fn add_by_tenant<H: OrderHash>(
     text: &mut Vec<u8>,
     service: &Service<H>,
     tally: &Tally,
@@ -218,7 +218,7 @@ fn add_by_tenant<H: KeyHash>(
 }
 
 /// Appends the numbers of each tenant that come first.
-fn add_by_tenants<H: KeyHash>(
+fn add_by_tenants<H: OrderHash>(
     text: &mut Vec<u8>,
     service: &Service<H>,
     tally: &Tally,
@@ -233,7 +233,7 @@ fn add_by_tenants<H: KeyHash>(
 }
 
 /// Appends the numbers of each tenant that come last.
-fn add_last_by_tenants<H: KeyHash>(
+fn add_last_by_tenants<H: OrderHash>(
     text: &mut Vec<u8>,
     service: &Service<H>,
     tally: &Tally,
@@ -248,7 +248,7 @@ fn add_last_by_tenants<H: KeyHash>(
 }
 
 /// Appends a line for each tenant: its connections.
-fn add_speakers<H: KeyHash>(
+fn add_speakers<H: OrderHash>(
     text: &mut Vec<u8>,
     service: &Service<H>,
     speakers: &[Option<Speaker>],
@@ -273,7 +273,7 @@ fn add_speakers<H: KeyHash>(
 
 /// Appends the connections by tenant.
 #[tactic(auto, unfolding(crate::specs::Status::by_speaker))]
-fn add_by_speaker<H: KeyHash>(
+fn add_by_speaker<H: OrderHash>(
     text: &mut Vec<u8>,
     service: &Service<H>,
     tally: &Tally,
@@ -354,7 +354,7 @@ fn add_build(text: &mut Vec<u8>) -> Result<(), AllocError>
 }
 
 /// Appends the status of a service with these counts and these speakers of the open connections.
-pub fn add_status<H: KeyHash>(
+pub fn add_status<H: OrderHash>(
     text: &mut Vec<u8>,
     service: &Service<H>,
     tally: &Tally,

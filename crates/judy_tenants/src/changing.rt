@@ -8,7 +8,7 @@ use crate::freeing::{free_gone, stays_at};
 use crate::grants::words_for;
 use crate::laws;
 use crate::stock::Stock;
-use judy_bytes::KeyHash;
+use judy_bytes::OrderHash;
 use judy_model::Quota;
 use judy_table::{Table, TenantId};
 use std::alloc::Global;
@@ -53,7 +53,7 @@ fn first_beyond(accounts: &[Account], table: &Table, later: &Table) -> Option<Te
 /// Puts later rows in force. The arrays of each tenant that does not stay are freed.
 ///
 /// Err: the new quota of this tenant is less than what it holds. Nothing changed.
-pub fn put_in_force<H: KeyHash>(
+pub fn put_in_force<H: OrderHash>(
     alloc: Global,
     stock: &mut Stock,
     hash: H,

@@ -17,7 +17,7 @@ use crate::accounts::{Account, ROWS, settle};
 use crate::laws;
 use crate::stock::{Stock, stands_at};
 use judy_arena::Arena;
-use judy_bytes::KeyHash;
+use judy_bytes::OrderHash;
 use judy_directory::{Directory, Place};
 use judy_kinds::answer;
 use judy_model::{BytesCall, Call, Kind, LongCall, Name, OneCall, ReplyRoom, StrCall};
@@ -37,7 +37,7 @@ fn free_of<'a>(kind: Kind, name: Name) -> Call<'a>
 }
 
 /// Frees the array at a place, by its own call. Its name is not forgotten.
-fn free<H: KeyHash>(alloc: Global, arena: &mut Arena, hash: H, kind: Kind, name: Name, place: Place)
+fn free<H: OrderHash>(alloc: Global, arena: &mut Arena, hash: H, kind: Kind, name: Name, place: Place)
     requires place { IsPlaceOf H.hashed kind arena.old.blocks place }
     requires few { place.pieces < 2 ^ 63 }
     ensures array { ArrayBecomes H.hashed kind arena.old place arena.new nothing }
@@ -55,7 +55,7 @@ fn free<H: KeyHash>(alloc: Global, arena: &mut Arena, hash: H, kind: Kind, name:
 
 /// Frees the arrays of the tenants that are marked, in one pass over all names. The names are not
 /// forgotten yet: once they are, all else is sound.
-fn free_marked<H: KeyHash>(
+fn free_marked<H: OrderHash>(
     alloc: Global,
     arena: &mut Arena,
     accounts: &mut Vec<Account>,
@@ -120,7 +120,7 @@ fn marks(table: &Table, later: &Table) -> [bool; ROWS]
 }
 
 /// Frees all arrays of the tenants at the marked places.
-pub fn free_all<H: KeyHash>(alloc: Global, stock: &mut Stock, hash: H, table: &Table, gone: &[bool])
+pub fn free_all<H: OrderHash>(alloc: Global, stock: &mut Stock, hash: H, table: &Table, gone: &[bool])
     requires stocked { IsStocked H.hashed table.now stock.old }
     requires known { (t : ℕ) → IsTrue (get_or gone.now t false) → t < length table.now }
     ensures stocked { IsStocked H.hashed table.now stock.new }
@@ -141,7 +141,7 @@ pub fn free_all<H: KeyHash>(alloc: Global, stock: &mut Stock, hash: H, table: &T
 }
 
 /// Frees all arrays of the tenants that do not stay when later rows come in force.
-pub fn free_gone<H: KeyHash>(
+pub fn free_gone<H: OrderHash>(
     alloc: Global,
     stock: &mut Stock,
     hash: H,

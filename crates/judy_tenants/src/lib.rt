@@ -13,7 +13,7 @@ mod serving;
 mod stock;
 mod whole;
 
-pub use judy_bytes::{KeyHash, Sha256Hash};
+pub use judy_bytes::{KeyHash, OrderHash, Sha256Hash};
 pub use judy_kinds::is_callable;
 pub use judy_model::{BytesCall, Call, Key, LongCall, Name, OneCall, Quota, Reply, Right, StrCall};
 pub use judy_table::{Speaker, Table, TableFault, TenantId};

@@ -7,7 +7,7 @@ ghost use Rattle.judy_tenants.specs.Held.{states_of, quotas_of};
 ghost use Rattle.judy_tenants.specs.Runs.{told_event, is_answerable, AreCallsOf, AreCounted};
 
 use crate::service::Service;
-use judy_bytes::KeyHash;
+use judy_bytes::OrderHash;
 use judy_kinds::is_callable;
 use judy_model::{Call, OwnedReply, ReplyRoom};
 use judy_table::Speaker;
@@ -20,7 +20,7 @@ pub struct Event<'a> {
     pub call: Call<'a>,
 }
 
-impl<H: KeyHash> Service<H> {
+impl<H: OrderHash> Service<H> {
     /// Whether each speaker is a tenant of this service, and each key of a JudySL call is a string.
     pub fn can_answer(&self, events: &[Event<'_>]) -> bool
         ensures { result ≡ list_all (is_answerable self.now.tenants) events.now }

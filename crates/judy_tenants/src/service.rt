@@ -21,7 +21,7 @@ use crate::laws;
 use crate::serving::serve;
 use crate::stock::{Stock, prepare};
 use judy_arena::{Arena, NoMemory};
-use judy_bytes::KeyHash;
+use judy_bytes::OrderHash;
 use judy_directory::Directory;
 use judy_model::{Call, Reply, ReplyRoom};
 use judy_table::{Speaker, Table, TenantId};
@@ -32,14 +32,14 @@ use std::mem::{replace, swap};
 /// The tenants of a table, each with its own arrays. All arrays lie in one arena. The spare table takes
 /// the rows after another table is read, so that no memory is asked for then.
 #[derive(Drop)]
-pub struct Service<H: KeyHash> {
+pub struct Service<H: OrderHash> {
     stock: Stock,
     table: Table,
     spare: Table,
     hash: H,
 }
 
-impl<H: KeyHash> Model for Service<H> {
+impl<H: OrderHash> Model for Service<H> {
     ghost use Rattle.judy_tenants.specs.Held.{Held};
     ghost use Rattle.judy_tenants.specs.Stocks.{held_of, IsGranted, IsStocked};
 
@@ -50,7 +50,7 @@ impl<H: KeyHash> Model for Service<H> {
     ghost invariant = { λ s. IsStocked H.hashed s.table s.stock × IsGranted s.table s.stock };
 }
 
-impl<H: KeyHash> Service<H> {
+impl<H: OrderHash> Service<H> {
     /// A service for the tenants of a table, without entries. Names are hashed with a secret.
     ///
     /// Err: out of memory. The table is dropped.

@@ -11,7 +11,7 @@ use crate::accounts::{account_of, settle};
 use crate::laws;
 use crate::stock::{Stock, exchange, is_full};
 use crate::whole::overlook;
-use judy_bytes::KeyHash;
+use judy_bytes::OrderHash;
 use judy_directory::Spot;
 use judy_kinds::array_of;
 use judy_model::{Call, Reply, ReplyRoom};
@@ -19,7 +19,7 @@ use judy_table::{Speaker, Table};
 use std::alloc::Global;
 
 /// Answers a call. Refusals come in this order: the right, the quota, memory.
-pub fn serve<'a, H: KeyHash>(
+pub fn serve<'a, H: OrderHash>(
     alloc: Global,
     stock: &mut Stock,
     hash: H,

@@ -15,7 +15,7 @@ ghost use Rattle.judy_tenants.specs.Stocks.{HasNoReserveIn, IsExchange, IsRefuse
 
 use crate::accounts::{Account, has_room};
 use judy_arena::{Arena, NoMemory};
-use judy_bytes::KeyHash;
+use judy_bytes::OrderHash;
 use judy_directory::{Directory, Place, Spot};
 use judy_kinds::{answer, asks};
 use judy_model::{Call, LongCall, OneCall, Quota, Reply, ReplyRoom};
@@ -76,7 +76,7 @@ pub fn stands_at(directory: &Directory, spot: &Spot) -> Place
 
 /// Whether the call asks for a new entry beyond the quota. The array is read only if the quota has
 /// no room.
-pub fn is_full<H: KeyHash>(
+pub fn is_full<H: OrderHash>(
     stock: &Stock,
     hash: H,
     account: Account,
@@ -106,7 +106,7 @@ pub fn is_full<H: KeyHash>(
 /// unchanged.
 ///
 /// Err: out of memory for a new name, or the arena refused a block. All arrays are unchanged.
-pub fn exchange<'a, H: KeyHash>(
+pub fn exchange<'a, H: OrderHash>(
     alloc: Global,
     stock: &mut Stock,
     hash: H,
@@ -132,7 +132,7 @@ pub fn exchange<'a, H: KeyHash>(
 }
 
 /// Answers a call that is no insertion. The directory takes no memory.
-fn look_up<'a, H: KeyHash>(
+fn look_up<'a, H: OrderHash>(
     alloc: Global,
     stock: &mut Stock,
     hash: H,
@@ -215,7 +215,7 @@ fn insertions_ask_of_nothing(call: &Call<'_>)
 
 /// Answers an insertion. A new name gets its place first, and loses it if the arena refuses a
 /// block.
-fn enter<'a, H: KeyHash>(
+fn enter<'a, H: OrderHash>(
     alloc: Global,
     stock: &mut Stock,
     hash: H,

@@ -12,7 +12,7 @@ ghost use Rattle.judy_words.specs.OneArrays.{one_in};
 use crate::accounts::Account;
 use crate::laws;
 use crate::stock::{Stock, stands_at};
-use judy_bytes::KeyHash;
+use judy_bytes::OrderHash;
 use judy_directory::Spot;
 use judy_kinds::intersection;
 use judy_model::{Call, Kind, Listing, Name, Quota, Reply};
@@ -28,7 +28,7 @@ fn set_of(stock: &Stock, tenant: TenantId, name: &Name) -> Ref
 }
 
 /// The reply to a call that names no array, or two. It changes nothing.
-pub fn overlook<'a, H: KeyHash>(
+pub fn overlook<'a, H: OrderHash>(
     stock: &Stock,
     _hash: H,
     tenant: TenantId,

@@ -33,6 +33,8 @@ fn insertion_by(call: &Call<'_>, text: &mut KeyText) -> Option<Array>
         Call::Bytes(_, BytesCall::DeleteIf(..)) => None,
         Call::Bytes(_, BytesCall::Take(_)) => None,
         Call::Bytes(_, BytesCall::Get(_)) => None,
+        Call::Bytes(_, BytesCall::First(_)) => None,
+        Call::Bytes(_, BytesCall::Next(..)) => None,
         Call::Bytes(_, BytesCall::Free) => None,
         Call::One(_, _) => None,
         Call::Long(_, _) => None,
