@@ -6,7 +6,8 @@ use Rattle.std.specs.Fmt.{digits}
 use Rattle.hex.specs.Hex.{decode_pairs, encode_with}
 use Rattle.judy_model.specs.Grammar.{is_name, number_of_field}
 use Rattle.judy_model.specs.Reading.{request_of}
-use Rattle.judy_model.specs.Walks.{listed}
+use Rattle.sha2.specs.Sha256.{compress, digest_bytes, first_words, hash_after, rounds, schedule, sha256}
+use Rattle.judy_model.specs.Walks.{key_word, listed}
 use Rattle.judy_model.proofs.Talks.{alice, bob}
 
 -- every search of a set of 3, 5 and 9, at an index that is there and at one that is not
@@ -49,6 +50,13 @@ bytes_calls : bob
     ≡ codes "OK\nV 0\nV 0\nV 7\nV 7\nV 7\nV 7\nV 5\n0\n1\nNULL\nN 1\n"
 unfolding digits decode_pairs
 bytes_calls = refl
+
+-- walks over a JudyHS go by the hashes of its keys: `b`, `e`, `a`, and the empty key; a walk has a number
+bytes_walks : bob
+    (codes "JHSF h 5\nJHSI h x61 7\nJHSI h x62 8\nJHSI h x 9\nJHSI h x65\nJHSF h 5\nJHSF h 2\nJHSN h x62 5\nJHSN h x65 1\nJHSN h x63 1\nJHSN h x 5\nJHSF h\nJHSF h 0\nJHSF h 65536\nJHSF h x61 1\nJHSF h 1 2\nJHSN h x61\nJHSN h 5\nJHSN h x61 0\n")
+    ≡ codes "OK\nE 0\nV 0\nV 0\nV 0\nV 0\nE 4 8 x62 0 x65 7 x61 9 x\nE 2 8 x62 0 x65\nE 3 0 x65 7 x61 9 x\nE 1 7 x61\nE 1 8 x62\nE 0\nERR SYNTAX\nERR SYNTAX\nERR SYNTAX\nERR SYNTAX\nERR SYNTAX\nERR SYNTAX\nERR SYNTAX\nERR SYNTAX\n"
+unfolding digits decode_pairs encode_with key_word sha256 hash_after compress rounds schedule first_words digest_bytes
+bytes_walks = refl
 
 -- additions of each kind
 additions : bob
