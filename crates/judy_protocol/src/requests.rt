@@ -1,7 +1,7 @@
 //! Reads the request that a line spells.
 ghost use Rattle.std.specs.Prelude.{◌≡◌, None, Some, [], ◌∷◌, IfOk, OnErr, codes, option_map, if◌then◌else◌};
 ghost use Rattle.judy_model.specs.declared.calls.Call.TheVariants as calls;
-ghost use Rattle.judy_model.specs.Grammar.{bytes_call, call_by, fields_of, first_keys_call, intersection_call, is_token, long_call, numbers_of_fields, one_call, string_call};
+ghost use Rattle.judy_model.specs.Grammar.{begins_walk, bytes_call, call_by, fields_of, first_keys_call, intersection_call, is_token, long_call, numbers_of_fields, one_call, string_call};
 ghost use Rattle.judy_model.specs.Reading.{auth_of, named_request, request_of, request_of_fields};
 
 use crate::commands::{bytes_with, command_of, entries_in, first_keys, long_with, one_with, string_with};
@@ -107,6 +107,13 @@ fn of_bytes<'a>(
     Some(Call::Bytes(name, bytes_with(operation, key, numbers_in(after_key)?)?))
 }
 
+/// Whether an operation on a map from byte keys begins a walk. It takes no key.
+fn begins_walk(operation: Operation) -> bool
+    ensures { result ≡ begins_walk operation }
+{
+    matches!(operation, Operation::First)
+}
+
 /// The call that begins a walk over a map from byte keys: what comes after the name is a number.
 fn of_first_keys(name: Name, after_name: &[u8]) -> Option<Call<'static>>
     ensures { result ≡ option_map (λ c. calls.Bytes name c) (first_keys_call (fields_of after_name.now)) }
@@ -128,7 +135,7 @@ fn call_by<'a>(
         Kind::One => of_one(command.operation, name, after_name),
         Kind::Long => of_long(command.operation, name, after_name),
         Kind::Str => of_string(command.operation, name, after_name, room),
-        Kind::Bytes if command.operation == Operation::First => of_first_keys(name, after_name),
+        Kind::Bytes if begins_walk(command.operation) => of_first_keys(name, after_name),
         Kind::Bytes => of_bytes(command.operation, name, after_name, room),
     }
 }
