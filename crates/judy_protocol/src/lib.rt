@@ -28,6 +28,7 @@ pub use gathering::Batch;
 pub use held::Held;
 pub use judy_model::Line;
 pub use limits::{ANSWERS_LIMIT, REPLY_LIMIT};
+pub use numbers::{key, next_number};
 pub use replies::write_reply;
 pub use requests::{Syntax, read_line};
 pub use sending::send;

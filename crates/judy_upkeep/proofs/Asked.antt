@@ -3,7 +3,10 @@
 --     gives      a speaker made its call
 --     asked      the same, by what came of it
 --     changed    the same of a call that may change an array
+--     map_ok     what follows from what holds if a call did not fail
+--     if_ok      what holds anyhow
 use Rattle.std.proofs.Common.{◌≡◌, ◌<◌, ℕ, List, Some, Result, Ok, Err, sym, ◌∙◌, ap, subst, inl, length, get_or, slice_get}
+use Rattle.std.specs.Prelude.{OnOk}
 use Rattle.std.proofs.lemmas.Option.{slice_get-get_or}
 use Rattle.judy_model.specs.Reading.{request_of}
 use Rattle.judy_model.specs.Speakers.{Speaker}
@@ -30,3 +33,15 @@ pub asked : {S K : Type 0} (who : K → Speaker) (made : Made S) (speakers : Lis
     → HasAsked who made speakers tenant line result last last' old new
 asked who made speakers tenant line (Ok came) last last' old new given key = record { given = given; key = key }
 asked who made speakers tenant line (Err why) last last' old new given key = inl (record { given = given; key = key })
+
+-- ---- calls that did not fail
+
+-- what follows from what holds if a call did not fail
+pub map_ok : {T E P Q : Type 0} (r : Result T E) → (P → Q) → OnOk r P → OnOk r Q
+map_ok (Ok done) f p = f p
+map_ok (Err why) f p = tt
+
+-- what holds anyhow
+pub if_ok : {T E P : Type 0} (r : Result T E) → P → OnOk r P
+if_ok (Ok done) p = p
+if_ok (Err why) p = tt

@@ -1,7 +1,6 @@
 mod Added
 mod Asked
 mod Finishing
-mod Moved
 mod Played
 mod Printed
 mod Removing

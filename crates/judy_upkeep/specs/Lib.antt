@@ -11,7 +11,6 @@ pub mod Playing
 pub mod Printing
 pub mod Repairing
 pub mod Replacing
-pub mod Rewriting
 pub mod Scanning
 pub mod Steps
 pub mod Tenants

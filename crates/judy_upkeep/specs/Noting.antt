@@ -12,8 +12,7 @@ use Rattle.judy_model.specs.declared.commands.Kind.TheVariants as kind
 use Rattle.judy_protocol.specs.Services.{Made}
 use Rattle.judy_upkeep.specs.Asking.{Finds, Gives}
 use Rattle.judy_upkeep.specs.Changes.{array_at, letter_of}
-use Rattle.judy_upkeep.specs.Lines.{look_text}
-use Rattle.judy_upkeep.specs.Rewriting.{key_text}
+use Rattle.judy_upkeep.specs.Lines.{key_text, look_text}
 use Rattle.judy_upkeep.specs.declared.asking.Came.{Came}
 use Rattle.judy_upkeep.specs.declared.asking.Came.TheVariants as what
 use Rattle.judy_upkeep.specs.declared.kinds.Array.{Array}

@@ -5,7 +5,7 @@ use Rattle.std.specs.Prelude.{◌≡◌, ℕ, List, Option, Some, None, Ok, deci
 use Rattle.judy_model.specs.Speakers.{Speaker}
 use Rattle.judy_protocol.specs.Services.{Made}
 use Rattle.judy_upkeep.specs.Asking.{Finds}
-use Rattle.judy_upkeep.specs.Rewriting.{key_text}
+use Rattle.judy_upkeep.specs.Lines.{key_text}
 use Rattle.judy_upkeep.specs.declared.asking.Came.{Came}
 use Rattle.judy_upkeep.specs.declared.asking.Came.TheVariants as what
 

@@ -2,15 +2,16 @@
 ghost use Rattle.std.specs.Prelude.{◌≡◌, ◌≤◌, length, IfOk};
 ghost use Rattle.std.specs.List.{All};
 ghost use Rattle.judy_protocol.specs.Services.{IsAsked, IsKnown};
-ghost use Rattle.judy_upkeep.specs.Asking.{HasAsked, HasChanged, came_at, key_in};
+ghost use Rattle.judy_model.specs.Grammar.{fields_of};
+ghost use Rattle.judy_upkeep.specs.Asking.{HasAsked, HasChanged, came_at, entry_in, key_in, listed_came};
 
 use crate::kinds::Change;
 use crate::lines::put;
 use arrayvec::ArrayVec;
 use itoa::Buffer;
-use judy_model::{Call, KEY_LIMIT, Reply, ReplyRoom};
+use judy_model::{Call, KEY_LIMIT, Key, Reply, ReplyRoom};
 use judy_programs::Opens;
-use judy_protocol::{Line, Served, read_line};
+use judy_protocol::{Line, Served, key, next_field, next_number, read_line};
 use judy_recovery::Reason;
 use std::alloc::{AllocError, Global};
 
@@ -53,8 +54,33 @@ pub struct Asking<S: Served> {
     ghost known: { All (λ s. IsKnown (S.seen service).speakers (S.who s)) speakers.items },
 }
 
-/// What came of a call, by its reply.
-fn came_of(reply: &Reply<'_>) -> Result<Came, Reason>
+/// The value and the key of the one entry in the text of a reply. The key's bytes are put into the room.
+fn entry_in<'a>(text: &[u8], room: &'a mut [u8; KEY_LIMIT]) -> Option<(u64, Key<'a>)>
+    ensures { result ≡ entry_in (fields_of text.now) }
+{
+    let (value, after_value) = next_number(text)?;
+    let (field, after_key) = next_field(after_value)?;
+    if next_field(after_key).is_some() {
+        return None;
+    }
+    Some((value, key(field, room)?))
+}
+
+/// What came of a call that asks for one entry, by how many its reply has, and their text.
+fn came_with(count: u16, text: &[u8], room: &mut [u8; KEY_LIMIT]) -> Result<Came, Reason>
+    ensures { result ≡ listed_came count (entry_in (fields_of text.now)) }
+{
+    if count == 0 {
+        return Ok(Came::Nothing);
+    }
+    match entry_in(text, room) {
+        Some((value, _)) => Ok(Came::AtKey(value)),
+        None => Err(Reason::Record),
+    }
+}
+
+/// What came of a call, by its reply. The room is for a key in it.
+fn came_of(reply: &Reply<'_>, room: &mut [u8; KEY_LIMIT]) -> Result<Came, Reason>
     ensures { result ≡ came_at reply.now }
 {
     match reply {
@@ -66,22 +92,38 @@ fn came_of(reply: &Reply<'_>) -> Result<Came, Reason>
         Reply::Count(count) => Ok(Came::Count(*count)),
         Reply::ValueAt(value, index) => Ok(Came::At(*index, *value)),
         Reply::ValueKey(value, _) => Ok(Came::AtKey(*value)),
-        Reply::Used(_, _, _, _) | Reply::Entries(_, _) | Reply::Intersection(_, _, _) => {
-            Err(Reason::Record)
-        }
+        Reply::Entries(count, text) => came_with(*count, text.as_bytes(), room),
+        Reply::Used(_, _, _, _) | Reply::Intersection(_, _, _) => Err(Reason::Record),
         Reply::Full => Err(Reason::Full),
         Reply::ReadOnly | Reply::Frozen => Err(Reason::Full),
         Reply::Memory => Err(Reason::Memory),
     }
 }
 
-/// Keeps the key that a reply tells, if it tells one.
-fn keep_key(reply: &Reply<'_>, last: &mut ArrayVec<u8, KEY_LIMIT>)
+/// Keeps a key as the one that was found last.
+fn keep(key: &Key<'_>, last: &mut ArrayVec<u8, KEY_LIMIT>)
+    ensures { last.new.items ≡ key.now }
+{
+    last.clear();
+    put(last, key.as_bytes());
+}
+
+/// Keeps the key that a reply shows, if it shows one. The room is for its bytes.
+fn keep_key(
+    reply: &Reply<'_>,
+    room: &mut [u8; KEY_LIMIT],
+    last: &mut ArrayVec<u8, KEY_LIMIT>,
+)
     ensures { last.new.items ≡ key_in reply.now last.old.items }
 {
-    if let Reply::ValueKey(_, key) = reply {
-        last.clear();
-        put(last, key.as_bytes());
+    match reply {
+        Reply::ValueKey(_, key) => keep(key, last),
+        Reply::Entries(_, text) => {
+            if let Some((_, key)) = entry_in(text.as_bytes(), room) {
+                keep(&key, last);
+            }
+        }
+        _ => {}
     }
 }
 
@@ -178,8 +220,8 @@ impl<S: Served> Asking<S> {
         let reply = self
             .service
             .call(self.alloc, *speaker, &call, &mut self.found);
-        keep_key(&reply, &mut self.last);
-        came_of(&reply)
+        keep_key(&reply, &mut self.key, &mut self.last);
+        came_of(&reply, &mut self.key)
     }
 
     /// Makes the call that a line of this tenant asks for, which must be one that may change an array.
@@ -202,7 +244,7 @@ impl<S: Served> Asking<S> {
         let reply = self
             .service
             .call(self.alloc, *speaker, &call, &mut self.found);
-        match came_of(&reply) {
+        match came_of(&reply, &mut self.key) {
             Ok(_) => Ok(change),
             Err(why) => Err(why),
         }

@@ -6,7 +6,6 @@ use crate::closing::close_last;
 use crate::output::Output;
 use crate::playing::Playing;
 use crate::replacing::{Replacing, remove_left, replace};
-use crate::rewriting::Rewriting;
 use crate::writing::Walk;
 use judy_disk::{DiskFault, Folder, Found, Locks, NewSnapshot, Place};
 use judy_journal::Writer;
@@ -73,30 +72,8 @@ fn of_reason(why: Reason, fault: Option<DiskFault>) -> Uncompacted {
     }
 }
 
-/// Writes the entries of maps from byte keys, which cannot be walked, to a snapshot: the records are read once
-/// more.
-fn rewrite_bytes<S: Opens + Drop, F: Files>(
-    alloc: Global,
-    folder: &Folder<'_, F>,
-    found: &Found,
-    playing: Playing<S>,
-    output: Output<F>,
-) -> Result<(Playing<S>, Output<F>), Uncompacted> {
-    let mut rewriting = Rewriting::new(playing, output);
-    match recover_closed(folder, alloc, found, &mut rewriting) {
-        Ok(_) => Ok(rewriting.into_parts()),
-        Err(fault) => Err(match rewriting.take_fault() {
-            Some(fault) => Uncompacted::Disk(fault),
-            None => Uncompacted::Journal(fault),
-        }),
-    }
-}
-
 /// Writes all entries to a snapshot, and removes them. Afterwards no array has a word.
 fn write_entries<S: Opens + Drop, F: Files>(
-    alloc: Global,
-    folder: &Folder<'_, F>,
-    found: &Found,
     playing: Playing<S>,
     output: Output<F>,
 ) -> Result<Output<F>, Uncompacted> {
@@ -104,10 +81,6 @@ fn write_entries<S: Opens + Drop, F: Files>(
     if let Err(why) = Walk::new().write_all(&mut playing, &mut output) {
         return Err(of_reason(why, output.take_fault()));
     }
-    if playing.entries.live_words() == 0 {
-        return Ok(output);
-    }
-    let (playing, output) = rewrite_bytes(alloc, folder, found, playing, output)?;
     if playing.entries.live_words() > 0 {
         return Err(Uncompacted::Left);
     }
@@ -118,13 +91,11 @@ fn write_entries<S: Opens + Drop, F: Files>(
 fn rewrite<S: Opens + Drop, F: Locks>(
     alloc: Global,
     folder: &mut Folder<'_, F>,
-    found: &Found,
     end: &End,
     playing: Playing<S>,
 ) -> Result<NewSnapshot<F>, Uncompacted> {
     let (writer, file) = begin(alloc, folder, end)?;
-    let output = Output::new(writer, file);
-    let mut output = write_entries(alloc, folder, found, playing, output)?;
+    let mut output = write_entries(playing, Output::new(writer, file))?;
     match output.end() {
         Ok(()) => Ok(output.into_file()),
         Err(Some(fault)) => Err(Uncompacted::Disk(fault)),
@@ -188,7 +159,7 @@ fn prepare_found<S: Opens + Drop, F: Locks + Clone + Drop>(
             upto,
         });
     };
-    let file = rewrite(alloc, folder, &found, &end, playing)?;
+    let file = rewrite(alloc, folder, &end, playing)?;
     Ok(Ready {
         found,
         file: Some(file),

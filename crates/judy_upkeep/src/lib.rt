@@ -16,7 +16,6 @@ mod printing;
 mod record;
 mod repairing;
 mod replacing;
-mod rewriting;
 mod tenants;
 mod writing;
 

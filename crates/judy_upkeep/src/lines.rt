@@ -1,7 +1,7 @@
 //! The lines that ask for an entry of an array, or make it.
 ghost use Rattle.std.specs.Prelude.{◌≡◌, ◌≤◌, ◌+◌, ◌++◌, codes, decimal, length};
 ghost use Rattle.hex.specs.Hex.{encode_lower};
-ghost use Rattle.judy_upkeep.specs.Lines.{call_text, insertion_text, least_key as least_key_lem, letters_of, look_text};
+ghost use Rattle.judy_upkeep.specs.Lines.{call_text, from_first as from_first_lem, insertion_text, letters_of, look_text, next_text};
 
 use crate::kinds::Array;
 use arrayvec::ArrayVec;
@@ -68,16 +68,17 @@ pub fn write_key(key: &[u8], text: &mut KeyText)
     put(text, &digits[..len]);
 }
 
-/// The text of the least key of this kind.
-pub fn least_key(kind: Kind) -> &'static [u8]
-    ensures key { result.now ≡ least_key_lem kind }
+/// What comes behind the name in the line that looks for the first entry: the least key of this kind. A map from
+/// byte keys is asked for one entry.
+pub fn from_first(kind: Kind) -> &'static [u8]
+    ensures text { result.now ≡ from_first_lem kind }
     ensures short { length result.now ≤ KEY_ROOM }
 {
     match kind {
         Kind::One => b"0",
         Kind::Long => b"0",
         Kind::Str => b"x",
-        Kind::Bytes => b"x",
+        Kind::Bytes => b"1",
     }
 }
 
@@ -104,6 +105,17 @@ pub fn write_look(array: &Array, does: &[u8], key: &[u8], line: &mut Text)
     write_call(array, does, line);
     put(line, b" ");
     put(line, key);
+}
+
+/// Makes the line that looks for the entry behind a key.
+pub fn write_next(array: &Array, key: &[u8], line: &mut Text)
+    requires { length key.now ≤ KEY_ROOM }
+    ensures { line.new.items ≡ next_text array.now key.now }
+{
+    write_look(array, b"N", key, line);
+    if array.kind == Kind::Bytes {
+        put(line, b" 1");
+    }
 }
 
 /// Makes the line that makes an entry with this value.

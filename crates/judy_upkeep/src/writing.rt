@@ -1,18 +1,18 @@
-//! Writes the entries of arrays that are walked in order to a snapshot.
-ghost use Rattle.std.specs.Prelude.{◌≤◌, codes, length, IfOk, OnOk};
-ghost use Rattle.judy_upkeep.specs.Lines.{insertion_text, least_key as least_key_lem, look_text};
+//! Writes the entries of arrays to a snapshot.
+ghost use Rattle.std.specs.Prelude.{codes, IfOk, OnOk};
+ghost use Rattle.judy_upkeep.specs.Lines.{from_first as from_first_lem, insertion_text, look_text, next_text};
 ghost use Rattle.judy_upkeep.specs.Output.{Adds};
 ghost use Rattle.judy_upkeep.specs.Walking.{Walks};
 
 use crate::asking::Came;
 use crate::kinds::Array;
 use crate::lines::{
-    KeyText, Text, least_key, put, write_index, write_insertion, write_key, write_look,
+    KeyText, Text, from_first, put, write_index, write_insertion, write_key, write_look, write_next,
 };
 use crate::output::Output;
 use crate::playing::Playing;
 use arrayvec::ArrayVec;
-use judy_model::{Kind, Name};
+use judy_model::Name;
 use judy_protocol::Served;
 use judy_recovery::Reason;
 use std::fs::Files;
@@ -33,22 +33,18 @@ impl Walk {
         }
     }
 
-    /// Looks for the next entry by a call with these letters, from this walk's key on. Returns its value, and then
-    /// the walk has its key. None if there is none.
+    /// Looks for an entry by this walk's line. Returns its value, and then the walk has its key. None if there is
+    /// none.
     fn step<S: Served>(
         &mut self,
         playing: &mut Playing<S>,
         tenant: usize,
-        array: &Array,
-        does: &[u8],
     ) -> Result<Option<u64>, Reason>
-        requires { length does.now ≤ 2 }
         ensures { IfOk result (λ found. Walks S.who S.made playing.old.entries.speakers.items tenant
-            (look_text array.now does.now self.old.key.items) playing.old.entries.last.items
+            self.old.line.items playing.old.entries.last.items
             playing.new.entries.last.items self.old.key.items found self.new.key.items playing.old.entries.service
             playing.new.entries.service) }
     {
-        write_look(array, does, self.key.as_slice(), &mut self.line);
         match playing.entries.ask(tenant, self.line.as_slice())? {
             Came::At(index, value) => {
                 write_index(index, &mut self.key);
@@ -71,13 +67,14 @@ impl Walk {
         array: &Array,
     ) -> Result<Option<u64>, Reason>
         ensures { IfOk result (λ found. Walks S.who S.made playing.old.entries.speakers.items tenant
-            (look_text array.now (codes "F") (least_key_lem array.now.kind)) playing.old.entries.last.items
-            playing.new.entries.last.items (least_key_lem array.now.kind) found self.new.key.items
+            (look_text array.now (codes "F") (from_first_lem array.now.kind)) playing.old.entries.last.items
+            playing.new.entries.last.items (from_first_lem array.now.kind) found self.new.key.items
             playing.old.entries.service playing.new.entries.service) }
     {
         self.key.clear();
-        put(&mut self.key, least_key(array.kind));
-        self.step(playing, tenant, array, b"F")
+        put(&mut self.key, from_first(array.kind));
+        write_look(array, b"F", self.key.as_slice(), &mut self.line);
+        self.step(playing, tenant)
     }
 
     /// Writes the entry with this walk's key, and looks for the next one.
@@ -93,13 +90,14 @@ impl Walk {
         ensures added { OnOk result (Adds name.now (insertion_text array.now self.old.key.items value)
             output.old output.new) }
         ensures next { IfOk result (λ found. Walks S.who S.made playing.old.entries.speakers.items tenant
-            (look_text array.now (codes "N") self.old.key.items) playing.old.entries.last.items
+            (next_text array.now self.old.key.items) playing.old.entries.last.items
             playing.new.entries.last.items self.old.key.items found self.new.key.items playing.old.entries.service
             playing.new.entries.service) }
     {
         write_insertion(array, self.key.as_slice(), value, &mut self.line);
         output.add(name.as_bytes(), self.line.as_slice())?;
-        self.step(playing, tenant, array, b"N")
+        write_next(array, self.key.as_slice(), &mut self.line);
+        self.step(playing, tenant)
     }
 
     /// Writes all entries of an array. Returns how many.
@@ -130,9 +128,6 @@ impl Walk {
         name: &Name,
         array: &Array,
     ) -> Result<(), Reason> {
-        if array.kind == Kind::Bytes {
-            return Ok(());
-        }
         let written = self.write_entries(playing, output, tenant, name, array)?;
         if playing.free(tenant, array)? != written {
             return Err(Reason::Record);
@@ -140,7 +135,7 @@ impl Walk {
         Ok(())
     }
 
-    /// Writes all entries of a tenant but those of its maps from byte keys, and removes them.
+    /// Writes all entries of a tenant, and removes them.
     fn write_tenant<S: Served, F: Files>(
         &mut self,
         playing: &mut Playing<S>,
@@ -157,7 +152,7 @@ impl Walk {
         Err(Reason::Record)
     }
 
-    /// Writes all entries of all tenants but those of maps from byte keys, which cannot be walked, and removes them.
+    /// Writes all entries of all tenants, and removes them.
     pub fn write_all<S: Served, F: Files>(
         &mut self,
         playing: &mut Playing<S>,

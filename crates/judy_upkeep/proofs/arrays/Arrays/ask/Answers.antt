@@ -3,7 +3,7 @@ use Rattle.judy_upkeep.specs.Asking.{HasAsked}
 use Rattle.judy_upkeep.specs.Changes.{letter_of}
 use Rattle.judy_upkeep.specs.Lines.{look_text}
 use Rattle.judy_upkeep.specs.Noting.{note_text, noting}
-use Rattle.judy_upkeep.specs.Rewriting.{key_text}
+use Rattle.judy_upkeep.specs.Lines.{key_text}
 use Rattle.judy_upkeep.proofs.Played.{key-made}
 use Rattle.judy_upkeep.proofs.arrays.Arrays.ask.Goals as goal
 

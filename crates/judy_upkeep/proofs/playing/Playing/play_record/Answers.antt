@@ -1,7 +1,7 @@
 use Rattle.std.proofs.Common.{◌∙◌, ◌++◌, List, ℕ, ap, codes, inl, inr, refl, subst, sym}
 use Rattle.judy_upkeep.specs.Playing.{both}
 use Rattle.judy_upkeep.specs.Tenants.{IsNumbered, Names}
-use Rattle.judy_upkeep.proofs.Moved.{map_ok}
+use Rattle.judy_upkeep.proofs.Asked.{map_ok}
 use Rattle.judy_upkeep.proofs.Played.{swept-then}
 use Rattle.judy_upkeep.proofs.playing.Playing.play_record.Goals as goal
 

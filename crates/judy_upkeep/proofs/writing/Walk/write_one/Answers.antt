@@ -1,7 +1,7 @@
 use Rattle.std.proofs.Common.{◌∙◌, ap, subst}
 use Rattle.judy_upkeep.specs.Lines.{insertion_text}
 use Rattle.judy_upkeep.specs.Output.{Adds}
-use Rattle.judy_upkeep.proofs.Moved.{if_ok}
+use Rattle.judy_upkeep.proofs.Asked.{if_ok}
 use Rattle.judy_upkeep.proofs.writing.Walk.write_one.Goals as goal
 
 pub returns-clause-added : goal.returns-clause-added
