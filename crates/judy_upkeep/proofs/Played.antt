@@ -94,15 +94,12 @@ forgot {S = S} {K = K} who made speakers speakers' noters noters' start entries 
   ),
 )
 
--- an array may have an entry
+-- an array has an entry
 pub probed : {S K : Type 0} (who : K → Speaker) (made : Made S) (speakers speakers' noters : List K) (start : Both S)
     (entries entries' noted noted' : S) (tenant : ℕ) (array : Array) → speakers' ≡ speakers → noted' ≡ noted
     → IsProbed who made speakers' tenant array false entries entries'
     → HasSwept who made speakers noters start (both entries noted) → HasSwept who made speakers noters start (both entries' noted')
-probed {S} {K} who made speakers speakers' noters start entries entries' noted noted' tenant array s n (inl same) swept =
-    subst (λ (v : S). HasSwept who made speakers noters start (both v noted')) (sym same)
-    (subst (λ (v : S). HasSwept who made speakers noters start (both entries v)) (sym n) swept)
-probed {S} {K} who made speakers speakers' noters start entries entries' noted noted' tenant array s n (inr (came, looks)) (count, swept) = (
+probed {S} {K} who made speakers speakers' noters start entries entries' noted noted' tenant array s n (came, looks) (count, swept) = (
   suc count,
   (
     both entries noted,

@@ -16,7 +16,7 @@ use Rattle.judy_model.specs.Grammar.{is_name}
 use Rattle.judy_model.specs.Speakers.{Speaker}
 use Rattle.judy_protocol.specs.Services.{Made}
 use Rattle.judy_upkeep.specs.Asking.{Alters, Gives}
-use Rattle.judy_upkeep.specs.Lines.{call_text, least_key, look_text}
+use Rattle.judy_upkeep.specs.Lines.{call_text, from_first, look_text}
 use Rattle.judy_upkeep.specs.Noting.{HasNoted, Seeks, TakesFirst, Tells, first_text, note_text}
 use Rattle.judy_upkeep.specs.Tenants.{IsNumbered, Names, Stands, with_name}
 use Rattle.judy_upkeep.specs.declared.asking.Came.{Came}
@@ -37,13 +37,12 @@ both entries noted = record { entries = entries; noted = noted }
 -- the first entry of an array was looked for
 abbrev pub Looks : {S K : Type 0} → (K → Speaker) → Made S → List K → ℕ → Array → Came → S → S → Type 0
 Looks who made speakers tenant array came old new =
-    Gives who made speakers tenant (look_text array (codes "F") (least_key array.kind)) (Ok came) old new
+    Gives who made speakers tenant (look_text array (codes "F") (from_first array.kind)) (Ok came) old new
 
--- the array has no entry; or it may have one, and this was asked at most
+-- its first entry was looked for: the array has none, or something else came
 abbrev pub IsProbed : {S K : Type 0} → (K → Speaker) → Made S → List K → ℕ → Array → Bool → S → S → Type 0
 IsProbed who made speakers tenant array true old new = Looks who made speakers tenant array what.Nothing old new
-IsProbed who made speakers tenant array false old new =
-    (new ≡ old) ⊎ ((came : Came) × Looks who made speakers tenant array came old new)
+IsProbed who made speakers tenant array false old new = (came : Came) × Looks who made speakers tenant array came old new
 
 -- a line that looks for an array that is noted
 abbrev pub IsSeeking : List ℕ → Type 0

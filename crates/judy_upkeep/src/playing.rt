@@ -10,7 +10,7 @@ use crate::arrays::Arrays;
 use crate::asking::{Asking, Came};
 use crate::kinds::Array;
 use crate::leaving::{cut_name, others_gone};
-use crate::lines::{Text, least_key, write_call, write_look};
+use crate::lines::{Text, from_first, write_call, write_look};
 use crate::tenants::Tenants;
 use arrayvec::ArrayVec;
 use judy_journal::read_record;
@@ -82,7 +82,7 @@ impl<S: Served> Playing<S> {
         Err(Reason::Record)
     }
 
-    /// Whether an array has no entry, as far as that can be asked: of a map from byte keys it can't.
+    /// Whether an array has no entry.
     fn is_empty(&mut self, tenant: usize, array: &Array) -> Result<bool, Reason>
         ensures probed { IfOk result (λ empty. IsProbed S.who S.made self.old.entries.speakers.items tenant
             array.now empty self.old.entries.service self.new.entries.service) }
@@ -91,10 +91,7 @@ impl<S: Served> Playing<S> {
         ensures arrays { self.new.arrays.asking.service ≡ self.old.arrays.asking.service }
         ensures names { self.new.tenants.names.items ≡ self.old.tenants.names.items }
     {
-        if array.kind == Kind::Bytes {
-            return Ok(false);
-        }
-        write_look(array, b"F", least_key(array.kind), &mut self.line);
+        write_look(array, b"F", from_first(array.kind), &mut self.line);
         let came = self.entries.ask(tenant, self.line.as_slice())?;
         match came {
             Came::Nothing => Ok(true),
