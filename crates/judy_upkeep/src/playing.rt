@@ -14,7 +14,7 @@ use crate::lines::{Text, from_first, write_call, write_look};
 use crate::tenants::Tenants;
 use arrayvec::ArrayVec;
 use judy_journal::read_record;
-use judy_model::{Kind, name_ok};
+use judy_model::name_ok;
 use judy_programs::Opens;
 use judy_protocol::{Served, cut_line};
 use judy_recovery::{Halt, Player, Reason};
