@@ -4,7 +4,9 @@ ghost use Rattle.judy_model.specs.declared.calls.Call.TheVariants as calls;
 ghost use Rattle.judy_model.specs.Grammar.{begins_walk, bytes_call, call_by, fields_of, first_keys_call, intersection_call, is_token, long_call, numbers_of_fields, one_call, string_call};
 ghost use Rattle.judy_model.specs.Reading.{auth_of, named_request, request_of, request_of_fields};
 
-use crate::commands::{bytes_with, command_of, entries_in, first_keys, long_with, one_with, string_with};
+use crate::commands::{
+    bytes_with, command_of, entries_in, first_keys, long_with, one_with, string_with,
+};
 use crate::fields::{next_field, to_field};
 use crate::numbers::{key, next_number, string};
 use judy_model::{

@@ -37,7 +37,14 @@ fn free_of<'a>(kind: Kind, name: Name) -> Call<'a>
 }
 
 /// Frees the array at a place, by its own call. Its name is not forgotten.
-fn free<H: OrderHash>(alloc: Global, arena: &mut Arena, hash: H, kind: Kind, name: Name, place: Place)
+fn free<H: OrderHash>(
+    alloc: Global,
+    arena: &mut Arena,
+    hash: H,
+    kind: Kind,
+    name: Name,
+    place: Place,
+)
     requires place { IsPlaceOf H.hashed kind arena.old.blocks place }
     requires few { place.pieces < 2 ^ 63 }
     ensures array { ArrayBecomes H.hashed kind arena.old place arena.new nothing }
@@ -120,7 +127,13 @@ fn marks(table: &Table, later: &Table) -> [bool; ROWS]
 }
 
 /// Frees all arrays of the tenants at the marked places.
-pub fn free_all<H: OrderHash>(alloc: Global, stock: &mut Stock, hash: H, table: &Table, gone: &[bool])
+pub fn free_all<H: OrderHash>(
+    alloc: Global,
+    stock: &mut Stock,
+    hash: H,
+    table: &Table,
+    gone: &[bool],
+)
     requires stocked { IsStocked H.hashed table.now stock.old }
     requires known { (t : ℕ) → IsTrue (get_or gone.now t false) → t < length table.now }
     ensures stocked { IsStocked H.hashed table.now stock.new }

@@ -109,11 +109,7 @@ fn keep(key: &Key<'_>, last: &mut ArrayVec<u8, KEY_LIMIT>)
 }
 
 /// Keeps the key that a reply shows, if it shows one. The room is for its bytes.
-fn keep_key(
-    reply: &Reply<'_>,
-    room: &mut [u8; KEY_LIMIT],
-    last: &mut ArrayVec<u8, KEY_LIMIT>,
-)
+fn keep_key(reply: &Reply<'_>, room: &mut [u8; KEY_LIMIT], last: &mut ArrayVec<u8, KEY_LIMIT>)
     ensures { last.new.items ≡ key_in reply.now last.old.items }
 {
     match reply {
