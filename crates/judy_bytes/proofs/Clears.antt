@@ -61,10 +61,10 @@ whole-count H b w h = ordered-same _ (once H b w h) ∙ entries-length b (bucket
 
 -- ---- searches
 
-first-is : (es : Entries ℕ) (x : ℕ) → first word_order es x ≡ head_of (from x es)
+pub first-is : (es : Entries ℕ) (x : ℕ) → first word_order es x ≡ head_of (from x es)
 first-is es x = ap head_of (filter_agree (λ (e : ℕ × ℕ). is_ge (nat_cmp e.0 x)) (λ e. nat_le x e.0) (λ e. is_ge-words e.0 x) es)
 
-next-is : (es : Entries ℕ) (x : ℕ) → next word_order es x ≡ head_of (from (suc x) es)
+pub next-is : (es : Entries ℕ) (x : ℕ) → next word_order es x ≡ head_of (from (suc x) es)
 next-is es x = ap head_of (filter_agree (λ (e : ℕ × ℕ). is_gt (nat_cmp e.0 x)) (λ e. nat_le (suc x) e.0) (λ e. is_gt-words e.0 x ∙ above e.0) es)
   where
     above : (a : ℕ) → nat_lt x a ≡ nat_le (suc x) a
