@@ -1,6 +1,6 @@
 -- Walks over a map: what comes next in their order is the rest of a chain, or else the chain of the next hash word.
-use Rattle.std.proofs.Common.{◌≡◌, ◌≢◌, ◌∙◌, ◌∷◌, ◌<◌, ◌≤◌, ℕ, suc, Bool, true, false, cond, List, [], Option, Some, None, is_some, refl, sym, ap, subst, arith, get_or, unwrap_or}
-use Rattle.std.specs.Prelude.{IfSome, nat_le, nat_lt, option_map}
+use Rattle.std.proofs.Common.{◌≡◌, ◌≢◌, ◌∙◌, ◌∷◌, ◌<◌, ◌≤◌, ℕ, suc, Bool, true, false, cond, List, [], Option, Some, None, is_some, refl, sym, ap, subst, arith, drop, get_or, map, unwrap_or}
+use Rattle.std.specs.Prelude.{nat_le, nat_lt, option_map}
 use Rattle.std.specs.Ordering.{eq_by_cmp, is_gt, is_lt, nat_cmp, ordering_then}
 use Rattle.std.specs.declared.cmp.Ordering.{Ordering}
 use Rattle.std.specs.declared.cmp.Ordering.TheVariants.{Less, Equal, Greater}
@@ -9,23 +9,48 @@ use Rattle.std.proofs.lemmas.Bool.Decides.{nat_tests}
 use Rattle.std.proofs.lemmas.Option.{none-some}
 use Rattle.judy_arena.specs.Blocks.{Blocks, words_of}
 use Rattle.judy_model.specs.Contents.{Entries, head_of, next, string_order, value_of, word_order}
-use Rattle.judy_model.specs.Walks.{hashed_key, key_word}
+use Rattle.judy_model.specs.Walks.{key_word, key_words, listed, walk_from}
 use Rattle.judy_model.proofs.lemmas.ByteLemmas.{by_hash_rises, key_by_hash, value_by_hash}
-use Rattle.judy_model.proofs.lemmas.EntryLemmas.{above, equal, from_less, greater, less, same_word, string_is}
+use Rattle.judy_model.proofs.lemmas.EntryLemmas.{above, equal, from_less, same_word, string_is}
 use Rattle.judy_model.proofs.lemmas.TestLemmas.{and_left}
 use Rattle.std.specs.FinMap.Entries.{below_all}
 use Rattle.judy_tree.specs.Parts.{from}
 use Rattle.judy_tree.proofs.lemmas.Clearing.{found-from, next-from}
 use Rattle.judy_words.specs.LongArrays.{long_in}
-use Rattle.judy_bytes.specs.Buckets.{bucket_key, next_of}
+use Rattle.judy_bytes.specs.Buckets.{bucket_key}
 use Rattle.judy_bytes.specs.Chains.{ByteEntries, IsBucketChain, Linked, bucket_entries, chain, chain_entries}
 use Rattle.judy_bytes.specs.BytesArrays.{IsBytesArray, bytes_in, first_at, if_some}
-use Rattle.judy_bytes.specs.Walks.{IsLeastOf, first_behind, hashed_in, is_above, is_behind, is_below}
+use Rattle.judy_bytes.specs.Walks.{IsLeastOf, first_behind, hashed_in, is_above, is_behind, shown_entry}
+use Rattle.judy_bytes.specs.declared.walks.Shown.{Shown}
 use Rattle.judy_bytes.proofs.Below.{words-rise}
 use Rattle.judy_bytes.proofs.Changes.{some-first, some-of}
 use Rattle.judy_bytes.proofs.Clears.{first-is, next-is}
 use Rattle.judy_bytes.proofs.Leasts.{least-alike, least-is-next}
 use Rattle.judy_bytes.proofs.Numbers.{content-found, tail-rises}
+
+-- ---- what is shown
+
+-- what is shown has its hashed key
+pub shown-is : (shown : Option Shown) (key : List ℕ)
+    → option_map (λ v. (unwrap_or (option_map (λ s. s.hash) shown) 0 ∷ key, v)) (option_map (λ s. s.value) shown) ≡ shown_entry shown key
+shown-is None key = refl
+shown-is (Some s) key = refl
+
+-- the text of an entry under its hashed key
+abbrev pub hashed_words : List ℕ × ℕ → List ℕ
+hashed_words e = key_words (drop 1 e.0, e.1)
+
+bare : (es : ByteEntries) → map key_words (map (λ e. (drop 1 e.0, e.1)) es) ≡ map hashed_words es
+bare [] = refl
+bare (e ∷ es) = ap (λ l. hashed_words e ∷ l) (bare es)
+
+-- what a list shows is a walk
+pub walk-is : (m : ByteEntries) (from : List ℕ) (n : ℕ) (start : Option (List ℕ × ℕ)) (all : ℕ × List ℕ) → start ≡ next string_order m from
+    → listed (map hashed_words (walk_from (λ e. next string_order m e.0) n start)) ≡ all
+    → listed (map key_words (map (λ e. (drop 1 e.0, e.1)) (walk_from (λ e. next string_order m e.0) n (next string_order m from)))) ≡ all
+walk-is m from n start all is same =
+    ap listed (bare (walk_from (λ e. next string_order m e.0) n (next string_order m from)))
+    ∙ ap (λ o. listed (map hashed_words (walk_from (λ e. next string_order m e.0) n o))) (sym is) ∙ same
 
 -- ---- the hash words
 
@@ -112,9 +137,12 @@ some-entry b w h ne = at (chain b w) h.linked
   where
     at : (ns : List ℕ) → Linked b w ns → (k : List ℕ) × (v : ℕ) × (value_of string_order (bucket_entries b ns) k ≡ Some v)
     at [] l = absurd (ne l)
-    at (n ∷ ns) l = (bucket_key (words_of b n), get_or (words_of b n) 1 0,
-        ap (λ t. cond t (Some (get_or (words_of b n) 1 0)) (value_of string_order (bucket_entries b ns) (bucket_key (words_of b n))))
-        (string_is (bucket_key (words_of b n)) (bucket_key (words_of b n)) refl))
+    at (n ∷ ns) l = (
+      bucket_key (words_of b n),
+      get_or (words_of b n) 1 0,
+      ap (λ t. cond t (Some (get_or (words_of b n) 1 0)) (value_of string_order (bucket_entries b ns) (bucket_key (words_of b n))))
+          (string_is (bucket_key (words_of b n)) (bucket_key (words_of b n)) refl),
+    )
 
 module _ (H : List ℕ → ℕ) (ordered : (key : List ℕ) → H key ≡ key_word key) (b : Blocks) (w : ℕ) (sound : IsBytesArray H b w) where
   -- what the chain of a hash word has, the map has under the hashed key

@@ -118,7 +118,13 @@ impl<H: OrderHash> JudyHS<H> {
                 return count;
             }
             copy(&mut last, &room.key);
-            found = self.behind(arena, shown.hash, shown.first, last.as_slice(), &mut room.key);
+            found = self.behind(
+                arena,
+                shown.hash,
+                shown.first,
+                last.as_slice(),
+                &mut room.key,
+            );
         }
         most
     }

@@ -1,7 +1,7 @@
-use Rattle.std.proofs.Common.{◌≡◌, ◌∙◌, ◌+◌, ◌<◌, ◌++◌, Result, Ok, Err, IsOk, OnOk, get_or, length, take, drop, ap, sym, subst, arith}
+use Rattle.std.proofs.Common.{◌≡◌, ◌∙◌, ◌+◌, ◌<◌, ◌++◌, Result, Ok, Err, IsOk, OnOk, get_or, length, take, drop, ap, sym, arith}
 use Rattle.std.proofs.lemmas.Bool.{false≢true as not_true}
 use Rattle.judy_arena.proofs.lemmas.RoomLaws.{room-covers}
-use Rattle.judy_bytes.specs.Buckets.{bucket_bytes_of, bucket_key, bucket_size, packed_bucket}
+use Rattle.judy_bytes.specs.Buckets.{bucket_bytes_of, bucket_key, packed_bucket}
 use Rattle.judy_bytes.proofs.Buckets.{bucket-long}
 use Rattle.judy_bytes.proofs.Compares.{bytes-few, bytes-more, word-bytes}
 use Rattle.judy_bytes.proofs.bucket.read_key.Goals as goal

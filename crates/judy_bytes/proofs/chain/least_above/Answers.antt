@@ -52,16 +52,16 @@ loop-block-preserved c =
       sought = subst (λ x. Sought all (chain_entries b x) passes c.if-is_sought.found c.if-is_sought.buffer.items) (sym c.next-at.ensures)
           (elim c.if-is_sought.branch [
             | then-is_sought w ↦
-              subst (λ v. Sought all (chain_entries b (next_of b n)) passes v c.if-is_sought.buffer.items) (sym (w.found-is ∙ ap Some w.value.ensures))
-              (subst (λ k. Sought all (chain_entries b (next_of b n)) passes (Some (get_or (words_of b n) 1 0)) k)
-              (sym (ap (λ x. x.items) w.buffer-is ∙ w.read_key.ensures))
-              (bucket-this b c.args.first c.loop-block.at n passes c.loop-block.found c.loop-block.buffer.items begin c.loop-block.invariant.sought
-              (test ∙ w.if-is_sought.true)))
+                subst (λ v. Sought all (chain_entries b (next_of b n)) passes v c.if-is_sought.buffer.items) (sym (w.found-is ∙ ap Some w.value.ensures))
+                (subst (λ k. Sought all (chain_entries b (next_of b n)) passes (Some (get_or (words_of b n) 1 0)) k)
+                (sym (ap (λ x. x.items) w.buffer-is ∙ w.read_key.ensures))
+                (bucket-this b c.args.first c.loop-block.at n passes c.loop-block.found c.loop-block.buffer.items begin c.loop-block.invariant.sought
+                (test ∙ w.if-is_sought.true)))
             | else-is_sought w ↦
-              subst (λ v. Sought all (chain_entries b (next_of b n)) passes v c.if-is_sought.buffer.items) (sym w.found-is)
-              (subst (λ k. Sought all (chain_entries b (next_of b n)) passes c.loop-block.found k) (sym (ap (λ x. x.items) w.buffer-is))
-              (bucket-over b c.args.first c.loop-block.at n passes c.loop-block.found c.loop-block.buffer.items begin c.loop-block.invariant.sought
-              (test ∙ w.if-is_sought.false)))
+                subst (λ v. Sought all (chain_entries b (next_of b n)) passes v c.if-is_sought.buffer.items) (sym w.found-is)
+                (subst (λ k. Sought all (chain_entries b (next_of b n)) passes c.loop-block.found k) (sym (ap (λ x. x.items) w.buffer-is))
+                (bucket-over b c.args.first c.loop-block.at n passes c.loop-block.found c.loop-block.buffer.items begin c.loop-block.invariant.sought
+                (test ∙ w.if-is_sought.false)))
           ]);
     }
 
