@@ -2,7 +2,7 @@
 --     IsPartly H a now w place found count     so many chains are cleared, with so many keys; found is the next
 --     partly-start, partly-next, partly-end    before the first chain, after one more, after all
 use Rattle.std.proofs.Common.{◌≡◌, ℕ, suc, ◌+◌, ◌<◌, ◌≤◌, true, false, cond, ◌∷◌, List, [], ◌++◌, length, Option, Some, None}
-use Rattle.std.proofs.Common.{ap, sym, ◌∙◌, refl, subst, arith, unwrap_or, length-append, ◌==◌, ◌||◌, ◌&&◌, not, Bool}
+use Rattle.std.proofs.Common.{ap, sym, ◌∙◌, refl, subst, arith, unwrap_or, length-append, ◌==◌, ◌||◌, Bool}
 use Rattle.std.specs.Prelude.{nat_le, nat_lt}
 use Rattle.std.proofs.lemmas.Bool.Decides.{nat_tests}
 use Rattle.std.proofs.lemmas.List.Elements.{filter_agree}
@@ -28,7 +28,7 @@ use Rattle.judy_bytes.specs.Chains.{ByteEntries, chain, HasEachOnce, IsBucketCha
 use Rattle.judy_bytes.specs.BytesArrays.{bucket_numbers, in_order, bytes_in, bytes_numbers, IsBytesArray}
 use Rattle.judy_bytes.proofs.Below.{words-rise, words-kept, words-live, words-none, words-empty}
 use Rattle.judy_bytes.proofs.Counts.{entries-length, numbers-once, few-keys}
-use Rattle.judy_bytes.proofs.Links.{Begins, begins, shorter, Stays, chain-stays, all-live, all-low}
+use Rattle.judy_bytes.proofs.Links.{begins, Stays, chain-stays, all-live, all-low}
 use Rattle.judy_bytes.proofs.Numbers.{found-ordered}
 use Rattle.judy_bytes.proofs.Space.{once}
 
@@ -61,10 +61,10 @@ whole-count H b w h = ordered-same _ (once H b w h) ∙ entries-length b (bucket
 
 -- ---- searches
 
-first-is : (es : Entries ℕ) (x : ℕ) → first word_order es x ≡ head_of (from x es)
+pub first-is : (es : Entries ℕ) (x : ℕ) → first word_order es x ≡ head_of (from x es)
 first-is es x = ap head_of (filter_agree (λ (e : ℕ × ℕ). is_ge (nat_cmp e.0 x)) (λ e. nat_le x e.0) (λ e. is_ge-words e.0 x) es)
 
-next-is : (es : Entries ℕ) (x : ℕ) → next word_order es x ≡ head_of (from (suc x) es)
+pub next-is : (es : Entries ℕ) (x : ℕ) → next word_order es x ≡ head_of (from (suc x) es)
 next-is es x = ap head_of (filter_agree (λ (e : ℕ × ℕ). is_gt (nat_cmp e.0 x)) (λ e. nat_le (suc x) e.0) (λ e. is_gt-words e.0 x ∙ above e.0) es)
   where
     above : (a : ℕ) → nat_lt x a ≡ nat_le (suc x) a

@@ -13,3 +13,6 @@ mod MapLaws
 mod Space
 mod Taking
 mod Clears
+mod Compares
+mod Leasts
+mod WalkOrder

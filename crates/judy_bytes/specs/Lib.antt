@@ -2,3 +2,5 @@ pub mod Buckets
 pub mod Chains
 pub mod BytesArrays
 pub mod Laws
+pub mod Orders
+pub mod Walks

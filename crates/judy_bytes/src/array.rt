@@ -21,8 +21,8 @@ use std::alloc::Global;
 /// see its reference, as a word.
 #[derive(Clone, Copy)]
 pub struct JudyHS<H: KeyHash> {
-    hash: H,
-    words: JudyL,
+    pub(crate) hash: H,
+    pub(crate) words: JudyL,
 }
 
 impl<H: KeyHash> JudyHS<H> {

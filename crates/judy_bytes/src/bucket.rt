@@ -4,16 +4,19 @@ ghost use Rattle.judy_arena.specs.Blocks.{words_of, without};
 ghost use Rattle.judy_arena.specs.Frame.{Frame};
 ghost use Rattle.judy_refs.specs.References.{is_reference, word_of};
 ghost use Rattle.judy_arena.specs.Takes.{Takes, TakesNothing};
+ghost use Rattle.judy_model.specs.Contents.{string_order};
 ghost use Rattle.judy_refs.specs.declared.Kind.TheVariants.{Bucket};
 ghost use Rattle.judy_bytes.specs.Buckets.{IsBucket, bucket_key, packed_bucket, next_of, with_word, IsMadeBucket};
 ghost use Rattle.judy_words.specs.LongArrays.{CountsRefusals};
 
 use crate::words::reference_of;
+use arrayvec::ArrayVec;
 use judy_arena::{Arena, Block, NoMemory};
 use judy_model::KEY_LIMIT;
-use judy_packing::word_at;
+use judy_packing::{byte, word_at};
 use judy_refs::{Kind, Ref};
 use std::alloc::Global;
+use std::cmp::Ordering;
 
 // The place in a bucket of the next bucket's reference.
 const NEXT: usize = 0;
@@ -50,6 +53,36 @@ pub(crate) fn has_key(arena: &Arena, bucket: Block, key: &[u8]) -> bool
         }
     }
     true
+}
+
+/// Compares the key of a bucket with a key, byte by byte.
+pub(crate) fn compare(arena: &Arena, bucket: Block, key: &[u8]) -> Ordering
+    requires { IsBucket arena.now.blocks bucket }
+    ensures { result ≡ string_order (bucket_key (words_of arena.now.blocks bucket)) key.now }
+{
+    let words = arena.words(bucket);
+    let size = words[SIZE] as usize;
+    for j in 0..size.min(key.len()) {
+        let own = byte(words[KEY + j / 8], (j % 8) as u8);
+        if own != key[j] {
+            return own.cmp(&key[j]);
+        }
+    }
+    size.cmp(&key.len())
+}
+
+/// Puts the key of a bucket into a buffer.
+pub(crate) fn read_key(arena: &Arena, bucket: Block, buffer: &mut ArrayVec<u8, KEY_LIMIT>)
+    requires { IsBucket arena.now.blocks bucket }
+    ensures { buffer.new.items ≡ bucket_key (words_of arena.now.blocks bucket) }
+{
+    let words = arena.words(bucket);
+    let size = words[SIZE] as usize;
+    buffer.clear();
+    for j in 0..packed_words(size) {
+        let _fits = buffer.try_extend_from_slice(&words[KEY + j].to_be_bytes());
+    }
+    buffer.truncate(size);
 }
 
 /// The reference of the next bucket, or the empty reference.

@@ -1,5 +1,5 @@
 //! Chains of buckets. The keys of a chain have the same hash word.
-ghost use Rattle.std.specs.Prelude.{◌≡◌, ◌≢◌, ◌≤◌, IfOk, IfSome, OnSome, IfNone, OnErr, IsTrue, None, Some, length, is_ok, []};
+ghost use Rattle.std.specs.Prelude.{◌≡◌, ◌≢◌, ◌≤◌, ◌&&◌, option_map, IfOk, IfSome, OnSome, IfNone, OnErr, IsTrue, None, Some, length, is_ok, []};
 ghost use Rattle.judy_arena.specs.Blocks.{without};
 ghost use Rattle.judy_arena.specs.Frame.{Frame};
 ghost use Rattle.judy_refs.specs.References.{is_reference, block_of, number_of};
@@ -7,9 +7,14 @@ ghost use Rattle.judy_arena.specs.Takes.{Takes, TakesNothing};
 ghost use Rattle.judy_bytes.specs.Buckets.{IsBucket};
 ghost use Rattle.judy_bytes.specs.Chains.{IsBucketChain, IsFoundBucket, IsNewBucket, ChainBecomes, chain};
 ghost use Rattle.judy_bytes.specs.Chains.{value_in_chain, chain_has};
+ghost use Rattle.judy_bytes.specs.Buckets.{bucket_key};
+ghost use Rattle.judy_bytes.specs.Chains.{chain_entries};
+ghost use Rattle.judy_bytes.specs.Walks.{is_above, is_below, IsLeastOf};
+ghost use Rattle.judy_arena.specs.Blocks.{words_of};
 ghost use Rattle.judy_words.specs.LongArrays.{CountsRefusals};
 
 use crate::bucket;
+use arrayvec::ArrayVec;
 use judy_arena::{Arena, Block, NoMemory};
 use judy_model::KEY_LIMIT;
 use judy_refs::{Kind, Ref};
@@ -31,6 +36,52 @@ pub(crate) fn find(arena: &Arena, first: Ref, key: &[u8]) -> Option<Block>
         at = bucket::next(arena, block);
     }
     None
+}
+
+// Whether the key of a bucket is above a bound, if there is one, and below the key that was found, if one was.
+fn is_sought(
+    arena: &Arena,
+    bucket: Block,
+    bound: Option<&[u8]>,
+    found: Option<u64>,
+    least: &[u8],
+) -> bool
+    requires { IsBucket arena.now.blocks bucket }
+    ensures { result ≡ (is_above (option_map (λ k. k.now) bound.entry) (bucket_key (words_of arena.now.blocks bucket))
+        && is_below found least.now (bucket_key (words_of arena.now.blocks bucket))) }
+{
+    if let Some(key) = bound {
+        if !bucket::compare(arena, bucket, key).is_gt() {
+            return false;
+        }
+    }
+    if found.is_none() {
+        return true;
+    }
+    bucket::compare(arena, bucket, least).is_lt()
+}
+
+/// The value of the least key of a chain that is above a bound, if there is one. The buffer gets the key.
+pub(crate) fn least_above(
+    arena: &Arena,
+    first: Ref,
+    bound: Option<&[u8]>,
+    buffer: &mut ArrayVec<u8, KEY_LIMIT>,
+) -> Option<u64>
+    requires { IsBucketChain arena.now.blocks first }
+    ensures { IsLeastOf (chain_entries arena.now.blocks first) (is_above (option_map (λ k. k.now) bound.entry))
+        result buffer.new.items }
+{
+    let mut at = first;
+    let mut found = None;
+    while let Some(block) = at.block() {
+        if is_sought(arena, block, bound, found, buffer.as_slice()) {
+            bucket::read_key(arena, block, buffer);
+            found = Some(bucket::value(arena, block));
+        }
+        at = bucket::next(arena, block);
+    }
+    found
 }
 
 /// Puts a new key in front of a chain, and returns the new chain's reference.

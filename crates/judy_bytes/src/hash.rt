@@ -1,5 +1,7 @@
 //! Hashes of byte keys.
 ghost use Rattle.std.specs.Prelude.{◌≡◌, ℕ, List, take};
+ghost use Rattle.judy_bytes.specs.Orders.{digest_word};
+ghost use Rattle.judy_model.specs.Walks.{key_word};
 ghost use Rattle.judy_packing.specs.Packing.{pack};
 ghost use Rattle.sha2.specs.Sha256.{sha256};
 
@@ -16,6 +18,13 @@ pub trait KeyHash: Copy {
         ensures { result ≡ hashed key.now };
 }
 
+/// A hash whose words are those by which the definition orders walks: the first 8 bytes of SHA-256, the first
+/// byte highest.
+pub trait OrderHash: KeyHash {
+    /// Its words are those of the order.
+    ghost ordered: { (key : List ℕ) → Self.hashed key ≡ key_word key };
+}
+
 /// SHA-256 (FIPS 180-4): the first 8 bytes of a key's digest, the first byte highest.
 #[derive(Clone, Copy)]
 pub struct Sha256Hash;
@@ -27,4 +36,8 @@ impl KeyHash for Sha256Hash {
         let digest = Sha256::digest(key);
         pack(&digest[..8])
     }
+}
+
+impl OrderHash for Sha256Hash {
+    ghost ordered = { digest_word };
 }

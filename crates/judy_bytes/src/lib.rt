@@ -7,9 +7,10 @@ mod bucket;
 mod chain;
 mod hash;
 pub mod laws;
+mod walks;
 mod words;
 
 pub use array::JudyHS;
-pub use hash::{KeyHash, Sha256Hash};
+pub use hash::{KeyHash, OrderHash, Sha256Hash};
 pub use judy_model::KEY_LIMIT;
 pub use judy_words::Inserted;
