@@ -5,3 +5,4 @@ mod KeptLemmas
 mod GrowthLemmas
 mod CallLemmas
 mod CutLemmas
+mod ByteWalkLemmas

@@ -1,5 +1,6 @@
 -- A tenant's arrays in plain sorted vectors.
-use Rattle.std.specs.Prelude.{ℕ, ◌+◌, true, List, [], ◌∷◌, IsTrue, Result, Ok, Err}
+use Rattle.std.specs.Prelude.{ℕ, ◌+◌, Bool, true, List, [], ◌∷◌, IsTrue, Option, Some, None, Result, Ok, Err}
+use Rattle.std.specs.Ordering.{is_gt, is_lt}
 use Rattle.std.specs.FinMap.Entries.{by_order}
 use Rattle.judy_model.specs.declared.replies.Reply.{Reply}
 use Rattle.judy_model.specs.Contents.{Order, Entries, word_order, string_order}
@@ -24,6 +25,16 @@ AreKept order arrays = IsTrue (are_arrays order (λ e. true) arrays)
 -- arrays afterwards
 abbrev pub on_array : {K : Type 0} → Arrays K → List ℕ → (Entries K → Reply × Entries K) → Reply × Arrays K
 on_array arrays name does = let (r, l) = does (content_of arrays name) in (r, with_content arrays name l)
+
+-- whether a place in a walk is behind another one; with none it is the beginning, which each is behind
+abbrev pub comes_behind : List ℕ → Option (List ℕ) → Bool
+comes_behind place None = true
+comes_behind place (Some from) = is_gt (string_order place from)
+
+-- whether a place in a walk comes before that of the entry found so far; where none was found it does
+abbrev pub comes_first : List ℕ → Option (List ℕ × ℕ) → Bool
+comes_first place None = true
+comes_first place (Some e) = is_lt (string_order place e.0)
 
 -- the arrays of each kind satisfy `AreKept`
 pub record IsKept (s : State) : Type 0 where

@@ -5,6 +5,7 @@ ghost use Rattle.judy_model.specs.declared.quotas.Right.TheVariants.{Change};
 ghost use Rattle.judy_model.specs.Solo.{MayLackMemory};
 ghost use Rattle.judy_reference.specs.Store.{IsKept};
 
+mod byte_walks;
 mod bytes;
 mod content;
 mod directory;

@@ -1,13 +1,15 @@
-use Rattle.std.proofs.Common.{◌≡◌, IfOk, not, sym, ◌∙◌, ap, subst}
+use Rattle.std.proofs.Common.{◌≡◌, [], IfOk, map, not, sym, ◌∙◌, ap, subst}
 use Rattle.std.specs.Prelude.{is_some}
 use Rattle.std.proofs.lemmas.Result.{on_err_weaker}
 use Rattle.judy_model.specs.Contents.{string_order, value_of, without_key}
 use Rattle.judy_model.specs.Tenant.Reports.{ReportsValue}
-use Rattle.judy_model.specs.Tenant.{content_of, insert, keep_over, exchange_over, remove_over, value_or_null, delete}
+use Rattle.judy_model.specs.Tenant.{content_of, insert, keep_over, exchange_over, remove_over, reply_of, value_or_null, delete}
+use Rattle.judy_model.specs.Tenant.Answer.{Listed}
+use Rattle.judy_model.specs.Walks.{hashed_key, key_words, walk_bytes}
 use Rattle.judy_reference.specs.Store.{on_array}
-use Rattle.judy_reference.proofs.CallLemmas.{looked}
+use Rattle.judy_reference.proofs.CallLemmas.{looked, walked}
 use Rattle.judy_reference.proofs.store.bytes.bytes_step.Goals as goal
-use Rattle.judy_reference.proofs.store.bytes.bytes_step.Goals.{in-Delete, in-DeleteIf, in-Take, in-Free, in-Get}
+use Rattle.judy_reference.proofs.store.bytes.bytes_step.Goals.{in-Delete, in-DeleteIf, in-Take, in-Free, in-Get, in-First, in-Next}
 
 pub returns-in-Insert-clause-ok : goal.returns-in-Insert-clause-ok
 returns-in-Insert-clause-ok c =
@@ -55,4 +57,12 @@ returns-clause-ok c = elim c.match-call.branch [
   | in-Free w ↦ rw w.in-Free.is (rw w.maps-is (rw w.reply-is w.free-reply.ensures))
   | in-Get w ↦ rw w.in-Get.is (rw w.maps-is (rw w.reply-is
       (looked c.args.maps.now c.args.name.now _ _ _ _ w.of-in-Get.ensures w.get.ensures.value w.value_or_null-reply.ensures w.get.ensures.same)))
+  | in-First w ↦ rw w.in-First.is (rw w.maps-is (rw w.reply-is
+      (walked c.args.maps.now c.args.name.now
+      (λ l. reply_of (Listed (map key_words (walk_bytes l [] w.in-First.n)))) _ _ c.content-entries.ensures.value
+      w.first_keys-reply.ensures c.content-entries.ensures.same)))
+  | in-Next w ↦ rw w.in-Next.is (rw w.maps-is (rw w.reply-is
+      (walked c.args.maps.now c.args.name.now
+      (λ l. reply_of (Listed (map key_words (walk_bytes l (hashed_key w.in-Next.k) w.in-Next.n)))) _ _ c.content-entries.ensures.value
+      w.next_keys-reply.ensures c.content-entries.ensures.same)))
 ]
