@@ -72,14 +72,14 @@ pub(crate) fn least_above(
     ensures { IsLeastOf (chain_entries arena.now.blocks first) (is_above (option_map (λ k. k.now) bound.entry))
         result buffer.new.items }
 {
-    let mut at = first;
+    let mut rest = first;
     let mut found = None;
-    while let Some(block) = at.block() {
+    while let Some(block) = rest.block() {
         if is_sought(arena, block, bound, found, buffer.as_slice()) {
             bucket::read_key(arena, block, buffer);
             found = Some(bucket::value(arena, block));
         }
-        at = bucket::next(arena, block);
+        rest = bucket::next(arena, block);
     }
     found
 }

@@ -7,10 +7,10 @@ use Rattle.judy_bytes.proofs.chain.least_above.Given as goal
 
 abbrev pub invariant-loop-block : goal.invariant-loop-block
 invariant-loop-block l = record {
-  sound : IsBucketChain l.arena.blocks l.at;
-  sought : Sought (chain_entries l.arena.blocks l.fn.first) (chain_entries l.arena.blocks l.at)
+  sound : IsBucketChain l.arena.blocks l.rest;
+  sought : Sought (chain_entries l.arena.blocks l.fn.first) (chain_entries l.arena.blocks l.rest)
       (is_above (option_map (λ k. k.now) l.bound)) l.found l.buffer.items;
 }
 
 abbrev pub decreases-loop-block : goal.decreases-loop-block
-decreases-loop-block l = length (chain l.arena.blocks l.at)
+decreases-loop-block l = length (chain l.arena.blocks l.rest)
