@@ -15,7 +15,7 @@ from typing import NamedTuple
 TOP = os.path.dirname(os.path.dirname(os.path.abspath(__file__)))
 sys.path.insert(0, os.path.join(TOP, "clients", "python"))
 
-from commands import CODE, COMMANDS, FORMS, KINDS, usage  # noqa: E402
+from commands import CODE, COMMANDS, FORMS, KINDS, is_byte_walk, usage  # noqa: E402
 from judyd.wording import CALLS, OTHERS, said_of  # noqa: E402
 from oracle import INSERTS, LOOKS, OPERATIONS  # noqa: E402
 
@@ -214,10 +214,12 @@ def zsh(text):
 
 
 def libjudy(text):
-    """The commands of the program that answers with libjudy."""
+    """The commands of the program that answers with libjudy, which cannot walk a JudyHS."""
     kinds = {"One": "ONE", "Long": "LONG", "Str": "STRING", "Bytes": "BYTES"}
     rows = []
     for word, (kind, operation) in COMMANDS.items():
+        if is_byte_walk(word):
+            continue
         least, most = len(FORMS[word][0]), len(FORMS[word][-1])
         rows.append('    {"%s", %s, %s, %d, %d},' % (word, kinds[kind], re.sub(r"(?<=[a-z])(?=[A-Z])", "_", operation).upper(), least, most - least))
     return with_part(text, "static const struct command COMMANDS[] = {", "};", rows)

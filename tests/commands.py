@@ -11,6 +11,7 @@ CODE = "crates/judy_model/specs/Commands.antt"
 GRAMMAR = "crates/judy_model/specs/Grammar.antt"
 ROW = re.compile(r'\(codes "(J\w+)", to (\w+) (\w+)\)')
 CALL = re.compile(r"^(\w+)_with (\w+) (key )?(?:numbers\.Nothing|\(numbers\.\w+ ([\w ]+)\)) = (?:Some|option_map) ", re.M)
+OF_NO_KEY = re.compile(r"^first_keys \(numbers\.\w+ ([\w ]+)\) = option_map \(λ \w+\. (\w+)\.(\w+) ", re.M)
 OF_TWO = re.compile(r"^\w+_with name (\w+) \(numbers\.\w+ ([\w ]+)\) = option_map \(λ \w+\. (\w+) name \1 ", re.M)
 MAKERS = {"one": "One", "long": "Long", "string": "Str", "bytes": "Bytes"}
 KINDS = {"One": "Judy1", "Long": "JudyL", "Str": "JudySL", "Bytes": "JudyHS"}  # their names in the manual
@@ -43,6 +44,8 @@ def forms():
     made = {}
     for maker, operation, key, letters in CALL.findall(definition()):
         made.setdefault(Command(MAKERS[maker], operation), []).append((*(["key"] if key else []), *letters.split()))
+    for letters, maker, operation in OF_NO_KEY.findall(definition()):
+        made.setdefault(Command(MAKERS[maker], operation), []).append(tuple(letters.split()))
     for other, letters, operation in OF_TWO.findall(definition(GRAMMAR)):
         made.setdefault(Command("One", operation), []).append((other, *letters.split()))
     found = {}
@@ -61,6 +64,11 @@ FORMS = forms()
 def word_of(kind, operation):
     """The word of a command."""
     return WORDS[Command(kind, operation)]
+
+
+def is_byte_walk(word):
+    """Whether a command walks a JudyHS. libjudy has nothing like it."""
+    return COMMANDS[word].kind == "Bytes" and COMMANDS[word].operation in ("First", "Next")
 
 
 def usage(word):

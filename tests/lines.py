@@ -113,7 +113,7 @@ class Walk:
             return [*self.range(), *(self.most() for _ in must[2:])]
         if operation is INTERSECT:
             return [self.random.choice(NAMES), self.random.choice((b"0", b"%d" % self.keys.word())), self.most()]
-        keys = [self.keys.field(read) for read in (must if operation.does == LOOKS else must[:1])]
+        keys = [self.most() if read is read_most else self.keys.field(read) for read in (must if operation.does == LOOKS else must[:1])]
         if operation is FILL and self.random.random() < 0.1:  # where few words are absent
             keys[0] = b"%d" % (GREATEST - self.random.randrange(3))
         return keys + [self.value() for _ in must[len(keys) :]]
@@ -215,7 +215,7 @@ class Hostile:
         if at == 1 or (at == 2 and fields[0] in COMMANDS and COMMANDS[fields[0]].must[:1] == (read_name,)):
             length = self.random.choice((1, 31, 32, 33, 64))
             return self.random.choice((field * 33, b"n" * length, field + b"/", b"\xc3\xa4", b"a\0b", b"a.B_-9", b"nobody", field.upper()))
-        if field.startswith(b"x") or fields[0][:2] in (b"JS", b"JH"):
+        if field.startswith(b"x") or (fields[0][:2] in (b"JS", b"JH") and self.random.random() < 0.5):
             return self.bent_key(field)
         if fields[0] == b"AUTH":
             return self.random.choice((b"wrong", b"look", b"abc", b"a" * 128, b"a" * 129, b"tok\x7fen", b"\x1f", field + b"~", field[:-1] or b"?"))
@@ -226,6 +226,7 @@ class Hostile:
         others = [b"-1", b"-2", b"-0", b"+1", b"00", b"-", b"1x", b"0x10", b"1.0", b"1e3", b"\xd9\xa1", field + b"\0", b"1_000"]
         others += [b"0" * (20 - len(field)) + field, b"0" * (21 - len(field)) + field, b"0" * 300 + field]
         others += [b"%d" % (2**64 + d) for d in (-2, -1, 0, 1)] + [b"9" * 19, b"9" * 20, b"9" * 21, b"18446744073709551615"]
+        others += [b"0", b"65535", b"65536"]  # a number of entries, or none
         return self.random.choice(others)
 
     def bent_key(self, field):

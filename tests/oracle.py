@@ -67,6 +67,13 @@ def digest(token):
     return hashlib.sha256(token.encode()).hexdigest()
 
 
+class ByteKey(NamedTuple):
+    """A key of a JudyHS: the first 8 bytes of its SHA-256, and its bytes. So keys compare as a walk has them."""
+
+    place: bytes
+    key: bytes
+
+
 class Entries:
     """The entries of one array: its keys in increasing order, and the value of each. A set's values
     are 0."""
@@ -203,7 +210,12 @@ class Owner:
 
 def pieces_of(key):
     """The number of pieces of an entry with this key."""
-    return 1 if isinstance(key, int) else len(key) // 8 + 1
+    return 1 if isinstance(key, int) else len(bytes_of(key)) // 8 + 1
+
+
+def bytes_of(key):
+    """The bytes of a key of a JudySL or a JudyHS."""
+    return key.key if isinstance(key, ByteKey) else key
 
 
 def read_name(field):
@@ -237,16 +249,22 @@ def read_most(field):
     return most
 
 
-def read_bytes(field):
-    """A key of a JudyHS."""
+def read_key(field):
+    """The bytes of a key."""
     if not KEY.match(field):
         raise Syntax
     return bytes.fromhex(field[1:].decode())
 
 
+def read_bytes(field):
+    """A key of a JudyHS."""
+    key = read_key(field)
+    return ByteKey(hashlib.sha256(key).digest()[:8], key)
+
+
 def read_string(field):
     """A key of a JudySL: no byte of it is 0."""
-    key = read_bytes(field)
+    key = read_key(field)
     if 0 in key:
         raise Syntax
     return key
@@ -377,6 +395,11 @@ def finds(search, on=None):
     return step
 
 
+def first_keys(owner, kind, name, most):
+    """The first entries of a JudyHS, at most `most` of them."""
+    return finds(Entries.first, Entries.next)(owner, kind, name, ByteKey(b"", b""), most)
+
+
 def entry_text(kind, array, key):
     """An entry: the key of a set, otherwise the value and the key."""
     return text_of(key) if kind == SET else b"%d %s" % (array.values[key], text_of(key))
@@ -478,6 +501,13 @@ OPERATIONS = {
 }
 
 
+OF_BYTES = {
+    "First": Operation(first_keys, "n"),
+    "Next": Operation(finds(Entries.next, Entries.next), "kn"),
+}
+"""The operations of a JudyHS that have other fields."""
+
+
 class Command(NamedTuple):
     """What a word stands for: the kind of the array, the operation, and the readers of the fields after the
     name: the required ones, and the optional ones."""
@@ -492,7 +522,7 @@ def command_of(word, kind, name):
     """The command of a word."""
     if name not in OPERATIONS:
         raise ValueError("tests/oracle.py has no step of the operation %s, which %s makes" % (name, word))
-    operation = OPERATIONS[name]
+    operation = OF_BYTES[name] if kind == "Bytes" and name in OF_BYTES else OPERATIONS[name]
     readers = {"k": {"Str": read_string, "Bytes": read_bytes}.get(kind, read_word), "w": read_word, "n": read_most, "v": read_word, "o": read_name}
     must, may = operation.must + (operation.of_words if kind in ("One", "Long") else ""), operation.may
     if kind == SET:
@@ -529,7 +559,7 @@ def names_of(word, fields):
 
 def text_of(key):
     """The text of a key in a reply."""
-    return b"%d" % key if isinstance(key, int) else b"x" + key.hex().encode()
+    return b"%d" % key if isinstance(key, int) else b"x" + bytes_of(key).hex().encode()
 
 
 class Connection:

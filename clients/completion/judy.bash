@@ -5,9 +5,9 @@ _judy_commands="add status top stop reload kick thaw wait dump load check backup
 # python3 tests/calls.py --write writes these words
 _judy_calls="\
 AUTH HELLO J1BC J1C J1F J1FA J1FE J1I J1L J1LE J1N J1NE J1P J1PE J1S J1SE J1T J1U J1UF J1UR JHSA \
-JHSD JHSFA JHSG JHSI JHSK JHST JHSX JLA JLBC JLC JLD JLDF JLDR JLF JLFA JLFE JLG JLI JLIE JLK JLL \
-JLLE JLN JLNE JLP JLPE JLT JLX JSLA JSLD JSLDF JSLF JSLFA JSLG JSLI JSLK JSLL JSLN JSLP JSLT JSLX \
-PING QUIT USED"
+JHSD JHSF JHSFA JHSG JHSI JHSK JHSN JHST JHSX JLA JLBC JLC JLD JLDF JLDR JLF JLFA JLFE JLG JLI JLIE \
+JLK JLL JLLE JLN JLNE JLP JLPE JLT JLX JSLA JSLD JSLDF JSLF JSLFA JSLG JSLI JSLK JSLL JSLN JSLP JSLT \
+JSLX PING QUIT USED"
 _judy_options="-s --socket -t --tcp --tls --ca -u --user --token-file --timeout --pretty --hold"
 
 # The command among the words before the one to complete.

@@ -165,9 +165,8 @@ class KeyMaps(WithClient):
             self.client.judysl("s")[key] = number
             self.client.judyhs("h")[key] = number
         self.assertEqual(list(self.client.judysl("s").items()), [(b"a", 0), (b"b", 1), (b"c", 2)])
-        for call in (list, sorted, set, lambda h: list(h.get_many(h))):
-            with self.assertRaisesRegex(TypeError, "has no walk"):
-                call(self.client.judyhs("h"))
+        h = self.client.judyhs("h")
+        self.assertEqual((sorted(h), set(h), dict(h.get_many(h))), ([b"a", b"b", b"c"], {b"a", b"b", b"c"}, {b"a": 0, b"b": 1, b"c": 2}))
 
     def test_strings_that_begin_so(self):
         s = self.client.judysl("s", encoding="utf-8")

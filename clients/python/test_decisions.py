@@ -8,7 +8,7 @@ from concurrent.futures import ThreadPoolExecutor
 
 sys.path.insert(0, os.path.dirname(os.path.abspath(__file__)))
 
-from judyd import IDEMPOTENT, MAX, Client, ConnectionLost, Error, Full, ReadOnly, aio  # noqa: E402
+from judyd import IDEMPOTENT, MAX, Client, ConnectionLost, Full, ReadOnly, aio  # noqa: E402
 from judyd.wording import told  # noqa: E402
 from served import WithServer, odd_server  # noqa: E402
 from test_leases import lose_reply  # noqa: E402
@@ -136,24 +136,6 @@ class Losses(WithServer):
         lose_reply(client, lambda: other.keep(7, 50))
         self.assertRaises(ConnectionLost, leases.delete_if, 7, 42)
         self.assertEqual((leases.delete_if(7, 42), other.take(7)), (False, 50))  # the lease of another client stays
-
-
-class Catalogued(WithServer):
-    """A JudyHS whose keys are in a catalogue."""
-
-    def test_keys(self):
-        client = self.alice(catalogue=True)
-        h = client.judyhs("h")
-        self.assertEqual([h.keep(b"a", 1), h.keep(b"b", 2), h.keep(b"a", 3), list(h)], [None, None, 1, [b"a", b"b"]])
-        self.assertEqual([h.exchange(b"c", 0, 1), h.delete_if(b"a", 2), list(h)], [None, False, [b"a", b"b"]])
-        self.assertEqual([h.delete_if(b"a", 1), list(h), h.take(b"b"), list(h)], [True, [b"b"], 2, []])
-        with client.pipeline() as pipe:
-            pipe.judyhs("h").keep(b"late", 9)
-            self.assertRaises(Error, pipe.judyhs("h").delete_if, b"late", 9)
-        self.assertEqual((list(h), h.pop(b"late"), list(h)), ([b"late"], 9, []))
-        h.clear()
-        self.assertEqual((client.arrays(), client.used().used), ([], 0))
-        client.close()
 
 
 if __name__ == "__main__":

@@ -116,6 +116,9 @@ def meant(reply):
     if reply.startswith(b"I "):
         _, following, _, *indexes = reply.split(b" ")
         return (Shared(list(map(int, indexes)), int(following) or None),)
+    if reply.startswith(b"E "):
+        _, _, *fields = reply.split(b" ")
+        return (list(zip((bytes.fromhex(it[1:].decode()) for it in fields[1::2]), map(int, fields[::2]))),)
     fields = [bytes.fromhex(it[1:].decode()) if it.startswith(b"x") else it if it.isalpha() else int(it) for it in reply.split(b" ")]
     if fields[0] == b"NULL":
         return (None,)

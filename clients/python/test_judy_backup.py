@@ -78,7 +78,7 @@ class Backups(JudyTest):
         before = self.there()
         for row, why in (
             ("alice wrong J1:ids", "the server does not know this tenant and token"), ("alice look J1:typo J1:ids", "nothing under J1:typo"),
-            ("alice look --all", "the tenant has no catalogue of its arrays: name them"), ("alice look JHS:keys=/nowhere", "/nowhere: No such file or directory"),
+            ("alice look --all", "the tenant has no catalogue of its arrays: name them"), ("alice look JHS:none J1:ids", "nothing under JHS:none"),
         ):  # fmt: skip
             status, said, wrong = self.backup("%s\nbob hello J1:few\n" % row)
             self.assertEqual((status, said), (1, "bob: 3 entries of 3\n"))
@@ -90,7 +90,7 @@ class Backups(JudyTest):
     def test_faulty_lists(self):
         for row, said in (
             ("alice", "line 2: a row is TENANT TOKEN ARRAY.., or --all"), ("alice look", "line 2: a row is TENANT"), ("a/b look J1:ids", "line 2: a name is 1 to 32"),
-            ("alice secret ids", "line 2: an array is J1:NAME"), ("alice secret --al", "line 2: --al: arrays as J1:ids, or --all"), ("alice secret --all J1:ids", "line 2: alice: arrays as"),
+            ("alice secret ids", "line 2: an array is J1:NAME"), ("alice secret JHS:keys=FILE", "line 2: a name is 1 to 32"), ("alice secret --al", "line 2: --al: arrays as J1:ids, or --all"), ("alice secret --all J1:ids", "line 2: alice: arrays as"),
             ("bob hello J1:few", "line 2: bob is there twice"), ("../x secret J1:ids", "line 2: a name is"), ("\x01\x02 secret J1:ids", "line 2: a name is"),
         ):  # fmt: skip
             status, out, wrong = self.backup("bob hello J1:few\n%s\n" % row)

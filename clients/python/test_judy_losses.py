@@ -2,6 +2,7 @@
 the server."""
 
 import contextlib
+import hashlib
 import io
 import os
 import random
@@ -15,7 +16,7 @@ sys.path.insert(0, os.path.dirname(os.path.abspath(__file__)))
 from judy_runs import JudyTest, alice, run_judy, start_judy  # noqa: E402
 from judyd.copies import read_name  # noqa: E402
 from judyd.dumpfile import NoDump, Writer  # noqa: E402
-from judyd.sweep import RankedSweep, StringSweep  # noqa: E402
+from judyd.sweep import ByteSweep, RankedSweep, StringSweep  # noqa: E402
 from judyd.transfer import dump, load  # noqa: E402
 from judyd.wire import Wire  # noqa: E402
 from served import Served  # noqa: E402
@@ -350,6 +351,24 @@ class Writers(JudyTest):
             entries = [line.split()[2:] for line in lines]
             self.assertEqual([bytes.fromhex(key[1:].decode()) for key, value in entries if value == b"1"], wanted)
             self.assertEqual([key for key, _ in entries], sorted({key for key, _ in entries}))
+
+
+    def test_byte_keys(self):
+        wanted = {b"%05d" % number for number in range(0, 40000, 2)}
+        fill(self.path(), b"".join(b"JHSI bytes x%b 1\n" % key.hex().encode() for key in sorted(wanted)))
+
+        def change(pipe, number, is_new):
+            key = b"%05d" % number
+            if is_new:
+                pipe.judyhs("bytes").insert(key, 2)
+            else:
+                pipe.judyhs("bytes").delete(key)
+
+        for lines in self.swept("bytes", change, lambda wire: ByteSweep(wire, "bytes")):
+            entries = [(bytes.fromhex(key[1:].decode()), value) for _, _, key, value in map(bytes.split, lines)]
+            keys = [key for key, _ in entries]
+            self.assertEqual({key for key, value in entries if value == b"1"}, wanted)
+            self.assertEqual(keys, sorted(set(keys), key=lambda key: hashlib.sha256(key).digest()))
 
 
 if __name__ == "__main__":

@@ -16,7 +16,7 @@ from judyd.moves import Move, move  # noqa: E402
 from judyd.wire import Wire  # noqa: E402
 from served import Served, table  # noqa: E402
 
-FREES = b"".join(b"%bFA %b\n" % pair for pair in ((b"J1", b"ids"), (b"JL", b"hits"), (b"JSL", b"words"), (b"JHS", b"keys"), (b"JSL", b".arrays"), (b"JSL", b".keys")))
+FREES = b"".join(b"%bFA %b\n" % pair for pair in ((b"J1", b"ids"), (b"JL", b"hits"), (b"JSL", b"words"), (b"JHS", b"keys"), (b"JSL", b".arrays")))
 
 
 def wire_to(path):
@@ -37,14 +37,14 @@ class Moves(JudyTest):
 
     def setUp(self):
         self.keys = [b"key %d" % at for at in range(3000)] + [b"", b"\0"]
-        self.named = ["J1:ids", "JL:hits", "JSL:words", "JHS:keys=" + self.file("keys", b"".join(b"%b\n" % key.hex().encode() for key in [*self.keys, b"absent"]))]
+        self.named = ["J1:ids", "JL:hits", "JSL:words", "JHS:keys"]
         self.fill()
 
     def tearDown(self):
         super().tearDown()
         for path in (self.path(), self.there.path):
             with wire_to(path) as wire:
-                wire.ask(FREES, 6)
+                wire.ask(FREES, 5)
                 self.assertTrue(wire.ask(b"USED\n", 1).startswith(b"Q 0 "))
 
     def fill(self, **how):
@@ -84,7 +84,7 @@ class Moves(JudyTest):
 
     def test_all_of_a_catalogue(self):
         with wire_to(self.path()) as wire:
-            wire.ask(FREES, 6)
+            wire.ask(FREES, 5)
         self.fill(catalogue=True)
         before = self.used()[0]
         self.assertEqual((self.move("--all", "--free")[0], self.used()), (0, (0, before)))
@@ -113,7 +113,7 @@ class Moves(JudyTest):
         status, _, wrong = self.move("--free", "J1:ids", "JL:hits")
         self.assertEqual((status, "6002 entries of the tenant are not in these arrays" in wrong, self.used()), (1, True, (25002, 19000)))
         with wire_to(self.there.path) as wire:
-            wire.ask(FREES, 6)
+            wire.ask(FREES, 5)
         self.assertEqual((self.move("--free", "--part", "J1:ids", "JL:hits")[0], self.used()), (0, (6002, 19000)))
         self.assertEqual((self.move("--free", "JSL:words", self.named[3])[0], self.used()), (0, (0, 25002)))
 
@@ -147,7 +147,7 @@ class Moves(JudyTest):
                 with self.assertRaises(Error) as caught:
                     going.compare()
                 self.assertIn(said, str(caught.exception))
-                target.ask(FREES, 6)
+                target.ask(FREES, 5)
 
     def test_somebody_writes_there_or_before_it_is_freed(self):
         names = [read_name("J1:ids")]

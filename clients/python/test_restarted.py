@@ -33,11 +33,13 @@ class Jobs(WithServer):
         yield client.judy1("ids").walk_back()
         yield client.judyl("m").walk()
         yield client.judysl("s").walk()
+        client.judyhs("h").update((b"%06d" % i, i) for i in range(COUNT))
         yield client.judy1("ids").intersection("ids")
+        yield client.judyhs("h").walk()
 
     def test_walks(self):
         for client in self.both():
-            for number in range(5):
+            for number in range(6):
                 walk = list(self.walks(client))[number]
                 next(walk)
                 self.served.restart()

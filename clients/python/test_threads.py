@@ -1,5 +1,6 @@
 """Tests of clients in threads and after a fork, and of pools."""
 
+import hashlib
 import os
 import random
 import sys
@@ -144,6 +145,23 @@ class Walks(WithServer):
 
         self.changed(change, lambda: self.check(list(s), stays))
         s.clear()
+
+
+    def test_byte_keys(self):
+        h, stays = self.alice().judyhs("h"), {b"%04d" % i for i in range(0, 3000, 3)}
+        h.update((key, 1) for key in stays)
+
+        def change(client, draw):
+            several, others = [b"%04d" % i for i in draw.sample(range(3000), 100) if i % 3], client.judyhs("h")
+            others.update((key, 2) for key in several) if draw.random() < 0.5 else others.delete_many(several)
+
+        def read():
+            seen = list(h)
+            self.assertEqual(seen, sorted(set(seen), key=lambda key: hashlib.sha256(key).digest()))
+            self.assertEqual({it for it in seen if it in stays}, stays)
+
+        self.changed(change, read)
+        h.clear()
 
 
 class Forks(WithServer):

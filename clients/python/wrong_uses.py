@@ -149,16 +149,25 @@ def string_maps(client: judyd.Client) -> None:
 
 
 def byte_maps(client: judyd.Client) -> None:
-    """JudyHS has no order."""
+    """JudyHS has an order of the server's."""
     texts, plain = client.judyhs("h", encoding="utf-8"), client.judyhs("h")
     texts["a"], plain[b"a"] = 1, 2
     texts[b"a"] = 1  # wrong
     plain["a"] = 2  # wrong
     plain[5] = 2  # wrong
-    plain.first()  # wrong
+    entries: List[Tuple[str, int]] = [*texts.first(), *texts.next("a", 9), *texts.walk(), *texts.walk("a"), *texts.items()]
+    size: int = len(plain)
+    keys: List[str] = [*texts, *texts.keys(), texts.popitem()[0]]
+    print(entries, size, keys)
+    plain.first(b"a")  # wrong
+    plain.next(5)  # wrong
+    plain.next()  # wrong
+    plain.walk("a")  # wrong
     plain.pop_first()  # wrong
-    len(plain)  # wrong
-    plain.walk()  # wrong
+    plain.walk_back()  # wrong
+    reversed(plain)  # wrong
+    others: List[Tuple[str, int]] = plain.first()  # wrong
+    print(others)
 
 
 def pipelines(client: judyd.Client) -> None:
@@ -180,8 +189,10 @@ def pipelines(client: judyd.Client) -> None:
         pipe.judy1("ids").pop()  # wrong
         both: judyd.Later[judyd.Shared] = pipe.judy1("ids").intersect("mine")
         list(pipe.judy1("ids").intersection("mine"))  # wrong
+        some: judyd.Later[List[Tuple[bytes, int]]] = pipe.judyhs("h").first()
+        list(pipe.judyhs("h").walk())  # wrong
         was_there: bool = pipe.judyl("m").delete_if(5, 6)  # wrong
-        print(kept, popped, claimed, was_there, both)
+        print(kept, popped, claimed, was_there, both, some)
         pipe.judyl("m")[5] = "6"  # wrong
         pipe.judysl("s")["tree"] = 6  # wrong
         is_new: bool = pipe.judy1("ids").set(5)  # wrong
@@ -225,6 +236,10 @@ async def tasks(client: aio.Client) -> None:
     print(both, [it async for it in client.judy1("ids").intersection("mine")])
     for index in client.judy1("ids").intersection("mine"):  # wrong
         print(index)
+    entries: List[Tuple[str, int]] = await client.judyhs("h", "utf-8").next("a", 5)
+    print(entries, [key async for key, _ in client.judyhs("h").walk(b"a")])
+    for entry in client.judyhs("h").walk():  # wrong
+        print(entry)
     print(kept, taken, popped, claimed)
     for index in client.judy1("ids").walk():  # wrong
         print(index)

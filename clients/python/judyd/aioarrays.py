@@ -10,7 +10,7 @@ from .errors import all_checked
 from .fields import MAX, Shared, flags_of, is_word, name_field, numbers_of, stop_of, values_of, word_of
 from .lines import Lines, joined
 from .many import ABSENT, Ahead, add_step, get_key, insert_entry, pairs_of
-from .strings import Item, StringWalk
+from .strings import ByteWalk, Item, StringWalk
 from .walks import Ask, Steps, WordWalk, index_of_item, indexes_in, intersected, items_in
 
 T = TypeVar("T")
@@ -185,7 +185,17 @@ class JudyL(Map[int], JudyLCalls[SoonYes, SoonNumber, SoonFound, Coroutine[Any, 
         return pipe.judyl(self.name)
 
 
-class JudySL(Map[K], JudySLCalls[K, SoonYes, SoonNumber, SoonFound, Coroutine[Any, Any, Optional[Tuple[K, int]]]], Generic[K]):
+class KeyMap(Map[K], Generic[K]):
+    """What the maps whose keys are bytes or text share."""
+
+    _shown: Callable[[bytes], K]
+
+    async def _walk(self, steps: Steps[Item]) -> AsyncIterator[Tuple[K, int]]:
+        async for key, value in walked(steps, self._asker):
+            yield self._shown(key), value
+
+
+class JudySL(KeyMap[K], JudySLCalls[K, SoonYes, SoonNumber, SoonFound, Coroutine[Any, Any, Optional[Tuple[K, int]]]], Generic[K]):
     """A map from strings to words, in the order of their bytes."""
 
     def walk(self, start: Optional[K] = None, stop: Optional[K] = None) -> AsyncIterator[Tuple[K, int]]:
@@ -202,23 +212,17 @@ class JudySL(Map[K], JudySLCalls[K, SoonYes, SoonNumber, SoonFound, Coroutine[An
         plain = self._plain(prefix)
         return self._walk(StringWalk(self, False).steps(plain, plain))
 
-    async def _walk(self, steps: Steps[Item]) -> AsyncIterator[Tuple[K, int]]:
-        async for key, value in walked(steps, self._asker):
-            yield self._shown(key), value
-
     def _in(self, pipe: Any) -> Any:
         return pipe.judysl(self.name, self.encoding)
 
 
-class JudyHS(Map[K], JudyHSCalls[K, SoonYes, SoonNumber, SoonFound], Generic[K]):
-    """A map from byte keys to words, without an order."""
+class JudyHS(KeyMap[K], JudyHSCalls[K, SoonYes, SoonNumber, SoonFound, Coroutine[Any, Any, List[Tuple[K, int]]]], Generic[K]):
+    """A map from byte keys to words, in an order of the server's."""
 
-    async def walk(self, keys: Iterable[bytes]) -> AsyncIterator[Tuple[K, int]]:
-        """The entries of those of these byte keys that are present, in the order given, with many
-        lines in flight at once."""
-        async for key, value in self.get_many(self._shown(key) for key in keys):
-            if value is not None:
-                yield key, value
+    def walk(self, behind: Optional[K] = None) -> AsyncIterator[Tuple[K, int]]:
+        """The entries in the server's order, those behind a key if one is given, as pairs of key and value,
+        read many at a time. The key may be absent."""
+        return self._walk(ByteWalk(self).steps(self._bound(behind)))
 
     def _in(self, pipe: Any) -> Any:
         return pipe.judyhs(self.name, self.encoding)

@@ -1,7 +1,7 @@
 """`judy backup`: a dump of each tenant of a list. Each is whole and on the disk, or as before.
 
     # tenant  token  arrays
-    alice     look   J1:ids JL:hits JHS:keys=/etc/judyd/keys
+    alice     look   J1:ids JL:hits JHS:keys
     bob       hello  --empty --all
 
 A row has a tenant, its token (the read-only one is enough) and its arrays, or --all for those of its

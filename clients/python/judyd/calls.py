@@ -3,7 +3,8 @@
 What a call returns depends on who is asked: a client returns the result itself, a pipeline a
 `Later` of it, and an asyncio client an awaitable of it. So the result types are parameters: `Yes`
 stands for a bool, `Number` for an int, `Found` for an int or None, `Item` for a pair of key and
-value or None, and `Both` for a `Shared`. `K` is the type of keys: int, bytes, or str.
+value or None, `Both` for a `Shared`, and `Listed` for a list of pairs of key and value. `K` is the type
+of keys: int, bytes, or str.
 """
 
 # mypy: no-warn-return-any
@@ -14,9 +15,8 @@ from itertools import chain
 from typing import Any, Callable, Generic, List, Optional, Sequence, Tuple, TypeVar
 
 from .bound import Bound
-from .errors import JudyError
 from .fields import (
-    KEY_LIMIT, MAX, MOST, bytes_item_of, bytes_of, count_of, flag, index_of, item_of, key_field, most_field, name_field, no_zeros, plain_keys,
+    KEY_LIMIT, MAX, MOST, bytes_item_of, bytes_items_of, bytes_of, count_of, flag, index_of, item_of, key_field, most_field, name_field, no_zeros, plain_keys,
     plain_steps, plain_words, shared_of, step_field, value_of, value_or_none, word_field,
 )  # fmt: skip
 from .lines import FormedLines, Lines
@@ -28,6 +28,7 @@ Number = TypeVar("Number", covariant=True)
 Found = TypeVar("Found", covariant=True)
 Item = TypeVar("Item", covariant=True)
 Both = TypeVar("Both", covariant=True)
+Listed = TypeVar("Listed", covariant=True)
 
 Plain = Callable[[Sequence[Any]], Optional[Sequence[int]]]
 """Checks many numbers at once."""
@@ -378,60 +379,24 @@ class JudySLCalls(KeyCalls[K, Yes, Number, Found], Generic[K, Yes, Number, Found
         return self._ask(b"P", self._item, self._key(key))
 
 
-class JudyHSCalls(KeyCalls[K, Yes, Number, Found], Generic[K, Yes, Number, Found]):
-    """The calls of JudyHS. If the client keeps a catalogue, the catalogue has each key before the
-    array has it, and as long as the array has it."""
+class JudyHSCalls(KeyCalls[K, Yes, Number, Found], Generic[K, Yes, Number, Found, Listed]):
+    """The calls of JudyHS."""
 
     _prefix = b"JHS"
 
-    def _insert(self, key: K, value: Optional[int], is_quiet: bool = False) -> Any:
-        if self._asker._catalogue is None:
-            return super()._insert(key, value, is_quiet)
-        with self._asker._catalogue.key_of(self._asker, self.name, self._plain(key)):
-            return super()._insert(key, value, is_quiet)
+    def _items(self, reply: bytes) -> List[Tuple[Any, int]]:
+        """Keys and their values."""
+        return [(self._shown(key), value) for key, value in bytes_items_of(reply)]
 
-    def _add(self, key: K, n: int) -> Any:
-        if self._asker._catalogue is None:
-            return super()._add(key, n)
-        with self._asker._catalogue.key_of(self._asker, self.name, self._plain(key)):
-            return super()._add(key, n)
+    def first(self, most: int = MOST) -> Listed:
+        """First: the first entries in the server's order, at most `most` of them and as many as fit into a
+        reply, as pairs of key and value. Go on by `next` from the last of them until it finds none."""
+        return self._ask(b"F", self._items, most_field(most))
 
-    def keep(self, key: K, value: int) -> Found:
-        """Stores a value if the key is absent, and returns None. A present key keeps its value, which is
-        returned."""
-        if self._asker._catalogue is None:
-            return super().keep(key, value)
-        with self._asker._catalogue.key_of(self._asker, self.name, self._plain(key)):
-            return super().keep(key, value)
-
-    def delete(self, key: K) -> Yes:
-        """Delete: removes a key, and returns whether it was present."""
-        return self._forgotten(key, super().delete)
-
-    def take(self, key: K) -> Found:
-        """Removes a key, and returns the value it had; None if it was absent."""
-        return self._forgotten(key, super().take)
-
-    def _forgotten(self, key: K, remove: Callable[[K], Any]) -> Any:
-        """The result of a call after which a key is absent."""
-        if self._asker._catalogue is None:
-            return remove(key)
-        with self._asker._held():
-            was = remove(key)
-            self._asker._catalogue.forget(self._asker, self.name, self._plain(key))
-            return was
-
-    def delete_if(self, key: K, value: int) -> Yes:
-        """Delete with a value: removes a key if it has this value, and returns whether it had."""
-        if self._asker._catalogue is None:
-            return super().delete_if(key, value)
-        if self._asker._is_late:
-            raise JudyError("an entry of a JudyHS with a catalogue is removed by its value outside of a pipeline")
-        with self._asker._held():
-            was = super().delete_if(key, value)
-            if was:
-                self._asker._catalogue.forget(self._asker, self.name, self._plain(key))
-            return was
+    def next(self, key: K, most: int = MOST) -> Listed:
+        """Next: the entries behind a key, which may be absent, at most `most` of them and as many as fit into
+        a reply, as pairs of key and value."""
+        return self._ask(b"N", self._items, self._key(key), most_field(most))
 
 
 GREATEST_STRING = b"x" + b"ff" * KEY_LIMIT

@@ -127,8 +127,8 @@ class Client(Arrays):
     empty. So a job of several windows, as a walk, an `update` or a pipeline, raises `Restarted` if it
     met two servers, and its caller begins it again.
 
-    With `catalogue=True` the client keeps the names of the arrays that it writes to, and the keys of
-    the JudyHS arrays, in two arrays of the tenant: see `help(judyd.catalogue)`.
+    With `catalogue=True` the client keeps the names of the arrays that it writes to, in an array of the
+    tenant: see `help(judyd.catalogue)`.
     """
 
     def __init__(

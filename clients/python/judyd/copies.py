@@ -2,16 +2,18 @@
 server's arrays."""
 
 import errno
+import hashlib
 import os
 import sys
 import time
 from dataclasses import dataclass
 from itertools import groupby
-from typing import Any, Callable, Dict, Iterable, Iterator, List, Optional, Tuple
+from typing import Any, Callable, Dict, Iterable, Iterator, List, NamedTuple, Optional, Tuple
 
-from .catalogue import ARRAYS, KEYS, keys_of
+from .catalogue import ARRAYS
 from .client import Arrays
 from .errors import Error
+from .fields import name_field
 
 KINDS = ("J1", "JL", "JSL", "JHS")
 _PUTS = {"J1S": "J1", "JLI": "JL", "JSLI": "JSL", "JHSI": "JHS"}
@@ -24,11 +26,10 @@ Item = Tuple[Any, int]
 
 @dataclass(frozen=True)
 class ArrayName:
-    """An array: its kind and name, and for a JudyHS the file of its keys."""
+    """An array: its kind and name."""
 
     kind: str
     name: str
-    path: str = ""
 
     def __str__(self) -> str:
         return "%s:%s" % (self.kind, self.name)
@@ -40,35 +41,18 @@ class ArrayName:
 
 
 def read_name(text: str) -> ArrayName:
-    """The array that a word of a command line names: `J1:ids`, or `JHS:keys=FILE`."""
-    kind, _, rest = text.partition(":")
-    name, _, path = rest.partition("=")
-    if kind not in KINDS or not name or (path and kind != "JHS"):
-        raise ValueError("an array is J1:NAME, JL:NAME, JSL:NAME, JHS:NAME or JHS:NAME=FILE, and not %s" % text)
-    return ArrayName(kind, name, path)
-
-
-def keys_in(path: str) -> Iterator[bytes]:
-    """The keys of a file: one key a line, in hexadecimal digits, with or without the x before
-    them."""
-    with open(path, encoding="ascii") as file:
-        for number, line in enumerate(file, 1):
-            try:
-                yield bytes.fromhex(line.strip().removeprefix("x"))
-            except ValueError:
-                raise ValueError("%s, line %d: no key in hexadecimal digits" % (path, number)) from None
+    """The array that a word of a command line names, as `J1:ids`."""
+    kind, _, name = text.partition(":")
+    if kind not in KINDS or not name:
+        raise ValueError("an array is J1:NAME, JL:NAME, JSL:NAME or JHS:NAME, and not %s" % text)
+    name_field(name)
+    return ArrayName(kind, name)
 
 
 def items_in(arrays: Arrays, array: ArrayName) -> Iterator[Item]:
-    """The entries of an array, in the order of their keys. For a JudyHS these are the entries of
-    the keys in its file, or in the catalogue."""
-    whole = array.within(arrays)
-    if array.kind == "J1":
-        return ((index, 0) for index in whole.walk())
-    if array.kind == "JHS":
-        items: Iterator[Item] = whole.walk(keys_in(array.path) if array.path else keys_of(arrays, array.name))
-        return items
-    return iter(whole.walk())
+    """The entries of an array, in its order."""
+    entries: Iterator[Any] = array.within(arrays).walk()
+    return ((index, 0) for index in entries) if array.kind == "J1" else entries
 
 
 def put_in(arrays: Arrays, array: ArrayName, items: Iterable[Item]) -> None:
@@ -77,11 +61,11 @@ def put_in(arrays: Arrays, array: ArrayName, items: Iterable[Item]) -> None:
 
 
 def all_arrays(arrays: Arrays) -> List[ArrayName]:
-    """The arrays of a tenant's catalogue, and the arrays of the catalogue itself."""
+    """The arrays of a tenant's catalogue, and the catalogue itself."""
     listed = [ArrayName(kind, name) for kind, name in arrays.arrays()]
     if not listed:
         raise Error("the tenant has no catalogue of its arrays: name them")
-    return [ArrayName("JSL", ARRAYS), ArrayName("JSL", KEYS), *listed]
+    return [ArrayName("JSL", ARRAYS), *listed]
 
 
 class Progress:
@@ -151,18 +135,21 @@ def differences(array: ArrayName, here: Iterator[Item], there: Iterator[Item]) -
             last, mine, theirs = mine[0], next(here, None), next(there, None)
 
 
-def key_differences(arrays: Arrays, array: ArrayName, here: Iterator[Item]) -> Iterator[str]:
-    """The differences between the entries of a dump of a JudyHS and those of the same keys on a
-    server."""
-    items = list(here)
-    for (key, value), (_, other) in zip(items, array.within(arrays).get_many(key for key, _ in items)):
-        if other is None:
-            yield "%s %s: in the dump alone" % (array, _shown(key))
-        elif other != value:
-            yield "%s %s: %d in the dump, %d on the server" % (array, _shown(key), value, other)
+class Hashed(NamedTuple):
+    """A key of a JudyHS. Such keys compare as the server has them."""
+
+    place: bytes
+    key: bytes
+
+
+def hashed(items: Iterable[Item]) -> Iterator[Item]:
+    """The entries of a JudyHS, under keys that compare as the server has them."""
+    return ((Hashed(hashlib.sha256(key).digest()[:8], key), value) for key, value in items)
 
 
 def _shown(key: Any) -> str:
+    if isinstance(key, Hashed):
+        key = key.key
     return "x" + key.hex() if isinstance(key, bytes) else str(key)
 
 
@@ -175,9 +162,11 @@ def check(arrays: Arrays, blocks: Iterable[Tuple[int, bytes]]) -> int:
     there are."""
     count, progress = 0, Progress("entries")
     for array, group in groupby(progress.of(dumped(blocks)), key=_array_of):
-        here = ((key, value) for _, key, value in group)
-        found = key_differences(arrays, array, here) if array.kind == "JHS" else differences(array, here, items_in(arrays, array))
-        for difference in found:
+        here: Iterator[Item] = ((key, value) for _, key, value in group)
+        there = items_in(arrays, array)
+        if array.kind == "JHS":  # dumps of older versions have its keys in any order, perhaps twice
+            here, there = iter(sorted(hashed(dict(here).items()))), hashed(there)
+        for difference in differences(array, here, there):
             count += 1
             if count <= SHOWN:
                 print(difference)

@@ -3,6 +3,7 @@
 import operator
 import re
 from array import array
+from binascii import unhexlify
 from typing import Any, Iterable, List, NamedTuple, Optional, Sequence, SupportsIndex, Tuple
 
 from .errors import JudyError, KeyTooLong
@@ -295,6 +296,19 @@ def bytes_item_of(reply: bytes) -> Optional[Tuple[bytes, int]]:
     if len(fields) != 3 or fields[0] != b"V" or not fields[1].isdigit() or fields[2][:1] != b"x":
         raise JudyError("no such answer: %r" % reply)
     return bytes.fromhex(fields[2][1:].decode()), int(fields[1])
+
+
+def bytes_items_of(reply: bytes) -> List[Tuple[bytes, int]]:
+    """The bytes of listed keys, each with its value."""
+    fields = reply.split(b" ")
+    try:
+        items = list(zip((unhexlify(key[1:]) for key in fields[3::2]), map(int, fields[2::2])))
+        is_whole = fields[0] == b"E" and len(fields) == 2 + 2 * int(fields[1])
+    except (IndexError, ValueError):
+        is_whole = False
+    if not is_whole:
+        raise JudyError("no such answer: %r" % reply)
+    return items
 
 
 def used_of(reply: bytes) -> Used:

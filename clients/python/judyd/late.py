@@ -93,7 +93,7 @@ class LateJudySL(LateMap[K], JudySLCalls[K, LateYes, LateNumber, LateFound, Late
     """The map from strings to words of a pipeline."""
 
 
-class LateJudyHS(LateMap[K], JudyHSCalls[K, LateYes, LateNumber, LateFound], Generic[K]):
+class LateJudyHS(LateMap[K], JudyHSCalls[K, LateYes, LateNumber, LateFound, Later[List[Tuple[K, int]]]], Generic[K]):
     """The map from byte keys to words of a pipeline."""
 
 

@@ -9,10 +9,9 @@ from typing import (
 from weakref import ReferenceType, ref
 
 from .calls import JudyHSCalls, JudyLCalls, JudySLCalls, MapCalls, given
-from .catalogue import keys_of
 from .fields import MAX, flags_of, numbers_of, values_of
 from .many import Many, Ranked, add_step, get_key, insert_entry, pairs_of
-from .strings import Item, Listing, StringWalk
+from .strings import ByteWalk, Item, Listing, StringWalk
 from .walks import Steps, items_in, items_of, walked
 
 K = TypeVar("K")
@@ -186,18 +185,17 @@ class MapBase(Many, MapCalls[K, bool, int, Optional[int]], Generic[K]):
 
 
 class WalkedMap(MapBase[K], MutableMapping[K, int]):  # type: ignore[misc]
-    """A map that is walked in order."""
+    """A map that is walked in its order."""
 
     walk: Callable[..., Iterator[Tuple[K, int]]]
-    walk_back: Callable[..., Iterator[Tuple[K, int]]]
 
     def _popped(self) -> Optional[Tuple[K, int]]:
-        """The least key and its value, which are removed, or None."""
+        """The first key and its value, which are removed, or None."""
         raise NotImplementedError
 
     def popitem(self) -> Tuple[K, int]:
-        """Removes the least key, and returns it with its value. It is one line: if several clients pop,
-        each gets a key of its own. Raises KeyError if the map is empty."""
+        """Removes the first key, and returns it with its value. If several clients pop, each gets a key of
+        its own. Raises KeyError if the map is empty."""
         item = self._popped()
         if item is None:
             raise KeyError("the map is empty")
@@ -213,9 +211,6 @@ class WalkedMap(MapBase[K], MutableMapping[K, int]):  # type: ignore[misc]
         """The items of a walk, for a caller that lists them."""
         return things
 
-    def __reversed__(self) -> Iterator[K]:
-        return (key for key, _ in self.walk_back())
-
     def keys(self) -> Keys[K]:
         """The keys, in order."""
         return Keys(self)
@@ -229,7 +224,38 @@ class WalkedMap(MapBase[K], MutableMapping[K, int]):  # type: ignore[misc]
         return Values(self)
 
 
-class JudyL(Ranked[Tuple[int, int]], WalkedMap[int], JudyLCalls[bool, int, Optional[int], Optional[Tuple[int, int]]]):  # type: ignore[misc]
+class SortedMap(WalkedMap[K]):
+    """A map in the order of its keys, which is walked back too."""
+
+    walk_back: Callable[..., Iterator[Tuple[K, int]]]
+
+    def __reversed__(self) -> Iterator[K]:
+        return (key for key, _ in self.walk_back())
+
+
+class KeyMap(WalkedMap[K]):
+    """A map whose keys are bytes or text. It has no Count, so `len` walks all entries."""
+
+    _shown: Callable[[bytes], K]
+    _listing: Optional[Tuple[int, "ReferenceType[Listing[Any]]"]] = None
+
+    def __len__(self) -> int:
+        thread, listed = self._listing or (0, lambda: None)
+        listing = listed() if thread == get_ident() else None
+        if listing is not None and listing.is_fresh:
+            return listing.counted()
+        return sum(1 for _ in self.walk())
+
+    def _listed(self, things: Iterator[V]) -> Iterator[V]:
+        listing = Listing(things)
+        self._listing = (get_ident(), ref(listing))
+        return listing
+
+    def _walk(self, steps: Steps[Item]) -> Iterator[Tuple[K, int]]:
+        return ((self._shown(key), value) for key, value in walked(steps, self._asker))
+
+
+class JudyL(Ranked[Tuple[int, int]], SortedMap[int], JudyLCalls[bool, int, Optional[int], Optional[Tuple[int, int]]]):  # type: ignore[misc]
     """A map from words to words. Besides the manual's calls it is a Python mapping: `m[5] = 7`, `5
     in m`, `del m[5]`, `len(m)`, `for i in m`."""
 
@@ -267,23 +293,9 @@ class JudyL(Ranked[Tuple[int, int]], WalkedMap[int], JudyLCalls[bool, int, Optio
         return pipe.judyl(self.name)
 
 
-class JudySL(WalkedMap[K], JudySLCalls[K, bool, int, Optional[int], Optional[Tuple[K, int]]]):  # type: ignore[misc]
+class JudySL(KeyMap[K], SortedMap[K], JudySLCalls[K, bool, int, Optional[int], Optional[Tuple[K, int]]]):  # type: ignore[misc]
     """A map from strings to words, in the order of their bytes. Besides the manual's calls it is a
-    Python mapping. JudySL has no Count, so `len` walks all entries."""
-
-    _listing: Optional[Tuple[int, "ReferenceType[Listing[Any]]"]] = None
-
-    def __len__(self) -> int:
-        thread, listed = self._listing or (0, lambda: None)
-        listing = listed() if thread == get_ident() else None
-        if listing is not None and listing.is_fresh:
-            return listing.counted()
-        return sum(1 for _ in self.walk())
-
-    def _listed(self, things: Iterator[V]) -> Iterator[V]:
-        listing = Listing(things)
-        self._listing = (get_ident(), ref(listing))
-        return listing
+    Python mapping."""
 
     def __bool__(self) -> bool:
         return self.first() is not None
@@ -305,34 +317,28 @@ class JudySL(WalkedMap[K], JudySLCalls[K, bool, int, Optional[int], Optional[Tup
         plain = self._plain(prefix)
         return self._walk(StringWalk(self, False).steps(plain, plain))
 
-    def _walk(self, steps: Steps[Item]) -> Iterator[Tuple[K, int]]:
-        return ((self._shown(key), value) for key, value in walked(steps, self._asker))
-
     def _in(self, pipe: Any) -> Any:
         return pipe.judysl(self.name, self.encoding)
 
 
-class JudyHS(MapBase[K], JudyHSCalls[K, bool, int, Optional[int]]):
-    """A map from byte keys to words, without an order: `h[key] = 7`, `h[key]`, `key in h`, `del
-    h[key]`. The manual has no walk, so there is no `len`, and `for key in h` needs a client with a
-    catalogue, which keeps the keys."""
+class JudyHS(KeyMap[K], JudyHSCalls[K, bool, int, Optional[int], List[Tuple[K, int]]]):  # type: ignore[misc]
+    """A map from byte keys to words, in an order of the server's: by the first 8 bytes of a key's SHA-256,
+    then by its bytes. Besides the manual's calls it is a Python mapping, but it is not walked back."""
 
-    def __iter__(self) -> Iterator[K]:
-        if self._asker._catalogue is None:
-            raise TypeError("a JudyHS has no walk, so its keys can't be listed, but by a client with a catalogue")
-        return (key for key, _ in self.walk(keys_of(self._asker, self.name)))
+    def __bool__(self) -> bool:
+        return bool(self.first(1))
 
-    def _entries(self) -> Dict[K, int]:
-        if self._asker._catalogue is None:
-            raise TypeError("a JudyHS has no walk, so it can't be compared or joined as a whole: take dict(h.get_many(keys)) of the keys in question")
-        return dict(self.walk(keys_of(self._asker, self.name)))
+    def _popped(self) -> Optional[Tuple[K, int]]:
+        while found := self.first(1):
+            if self.delete_if(*found[0]):
+                return found[0]
+        return None
 
-    def walk(self, keys: Iterable[bytes]) -> Iterator[Tuple[K, int]]:
-        """The entries of those of these byte keys that are present, in the order given, with many
-        lines in flight at once."""
-        for key, value in self.get_many(self._shown(key) for key in keys):
-            if value is not None:
-                yield key, value
+    def walk(self, behind: Optional[K] = None) -> Iterator[Tuple[K, int]]:
+        """The entries in the server's order, those behind a key if one is given, as pairs of key and value,
+        read many at a time. The key may be absent. Beside writers each entry that is there all the time comes
+        exactly once."""
+        return self._walk(ByteWalk(self).steps(self._bound(behind)))
 
     def _in(self, pipe: Any) -> Any:
         return pipe.judyhs(self.name, self.encoding)

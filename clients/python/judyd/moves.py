@@ -3,7 +3,6 @@
 from itertools import zip_longest
 from typing import Iterable, Iterator, List, Tuple
 
-from .catalogue import ARRAYS, KEYS
 from .copies import ArrayName, Progress
 from .errors import Closed, Error, checked
 from .fields import Used, count_of, used_of
@@ -99,11 +98,10 @@ def _used(wire: Wire) -> Used:
 
 
 def _has_any(wire: Wire, array: ArrayName) -> bool:
-    """Whether an array has entries. Those of the catalogue may be missing."""
-    if array.kind == "JHS" or array.name in (ARRAYS, KEYS):
-        return any(count for _, count in blocks_of(wire, array))
-    first = b"%bF %b %b\n" % (array.kind.encode(), array.name.encode(), b"x" if array.kind == "JSL" else b"0")
-    return wire.ask(first, 1)[:-1] not in (b"0", b"NULL")
+    """Whether an array has entries."""
+    field = {"JSL": b"x", "JHS": b"1"}.get(array.kind, b"0")
+    first = b"%bF %b %b\n" % (array.kind.encode(), array.name.encode(), field)
+    return checked(wire.ask(first, 1)[:-1]) not in (b"0", b"NULL", b"E 0")
 
 
 def move(source: Wire, target: Wire, arrays: List[ArrayName], is_all: bool, is_part: bool, is_freed: bool) -> int:

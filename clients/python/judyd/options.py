@@ -26,7 +26,7 @@ and goes on. If the connection is lost it says how many lines were answered, and
   judy kick PATH TENANT                      tells it to close the connections of a tenant
   judy thaw PATH TENANT                      lets a tenant write that a restore has left frozen
   judy wait [--timeout S]                    waits until a server answers: status 1 if none does
-  judy dump [-o FILE] J1:ids JHS:keys=FILE .. arrays as lines, to a file or to standard output
+  judy dump [-o FILE] J1:ids JHS:keys ..     arrays as lines, to a file or to standard output
   judy load [FILE]                           loads a dump, if it is whole
   judy check [FILE]                          compares a dump with the arrays: status 1 if they differ
   judy backup --folder DIR LIST              a dump of each tenant of a list, and the one before it
@@ -147,7 +147,7 @@ def subcommand(name: str) -> argparse.ArgumentParser:
         sub.add_argument("-o", "--output", metavar="FILE", help="write a file beside FILE, which takes its place when the dump is whole")
         sub.add_argument("--all", action="store_true", help="all arrays of the tenant's catalogue")
         sub.add_argument("--empty", action="store_true", help="an array may have no entries")
-        sub.add_argument("arrays", nargs="*", metavar="ARRAY", help="J1:NAME, JL:NAME, JSL:NAME, JHS:NAME=FILE with keys in hexadecimal digits")
+        sub.add_argument("arrays", nargs="*", metavar="ARRAY", help="J1:NAME, JL:NAME, JSL:NAME or JHS:NAME")
     elif name in ("load", "check"):
         sub.add_argument("--unchecked", action="store_true", help="take lines that are no whole dump, without a check")
         if name == "check":

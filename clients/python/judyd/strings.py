@@ -1,10 +1,10 @@
-"""Walks of a JudySL."""
+"""Walks of a JudySL and of a JudyHS."""
 
-from binascii import unhexlify
 from typing import Any, Generic, Iterator, List, Optional, Tuple, TypeVar
 
-from .fields import KEY_LIMIT, key_field
-from .walks import Steps, Walk, entries_of
+from .errors import checked
+from .fields import KEY_LIMIT, bytes_items_of, key_field
+from .walks import Steps, Walk
 
 T = TypeVar("T")
 Item = Tuple[bytes, int]
@@ -12,7 +12,7 @@ Item = Tuple[bytes, int]
 
 class Listing(Generic[T]):
     """What is listed of a walk: keys, values or entries. Python's `list` asks for the length first,
-    and a JudySL has no Count. So `counted` reads all items, which are then returned without a
+    and neither a JudySL nor a JudyHS has a Count. So `counted` reads all items, which are then returned without a
     second read."""
 
     def __init__(self, things: Iterator[T]) -> None:
@@ -33,24 +33,41 @@ class Listing(Generic[T]):
         return len(things)
 
 
-class StringWalk(Walk[Item]):
-    """A walk of a JudySL over the keys with a prefix, up to the string `stop`, which is left out, if there
-    is one."""
+class KeyWalk(Walk[Item]):
+    """A walk over keys that are bytes."""
 
     longest = 2 * KEY_LIMIT + 23
+
+    def _entries(self, reply: bytes) -> List[Item]:
+        return bytes_items_of(checked(reply))
+
+    def _field(self, entry: Item) -> bytes:
+        return key_field(entry[0])
+
+
+class ByteWalk(KeyWalk):
+    """A walk of a JudyHS, in the server's order."""
+
+    def __init__(self, array: Any) -> None:
+        super().__init__(array, is_back=False)
+
+    def _has(self, entry: Item) -> bool:
+        return True
+
+    def steps(self, behind: Optional[bytes]) -> Steps[Item]:
+        """The entries behind a key, which may be absent; without one, all entries."""
+        return self._steps(self._first if behind is None else self._behind(key_field(behind)))
+
+
+class StringWalk(KeyWalk):
+    """A walk of a JudySL over the keys with a prefix, up to the string `stop`, which is left out, if there
+    is one."""
 
     def __init__(self, array: Any, is_back: bool, stop: Optional[bytes] = None) -> None:
         super().__init__(array, is_back)
         self._is_back = is_back
         self._stop = stop
         self._prefix = b""
-
-    def _entries(self, reply: bytes) -> List[Item]:
-        fields = entries_of(reply)
-        return list(zip((unhexlify(key[1:]) for key in fields[1::2]), map(int, fields[::2])))
-
-    def _field(self, entry: Item) -> bytes:
-        return key_field(entry[0])
 
     def _has(self, entry: Item) -> bool:
         if not entry[0].startswith(self._prefix):
@@ -62,4 +79,4 @@ class StringWalk(Walk[Item]):
         self._prefix = prefix
         if start is None:
             start = b"\xff" * KEY_LIMIT if self._is_back else b""
-        return self._steps(key_field(start))
+        return self._from(key_field(start))

@@ -1,18 +1,18 @@
 """The entries of an array, as the lines that insert them, in large blocks: for `judy dump`.
 
-A sweep is exact while other clients write: an entry that stays comes exactly once, and the keys rise.
+A sweep is exact while other clients write: an entry that stays comes exactly once, and the keys are in order.
 An entry that is inserted, changed or removed meanwhile comes as it is when it is read, or not at all.
 
-Many cursors read at once, each by Next. A cursor that reaches the place where the next one began has
+But for a JudyHS, many cursors read at once, each by Next. A cursor that reaches the place where the next one began has
 read everything in between. Keys and values stay as the bytes of the replies.
 """
 
 from bisect import bisect_left
 from itertools import accumulate, chain, islice
-from typing import Iterable, Iterator, List, Optional, Tuple
+from typing import Iterator, List, Optional, Tuple
 
-from .errors import Error, all_checked, checked
-from .fields import KEY_LIMIT, count_of
+from .errors import Error, checked
+from .fields import KEY_LIMIT, MOST, count_of
 from .wire import Wire
 
 WIDTH = 2000
@@ -217,11 +217,10 @@ def _plain(field: bytes) -> bytes:
 
 
 class StringSweep:
-    """The entries of a JudySL from one key up to another, which is excluded."""
+    """The entries of a JudySL."""
 
-    def __init__(self, wire: Wire, name: str, start: bytes = b"x", end: bytes = _ABOVE) -> None:
+    def __init__(self, wire: Wire, name: str) -> None:
         self._wire = wire
-        self._start, self._end = start, end
         self._calls = [b"JSL%b %b " % (letter, name.encode()) for letter in (b"F", b"L", b"N")]
         self._insert = b"JSLI %b " % name.encode()
         self._stretches: List[Stretch] = []
@@ -229,11 +228,11 @@ class StringSweep:
     def blocks(self) -> Iterator[Block]:
         """The entries in order, in blocks of lines."""
         first, last, _ = self._calls
-        (value,), (key,) = self._found(_asked(self._wire, first, [self._start]))
-        (_,), (bound,) = self._found(_asked(self._wire, last, [self._end if self._end != _ABOVE else _GREATEST]))
-        if key >= self._end:
+        (value,), (key,) = self._found(_asked(self._wire, first, [b"x"]))
+        (_,), (bound,) = self._found(_asked(self._wire, last, [_GREATEST]))
+        if key == _ABOVE:
             return
-        self._stretches = [Stretch(self._insert, key, value, self._end, min(bound, self._end))]
+        self._stretches = [Stretch(self._insert, key, value, _ABOVE, bound)]
         while self._stretches:
             yield from self._ready()
             self._advance()
@@ -272,13 +271,23 @@ class StringSweep:
         self._stretches = [part for stretch in self._stretches for part in (stretch, *later.get(id(stretch), ()))]
 
 
-def present(wire: Wire, name: str, keys: Iterable[bytes]) -> Iterator[Block]:
-    """The entries of those of these keys that a JudyHS has, in blocks of lines. A key is its field."""
-    left = iter(keys)
-    while some := list(islice(left, WIDTH * 10)):
-        given = _asked(wire, b"JHSG %b " % name.encode(), some)
-        replies = given.splitlines()
-        entries = [key + reply[1:] for key, reply in zip(some, replies) if reply[:2] == b"V "]
-        if len(entries) + replies.count(b"NULL") != len(some):
-            raise Error("no such reply: %r" % next(reply for reply in all_checked(given).splitlines() if reply[:2] != b"V " and reply != b"NULL"))
-        yield _joined(b"JHSI %b " % name.encode(), entries)
+class ByteSweep:
+    """The entries of a JudyHS. One cursor reads as many at once as fit into a reply."""
+
+    def __init__(self, wire: Wire, name: str) -> None:
+        self._wire = wire
+        self._name = name.encode()
+
+    def blocks(self) -> Iterator[Block]:
+        """The entries in the server's order, in blocks of lines."""
+        line = b"JHSF %b %d\n" % (self._name, MOST)
+        while True:
+            reply = checked(self._wire.ask(line, 1)[:-1])
+            fields = reply.split(b" ")
+            values, keys = fields[2::2], fields[3::2]
+            if fields[0] != b"E" or len(keys) != len(values):
+                raise Error("no such reply: %r" % reply)
+            if not keys:
+                return
+            yield _joined(b"JHSI %b " % self._name, list(map(b" ".join, zip(keys, values))))
+            line = b"JHSN %b %b %d\n" % (self._name, keys[-1], MOST)

@@ -4,32 +4,23 @@ import sys
 from itertools import groupby
 from typing import Iterable, Iterator, List, Optional, Tuple
 
-from .catalogue import ARRAYS, KEYS, read
-from .copies import SHOWN, ArrayName, Progress, keys_in
+from .catalogue import ARRAYS
+from .copies import SHOWN, ArrayName, Progress
 from .dumpfile import NoDump, Reader, Write, Writer, is_regular, replaced, verify, whole_lines, write_all
 from .errors import Closed, Error
 from .session import complain, reason
-from .sweep import Block, RankedSweep, StringSweep, present
+from .sweep import Block, ByteSweep, RankedSweep, StringSweep
 from .wire import Wire
 from .wording import advice, coded, is_refused, request_of
-
-
-def catalogued(wire: Wire, name: str) -> Iterator[bytes]:
-    """The fields of a JudyHS's keys, as the tenant's catalogue has them."""
-    front = b"x" + name.encode().hex().encode()
-    for lines, _ in StringSweep(wire, KEYS, front + b"3a", front + b"3b").blocks():  # from NAME: to NAME;
-        for line in lines.splitlines():
-            yield b"x" + read(name, bytes.fromhex(line.split()[2][1:].decode())).hex().encode()
 
 
 def blocks_of(wire: Wire, array: ArrayName) -> Iterator[Block]:
     """The entries of an array, in blocks of lines."""
     if array.kind == "JSL":
         return StringSweep(wire, array.name).blocks()
-    if array.kind != "JHS":
-        return RankedSweep(wire, array.kind, array.name).blocks()
-    keys = (b"x" + key.hex().encode() for key in keys_in(array.path)) if array.path else catalogued(wire, array.name)
-    return present(wire, array.name, keys)
+    if array.kind == "JHS":
+        return ByteSweep(wire, array.name).blocks()
+    return RankedSweep(wire, array.kind, array.name).blocks()
 
 
 def dump_all(wire: Wire, arrays: List[ArrayName], may_be_empty: bool, write: Write) -> Tuple[List[ArrayName], int]:
@@ -42,7 +33,7 @@ def dump_all(wire: Wire, arrays: List[ArrayName], may_be_empty: bool, write: Wri
             dump.entries(lines, count)
             progress.add(count)
         progress.end()
-        if progress.count == 0 and array.name not in (ARRAYS, KEYS):
+        if progress.count == 0 and array.name != ARRAYS:
             empty.append(array)
     if may_be_empty or not empty:
         dump.end()

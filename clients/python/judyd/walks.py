@@ -124,11 +124,19 @@ class Walk(Generic[T]):
         """Whether the walk has this entry, and does not end before it."""
         raise NotImplementedError
 
-    def _steps(self, start: bytes) -> Steps[T]:
+    def _from(self, field: bytes) -> Steps[T]:
         """The entries from a key on."""
-        line, field, most = self._first, start, FEW
+        return self._steps(b"%b %b" % (self._first, field))
+
+    def _behind(self, field: bytes) -> bytes:
+        """The line of a call that goes on behind a key, without how many entries it asks for."""
+        return b"%b %b" % (self._following, field)
+
+    def _steps(self, line: bytes) -> Steps[T]:
+        """The entries that the call of a line finds, which asks for as many as there are."""
+        most = FEW
         while True:
-            (reply,) = yield Ask([b"%b %b %d" % (line, field, most)])
+            (reply,) = yield Ask([b"%b %d" % (line, most)])
             entries = self._entries(reply)
             kept = entries if entries and self._has(entries[-1]) else list(takewhile(self._has, entries))
             if kept:
@@ -136,7 +144,7 @@ class Walk(Generic[T]):
             # A reply with fewer entries and with room for another one is the last.
             if len(kept) < len(entries) or not entries or (len(entries) < most and len(reply) + self.longest < ROOM):
                 return
-            line, field, most = self._following, self._field(entries[-1]), MANY
+            line, most = self._behind(self._field(entries[-1])), MANY
 
 
 class WordWalk(Walk[T]):
@@ -162,7 +170,7 @@ class WordWalk(Walk[T]):
 
     def steps(self, bound: int) -> Steps[T]:
         """The entries from the index `bound` on, in a walk back from `bound` down."""
-        return self._steps(b"%d" % bound)
+        return self._from(b"%d" % bound)
 
 
 def intersected(line: bytes, start: int, stop: Optional[int]) -> Steps[int]:

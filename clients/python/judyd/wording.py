@@ -39,6 +39,11 @@ _OF_SETS = {
     "Look": ("Test", "1 if the index is present, 0 if not"),
     "Fill": ("AddAbsent", "inserts the least absent index from this one on: 1 i, or 0 if there is none; FULL if the quota has no room"),
 }
+_LISTED = ": E, how many, and each with its value before it"
+_OF_BYTES = {
+    "First": ("First", "the first n keys, in the order of the first 8 bytes of their SHA-256, then of their bytes" + _LISTED),
+    "Next": ("Next", "the first n keys behind this one, which may be absent" + _LISTED),
+}
 _OPERATIONS = {
     "Insert": ("Ins", "inserts a {thing} and stores v, if given: V and the value before, 0 for a new {thing}; FULL if the quota has no room"),
     "Keep": ("Keep", "inserts a {thing} with the value v if it is absent: NULL; a present one keeps its value: V and this value; FULL if the quota has no room"),
@@ -71,7 +76,7 @@ _THINGS = {"Judy1": ("index", "indexes", "i"), "JudyL": ("index", "indexes", "i"
 
 def said_of(kind: str, operation: str) -> Tuple[str, str]:
     """The name of an operation of a kind in the manual, without the kind, and what it does."""
-    return (_OF_SETS if kind == "Judy1" and operation in _OF_SETS else _OPERATIONS)[operation]
+    return {**_OPERATIONS, **{"Judy1": _OF_SETS, "JudyHS": _OF_BYTES}.get(kind, {})}[operation]
 
 
 def _call_of(word: str, command: Command) -> Call:
@@ -218,8 +223,8 @@ def wrong_in(request: str) -> str:
 
 def _ends_with_entries(call: Call, fields: List[str]) -> bool:
     """Whether the last of these fields is a number of entries: that of a search, of an intersection, or of the removal
-    of a range."""
-    may_have = call.fields[-1:] == ("n",) and (call.least < len(call.fields) or "k" in call.fields or "other" in call.fields)
+    of a range. That of an addition and of ByCount is not."""
+    may_have = call.fields[-1:] == ("n",) and COMMANDS_OF_ARRAYS[call.word].operation not in ("Add", "Nth")
     return may_have and len(fields) == len(call.fields)
 
 

@@ -73,5 +73,7 @@ COMMANDS: Dict[str, Command] = {
     "JHSD": Command("JudyHS", "Remove", "key [v]", "removes"),
     "JHST": Command("JudyHS", "Take", "key", "removes"),
     "JHSG": Command("JudyHS", "Look", "key", "looks"),
+    "JHSF": Command("JudyHS", "First", "n", "looks"),
+    "JHSN": Command("JudyHS", "Next", "key n", "looks"),
     "JHSFA": Command("JudyHS", "Free", "", "frees"),
 }
