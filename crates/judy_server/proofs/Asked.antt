@@ -5,7 +5,7 @@ use Rattle.std.specs.Ordering.{eq_by_cmp}
 use Rattle.judy_model.specs.Commands.{commands, entries_of, free_with, string_with}
 use Rattle.judy_model.specs.Contents.{string_order}
 use Rattle.judy_model.specs.Grammar.{at_command, call_by, fields_of, intersection_call, intersection_with, is_name, is_string, key_of, long_call, names_another, numbers_of_fields, one_call}
-use Rattle.judy_model.specs.Grammar.{bytes_call, string_call, string_of}
+use Rattle.judy_model.specs.Grammar.{string_call, string_of}
 use Rattle.judy_model.specs.Reading.{auth_of, named_request, request_by, request_of_fields}
 use Rattle.judy_model.specs.Speakers.{Speaker}
 use Rattle.judy_model.specs.declared.calls.Call.{Call}
@@ -206,7 +206,7 @@ request_passes c other more name call = by c.kind
     by kind.One h = absurd (set_no_string c.operation other more name call (names_another c.operation) h)
     by kind.Long h = absurd (not_string (λ x. Long other x) (long_call c.operation more) name call (λ x e. cc) h)
     by kind.Str h = subst Passes (the_string other name (string_call c.operation more) call h) (string_call_passes c.operation more)
-    by kind.Bytes h = absurd (not_string (λ x. Bytes other x) (bytes_call c.operation more) name call (λ x e. cc) h)
+    by kind.Bytes h = absurd (not_string (λ x. Bytes other x) _ name call (λ x e. cc) h)
 
 fields_pass : (fields : List (List ℕ)) (name : List ℕ) (c : StrCall) → request_of_fields fields ≡ Some (request.Call (Str name c)) → has_key_string c ≡ true
 fields_pass [] name c h = cc
