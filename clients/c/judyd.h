@@ -71,6 +71,7 @@ struct jd_usage {
 typedef int jd_j1_visit(uint64_t index, void *context);
 typedef int jd_jl_visit(uint64_t index, uint64_t value, void *context);
 typedef int jd_js_visit(const char *key, uint64_t value, void *context);
+typedef int jd_jh_visit(const void *key, size_t length, uint64_t value, void *context);
 
 /* A shared library has these names and no others. */
 #ifdef __GNUC__
@@ -168,7 +169,8 @@ int jd_js_prev(jd *connection, const char *name, char *key, uint64_t *value);
 int jd_js_free_array(jd *connection, const char *name, uint64_t *count);
 int jd_js_scan(jd *connection, const char *name, const char *from, jd_js_visit *visit, void *context);
 
-/* JudyHS: maps from byte keys to words. */
+/* JudyHS: maps from byte keys to words. A scan is in an order of the server's. It begins behind a key, which may be
+ * absent, or with null at the first entry. */
 int jd_jh_ins(jd *connection, const char *name, const void *key, size_t length, uint64_t value, uint64_t *before);
 int jd_jh_ensure(jd *connection, const char *name, const void *key, size_t length, uint64_t *value);
 int jd_jh_add(jd *connection, const char *name, const void *key, size_t length, uint64_t n, uint64_t *value);
@@ -179,6 +181,7 @@ int jd_jh_get(jd *connection, const char *name, const void *key, size_t length, 
 int jd_jh_del(jd *connection, const char *name, const void *key, size_t length);
 int jd_jh_del_if(jd *connection, const char *name, const void *key, size_t length, uint64_t value);
 int jd_jh_free_array(jd *connection, const char *name, uint64_t *count);
+int jd_jh_scan(jd *connection, const char *name, const void *behind, size_t length, jd_jh_visit *visit, void *context);
 
 #ifdef __GNUC__
 #pragma GCC visibility pop

@@ -79,20 +79,27 @@ static int hex_digit(char c)
     return c >= '0' && c <= '9' ? c - '0' : c >= 'a' && c <= 'f' ? c - 'a' + 10 : -1;
 }
 
-/* Reads the key at the end of a reply, x and two digits for each byte. It has no byte 0. */
-static bool read_key(struct text t, char key[JD_KEY_ROOM])
+/* Reads the key at the end of a reply, x and two digits for each byte. A byte 0 is put behind it. */
+static bool read_bytes(struct text t, char key[JD_KEY_ROOM], size_t *length)
 {
-    size_t length = 0;
+    *length = 0;
     if (!skip(&t, "x") || (t.end - t.at) % 2 != 0 || t.end - t.at > 2 * JD_KEY_LIMIT)
         return false;
     for (; t.at < t.end; t.at += 2) {
         int high = hex_digit(t.at[0]), low = hex_digit(t.at[1]);
-        if (high < 0 || low < 0 || high + low == 0)
+        if (high < 0 || low < 0)
             return false;
-        key[length++] = (char)(16 * high + low);
+        key[(*length)++] = (char)(16 * high + low);
     }
-    key[length] = 0;
+    key[*length] = 0;
     return true;
+}
+
+/* The same of a string, which has no byte 0. */
+static bool read_key(struct text t, char key[JD_KEY_ROOM])
+{
+    size_t length;
+    return read_bytes(t, key, &length) && strlen(key) == length;
 }
 
 /* The code of a refusal, or JD_REPLY for any other reply. */

@@ -56,15 +56,15 @@ static bool read_next(struct listing *l, uint64_t *number)
     return skip(&l->rest, " ") && read_word(&l->rest, number);
 }
 
-/* Reads the string of an entry. */
-static bool read_string(struct listing *l, char key[JD_KEY_ROOM])
+/* Cuts off the field of an entry's key, which may be empty. */
+static struct text next_field(struct listing *l)
 {
     if (!skip(&l->rest, " "))
-        return false;
+        return (struct text){.at = l->rest.at, .end = l->rest.at};
     const char *space = memchr(l->rest.at, ' ', (size_t)(l->rest.end - l->rest.at));
     struct text field = {.at = l->rest.at, .end = space ? space : l->rest.end};
     l->rest.at = field.end;
-    return read_key(field, key);
+    return field;
 }
 
 /* What a visit leads to. Returns 1 to go on, 0 if the visit ended the scan, or JD_USE if it left a queue. */
@@ -170,10 +170,38 @@ int jd_js_scan(jd *c, const char *name, const char *from, jd_js_visit *visit, vo
         for (uint64_t i = 0; i < l.count; i++) {
             uint64_t value;
             strcpy(before, key);
-            if (!read_next(&l, &value) || !read_string(&l, key) || strcmp(key, before) < is_begun)
+            if (!read_next(&l, &value) || !read_key(next_field(&l), key) || strcmp(key, before) < is_begun)
                 return fail(c, JD_REPLY);
             is_begun = true;
             code = after_visit(c, visit(key, value, context));
+            if (code <= 0)
+                return code;
+        }
+        if (l.rest.at != l.rest.end)
+            return fail(c, JD_REPLY);
+    }
+}
+
+int jd_jh_scan(jd *c, const char *name, const void *behind, size_t length, jd_jh_visit *visit, void *context)
+{
+    char key[JD_KEY_ROOM], last[JD_KEY_ROOM];
+    struct fields fields = {.has_key = behind != NULL, .key = behind, .length = behind ? length : 0, .words = 1, .word = {FEW}};
+    struct listing l;
+    if (c->is_queueing)
+        return JD_USE;
+    for (;; fields.word[0] = MANY) {
+        int code = ask_entries(c, fields.has_key ? "JHSN" : "JHSF", name, &fields, &l);
+        if (code <= 0 || l.count == 0)
+            return code;
+        for (uint64_t i = 0; i < l.count; i++) {
+            uint64_t value;
+            if (!read_next(&l, &value) || !read_bytes(next_field(&l), key, &length))
+                return fail(c, JD_REPLY);
+            if (fields.has_key && length == fields.length && memcmp(key, fields.key, length) == 0)
+                return fail(c, JD_REPLY);
+            memcpy(last, key, length);
+            fields.has_key = true, fields.key = last, fields.length = length;
+            code = after_visit(c, visit(key, length, value, context));
             if (code <= 0)
                 return code;
         }

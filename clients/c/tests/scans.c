@@ -1,10 +1,10 @@
-/* jd_j1_scan, jd_j1_intersect, jd_jl_scan and jd_js_scan. Ends with status 1 and a line for the first that is wrong.
+/* jd_j1_scan, jd_j1_intersect, jd_jl_scan, jd_js_scan and jd_jh_scan. Ends with status 1 and a line for the first that is wrong.
  *
  * usage: scans all PATH SEED COUNT      a judyd with the tenant alice (token abc); arrays of about COUNT entries,
  *                                       alone and beside a writer
  *        scans plain PATH COUNT         one scan of a JudyL with the entries 0 to COUNT - 1, and nothing else
  *        scans shared PATH COUNT        what the sets twos and threes, multiples of 2 and of 3 below COUNT, share
- *        scans odd PATH 1|i|l|s COUNT   a server whose last reply on each of COUNT connections is none to a scan of this
+ *        scans odd PATH 1|i|l|s|h COUNT a server whose last reply on each of COUNT connections is none to a scan of this
  *                                       kind; before it comes the entry 5, 5 with the value 1, or a with the value 1
  *        scans refused PATH             one that replies `ERR FROZEN`, `ERR NEW`, `V 1 5` */
 #define _POSIX_C_SOURCE 200809L
@@ -238,6 +238,105 @@ static void check_strings(jd *c, size_t count)
     CHECK(1, jd_js_free_array(c, "words", &freed));
 }
 
+/* ---- byte keys ---- */
+
+/* The numbers whose 8 bytes are the keys of a JudyHS, in the order in which a scan visits them. */
+struct numbers {
+    uint64_t *order;
+    bool *was_seen;
+    size_t room, count, last; /* the visit of place `last` ends the scan */
+};
+
+static int visit_number(const void *key, size_t length, uint64_t value, void *context)
+{
+    struct numbers *n = context;
+    uint64_t number;
+    CHECK(sizeof number, (int)length);
+    memcpy(&number, key, sizeof number);
+    CHECK(1, number < n->room && value == FAR * number && !n->was_seen[number]);
+    n->was_seen[number] = true;
+    n->order[n->count] = number;
+    return n->count++ == n->last;
+}
+
+static struct numbers numbers_of(size_t room, size_t last)
+{
+    struct numbers n = {.order = calloc(room + 1, sizeof *n.order), .was_seen = calloc(room + 1, sizeof *n.was_seen), .room = room, .last = last};
+    if (!n.order || !n.was_seen)
+        exit(1);
+    return n;
+}
+
+static void free_numbers(struct numbers *n)
+{
+    free(n->order);
+    free(n->was_seen);
+}
+
+/* A scan from a place of the order of another one on, to its end or to a visit. */
+static void check_numbers_from(jd *c, const struct numbers *all, size_t at, size_t visits)
+{
+    struct numbers n = numbers_of(all->room, visits > 0 ? visits - 1 : SIZE_MAX);
+    bool is_ended = n.last < all->count - at;
+    size_t count = is_ended ? visits : all->count - at;
+    const uint64_t *behind = at > 0 ? &all->order[at - 1] : NULL;
+    CHECK(is_ended ? 0 : 1, jd_jh_scan(c, "h", behind, sizeof *behind, visit_number, &n));
+    CHECK(1, n.count == count && memcmp(n.order, all->order + at, count * sizeof *n.order) == 0);
+    free_numbers(&n);
+}
+
+static void put_number(jd *c, uint64_t number) { jd_jh_ins(c, "h", &number, sizeof number, FAR * number, NULL); }
+
+static void check_bytes(jd *c, size_t count, uint64_t *state)
+{
+    struct numbers all = numbers_of(count, SIZE_MAX);
+    CHECK(1, jd_begin(c, NULL, 0));
+    for (size_t i = 0; i < count; i++)
+        put_number(c, i);
+    CHECK(1, jd_end(c));
+    CHECK(1, jd_jh_scan(c, "h", NULL, 0, visit_number, &all));
+    CHECK(1, all.count == count);
+    for (size_t visits = 1; visits < 2 * count; visits *= 5)
+        check_numbers_from(c, &all, 0, visits);
+    for (int i = 0; i < 8; i++) {
+        check_numbers_from(c, &all, draw(state) % (count + 1), 0);
+        check_numbers_from(c, &all, draw(state) % (count + 1), 1 + draw(state) % 40);
+    }
+    if (count > 1) { /* behind a key that is absent */
+        CHECK(1, jd_jh_del(c, "h", &all.order[count / 2], sizeof *all.order));
+        struct numbers rest = numbers_of(count, SIZE_MAX);
+        CHECK(1, jd_jh_scan(c, "h", &all.order[count / 2], sizeof *all.order, visit_number, &rest));
+        CHECK(1, rest.count == count - count / 2 - 1);
+        free_numbers(&rest);
+    }
+    CHECK(1, jd_jh_free_array(c, "h", NULL));
+    free_numbers(&all);
+}
+
+static int visit_length(const void *key, size_t length, uint64_t value, void *context)
+{
+    size_t *sum = context;
+    const char *at = key;
+    CHECK(1, value == length && (length == 0 || at[length - 1] == 0));
+    *sum += length + 1;
+    return 0;
+}
+
+/* Keys of all lengths that end with a byte 0, and the empty one. */
+static void check_lengths(jd *c)
+{
+    static const size_t lengths[] = {0, 1, 2, 8, 999, JD_KEY_LIMIT};
+    static char key[JD_KEY_LIMIT];
+    size_t wanted = 0, sum = 0, rest = 0;
+    for (size_t i = 0; i < sizeof lengths / sizeof *lengths; wanted += lengths[i++] + 1)
+        CHECK(1, jd_jh_ins(c, "h", key, lengths[i], lengths[i], NULL));
+    CHECK(1, jd_jh_scan(c, "h", NULL, 0, visit_length, &sum));
+    CHECK(1, sum == wanted);
+    CHECK(1, jd_jh_scan(c, "h", "", 0, visit_length, &rest));
+    CHECK(1, rest < sum);
+    CHECK(1, jd_jh_free_array(c, "h", NULL));
+}
+
 /* ---- beside a writer ---- */
 
 enum { STAYS = 3 /* an index stays if STAYS divides it; the others come and go */ };
@@ -264,6 +363,14 @@ static void change_sets(jd *c, uint64_t index, uint64_t drawn)
         jd_j1_set(c, name, index);
     else
         jd_j1_unset(c, name, index);
+}
+
+static void change_bytes(jd *c, uint64_t index, uint64_t drawn)
+{
+    if (drawn % 2)
+        put_number(c, index);
+    else
+        jd_jh_del(c, "h", &index, sizeof index);
 }
 
 static void *write_on(void *context)
@@ -304,27 +411,50 @@ static int visit_shared_beside(uint64_t index, void *context)
     return visit_beside(index, FAR * index, context);
 }
 
-/* Each entry that stays comes exactly once, and the indexes rise; of a JudyL, or of what two sets share. */
-static void check_beside(const char *path, jd *c, size_t count, uint64_t seed, bool is_of_sets)
+/* Scans below an index that stays. Each entry that stays comes exactly once, and the indexes rise. */
+static void scan_map(jd *c, uint64_t most)
 {
-    struct writer w = {.path = path, .change = is_of_sets ? change_sets : change_map, .state = seed, .most = STAYS * count};
+    struct seen seen = {0, 0};
+    CHECK(1, jd_jl_scan(c, "l", 0, visit_beside, &seen));
+    CHECK(1, seen.stays == most);
+}
+
+static void scan_sets(jd *c, uint64_t most)
+{
+    struct seen seen = {0, 0};
+    CHECK(1, jd_j1_intersect(c, "one", "two", 0, visit_shared_beside, &seen));
+    CHECK(1, seen.stays == most);
+}
+
+static void scan_bytes(jd *c, uint64_t most)
+{
+    struct numbers n = numbers_of(most, SIZE_MAX);
+    CHECK(1, jd_jh_scan(c, "h", NULL, 0, visit_number, &n));
+    for (uint64_t index = 0; index < most; index += STAYS)
+        CHECK(1, n.was_seen[index]);
+    free_numbers(&n);
+}
+
+/* Scans while another client makes changes. */
+static void check_beside(const char *path, jd *c, size_t count, uint64_t seed, void (*change)(jd *, uint64_t, uint64_t), void (*scan)(jd *, uint64_t))
+{
+    struct writer w = {.path = path, .change = change, .state = seed, .most = STAYS * count};
     pthread_t thread;
     CHECK(1, jd_begin(c, NULL, 0));
     for (uint64_t index = 0; index < w.most; index += STAYS) {
         jd_jl_ins(c, "l", index, FAR * index, NULL);
         jd_j1_set(c, "one", index);
         jd_j1_set(c, "two", index);
+        put_number(c, index);
     }
     CHECK(1, jd_end(c));
     CHECK(0, pthread_create(&thread, NULL, write_on, &w));
-    for (int i = 0; i < 10; i++) {
-        struct seen seen = {0, 0};
-        CHECK(1, is_of_sets ? jd_j1_intersect(c, "one", "two", 0, visit_shared_beside, &seen) : jd_jl_scan(c, "l", 0, visit_beside, &seen));
-        CHECK(1, seen.stays == w.most);
-    }
+    for (int i = 0; i < 10; i++)
+        scan(c, w.most);
     atomic_store(&w.ends, true);
     CHECK(0, pthread_join(thread, NULL));
     CHECK(1, jd_jl_free_array(c, "l", NULL));
+    CHECK(1, jd_jh_free_array(c, "h", NULL));
     free_sets(c);
 }
 
@@ -375,12 +505,15 @@ static void check_refused(jd *c)
     CHECK(JD_NAME, jd_j1_intersect(c, "no name", "one", 0, visit_none, NULL));
     CHECK(JD_NAME, jd_j1_intersect(c, "one", "no name", 0, visit_none, NULL));
     CHECK(JD_NAME, jd_j1_intersect(c, "one", "", 0, visit_none, NULL));
+    CHECK(JD_NAME, jd_jh_scan(c, "no name", NULL, 0, NULL, NULL));
     CHECK(JD_KEY, jd_js_scan(c, "words", key, NULL, NULL));
+    CHECK(JD_KEY, jd_jh_scan(c, "h", key, JD_KEY_LIMIT + 1, NULL, NULL));
     CHECK(1, jd_begin(c, codes, 2));
     CHECK(JD_USE, jd_j1_scan(c, "one", 0, visit_none, NULL));
     CHECK(JD_USE, jd_j1_intersect(c, "one", "one", 0, visit_none, NULL));
     CHECK(JD_USE, jd_jl_scan(c, "l", 0, NULL, NULL));
     CHECK(JD_USE, jd_js_scan(c, "words", "", NULL, NULL));
+    CHECK(JD_USE, jd_jh_scan(c, "h", NULL, 0, NULL, NULL));
     CHECK(JD_QUEUED, jd_j1_set(c, "one", 5));
     CHECK(1, jd_end(c));
     CHECK(1, codes[0]);
@@ -406,6 +539,7 @@ static void check_all(const char *path, uint64_t seed, size_t count)
     for (size_t some = 0; some < 20; some++) {
         check_words(c, some, &state);
         check_shared(c, some, &state);
+        check_bytes(c, some, &state);
     }
     check_words(c, 1 + draw(&state) % 2000, &state);
     check_words(c, count, &state);
@@ -413,9 +547,12 @@ static void check_all(const char *path, uint64_t seed, size_t count)
     check_shared(c, count, &state);
     check_turns(c);
     check_strings(c, count / 10);
+    check_bytes(c, count / 10, &state);
+    check_lengths(c);
     check_calls(c, count / 4);
-    check_beside(path, c, count / 4, seed, false);
-    check_beside(path, c, count / 4, seed, true);
+    check_beside(path, c, count / 4, seed, change_map, scan_map);
+    check_beside(path, c, count / 4, seed, change_sets, scan_sets);
+    check_beside(path, c, count / 4, seed, change_bytes, scan_bytes);
     jd_close(c);
 }
 
@@ -440,13 +577,20 @@ static int visit_a(const char *key, uint64_t value, void *context)
     return visit_five(5, value, context);
 }
 
-/* A scan of a kind, which is `1`, `i` for what two sets share, `l` or `s`. */
+static int visit_byte_a(const void *key, size_t length, uint64_t value, void *context)
+{
+    CHECK(1, length == 1 && memcmp(key, "a", length) == 0);
+    return visit_five(5, value, context);
+}
+
+/* A scan of a kind, which is `1`, `i` for what two sets share, `l`, `s` or `h`. */
 static int scan(jd *c, char kind)
 {
     switch (kind) {
     case '1': return jd_j1_scan(c, "a", 0, visit_index_five, NULL);
     case 'i': return jd_j1_intersect(c, "a", "b", 0, visit_index_five, NULL);
     case 'l': return jd_jl_scan(c, "a", 0, visit_five, NULL);
+    case 'h': return jd_jh_scan(c, "a", NULL, 0, visit_byte_a, NULL);
     default: return jd_js_scan(c, "a", "", visit_a, NULL);
     }
 }
@@ -523,7 +667,7 @@ int main(int count, char **words)
     else if (count == 3 && !strcmp(words[1], "refused"))
         check_unknown(words[2]);
     else {
-        fprintf(stderr, "usage: scans all PATH SEED COUNT, scans plain|shared PATH COUNT, scans odd PATH 1|i|l|s COUNT, scans refused PATH\n");
+        fprintf(stderr, "usage: scans all PATH SEED COUNT, scans plain|shared PATH COUNT, scans odd PATH 1|i|l|s|h COUNT, scans refused PATH\n");
         return 2;
     }
     return 0;

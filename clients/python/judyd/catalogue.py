@@ -4,8 +4,7 @@
 `J1:ids`. Each entry has the value 1, and counts towards the tenant's quota like any other. A client
 without the option, and lines that are sent as they are, do not update the catalogue.
 
-Older clients also kept `.keys`, a JudySL of the keys of each JudyHS. Nothing reads it any more: free it,
-by `JSLFA .keys`.
+Older clients also kept `.keys`, a JudySL of the keys of each JudyHS. Nothing reads it any more: free it.
 """
 
 from typing import Any, List, Tuple
