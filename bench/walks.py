@@ -25,17 +25,18 @@ SYLLABLES = [a + b for a in "bcdfghklmnprstvw" for b in "aeiou"]
 
 
 def arrays(count):
-    """The name of each array, its lines, its keys in order, and the call and name of a walk."""
+    """The name of each array, the lines that fill it, and how a line begins that walks from each of its entries on."""
     draw = random.Random(2026)
     words = sorted({draw.getrandbits(64) for _ in range(count)})
     dense = list(range(count))
-    texts = sorted({"".join(draw.choices(SYLLABLES, k=6)) for _ in range(count)})
-    yield "Judy1, dense", [b"J1S a %d" % it for it in dense], dense, b"J1F a"
-    yield "Judy1, random", [b"J1S a %d" % it for it in words], words, b"J1F a"
-    yield "JudyL, dense", [b"JLI a %d %d" % (it, it) for it in dense], dense, b"JLF a"
-    yield "JudyL, random", [b"JLI a %d %d" % (it, it & 0xFFFF) for it in words], words, b"JLF a"
-    keys = ["x" + it.encode().hex() for it in texts]
-    yield "JudySL, 12 letters", [b"JSLI a %s %d" % (it.encode(), at) for at, it in enumerate(keys)], keys, b"JSLF a"
+    keys = [b"x" + it.encode().hex().encode() for it in sorted({"".join(draw.choices(SYLLABLES, k=6)) for _ in range(count)})]
+    hashed = sorted(keys, key=lambda key: hashlib.sha256(bytes.fromhex(key[1:].decode())).digest())
+    yield "Judy1, dense", [b"J1S a %d" % it for it in dense], [b"J1F a %d" % it for it in dense]
+    yield "Judy1, random", [b"J1S a %d" % it for it in words], [b"J1F a %d" % it for it in words]
+    yield "JudyL, dense", [b"JLI a %d %d" % (it, it) for it in dense], [b"JLF a %d" % it for it in dense]
+    yield "JudyL, random", [b"JLI a %d %d" % (it, it & 0xFFFF) for it in words], [b"JLF a %d" % it for it in words]
+    yield "JudySL, 12 letters", [b"JSLI a %s %d" % (it, at) for at, it in enumerate(keys)], [b"JSLF a " + it for it in keys]
+    yield "JudyHS, 12 letters", [b"JHSI a %s %d" % (it, at) for at, it in enumerate(keys)], [b"JHSF a", *(b"JHSN a " + it for it in hashed[:-1])]
 
 
 def spent(program, lines):
@@ -52,7 +53,7 @@ def spent(program, lines):
         return used.ru_utime + used.ru_stime, replied.read()
 
 
-def lines_of(program, filled, keys, call, most):
+def lines_of(program, filled, starts, most):
     """The lines of a walk, which ask for at most this many entries each, and how many entries they read. A reply has
     as many as fit, so each line begins behind those of the reply before."""
     process = subprocess.Popen([program, "run"], stdin=subprocess.PIPE, stdout=subprocess.PIPE)
@@ -66,8 +67,8 @@ def lines_of(program, filled, keys, call, most):
             for _ in some:
                 replies.readline()
         at = 0
-        while at < len(keys):
-            lines.append(b"%s %s %d" % (call, str(keys[at]).encode(), most))
+        while at < len(starts):
+            lines.append(b"%s %d" % (starts[at], most))
             given.write(lines[-1] + b"\n")
             given.flush()
             at += int(replies.readline().split(b" ", 2)[1])
@@ -83,9 +84,9 @@ def main():
     parser.add_argument("--rounds", type=int, default=5, help="how many runs each cell has")
     options = parser.parse_args()
     print("| array of %d | entries a line | %s |\n|---|---|%s" % (options.entries, " | ".join(options.programs), "---|" * len(options.programs)))
-    for name, filled, keys, call in arrays(options.entries):
+    for name, filled, starts in arrays(options.entries):
         for most in (65535, 100, 20):
-            lines, entries = lines_of(options.programs[0], filled, keys, call, most)
+            lines, entries = lines_of(options.programs[0], filled, starts, most)
             times = READ // entries + 1
             found = {it: [] for it in options.programs}
             for _ in range(options.rounds):
