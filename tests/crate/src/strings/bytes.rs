@@ -276,12 +276,7 @@ fn page(
 }
 
 // Walks over 1,000 keys, a page after another, and then on from keys that are absent.
-fn walks<H: OrderHash>(
-    rt: &impl Abort,
-    alloc: Global,
-    hash: H,
-    most: u16,
-) -> Result<(), NoMemory> {
+fn walks<H: OrderHash>(rt: &impl Abort, alloc: Global, hash: H, most: u16) -> Result<(), NoMemory> {
     let mut arena = Arena::new(alloc);
     let mut map = JudyHS::new(hash);
     let mut room = ReplyRoom::new();
@@ -289,14 +284,7 @@ fn walks<H: OrderHash>(
     for i in 0..1000u32 {
         let key = (i * 7 % 1000).to_be_bytes();
         let value = u64::from(i * 7 % 1000) * 3;
-        put(
-            rt,
-            alloc,
-            &mut arena,
-            &mut map,
-            &key,
-            Given::Value(value),
-        )?;
+        put(rt, alloc, &mut arena, &mut map, &key, Given::Value(value))?;
     }
     let order = in_order(hash);
     let mut place = page(rt, &order, 0, most, &map.walk(&arena, most, &mut room));
