@@ -1,5 +1,5 @@
-/* The line protocol over libjudy. tests/against_libjudy compares its replies with judyd's, bench/run.py
- * its speed. Build: cc -O2 -o judy_lines judy_lines.c -lJudy
+/* The line protocol over libjudy, without JHSF and JHSN: libjudy cannot walk a JudyHS. tests/against_libjudy compares
+ * its replies with judyd's, bench/run.py its speed. Build: cc -O2 -o judy_lines judy_lines.c -lJudy
  *
  * usage: judy_lines [TENANT TOKEN QUOTA PIECES READ_TOKEN]..
  *            serves standard input, and writes each reply before the next line

@@ -75,7 +75,7 @@ pub static OF_STRINGS: [Row; 13] = [
 ];
 
 /// The commands of a JudyHS.
-pub static OF_KEYS: [Row; 8] = [
+pub static OF_KEYS: [Row; 10] = [
     ("JHSI", Operation::Insert, 16),
     ("JHSA", Operation::Add, 8),
     ("JHSK", Operation::Keep, 8),
@@ -83,6 +83,8 @@ pub static OF_KEYS: [Row; 8] = [
     ("JHSD", Operation::Remove, 16),
     ("JHST", Operation::Take, 5),
     ("JHSG", Operation::Look, 17),
+    ("JHSF", Operation::First, 3),
+    ("JHSN", Operation::Next, 5),
     ("JHSFA", Operation::Free, 1),
 ];
 
@@ -128,7 +130,7 @@ impl Fields {
         Given::Nothing
     }
 
-    /// How many entries the removal of a range asks for.
+    /// How many entries the removal of a range, or a walk over a JudyHS, asks for.
     fn at_most(self) -> u16 {
         if self.most == 0 {
             return 1;
@@ -146,6 +148,8 @@ impl Fields {
             Operation::Pop => 1 + u8::from(kind != Kind::Str),
             Operation::Exchange | Operation::Cut => 3,
             Operation::Take | Operation::Look | Operation::Nth => 1,
+            Operation::First if kind == Kind::Bytes => 1,
+            Operation::Next if kind == Kind::Bytes => 2,
             _ => 1 + u8::from(self.most > 0),
         }
     }
@@ -155,7 +159,7 @@ impl Fields {
         match operation {
             Operation::Cut => (self.number, u64::from(self.at_most())),
             Operation::First | Operation::Next | Operation::Last | Operation::Prev => {
-                (u64::from(self.most), 0)
+                (u64::from(self.at_most()), 0)
             }
             Operation::FirstEmpty
             | Operation::NextEmpty
@@ -299,6 +303,8 @@ pub fn bytes(operation: Operation, fields: Fields) -> Option<BytesCall<'static>>
         Operation::Remove => BytesCall::Delete(key),
         Operation::Take => BytesCall::Take(key),
         Operation::Look => BytesCall::Get(key),
+        Operation::First => BytesCall::First(fields.at_most()),
+        Operation::Next => BytesCall::Next(key, fields.at_most()),
         Operation::Free => BytesCall::Free,
         _ => return None,
     };

@@ -6,8 +6,8 @@ use crate::checks::{holds, holds_at, same, same_at};
 use crate::lines::asks::name;
 use arrayvec::ArrayVec;
 use judy_model::{
-    BytesCall, COMMANDS, Call, Given, KEY_LIMIT, Key, Kind, Line, LongCall, Name, OneCall, Search,
-    StrCall, Token, command_word,
+    BytesCall, COMMANDS, Call, Given, KEY_LIMIT, Key, Kind, Line, LongCall, Name, OneCall, Operation,
+    Search, StrCall, Token, command_word,
 };
 use judy_protocol::{Syntax, read_line};
 use std::alloc::{AllocError, Global};
@@ -38,6 +38,9 @@ fn line_of(
     let (number, other) = fields.numbers(operation);
     match fields.count(operation, kind) {
         0 => format!(in alloc; "{word} A_b-9.z"),
+        1 if kind == Kind::Bytes && operation == Operation::First => {
+            format!(in alloc; "{word} A_b-9.z {number}")
+        }
         1 => format!(in alloc; "{word} A_b-9.z {key}"),
         2 => format!(in alloc; "{word} A_b-9.z {key} {number}"),
         _ => format!(in alloc; "{word} A_b-9.z {key} {number} {other}"),
