@@ -6,8 +6,8 @@ use crate::checks::{holds, holds_at, same, same_at};
 use crate::lines::asks::name;
 use arrayvec::ArrayVec;
 use judy_model::{
-    BytesCall, COMMANDS, Call, Given, KEY_LIMIT, Key, Kind, Line, LongCall, Name, OneCall, Operation,
-    Search, StrCall, Token, command_word,
+    BytesCall, COMMANDS, Call, Given, KEY_LIMIT, Key, Kind, Line, LongCall, Name, OneCall,
+    Operation, Search, StrCall, Token, command_word,
 };
 use judy_protocol::{Syntax, read_line};
 use std::alloc::{AllocError, Global};
