@@ -175,8 +175,7 @@ class Lines(WithBoth):
         client.sent.clear()
         client.judyhs("a").update({b"k": 1})
         self.assertEqual(client.judyhs("a").delete_many([b"k"]), 0)
-        key = hexed(b"a:k")
-        self.assertEqual(client.sent, [[b"JSLI .keys %s 1" % key, note % hexed(b"JHS:a"), b"JHSI a x6b 1"], [b"JHSD a x6b", b"JSLD .keys " + key]])
+        self.assertEqual(client.sent, [[note % hexed(b"JHS:a"), b"JHSI a x6b 1"], [b"JHSD a x6b"]])
 
 
 class Ends(WithBoth):
