@@ -4,7 +4,7 @@
 use crate::checks::{holds, holds_at, same, same_at};
 use crate::tenants::spelled::{call_of, compare};
 use judy_arena::{Arena, NoMemory};
-use judy_bytes::{KeyHash, Sha256Hash};
+use judy_bytes::{OrderHash, Sha256Hash};
 use judy_directory::Place;
 use judy_kinds::{answer, array_of, asks, is_callable};
 use judy_model::{Call, KEY_LIMIT, Key, Kind, Name, OwnedReply, ReplyRoom, StrCall};
@@ -25,14 +25,14 @@ fn is_of(call: &Call<'_>, kind: Kind) -> bool {
 
 /// An array of one kind at its place, and its arena.
 #[derive(Drop)]
-struct Held<H: KeyHash> {
+struct Held<H: OrderHash> {
     arena: Arena,
     hash: H,
     kind: Kind,
     place: Place,
 }
 
-impl<H: KeyHash> Held<H> {
+impl<H: OrderHash> Held<H> {
     /// No array, of this kind.
     fn new(alloc: Global, hash: H, kind: Kind) -> Held<H> {
         Held {
@@ -90,7 +90,7 @@ impl<H: KeyHash> Held<H> {
 }
 
 /// The reply. If memory is refused, nothing has changed, and a second try succeeds.
-fn ask<H: KeyHash>(
+fn ask<H: OrderHash>(
     rt: &impl Abort,
     alloc: Global,
     held: &mut Held<H>,
