@@ -66,7 +66,7 @@ class Many(WithTasks):
                     await array.update({keys[1]: None})
             self.assertEqual([item async for item in m.walk(6, 9)], [(6, 6), (7, 70), (8, 8)])
             self.assertEqual([item async for item in s.walk("k0006", "k0009")], [("k0006", 6), ("k0007", 70), ("k0008", 8)])
-            self.assertEqual([item async for item in h.walk([b"6", b"1", b"7"])], [(b"6", 6), (b"7", 70)])
+            self.assertEqual({key: value async for key, value in h.walk()}, {b"%d" % at: 70 if at == 7 else at for at in range(2, 1000)})
             self.assertEqual([await array.free_array() for array in (m, s, h)], [998] * 3)
 
         self.run_with(job)

@@ -98,7 +98,8 @@ class Windows(WithClient):
     def test_one_pass_of_a_byte_map(self):
         h, n = self.client.judyhs("h"), 3000
         self.costs(lambda: h.update((b"%d" % i, i) for i in range(n)), n, n // 1000)
-        self.assertEqual(self.costs(lambda: sum(value for _, value in h.walk(b"%d" % i for i in range(n))), n, n // 1000), sum(range(n)))
+        most = listed(n, 15)
+        self.assertEqual(self.costs(lambda: sum(value for _, value in h.walk()), most, most), sum(range(n)))
         self.assertEqual(self.costs(lambda: h.delete_many(b"%d" % i for i in range(1000)), 1000, 1), 1000)
         self.costs(h.clear, 1, 1)
 
