@@ -24,7 +24,8 @@ use Rattle.judy_directory.proofs.lemmas.Changes.{total}
 abbrev pub keys_in : List (List ℕ × Stand) → List (List ℕ)
 keys_in es = map (λ e. e.0) es
 
-some_of : {A : Type 0} (b : Bool) (x : A) (o : Option A) → is_some (cond b (Some x) o) ≡ cond b true (is_some o)
+-- an option before which a value may stand
+pub some_of : {A : Type 0} (b : Bool) (x : A) (o : Option A) → is_some (cond b (Some x) o) ≡ cond b true (is_some o)
 some_of true x o = refl
 some_of false x o = refl
 
@@ -115,7 +116,8 @@ module _ (gone : List Bool) where
       ap (λ l. cond (is_staying gone e.0) (e ∷ l) l) (staying-append es fs)
       ∙ pick_append (is_staying gone e.0) e (staying gone es) (staying gone fs)
 
-  look-staying : (q : List ℕ) (es : List (List ℕ × Stand)) → look_up q (staying gone es) ≡ cond (is_gone gone q) None (look_up q es)
+  -- the value of a key among the entries of the tenants that are not marked
+  pub look-staying : (q : List ℕ) (es : List (List ℕ × Stand)) → look_up q (staying gone es) ≡ cond (is_gone gone q) None (look_up q es)
   look-staying q es =
       lookup-filter-keys (alike q) (is_staying gone) (is_staying gone q) (λ x e. ap (is_staying gone) (sym (one q x e))) es
       ∙ turned (is_gone gone q) (look_up q es) None

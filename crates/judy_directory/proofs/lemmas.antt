@@ -2,3 +2,4 @@
 pub mod Changes
 pub mod Left
 pub mod Named
+pub mod Next

@@ -5,3 +5,4 @@ pub mod Recent
 pub mod Kinds
 pub mod Secrets
 pub mod Lengths
+pub mod Order

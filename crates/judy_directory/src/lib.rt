@@ -6,6 +6,7 @@ mod directory;
 mod kept;
 mod keyed;
 mod names;
+mod ordered;
 mod recent;
 mod spot;
 

@@ -1,20 +1,22 @@
-//! The names that have a place: a hash table, and a short list beside it.
+//! The names that have a place: a hash table with the order of its names, and a short list beside it.
 ghost use Rattle.std.specs.Prelude.{◌≡◌, ◌≤◌, ℕ, List, IfOk, OnOk, OnErr, IsTrue, None, [], max};
 ghost use Rattle.std.specs.FinMap as map;
 ghost use Rattle.std.specs.HashMap.{hasher_of, spare};
 ghost use Rattle.judy_directory.specs.Kinds.{is_staying};
 ghost use Rattle.judy_directory.specs.Lengths.{length_if, name_bytes};
+ghost use Rattle.judy_directory.specs.Order.{place_on};
 ghost use Rattle.judy_directory.specs.Places.{at, nothing};
-ghost use Rattle.judy_directory.specs.Rooms.{staying, is_listed, AreOnce};
+ghost use Rattle.judy_directory.specs.Rooms.{is_listed, AreOnce};
 ghost use Rattle.judy_directory.specs.Secrets.{start_of};
 
 use crate::all_names::AllNames;
-use crate::kept::{drop_gone, drop_kept, find_kept, push_kept, reserve_kept};
+use crate::kept::{drop_gone, drop_kept, find_kept, next_kept, push_kept, reserve_kept};
 use crate::keyed::Keyed;
+use crate::ordered::{drop_entered, enter, lesser, next_entered};
 use crate::spot::{Place, Spot};
 use judy_arena::NoMemory;
 use std::alloc::Global;
-use std::collections::HashMap;
+use std::collections::{BTreeSet, HashMap};
 use std::marker::Model;
 
 /// How many places need no memory later, if no more are reserved.
@@ -45,14 +47,6 @@ fn empty_table(alloc: Global, secret: &[u8]) -> Result<HashMap<Spot, Place, Keye
     Ok(table)
 }
 
-/// Removes the names of the tenants that are marked from the table.
-fn drop_listed(table: &mut HashMap<Spot, Place, Keyed>, gone: &[bool])
-    ensures entries { table.new.entries ≡ staying gone.now table.old.entries }
-    ensures hasher { hasher_of table.new ≡ hasher_of table.old }
-{
-    table.retain(|spot, _place| !spot.is_gone(gone));
-}
-
 /// The bytes of a name that loses its place, and 0 if it had none.
 fn bytes_lost(spot: &Spot, place: Option<Place>) -> u64
     ensures { result ≡ length_if place spot.now }
@@ -64,12 +58,13 @@ fn bytes_lost(spot: &Spot, place: Option<Place>) -> u64
 }
 
 /// The place of each tenant, kind and name. Contracts see a finite map, the start of every hash, and
-/// the room. A place that the table has no memory for is kept in a list, whose memory is taken
-/// beforehand: the room is the capacity of the list. The bytes of the names are counted as they come
-/// and go.
+/// the room. The order has the names of the table. A place that the table or the order has no memory
+/// for is kept in a list, whose memory is taken beforehand: the room is the capacity of the list. The
+/// bytes of the names are counted as they come and go.
 #[derive(Drop)]
 pub struct Names {
     table: HashMap<Spot, Place, Keyed>,
+    order: BTreeSet<Spot>,
     kept: Vec<(Spot, Place)>,
     bytes: u64,
 }
@@ -88,6 +83,7 @@ impl Model for Names {
     ghost use Rattle.std.specs.HashMap.{hasher_of};
     ghost use Rattle.judy_directory.specs.Rooms.{HasListRoom};
     ghost use Rattle.judy_directory.specs.Lengths.{name_bytes};
+    ghost use Rattle.judy_directory.specs.Order.{IsOrderOf};
     ghost use Rattle.std.specs.Prelude.{◌≡◌};
 
     ghost view = { λ d. (
@@ -99,7 +95,8 @@ impl Model for Names {
     ) };
 
     ghost invariant = { λ d. HasListRoom d.table.entries d.kept.items (vec_capacity d.kept)
-        × (d.bytes ≡ name_bytes (map.from_entries (d.table.entries ++ d.kept.items))) };
+        × (d.bytes ≡ name_bytes (map.from_entries (d.table.entries ++ d.kept.items)))
+        × IsOrderOf d.table.entries d.order };
 }
 
 impl Names {
@@ -113,6 +110,7 @@ impl Names {
         let kept = Vec::with_capacity(alloc, FREE_PLACES).map_err(|_| NoMemory)?;
         Ok(Names {
             table,
+            order: BTreeSet::new(alloc),
             kept,
             bytes: 0,
         })
@@ -137,6 +135,15 @@ impl Names {
         find_kept(self.kept.as_slice(), spot)
     }
 
+    /// The least name behind this one, or from this one on, and its place. Names are in the order of
+    /// their tenants, then of their kinds, then of their bytes.
+    pub fn next(&self, spot: &Spot, itself: bool) -> Option<(Spot, Place)>
+        ensures { result ≡ place_on itself self.now.0 spot.now }
+    {
+        let entered = next_entered(&self.table, &self.order, spot, itself);
+        lesser(entered, next_kept(self.kept.as_slice(), spot, itself))
+    }
+
     /// All names that have a place, each once.
     pub fn list(&self) -> AllNames<'_>
         ensures all { (key : List ℕ) → is_listed key result ≡ map.contains_key self.now.0 key }
@@ -150,7 +157,7 @@ impl Names {
         ensures places { self.new.0 ≡ map.retain_keys self.old.0 (is_staying gone.now) }
         ensures footing { self.new.1 ≡ self.old.1 }
     {
-        drop_listed(&mut self.table, gone);
+        drop_entered(&mut self.table, &mut self.order, gone);
         drop_gone(&mut self.kept, gone);
         self.bytes = AllNames::of(&self.table, self.kept.as_slice()).bytes();
     }
@@ -210,10 +217,10 @@ impl Names {
         ensures unchanged { OnErr result (self.new.0 ≡ self.old.0) }
         ensures footing { self.new.1 ≡ self.old.1 }
     {
-        let Err(_) = self.table.insert(spot.copied(), Place::nothing()) else {
+        if enter(&mut self.table, &mut self.order, spot) {
             self.bytes = self.bytes.wrapping_add(spot.bytes());
             return Ok(());
-        };
+        }
         if self.kept.len() == self.kept.capacity() {
             return Err(NoMemory);
         }
@@ -246,6 +253,7 @@ impl Names {
             .remove(spot)
             .or(find_kept(self.kept.as_slice(), spot));
         drop_kept(&mut self.kept, spot);
+        self.order.remove(spot);
         self.bytes = self.bytes.wrapping_sub(bytes_lost(spot, place));
     }
 }

@@ -1,13 +1,17 @@
 //! The key of an array in the directory, and its place.
-ghost use Rattle.std.specs.Prelude.{◌≡◌, ℕ, ◌∷◌, ◌<◌, [], drop, nat_eq, slice_index};
+ghost use Rattle.std.specs.Prelude.{◌≡◌, ℕ, ◌∷◌, ◌<◌, [], Some, refl, drop, nat_eq, slice_index};
 ghost use Rattle.judy_directory.specs.Kinds.{spot_of, is_gone, IsOf};
 ghost use Rattle.judy_directory.specs.Lengths.{name_length};
+ghost use Rattle.judy_directory.specs.Order.{is_on};
 ghost use Rattle.std.specs.Cmp.{partial_equiv_from_equiv};
-ghost use Rattle.std.specs.Cmp.Lexicographic.{pointwise, nat_list_eq_equiv, bytes_decides};
+ghost use Rattle.std.specs.Cmp.Lexicographic.{pointwise, slice_cmp, nat_list_eq_equiv, nat_list_cmp_total};
+ghost use Rattle.std.specs.Cmp.Lexicographic.{bytes_decides, texts_po, texts_ties};
+ghost use Rattle.std.specs.Ordering.{nat_cmp};
 ghost use Rattle.std.specs.Hash.{same_Alike, le_bytes};
 
 use judy_model::{Kind, Name};
 use judy_refs::Ref;
+use std::cmp::Ordering;
 use std::hash::{Hash, Hasher};
 use std::marker::Model;
 
@@ -53,6 +57,16 @@ impl Spot {
         place < gone.len() && gone[place]
     }
 
+    /// Whether the key comes behind another one, or is that one where that counts too.
+    pub(crate) fn is_on(&self, start: &Spot, itself: bool) -> bool
+        ensures { result ≡ is_on itself start.now self.now }
+    {
+        if itself {
+            return *self >= *start;
+        }
+        *self > *start
+    }
+
     /// The kind and the name of the array.
     pub fn array(&self) -> (Kind, Name)
         ensures { (tenant : ℕ) → IsOf tenant self.now
@@ -91,6 +105,32 @@ impl PartialEq for Spot {
 
 impl Eq for Spot {
     ghost laws = { nat_list_eq_equiv };
+}
+
+impl PartialOrd for Spot {
+    ghost partial_cmp = { λ a b. Some (slice_cmp nat_cmp a b) };
+
+    ghost laws = { texts_po };
+
+    fn partial_cmp(&self, other: &Self) -> Option<Ordering> {
+        Some(self.cmp(other))
+    }
+}
+
+impl Ord for Spot {
+    ghost cmp = { λ a b. slice_cmp nat_cmp a b };
+
+    ghost total = { nat_list_cmp_total };
+
+    ghost matches_partial_cmp = { λ a b. refl };
+
+    ghost matches_eq = { λ a b. texts_ties a b };
+
+    fn cmp(&self, other: &Self) -> Ordering {
+        self.owner
+            .cmp(&other.owner)
+            .then(self.name.cmp(&other.name))
+    }
 }
 
 impl Hash for Spot {

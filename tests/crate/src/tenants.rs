@@ -8,6 +8,7 @@ mod freezes;
 mod house;
 mod kinds;
 mod lines;
+mod orders;
 mod replays;
 mod rows;
 mod spelled;

@@ -9,7 +9,7 @@ use std::process::Abort;
 use std::test::Fail;
 
 /// A directory without a name. If memory is refused, a second try succeeds.
-fn empty(alloc: Global) -> Result<Directory, NoMemory> {
+pub(crate) fn empty(alloc: Global) -> Result<Directory, NoMemory> {
     if let Ok(directory) = Directory::new(alloc, b"secret") {
         return Ok(directory);
     }
@@ -29,7 +29,7 @@ fn take(rt: &impl Abort, directory: &mut Directory, spot: &Spot) -> Result<Place
 }
 
 /// Puts a place at a name. Returns the place before.
-fn keep(
+pub(crate) fn keep(
     rt: &impl Abort,
     directory: &mut Directory,
     spot: &Spot,
@@ -46,7 +46,7 @@ fn found(directory: &Directory, spot: &Spot) -> Option<Place> {
 }
 
 /// The place of the n-th array.
-fn place(n: u64) -> Result<Place, Fail> {
+pub(crate) fn place(n: u64) -> Result<Place, Fail> {
     let root = Ref::read(4_294_967_296u64.wrapping_add(n)).ok_or("a reference")?;
     Ok(Place {
         root,

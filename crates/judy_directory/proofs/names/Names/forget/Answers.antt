@@ -5,6 +5,7 @@ use Rattle.judy_directory.specs.declared.keyed.Keyed.{Keyed}
 use Rattle.judy_directory.specs.Rooms.{look_up, others}
 use Rattle.judy_directory.proofs.Rooms.{footed, joined, get-joined, both-remove, room-falls, fewer-others, either}
 use Rattle.judy_directory.proofs.Lengths.{counted-remove}
+use Rattle.judy_directory.proofs.Orders.{order-takes}
 use Rattle.judy_directory.proofs.names.Names.forget.Goals as goal
 
 pub invariant_of-self : goal.invariant_of-self
@@ -32,6 +33,7 @@ invariant_of-self c =
           (get-joined es fs k ∙ ap (λ x. option_or x (look_up k fs)) (sym c.remove.ensures.value)
           ∙ ap (option_or c.remove.result) (sym (c.find_kept.ensures ∙ ap (look_up k) c.as_slice.ensures.value)) ∙ sym c.or-place.ensures)
           c.bytes_lost.result c.bytes_lost.type_inv c.bytes_lost.ensures,
+      order-takes es c.remove.new.self.entries c.self.inside.order c.self.invariant.2 k c.remove-2.new.self c.remove-2.ensures.updates.0 c.remove.ensures.updates.0,
     )
 
 pub returns-clause-places : goal.returns-clause-places

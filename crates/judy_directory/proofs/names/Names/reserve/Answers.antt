@@ -1,6 +1,7 @@
 use Rattle.std.proofs.Common.{◌≡◌, ap, ◌∙◌, arith, length, vec_capacity}
 use Rattle.judy_directory.proofs.Rooms.{joined, front-reordered, room-reserved}
 use Rattle.judy_directory.proofs.Lengths.{counted-same}
+use Rattle.judy_directory.proofs.Orders.{order-same}
 use Rattle.judy_directory.proofs.names.Names.reserve.Goals as goal
 
 pub invariant_of-self-2 : goal.invariant_of-self-2
@@ -16,6 +17,7 @@ invariant_of-self-2 c =
           (omega (arith, n, l)) l,
       counted-same c.self.inside.bytes (joined es fs) c.self.invariant.1 (joined es' fs')
           (ap (joined es') c.reserve_kept.ensures.items ∙ front-reordered es fs es' c.reserve.ensures.entries.2),
+      order-same es es' c.self.inside.order c.self.invariant.2 c.reserve.ensures.entries.2,
     )
 
 pub returns-clause-places : goal.returns-clause-places
