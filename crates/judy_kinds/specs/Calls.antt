@@ -28,6 +28,7 @@ use Rattle.judy_kinds.specs.Kinds.{IsPlaceOf, numbers_of_array}
 -- the call is of one array: not an intersection, which names two, and not one of the tenant as a whole
 abbrev pub is_of_array : Call → Bool
 is_of_array (call.Intersect name other i n) = false
+is_of_array (call.Names from n) = false
 is_of_array call.Used = false
 is_of_array _ = true
 
@@ -38,6 +39,7 @@ kind_of_call (call.Long name c) = Long
 kind_of_call (call.Str name c) = Str
 kind_of_call (call.Bytes name c) = Bytes
 kind_of_call (call.Intersect name other i n) = One
+kind_of_call (call.Names from n) = One
 kind_of_call call.Used = One
 
 -- the name of its array
@@ -47,6 +49,7 @@ name_of_call (call.Long name c) = name
 name_of_call (call.Str name c) = name
 name_of_call (call.Bytes name c) = name
 name_of_call (call.Intersect name other i n) = []
+name_of_call (call.Names from n) = []
 name_of_call call.Used = []
 
 -- the key of a JudySL call
@@ -78,6 +81,7 @@ asks_at b w (call.Long name c) = long_asks_for_new (long_in b w) c
 asks_at b w (call.Str name c) = string_asks_for_new (string_in b w) c
 asks_at b w (call.Bytes name c) = bytes_asks_for_new (bytes_in b w) c
 asks_at b w (call.Intersect name other i n) = false
+asks_at b w (call.Names from n) = false
 asks_at b w call.Used = false
 
 -- the blocks that an insertion into an array of this kind takes at most
@@ -98,6 +102,7 @@ AnswersAt a w (call.Long name c) reply b x = long_step true (long_in a w) c ≡ 
 AnswersAt a w (call.Str name c) reply b x = string_step true (string_in a w) c ≡ (reply, string_in b x)
 AnswersAt a w (call.Bytes name c) reply b x = bytes_step true (bytes_in a w) c ≡ (reply, bytes_in b x)
 AnswersAt a w (call.Intersect name other i n) reply b x = ⊥
+AnswersAt a w (call.Names from n) reply b x = ⊥
 AnswersAt a w call.Used reply b x = ⊥
 
 -- the array at the place p in a is the one at q in b after the change, and no block of another

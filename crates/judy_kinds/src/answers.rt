@@ -23,7 +23,7 @@ pub fn asks<H: KeyHash>(arena: &Arena, hash: H, place: &Place, call: &Call<'_>) 
         Call::Long(_, call) => long::asks(arena, place.root, *call),
         Call::Str(_, call) => string::asks(arena, place.root, call),
         Call::Bytes(_, call) => bytes::asks(arena, hash, place.root, call),
-        Call::Intersect(..) | Call::Used => false,
+        Call::Intersect(..) | Call::Names(..) | Call::Used => false,
     }
 }
 
@@ -59,6 +59,6 @@ pub fn answer<'a, H: OrderHash>(
         Call::Long(_, call) => long::answer(alloc, arena, place, *call, &mut found.listing),
         Call::Str(_, call) => string::answer(alloc, arena, place, call, found),
         Call::Bytes(_, call) => bytes::answer(alloc, arena, hash, place, call, found),
-        Call::Intersect(..) | Call::Used => unreachable!(),
+        Call::Intersect(..) | Call::Names(..) | Call::Used => unreachable!(),
     }
 }

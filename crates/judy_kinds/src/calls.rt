@@ -17,7 +17,7 @@ pub fn array_of<'c>(call: &'c Call<'_>) -> Option<(Kind, &'c Name)>
         Call::Long(name, _) => Some((Kind::Long, name)),
         Call::Str(name, _) => Some((Kind::Str, name)),
         Call::Bytes(name, _) => Some((Kind::Bytes, name)),
-        Call::Intersect(..) | Call::Used => None,
+        Call::Intersect(..) | Call::Names(..) | Call::Used => None,
     }
 }
 

@@ -5,7 +5,7 @@ use Rattle.std.specs.Ordering.{eq_by_cmp}
 use Rattle.std.proofs.lemmas.Bool.{and_from}
 use Rattle.std.proofs.lemmas.Bool.Decides.{nat_tests}
 use Rattle.judy_model.specs.declared.calls.Call.{Call}
-use Rattle.judy_model.specs.declared.calls.Call.TheVariants.{One, Long, Str, Bytes, Intersect, Used}
+use Rattle.judy_model.specs.declared.calls.Call.TheVariants.{One, Long, Str, Bytes, Intersect, Names, Used}
 use Rattle.judy_model.specs.declared.quotas.Quota.{Quota}
 use Rattle.judy_model.specs.declared.replies.Reply.{Reply}
 use Rattle.judy_model.specs.Contents.{Entries, string_order}
@@ -71,6 +71,7 @@ allowed_keeps_others quota s (Str name c) =
 allowed_keeps_others quota s (Bytes name c) =
     (others_stay s.bytes name (bytes_step (has_room quota s (Bytes name c)) (content_of s.bytes name) c).1, refl, refl, refl)
 allowed_keeps_others quota s (Intersect name other i n) = refl
+allowed_keeps_others quota s (Names from n) = refl
 allowed_keeps_others quota s Used = refl
 
 same_others : (s : State) (call : Call) → OtherArraysStay call s s
@@ -79,6 +80,7 @@ same_others s (Long name c) = (λ other apart. refl, refl, refl, refl)
 same_others s (Str name c) = (λ other apart. refl, refl, refl, refl)
 same_others s (Bytes name c) = (λ other apart. refl, refl, refl, refl)
 same_others s (Intersect name other i n) = refl
+same_others s (Names from n) = refl
 same_others s Used = refl
 
 pub calls_keep_others : CallsKeepOthers

@@ -1,37 +1,25 @@
 -- The request computed from the fields is the request that they spell.
-use Rattle.std.proofs.Common.{◌≡◌, ◌⊎◌, inl, inr, ℕ, Bool, true, false, cond, List, [], ◌∷◌, refl, ◌∙◌, ap, subst, Option, Some, None}
+use Rattle.std.proofs.Common.{◌≡◌, inl, inr, ℕ, true, cond, List, [], ◌∷◌, refl, ◌∙◌, ap, sym, subst, Option, Some, None}
 use Rattle.std.specs.Prelude.{IsTrue, option_map, option_and_then, codes}
 use Rattle.std.specs.Ordering.{eq_by_cmp}
 use Rattle.judy_model.specs.declared.calls.Call.{Call}
-use Rattle.judy_model.specs.declared.calls.Call.TheVariants.{One, Long, Str, Bytes, Intersect, Used}
+use Rattle.judy_model.specs.declared.calls.Call.TheVariants.{One, Long, Str, Bytes, Intersect, Names, Used}
 use Rattle.judy_model.specs.declared.commands.Command.{Command}
 use Rattle.judy_model.specs.declared.commands.Kind.{Kind}
-use Rattle.judy_model.specs.declared.commands.Kind.TheVariants as kind
-use Rattle.judy_model.specs.declared.commands.Numbers.{Numbers}
-use Rattle.judy_model.specs.declared.commands.Numbers.TheVariants as numbers
 use Rattle.judy_model.specs.declared.commands.Operation.{Operation}
 use Rattle.judy_model.specs.declared.requests.Line.{Line}
 use Rattle.judy_model.specs.declared.requests.Line.TheVariants as request
-use Rattle.judy_model.specs.Commands.{commands, entries_of}
+use Rattle.judy_model.specs.Commands.{commands, command_of, to}
 use Rattle.judy_model.specs.Contents.{string_order}
-use Rattle.judy_model.specs.Grammar.{Spell, SpellCall, is_name, is_token, at_command, call_by, intersection_call, intersection_with, names_another, numbers_of_fields, one_call, long_call, string_call, bytes_call}
-use Rattle.judy_model.specs.Reading.{auth_of, named_request, request_by, request_of_fields}
+use Rattle.judy_model.specs.Grammar.{Spell, SpellCall, is_name, is_token, at_command, call_by, names_call}
+use Rattle.judy_model.specs.Reading.{auth_of, named_request, other_request, request_by, request_of_fields}
+use Rattle.judy_model.proofs.lemmas.CallLemmas.{from_if, from_map, from_value, made_call, names_made}
 use Rattle.judy_model.proofs.lemmas.TestLemmas.{is_Equal}
 use Rattle.judy_model.proofs.lemmas.StateLemmas.{equal_names}
 
 -- names that compare equal are equal
 pub same_command : (a b : List ℕ) → eq_by_cmp string_order a b ≡ true → a ≡ b
 same_command a b e = equal_names a b (is_Equal (string_order a b) e)
-
--- the result of a step, if the step before gave a value
-from_value : {A B : Type 0} (f : A → Option B) (o : Option A) (y : B) → option_and_then f o ≡ Some y → (x : A) × (o ≡ Some x) × (f x ≡ Some y)
-from_value f (Some x) y h = (x, refl, h)
-from_value f None y h = cc
-
--- the value before a map, from the value after it
-from_map : {A B : Type 0} (f : A → B) (o : Option A) (y : B) → option_map f o ≡ Some y → (x : A) × (o ≡ Some x) × (f x ≡ y)
-from_map f (Some x) y h = (x, refl, cc)
-from_map f None y h = cc
 
 -- a call that is spelled is the call of the computed request
 call_request : (fields : List (List ℕ)) (call : Call) → SpellCall fields call → request_of_fields fields ≡ Some (request.Call call)
@@ -47,16 +35,13 @@ Spell-request_of_fields fields request.Quit e = rw e refl
 Spell-request_of_fields fields request.Ping e = rw e refl
 Spell-request_of_fields fields request.Hello e = rw e refl
 Spell-request_of_fields fields (request.Call Used) e = rw e refl
+Spell-request_of_fields fields (request.Call (Names from k)) (field, more, e, n, made) =
+    ap request_of_fields e ∙ ap (λ b. cond b (named_request (codes "NAMES") field more) None) n ∙ ap (option_map (λ x. request.Call x)) made
 Spell-request_of_fields fields (request.Call (Intersect name other i n)) s = call_request fields (Intersect name other i n) s
 Spell-request_of_fields fields (request.Call (One name call)) s = call_request fields (One name call) s
 Spell-request_of_fields fields (request.Call (Long name call)) s = call_request fields (Long name call) s
 Spell-request_of_fields fields (request.Call (Str name call)) s = call_request fields (Str name call) s
 Spell-request_of_fields fields (request.Call (Bytes name call)) s = call_request fields (Bytes name call) s
-
--- the branch that gave a value
-from_if : {A : Type 0} (b : Bool) (x y : Option A) (v : A) → cond b x y ≡ Some v → ((b ≡ true) × (x ≡ Some v)) ⊎ ((b ≡ false) × (y ≡ Some v))
-from_if true x y v h = inl (refl, h)
-from_if false x y v h = inr (refl, h)
 
 -- a value is determined by its `Some`
 the_value : {A : Type 0} (x y : A) → Some x ≡ Some y → x ≡ y
@@ -77,36 +62,32 @@ auth_Spell command name (token ∷ []) r n h =
       ]
     ]
 
--- no value is another one
-no_value : {A B : Type 0} (f : A → B) (o : Option A) (y : B) → ((x : A) → f x ≡ y → ⊥) → option_map f o ≡ Some y → ⊥
-no_value f o y never h = let (x, is, same) = from_map f o y h in never x same
+-- a list of arrays that is read is spelled
+names_Spell : (field : List ℕ) (more : List (List ℕ)) (call : Call) → IsTrue (is_name field) → names_call field more ≡ Some call
+    → Spell (codes "NAMES" ∷ field ∷ more) (request.Call call)
+names_Spell field more call n made =
+    let (from, k, same) = names_made field more call made in
+    subst (λ c. Spell (codes "NAMES" ∷ field ∷ more) (request.Call c)) same (field, more, refl, n, made ∙ ap Some (sym same))
 
--- an intersection is not that
-no_intersection_is_Used : (name : List ℕ) (more : List (List ℕ)) → intersection_call name more ≡ Some Used → ⊥
-no_intersection_is_Used name [] h = absurd (let none : None ≡ Some Used = h in cc)
-no_intersection_is_Used name (other ∷ more) h =
-    elim (from_if (is_name other) _ None Used h) [
-      | inr out ↦ absurd (let none : None ≡ Some Used = out.1 in cc)
-      | inl hit ↦ by_numbers (numbers_of_fields more) hit.1
+-- a request of a word that makes no call of an array
+other_Spell : (word field : List ℕ) (more : List (List ℕ)) (r : Line) → IsTrue (is_name field) → other_request word field more ≡ Some r
+    → Spell (word ∷ field ∷ more) r
+other_Spell word field more r n h =
+    elim (from_if (eq_by_cmp string_order word (codes "NAMES")) _ (auth_of word field more) r h) [
+      | inr out ↦ auth_Spell word field more r n out.1
+      | inl hit ↦
+          let (call, made, same) = from_map (λ c. request.Call c) (names_call field more) r hit.1 in
+          subst (λ w. Spell (w ∷ field ∷ more) r) (sym (same_command word (codes "NAMES") hit.0))
+          (subst (Spell (codes "NAMES" ∷ field ∷ more)) same (names_Spell field more call n made))
     ]
-  where
-    by_numbers : (o : Option Numbers) → option_and_then (λ numbers. intersection_with name other numbers) o ≡ Some Used → ⊥
-    by_numbers None h = cc
-    by_numbers (Some numbers.Nothing) h = cc
-    by_numbers (Some (numbers.One i)) h = cc
-    by_numbers (Some (numbers.Two i n)) h = no_value (λ most. Intersect name other i most) (entries_of n) Used (λ most e. cc) h
-    by_numbers (Some (numbers.Three i j k)) h = cc
 
--- a command of the table asks for an array, and not for the tenant's entries
-no_Used : (kind : Kind) (operation : Operation) (name : List ℕ) (more : List (List ℕ)) → call_by kind operation name more ≡ Some Used → ⊥
-no_Used kind.One operation name more h =
-    elim (from_if (names_another operation) (intersection_call name more) _ Used h) [
-      | inl hit ↦ no_intersection_is_Used name more hit.1
-      | inr out ↦ no_value (λ c. One name c) (one_call operation more) Used (λ c e. cc) out.1
-    ]
-no_Used kind.Long operation name more h = no_value (λ c. Long name c) (long_call operation more) Used (λ c e. cc) h
-no_Used kind.Str operation name more h = no_value (λ c. Str name c) (string_call operation more) Used (λ c e. cc) h
-no_Used kind.Bytes operation name more h = no_value (λ c. Bytes name c) _ Used (λ c e. cc) h
+-- a command of the table asks for an array, and not for the whole tenant
+no_whole : (kind : Kind) (operation : Operation) (name : List ℕ) (more : List (List ℕ)) (call : Call) → command_of call ≡ None
+    → call_by kind operation name more ≡ Some call → ⊥
+no_whole kind operation name more call whole h =
+    let made : command_of call ≡ Some (to kind operation) = made_call kind operation name more call h in
+    let none : None ≡ Some (to kind operation) = sym whole ∙ made in
+    cc
 
 -- a call of an array that is read is spelled
 call_Spell : (word name : List ℕ) (more : List (List ℕ)) (command : Command) (call : Call) → IsTrue (is_name name)
@@ -115,7 +96,8 @@ call_Spell : (word name : List ℕ) (more : List (List ℕ)) (command : Command)
 call_Spell word name more command call n found made = by call made
   where
     by : (x : Call) → call_by command.kind command.operation name more ≡ Some x → Spell (word ∷ name ∷ more) (request.Call x)
-    by Used h = absurd (no_Used command.kind command.operation name more h)
+    by Used h = absurd (no_whole command.kind command.operation name more Used refl h)
+    by (Names from k) h = absurd (no_whole command.kind command.operation name more (Names from k) refl h)
     by (Intersect first second i k) h = (word, name, more, refl, n, ap (option_and_then (λ x. call_by x.kind x.operation name more)) found ∙ h)
     by (One other c) h = (word, name, more, refl, n, ap (option_and_then (λ x. call_by x.kind x.operation name more)) found ∙ h)
     by (Long other c) h = (word, name, more, refl, n, ap (option_and_then (λ x. call_by x.kind x.operation name more)) found ∙ h)
@@ -128,7 +110,7 @@ named_Spell : (word name : List ℕ) (more : List (List ℕ)) (r : Line) → IsT
 named_Spell word name more r n h = by (at_command word commands) refl h
   where
     by : (o : Option Command) → at_command word commands ≡ o → request_by o word name more ≡ Some r → Spell (word ∷ name ∷ more) r
-    by None found h = auth_Spell word name more r n h
+    by None found h = other_Spell word name more r n h
     by (Some command) found h =
         let (call, made, same) = from_map (λ c. request.Call c) (call_by command.kind command.operation name more) r h in
         subst (Spell (word ∷ name ∷ more)) same (call_Spell word name more command call n found made)

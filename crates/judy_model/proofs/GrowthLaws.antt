@@ -6,7 +6,7 @@ use Rattle.std.specs.Cmp.Lexicographic.{nat_list_cmp_total}
 use Rattle.std.specs.FinMap.{is_sorted, nat_cmp-IsAntisymmetric}
 use Rattle.std.proofs.lemmas.Bool.Decides.{nat_tests}
 use Rattle.judy_model.specs.declared.calls.Call.{Call}
-use Rattle.judy_model.specs.declared.calls.Call.TheVariants.{One, Long, Str, Bytes, Intersect, Used}
+use Rattle.judy_model.specs.declared.calls.Call.TheVariants.{One, Long, Str, Bytes, Intersect, Names, Used}
 use Rattle.judy_model.specs.declared.quotas.Quota.{Quota}
 use Rattle.judy_model.specs.declared.quotas.Right.{Right}
 use Rattle.judy_model.specs.declared.quotas.Right.TheVariants.{Change, Look, Frozen}
@@ -39,6 +39,7 @@ module _ (words : Entries ℕ → ℕ) (word : ℕ → ℕ) (of_words : Measure 
   WeighsIn (Str name c) n = Weighs text (string_effect c) n
   WeighsIn (Bytes name c) n = Weighs text (bytes_effect c) n
   WeighsIn (Intersect name other i k) n = Unit {0}
+  WeighsIn (Names from k) n = Unit {0}
   WeighsIn Used n = Unit {0}
 
   -- a call that its right allows
@@ -75,6 +76,7 @@ module _ (words : Entries ℕ → ℕ) (word : ℕ → ℕ) (of_words : Measure 
       (effect_grows string_order texts text of_texts room l (bytes_effect c) n
       (and_left (is_sorted string_order l) _ (content_form string_order is_bytes_entry s.bytes name h.bytes)) w)
   allowed_grows quota s (Intersect name other i k) n h w = omega arith
+  allowed_grows quota s (Names from k) n h w = omega arith
   allowed_grows quota s Used n h w = omega arith
 
   -- a call of any right
@@ -98,6 +100,7 @@ used_grows right quota s call h =
     each (Str name c) = one_each (string_effect c)
     each (Bytes name c) = one_each (bytes_effect c)
     each (Intersect name other i n) = tt
+    each (Names from n) = tt
     each Used = tt
 
 pieces_grow : (right : Right) (quota : Quota) (s : State) (call : Call) → IsWellFormed s
@@ -114,6 +117,7 @@ pieces_grow right quota s call h =
     its_own (Str name c) = its_size string_pieces (string_effect c) (strings_alike c)
     its_own (Bytes name c) = its_size string_pieces (bytes_effect c) (bytes_alike c)
     its_own (Intersect name other i n) = tt
+    its_own (Names from n) = tt
     its_own Used = tt
 
 -- what grows only if there is room stays within the quota

@@ -16,3 +16,4 @@ mod GrowthLaws
 mod AnswerLaws
 mod WalkLaws
 mod IntersectionLaws
+mod ArrayListLaws

@@ -4,7 +4,7 @@ use Rattle.std.specs.Prelude.{◌==◌, IsTrue, is_some}
 use Rattle.std.specs.FinMap.{find}
 use Rattle.std.proofs.lemmas.Bool.{and_from}
 use Rattle.judy_model.specs.declared.calls.Call.{Call}
-use Rattle.judy_model.specs.declared.calls.Call.TheVariants.{One, Long, Str, Bytes, Intersect, Used}
+use Rattle.judy_model.specs.declared.calls.Call.TheVariants.{One, Long, Str, Bytes, Intersect, Names, Used}
 use Rattle.judy_model.specs.declared.calls.Given.{Given}
 use Rattle.judy_model.specs.declared.quotas.Quota.{Quota}
 use Rattle.judy_model.specs.declared.quotas.Right.{Right}
@@ -218,6 +218,7 @@ allowed_refusal quota s (Long name c) = effect_refusal word_order (has_room quot
 allowed_refusal quota s (Str name c) = effect_refusal string_order (has_room quota s (Str name c)) (content_of s.string name) (string_effect c)
 allowed_refusal quota s (Bytes name c) = effect_refusal string_order (has_room quota s (Bytes name c)) (content_of s.bytes name) (bytes_effect c)
 allowed_refusal quota s (Intersect name other i n) = refl
+allowed_refusal quota s (Names from n) = refl
 allowed_refusal quota s Used = refl
 
 -- a call that changes nothing, or has no room, leaves the arrays unchanged
@@ -236,6 +237,7 @@ allowed_kept quota s (Bytes name c) h e =
     ap (λ l. record s { bytes = with_content s.bytes name l }) (effect_kept string_order (has_room quota s (Bytes name c)) (content_of s.bytes name) (bytes_effect c) e)
     ∙ ap (λ arrays. record s { bytes = arrays }) (with_content_same string_order is_bytes_entry s.bytes name h.bytes)
 allowed_kept quota s (Intersect name other i n) h e = refl
+allowed_kept quota s (Names from n) h e = refl
 allowed_kept quota s Used h e = refl
 
 -- a call that changes nothing asks for no new entry
@@ -245,6 +247,7 @@ queries_ask_nothing s (Long name c) h = effect_asks_nothing word_order (content_
 queries_ask_nothing s (Str name c) h = effect_asks_nothing string_order (content_of s.string name) (string_effect c) h
 queries_ask_nothing s (Bytes name c) h = effect_asks_nothing string_order (content_of s.bytes name) (bytes_effect c) h
 queries_ask_nothing s (Intersect name other i n) h = refl
+queries_ask_nothing s (Names from n) h = refl
 queries_ask_nothing s Used h = refl
 
 -- the refusal of a call under a right that forbids each change

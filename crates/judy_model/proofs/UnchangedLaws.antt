@@ -9,7 +9,7 @@ use Rattle.std.specs.FinMap.Entries.{is_sorted-put, is_sorted-where_key, find-pu
 use Rattle.std.proofs.lemmas.Bool.{eqb-true}
 use Rattle.std.proofs.lemmas.Bool.Decides.{nat_tests}
 use Rattle.judy_model.specs.declared.calls.Call.{Call}
-use Rattle.judy_model.specs.declared.calls.Call.TheVariants.{One, Long, Str, Bytes, Intersect, Used}
+use Rattle.judy_model.specs.declared.calls.Call.TheVariants.{One, Long, Str, Bytes, Intersect, Names, Used}
 use Rattle.judy_model.specs.declared.calls.Given.{Given}
 use Rattle.judy_model.specs.declared.calls.Given.TheVariants.{Nothing, Value, Plus}
 use Rattle.judy_model.specs.declared.quotas.Quota.{Quota}
@@ -253,6 +253,7 @@ allowed_left quota s (Bytes name c) h e =
     (content_form string_order is_bytes_entry s.bytes name h.bytes) e)
     ∙ ap (λ arrays. record s { bytes = arrays }) (with_content_same string_order is_bytes_entry s.bytes name h.bytes)
 allowed_left quota s (Intersect name other i n) h e = refl
+allowed_left quota s (Names from n) h e = refl
 allowed_left quota s Used h e = refl
 
 -- under a right that forbids each change

@@ -1,4 +1,5 @@
 -- The lemmas that proofs of other crates may cite. All other files here are this crate's own.
+pub mod ArrayListLemmas
 pub mod ByteLemmas
 pub mod CallLemmas
 pub mod EntryLemmas

@@ -329,11 +329,12 @@ bytes_operation (bytes.First n) = First
 bytes_operation (bytes.Next key n) = Next
 bytes_operation bytes.Free = Free
 
--- the command that makes a call; None for `USED`, which asks for no array
+-- the command that makes a call; None for `USED` and `NAMES`, which ask for no array
 abbrev pub command_of : Call → Option Command
 command_of (call.One name c) = Some (to One (one_operation c))
 command_of (call.Long name c) = Some (to Long (long_operation c))
 command_of (call.Str name c) = Some (to Str (string_operation c))
 command_of (call.Bytes name c) = Some (to Bytes (bytes_operation c))
 command_of (call.Intersect name other i n) = Some (to One Intersect)
+command_of (call.Names from n) = None
 command_of call.Used = None

@@ -7,8 +7,11 @@ use Rattle.std.specs.Ordering.{eq_by_cmp}
 use Rattle.std.specs.FinMap.{find}
 use Rattle.hex.specs.Hex.{decode_of}
 use Rattle.hex.specs.declared.error.FromHexError.{FromHexError}
+use Rattle.judy_model.specs.ArrayLists.{kind_named}
+use Rattle.judy_model.specs.declared.calls.ArraysFrom.{ArraysFrom}
+use Rattle.judy_model.specs.declared.calls.ArraysFrom.TheVariants as from
 use Rattle.judy_model.specs.declared.calls.Call.{Call}
-use Rattle.judy_model.specs.declared.calls.Call.TheVariants.{One, Long, Str, Bytes, Intersect, Used}
+use Rattle.judy_model.specs.declared.calls.Call.TheVariants.{One, Long, Str, Bytes, Intersect, Names, Used}
 use Rattle.judy_model.specs.declared.calls.OneCall.{OneCall}
 use Rattle.judy_model.specs.declared.calls.LongCall.{LongCall}
 use Rattle.judy_model.specs.declared.calls.StrCall.{StrCall}
@@ -184,6 +187,23 @@ call_by kind.Bytes operation name more =
 abbrev pub call_of : List ℕ → List ℕ → List (List ℕ) → Option Call
 call_of word name more = option_and_then (λ c. call_by c.kind c.operation name more) (at_command word commands)
 
+-- ---- lists of arrays
+
+-- the list that begins there, with the field of its number
+abbrev pub names_with : ArraysFrom → List ℕ → Option Call
+names_with from field = option_map (λ n. Names from n) (option_and_then (λ n. entries_of n) (number_of_field field))
+
+-- the list that begins behind the array of a kind and name
+abbrev pub names_behind : Kind → List ℕ → List ℕ → Option Call
+names_behind kind name field = if is_name name then names_with (from.Behind kind name) field else None
+
+-- the list that a field and the fields after it make: its number, or a kind, a name and its number
+abbrev pub names_call : List ℕ → List (List ℕ) → Option Call
+names_call field [] = names_with from.First field
+names_call field (name ∷ []) = None
+names_call field (name ∷ number ∷ []) = option_and_then (λ kind. names_behind kind name number) (kind_named field)
+names_call field (name ∷ number ∷ e ∷ more) = None
+
 -- ---- lines
 
 -- the fields are a word of the table, the name of the array, and the arguments of the call
@@ -198,6 +218,8 @@ Spell fields request.Quit = fields ≡ codes "QUIT" ∷ []
 Spell fields request.Ping = fields ≡ codes "PING" ∷ []
 Spell fields request.Hello = fields ≡ codes "HELLO" ∷ []
 Spell fields (request.Call Used) = fields ≡ codes "USED" ∷ []
+Spell fields (request.Call (Names from n)) = (field : List ℕ) × (more : List (List ℕ))
+    × (fields ≡ codes "NAMES" ∷ field ∷ more) × IsTrue (is_name field) × (names_call field more ≡ Some (Names from n))
 Spell fields (request.Call (Intersect name other i n)) = SpellCall fields (Intersect name other i n)
 Spell fields (request.Call (One name call)) = SpellCall fields (One name call)
 Spell fields (request.Call (Long name call)) = SpellCall fields (Long name call)

@@ -2,6 +2,7 @@ pub mod Contents
 pub mod Gaps
 pub mod Walks
 pub mod Intersections
+pub mod ArrayLists
 pub mod Pieces
 pub mod Tenant
 pub mod Speakers

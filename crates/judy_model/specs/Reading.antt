@@ -11,7 +11,7 @@ use Rattle.judy_model.specs.declared.requests.Line.{Line}
 use Rattle.judy_model.specs.declared.requests.Line.TheVariants as request
 use Rattle.judy_model.specs.Commands.{command_of, commands, to}
 use Rattle.judy_model.specs.Contents.{string_order}
-use Rattle.judy_model.specs.Grammar.{IsRequest, fields_of, is_name, is_token, at_command, call_by}
+use Rattle.judy_model.specs.Grammar.{IsRequest, fields_of, is_name, is_token, at_command, call_by, names_call}
 
 -- the login of a command with a name and one more field
 abbrev pub auth_of : List ℕ → List ℕ → List (List ℕ) → Option Line
@@ -19,10 +19,15 @@ auth_of command name (token ∷ []) =
     if eq_by_cmp string_order command (codes "AUTH") then (if is_token token then Some (request.Auth name token) else None) else None
 auth_of command name more = None
 
--- the request of a command of the table, or else a login
+-- the request of a word that makes no call of an array: a list of arrays, or else a login
+abbrev pub other_request : List ℕ → List ℕ → List (List ℕ) → Option Line
+other_request word field more =
+    if eq_by_cmp string_order word (codes "NAMES") then option_map (λ call. request.Call call) (names_call field more) else auth_of word field more
+
+-- the request of a command of the table, or another one
 abbrev pub request_by : Option Command → List ℕ → List ℕ → List (List ℕ) → Option Line
 request_by (Some c) word name more = option_map (λ call. request.Call call) (call_by c.kind c.operation name more)
-request_by None word name more = auth_of word name more
+request_by None word name more = other_request word name more
 
 -- the request with this word, name and further fields
 abbrev pub named_request : List ℕ → List ℕ → List (List ℕ) → Option Line

@@ -3,7 +3,8 @@ use Rattle.std.specs.Prelude.{◌≡◌, ℕ, zero, suc, cond, ◌+◌, ◌%◌,
 use Rattle.std.specs.Ordering.{eq_by_cmp}
 use Rattle.std.specs.FinMap.{find, put}
 use Rattle.judy_model.specs.declared.calls.Call.{Call}
-use Rattle.judy_model.specs.declared.calls.Call.TheVariants.{One, Long, Str, Bytes, Intersect, Used}
+use Rattle.judy_model.specs.declared.calls.Call.TheVariants.{One, Long, Str, Bytes, Intersect, Names, Used}
+use Rattle.judy_model.specs.declared.commands.Kind.TheVariants as kind
 use Rattle.judy_model.specs.declared.calls.OneCall.{OneCall}
 use Rattle.judy_model.specs.declared.calls.OneCall.TheVariants as one
 use Rattle.judy_model.specs.declared.calls.LongCall.{LongCall}
@@ -23,6 +24,7 @@ use Rattle.judy_model.specs.Contents.{Order, Entries, word_order, string_order, 
 use Rattle.judy_model.specs.Gaps.{first_empty, last_empty, next_empty, prev_empty}
 use Rattle.judy_model.specs.Pieces.{word_pieces, string_pieces, pieces_of}
 use Rattle.judy_model.specs.Intersections.{intersect, intersection_reply}
+use Rattle.judy_model.specs.ArrayLists.{counted, names_reply}
 use Rattle.judy_model.specs.Walks.{entry_words, hashed_key, index_words, key_words, listed, walk, walk_bytes, walk_empty, walk_indexes}
 
 -- the arrays of one kind, sorted by name; an array without entries is left out
@@ -56,6 +58,10 @@ entries_in arrays = sum_by (λ a. length a.1) arrays
 -- the number of entries of the tenant
 abbrev pub used : State → ℕ
 used s = entries_in s.one + entries_in s.long + entries_in s.string + entries_in s.bytes
+
+-- the number of entries of each array of the tenant, in the order of kinds, then of names
+abbrev pub array_counts : State → Entries (List ℕ)
+array_counts s = counted kind.One s.one ++ (counted kind.Long s.long ++ (counted kind.Str s.string ++ counted kind.Bytes s.bytes))
 
 -- the pieces of the arrays of one kind
 abbrev pub pieces_in : {K : Type 0} → (K → ℕ) → Arrays K → ℕ
@@ -430,6 +436,7 @@ changes (Long name c) = long_changes c
 changes (Str name c) = string_changes c
 changes (Bytes name c) = bytes_changes c
 changes (Intersect name other i n) = false
+changes (Names from n) = false
 changes Used = false
 
 -- whether the right forbids the call
@@ -453,6 +460,7 @@ asks_for_new Change s (Long name c) = long_asks_for_new (content_of s.long name)
 asks_for_new Change s (Str name c) = string_asks_for_new (content_of s.string name) c
 asks_for_new Change s (Bytes name c) = bytes_asks_for_new (content_of s.bytes name) c
 asks_for_new Change s (Intersect name other i n) = false
+asks_for_new Change s (Names from n) = false
 asks_for_new Change s Used = false
 
 -- the pieces of the entry that a call would insert
@@ -462,6 +470,7 @@ new_pieces (Long name c) = effect_pieces word_pieces (long_effect c)
 new_pieces (Str name c) = effect_pieces string_pieces (string_effect c)
 new_pieces (Bytes name c) = effect_pieces string_pieces (bytes_effect c)
 new_pieces (Intersect name other i n) = 0
+new_pieces (Names from n) = 0
 new_pieces Used = 0
 
 -- whether the call may insert a key
@@ -471,6 +480,7 @@ inserts (Long name c) = effect_inserts (long_effect c)
 inserts (Str name c) = effect_inserts (string_effect c)
 inserts (Bytes name c) = effect_inserts (bytes_effect c)
 inserts (Intersect name other i n) = false
+inserts (Names from n) = false
 inserts Used = false
 
 -- whether the quota has room for one more entry with the pieces of this call
@@ -493,6 +503,7 @@ allowed_step quota s (Bytes name c) =
     (r, record s { bytes = with_content s.bytes name l })
 allowed_step quota s (Intersect name other i n) =
     (intersection_reply (intersect (content_of s.one name) (content_of s.one other) i n), s)
+allowed_step quota s (Names from n) = (names_reply (array_counts s) from n, s)
 allowed_step quota s Used = (reply.Used (used s) quota.entries (pieces s) quota.pieces, s)
 
 -- the reply to a call, and the tenant's arrays afterwards

@@ -4,7 +4,7 @@
 --     UnchangedAreTold        after such a reply all arrays are as before
 use Rattle.std.specs.Prelude.{◌≡◌, ℕ, Bool, true, false, not, ◌&&◌, ◌==◌, nat_lt}
 use Rattle.judy_model.specs.declared.calls.Call.{Call}
-use Rattle.judy_model.specs.declared.calls.Call.TheVariants.{One, Long, Str, Bytes, Intersect, Used}
+use Rattle.judy_model.specs.declared.calls.Call.TheVariants.{One, Long, Str, Bytes, Intersect, Names, Used}
 use Rattle.judy_model.specs.declared.calls.OneCall.{OneCall}
 use Rattle.judy_model.specs.declared.calls.LongCall.{LongCall}
 use Rattle.judy_model.specs.declared.calls.StrCall.{StrCall}
@@ -102,6 +102,7 @@ leaves (Long name c) r = long_leaves c r
 leaves (Str name c) r = string_leaves c r
 leaves (Bytes name c) r = bytes_leaves c r
 leaves (Intersect name other i n) r = false
+leaves (Names from n) r = false
 leaves Used r = false
 
 -- well-formed arrays are as they were after a reply that says so, under any right and quota

@@ -1,20 +1,25 @@
 -- What holds of a tenant's arrays after any calls.
-use Rattle.std.specs.Prelude.{◌≡◌, ◌≢◌, ℕ, ◌+◌, ◌≤◌, Bool, true, false, not, ◌&&◌, List, [], ◌∷◌, ◌↔◌, IsTrue, nat_le, ◌==◌}
+use Rattle.std.specs.Prelude.{◌≡◌, ◌≢◌, ℕ, ◌+◌, ◌≤◌, Bool, true, false, not, ◌&&◌, List, [], ◌∷◌, ◌↔◌, IsTrue, nat_le, ◌==◌, Option, Some, None, map, take, length, if◌then◌else◌}
 use Rattle.std.specs.List.{list_all}
 use Rattle.std.specs.FinMap.{is_sorted}
 use Rattle.judy_model.specs.declared.calls.Call.{Call}
-use Rattle.judy_model.specs.declared.calls.Call.TheVariants.{One, Long, Str, Bytes, Intersect, Used}
+use Rattle.judy_model.specs.declared.calls.Call.TheVariants.{One, Long, Str, Bytes, Intersect, Names, Used}
 use Rattle.judy_model.specs.declared.quotas.Quota.{Quota}
 use Rattle.judy_model.specs.declared.quotas.Right.{Right}
 use Rattle.judy_model.specs.declared.quotas.Right.TheVariants.{Look, Frozen}
 use Rattle.judy_model.specs.declared.replies.Reply.{Reply}
 use Rattle.judy_model.specs.declared.replies.Reply.TheVariants as reply
-use Rattle.judy_model.specs.Contents.{Order, Entries, word_order, string_order, max_word}
+use Rattle.judy_model.specs.declared.calls.Search.TheVariants.{Next}
+use Rattle.judy_model.specs.declared.commands.Kind.{Kind}
+use Rattle.judy_model.specs.declared.commands.Kind.TheVariants as kind
+use Rattle.judy_model.specs.ArrayLists.{array_key, array_texts, array_words}
+use Rattle.judy_model.specs.Contents.{Order, Entries, IsRising, word_order, string_order, max_word, value_of}
+use Rattle.judy_model.specs.Walks.{in_direction}
 use Rattle.judy_model.specs.Grammar.{are_bytes, is_string, is_byte_key}
 use Rattle.judy_model.specs.Solo.{IsAnswered}
 use Rattle.judy_model.specs.Tenant.Effect.{Insert, Keep, Exchange, Fill}
 use Rattle.judy_model.specs.Tenant.{Effect, one_effect, long_effect, string_effect, bytes_effect, value_after}
-use Rattle.judy_model.specs.Tenant.{Arrays, State, Attempt, content_of, used, pieces, step, changes, asks_for_new, new_pieces, has_room}
+use Rattle.judy_model.specs.Tenant.{Arrays, State, array_counts, Attempt, content_of, used, pieces, step, changes, asks_for_new, new_pieces, has_room}
 
 -- a number that fits a word
 abbrev pub is_word : ℕ → Bool
@@ -72,6 +77,7 @@ writes_entry (Long name c) = effect_writes is_long_entry (long_effect c)
 writes_entry (Str name c) = effect_writes is_string_entry (string_effect c)
 writes_entry (Bytes name c) = effect_writes is_bytes_entry (bytes_effect c)
 writes_entry (Intersect name other i n) = true
+writes_entry (Names from n) = true
 writes_entry Used = true
 
 -- a call keeps a well-formed state well-formed
@@ -133,6 +139,7 @@ OtherArraysStay (Str name c) before after =
 OtherArraysStay (Bytes name c) before after =
     OthersOfKindStay name before.bytes after.bytes × (after.one ≡ before.one) × (after.long ≡ before.long) × (after.string ≡ before.string)
 OtherArraysStay (Intersect name other i n) before after = after ≡ before
+OtherArraysStay (Names from n) before after = after ≡ before
 OtherArraysStay Used before after = after ≡ before
 
 -- each call leaves them unchanged
@@ -145,3 +152,25 @@ abbrev pub AnswersKeepAll : Type 0
 AnswersKeepAll = (quota : Quota) (s : State) (a : Attempt) (given : Reply) (new : State)
     → IsAnswered quota s a given new → IsWellFormed s → IsTrue (writes_entry a.call)
     → IsWellFormed new × (IsWithin quota s → IsWithin quota new) × OtherArraysStay a.call s new
+
+-- ---- lists of arrays
+
+-- how many entries the array of this kind and name has
+abbrev pub entries_of_array : State → Kind → List ℕ → ℕ
+entries_of_array s kind.One name = length (content_of s.one name)
+entries_of_array s kind.Long name = length (content_of s.long name)
+entries_of_array s kind.Str name = length (content_of s.string name)
+entries_of_array s kind.Bytes name = length (content_of s.bytes name)
+
+-- a number of entries, if it is not 0
+abbrev pub some_entries : ℕ → Option ℕ
+some_entries n = if n == 0 then None else Some n
+
+-- A list of arrays has the next n of them, in the order of kinds, then of names. They are the arrays that have
+-- entries, each once, with how many they have, and no others.
+abbrev pub ArraysAreListed : Type 0
+ArraysAreListed = (s : State) → IsWellFormed s
+    → IsRising string_order (array_counts s)
+    × ((kind : Kind) (name : List ℕ) → value_of string_order (array_counts s) (array_key kind name) ≡ some_entries (entries_of_array s kind name))
+    × (length (array_counts s) ≡ length s.one + length s.long + length s.string + length s.bytes)
+    × ((key : List ℕ) (n : ℕ) → array_texts (array_counts s) key n ≡ map array_words (take n (in_direction string_order (array_counts s) Next key)))

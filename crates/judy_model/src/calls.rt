@@ -25,8 +25,20 @@ pub enum Call<'a> {
     /// The indexes that two sets of words share: from the third argument on, at most as many as the fourth. The
     /// reply also says where the next call goes on.
     Intersect(Name, Name, u64, u16),
+    /// The tenant's arrays that have entries, and how many they have, at most this many arrays.
+    Names(ArraysFrom, u16),
     /// The tenant's entries and pieces, and its quota of both.
     Used,
+}
+
+/// Where a list of a tenant's arrays begins. Arrays are in the order of their kinds, then of their names as
+/// bytes.
+#[derive(Debug, PartialEq, Eq, Drop)]
+pub enum ArraysFrom {
+    /// With the first array.
+    First,
+    /// Behind the array of this kind and name, which may have no entries.
+    Behind(Kind, Name),
 }
 
 /// The searches in the order of keys. A walk begins with one of them.
@@ -221,7 +233,7 @@ pub enum BytesCall<'a> {
 }
 
 impl<'a> Call<'a> {
-    /// The command that makes the call. None for `USED`, which asks for no array.
+    /// The command that makes the call. None for `USED` and `NAMES`, which ask for no array.
     pub fn command(&self) -> Option<Command>
         ensures { result ≡ command_of self.now }
     {
@@ -231,7 +243,7 @@ impl<'a> Call<'a> {
             Call::Str(_, call) => (Kind::Str, call.operation()),
             Call::Bytes(_, call) => (Kind::Bytes, call.operation()),
             Call::Intersect(..) => (Kind::One, Operation::Intersect),
-            Call::Used => return None,
+            Call::Names(..) | Call::Used => return None,
         };
         Some(Command { kind, operation })
     }
@@ -245,7 +257,7 @@ impl<'a> Call<'a> {
             Call::Long(_, call) => call.changes(),
             Call::Str(_, call) => call.changes(),
             Call::Bytes(_, call) => call.changes(),
-            Call::Intersect(..) | Call::Used => false,
+            Call::Intersect(..) | Call::Names(..) | Call::Used => false,
         }
     }
 
@@ -263,7 +275,7 @@ impl<'a> Call<'a> {
             }
             Call::Str(_, call) => matches!(call, StrCall::Insert(..) | StrCall::Keep(..)),
             Call::Bytes(_, call) => matches!(call, BytesCall::Insert(..) | BytesCall::Keep(..)),
-            Call::Intersect(..) | Call::Used => false,
+            Call::Intersect(..) | Call::Names(..) | Call::Used => false,
         }
     }
 

@@ -1,6 +1,7 @@
 //! What commands are: each is of one kind of array, and does one thing there. The words are in
 //! specs/Commands.antt.
 ghost use Rattle.std.specs.Prelude.{◌≡◌, ◌<◌, ◌≤◌, Some, length, map, slice_get};
+ghost use Rattle.judy_model.specs.ArrayLists.{kind_word};
 ghost use Rattle.judy_model.specs.Commands.{command_place, command_words, kind_number, kind_with};
 
 /// How many commands there are.
@@ -140,6 +141,19 @@ impl Kind {
             1 => Kind::Long,
             2 => Kind::Str,
             _ => Kind::Bytes,
+        }
+    }
+
+    /// The word of the kind in a line.
+    pub fn word(self) -> &'static [u8]
+        ensures word { result.now ≡ kind_word self }
+        ensures short { length result.now ≤ 3 }
+    {
+        match self {
+            Kind::One => b"J1".as_slice(),
+            Kind::Long => b"JL".as_slice(),
+            Kind::Str => b"JSL".as_slice(),
+            Kind::Bytes => b"JHS".as_slice(),
         }
     }
 }

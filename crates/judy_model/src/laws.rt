@@ -6,7 +6,7 @@ ghost use Rattle.judy_model.specs.Solo.{MemoryIsForNew, SoloGoesOn, SoloIsDeterm
 ghost use Rattle.judy_model.specs.Tenant.{AloneGoesOn};
 ghost use Rattle.judy_model.specs.Unchanged.{UnchangedAreTold};
 ghost use Rattle.judy_model.specs.Walks.{ByteWalksAreWhole, WalksAreTakes};
-ghost use Rattle.judy_model.specs.WellFormed.{AnswersKeepAll, CallsKeepOthers, FullIsForNew, LooksKeepAll, QueriesKeepAll, StepKeepsForm, StepKeepsQuota};
+ghost use Rattle.judy_model.specs.WellFormed.{AnswersKeepAll, ArraysAreListed, CallsKeepOthers, FullIsForNew, LooksKeepAll, QueriesKeepAll, StepKeepsForm, StepKeepsQuota};
 ghost use Rattle.judy_model.specs.Reading.{CallsAreOfTheirCommand, SpellsAtMostOne};
 
 /// If two services agree on a tenant's quota, arrays, calls and refusals for memory, they answer it
@@ -44,6 +44,12 @@ pub fn walks_are_takes()
 /// once.
 pub fn byte_walks_are_whole()
     ensures { ByteWalksAreWhole }
+{}
+
+/// A list of arrays has the next of them in the order of kinds, then of names: all that have entries, each once,
+/// and no others.
+pub fn arrays_are_listed()
+    ensures { ArraysAreListed }
 {}
 
 /// The indexes of an intersection are all that both sets have below the word where the next call goes on, or all

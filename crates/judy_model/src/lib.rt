@@ -16,11 +16,11 @@ pub mod requests;
 pub mod tokens;
 mod unchanged;
 
-pub use calls::{BytesCall, Call, Given, LongCall, OneCall, Search, StrCall};
+pub use calls::{ArraysFrom, BytesCall, Call, Given, LongCall, OneCall, Search, StrCall};
 pub use commands::{COMMANDS, Command, Kind, Numbers, Operation, command_word};
 pub use grammar::{is_name_letter, is_string, name_ok, token_ok};
 pub use lists::{
-    INTERSECTION_LIMIT, INTERSECTION_STEPS, IndexText, LIST_LIMIT, Listing, ReplyRoom,
+    ArrayCount, INTERSECTION_LIMIT, INTERSECTION_STEPS, IndexText, LIST_LIMIT, Listing, ReplyRoom,
     SPACED_LIMIT, Text, spaced,
 };
 pub use names::{KEY_LIMIT, Key, NAME_LIMIT, Name, TOKEN_LIMIT};

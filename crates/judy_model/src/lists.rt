@@ -3,9 +3,11 @@ ghost use Rattle.std.specs.Prelude.{◌*◌, ◌≡◌, ◌+◌, ◌≤◌, ◌+
 ghost use Rattle.std.specs.Prelude.{nat_eq};
 ghost use Rattle.std.specs.Cmp.{partial_equiv_from_equiv};
 ghost use Rattle.std.specs.Cmp.Lexicographic.{pointwise, nat_list_eq_equiv};
+ghost use Rattle.judy_model.specs.ArrayLists.{array_words, count_of};
 ghost use Rattle.judy_model.specs.Walks.{entry_words, index_words, key_words};
 
-use crate::names::KEY_LIMIT;
+use crate::commands::Kind;
+use crate::names::{KEY_LIMIT, Name};
 use arrayvec::ArrayVec;
 use itoa::write_digits;
 use std::marker::Model;
@@ -125,6 +127,14 @@ impl<'a> Eq for IndexText<'a> {
     ghost laws = { nat_list_eq_equiv };
 }
 
+/// An array that has entries: its kind, its name, and how many they are.
+#[derive(Debug, PartialEq, Eq, Drop)]
+pub struct ArrayCount {
+    pub kind: Kind,
+    pub name: Name,
+    pub entries: u64,
+}
+
 /// Room for the text of entries. Contracts see it as the bytes that are in it.
 #[derive(Debug, Drop)]
 pub struct Listing {
@@ -233,6 +243,21 @@ impl Listing {
             return false;
         }
         self.add(shown) && self.add(index)
+    }
+
+    /// Adds an array: its kind, its name and its number of entries, if they fit. Returns whether they do.
+    pub fn add_array(&mut self, array: &ArrayCount) -> bool
+        ensures fits { result ≡ nat_le (length self.old + length (array_words (count_of array.now))) LIST_LIMIT }
+        ensures added { self.new
+            ≡ (if result then self.old ++ array_words (count_of array.now) else self.old) }
+    {
+        let mut room = [0; SPACED_LIMIT];
+        let count = spaced(array.entries, &mut room);
+        let (word, name) = (array.kind.word(), array.name.as_bytes());
+        if self.bytes.len() + 2 + word.len() + name.len() + count.len() > LIST_LIMIT {
+            return false;
+        }
+        self.add(b" ") && self.add(word) && self.add(b" ") && self.add(name) && self.add(count)
     }
 
     /// Adds a string and its value, if both fit, with room for the digits of the string. Returns whether they do.

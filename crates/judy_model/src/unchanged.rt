@@ -153,7 +153,7 @@ impl<'a> Call<'a> {
             Call::Long(_, call) => long_leaves(call, reply),
             Call::Str(_, call) => string_leaves(call, reply),
             Call::Bytes(_, call) => bytes_leaves(call, reply),
-            Call::Intersect(..) | Call::Used => false,
+            Call::Intersect(..) | Call::Names(..) | Call::Used => false,
         }
     }
 }

@@ -4,7 +4,7 @@ use Rattle.std.specs.Prelude.{codes}
 use Rattle.std.specs.Ordering.{eq_by_cmp}
 use Rattle.judy_model.specs.Contents.{string_order}
 use Rattle.judy_model.specs.Grammar.{fields_of, is_name, number_of_field, numbers_of_fields}
-use Rattle.judy_model.specs.Reading.{auth_of, named_request, request_of, request_of_fields}
+use Rattle.judy_model.specs.Reading.{auth_of, named_request, other_request, request_of, request_of_fields}
 
 -- the value read where a test passes
 passed : (b : Bool) (x y : List ℕ) → cond b (Some x) None ≡ Some y → (b ≡ true) × (y ≡ x)
@@ -21,10 +21,15 @@ is_named line command name read after_command after_name more first second rest 
     ∙ ap (λ b. cond b (named_request command name more) None) good ∙ ap (λ n. named_request command n more) (sym same)
 
 -- no other word logs in
-pub no_login : (word name : List ℕ) (fields : List (List ℕ)) → eq_by_cmp string_order word (codes "AUTH") ≡ false → auth_of word name fields ≡ None
+no_login : (word name : List ℕ) (fields : List (List ℕ)) → eq_by_cmp string_order word (codes "AUTH") ≡ false → auth_of word name fields ≡ None
 no_login word name [] other = refl
 no_login word name (token ∷ []) other = rw other refl
 no_login word name (token ∷ more ∷ fields) other = refl
+
+-- no other word makes a request that is no call of an array
+pub no_request : (word field : List ℕ) (fields : List (List ℕ)) → eq_by_cmp string_order word (codes "NAMES") ≡ false
+    → eq_by_cmp string_order word (codes "AUTH") ≡ false → other_request word field fields ≡ None
+no_request word field fields list login = rw list (no_login word field fields login)
 
 -- fields whose first is no number
 pub first_none : (fields : List (List ℕ)) → fields ≢ [] → ((field : List ℕ) (more : List (List ℕ)) → fields ≡ field ∷ more → number_of_field field ≡ None)

@@ -27,7 +27,7 @@ fn fitting(digits: &[u8], value: u64) -> Option<u64>
 }
 
 /// The word that a field writes: 1 to 20 digits, or `-1` for 18446744073709551615.
-fn number(field: &[u8]) -> Option<u64>
+pub fn number(field: &[u8]) -> Option<u64>
     ensures { result ≡ number_of_field field.now }
 {
     if field == b"-1".as_slice() {

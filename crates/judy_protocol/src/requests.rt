@@ -1,16 +1,17 @@
 //! Reads the request that a line spells.
 ghost use Rattle.std.specs.Prelude.{◌≡◌, None, Some, [], ◌∷◌, IfOk, OnErr, codes, option_map, if◌then◌else◌};
 ghost use Rattle.judy_model.specs.declared.calls.Call.TheVariants as calls;
-ghost use Rattle.judy_model.specs.Grammar.{begins_walk, bytes_call, call_by, fields_of, first_keys_call, intersection_call, is_token, long_call, numbers_of_fields, one_call, string_call};
-ghost use Rattle.judy_model.specs.Reading.{auth_of, named_request, request_of, request_of_fields};
+ghost use Rattle.judy_model.specs.ArrayLists.{kind_named};
+ghost use Rattle.judy_model.specs.Grammar.{begins_walk, bytes_call, call_by, fields_of, first_keys_call, intersection_call, is_token, long_call, names_behind, names_call, names_with, numbers_of_fields, one_call, string_call};
+ghost use Rattle.judy_model.specs.Reading.{auth_of, named_request, other_request, request_of, request_of_fields};
 
 use crate::commands::{
     bytes_with, command_of, entries_in, first_keys, long_with, one_with, string_with,
 };
 use crate::fields::{next_field, to_field};
-use crate::numbers::{key, next_number, string};
+use crate::numbers::{key, next_number, number, string};
 use judy_model::{
-    BytesCall, Call, Command, KEY_LIMIT, Kind, Line, Name, Numbers, Operation, StrCall,
+    ArraysFrom, BytesCall, Call, Command, KEY_LIMIT, Kind, Line, Name, Numbers, Operation, StrCall,
     TOKEN_LIMIT, Token,
 };
 
@@ -167,15 +168,67 @@ fn login<'a>(name: Name, after_name: &[u8], room: &'a mut [u8; KEY_LIMIT]) -> Op
     }
 }
 
-/// The request of a word that makes no call, with a name and what comes after it.
+/// The kind that a word names.
+fn kind_named(word: &[u8]) -> Option<Kind>
+    ensures { result ≡ kind_named word.now }
+{
+    if word == b"J1".as_slice() {
+        return Some(Kind::One);
+    }
+    if word == b"JL".as_slice() {
+        return Some(Kind::Long);
+    }
+    if word == b"JSL".as_slice() {
+        return Some(Kind::Str);
+    }
+    if word == b"JHS".as_slice() {
+        return Some(Kind::Bytes);
+    }
+    None
+}
+
+/// The list of a tenant's arrays that begins there, with the field of its number.
+fn names_with(from: ArraysFrom, field: &[u8]) -> Option<Call<'static>>
+    ensures { result ≡ names_with from field.now }
+{
+    Some(Call::Names(from, entries_in(number(field)?)?))
+}
+
+/// The list that begins behind the array of a kind and name.
+fn names_behind(kind: Kind, name: &[u8], field: &[u8]) -> Option<Call<'static>>
+    ensures { result ≡ names_behind kind name.now field.now }
+{
+    names_with(ArraysFrom::Behind(kind, Name::read(name)?), field)
+}
+
+/// A list of a tenant's arrays: what comes after the word is its number, or a kind, a name and its number.
+fn names(field: &[u8], after_field: &[u8]) -> Option<Call<'static>>
+    ensures { result ≡ names_call field.now (fields_of after_field.now) }
+{
+    let Some((name, after_name)) = next_field(after_field) else {
+        return names_with(ArraysFrom::First, field);
+    };
+    let Some((number, after_number)) = next_field(after_name) else {
+        return None;
+    };
+    match next_field(after_number) {
+        Some(_) => None,
+        None => names_behind(kind_named(field)?, name, number),
+    }
+}
+
+/// The request of a word that makes no call of an array, with a name and what comes after it.
 fn other_request<'a>(
     word: &[u8],
     name: Name,
     after_name: &[u8],
     room: &'a mut [u8; KEY_LIMIT],
 ) -> Option<Line<'a>>
-    ensures { result ≡ auth_of word.now name (fields_of after_name.now) }
+    ensures { result ≡ other_request word.now name (fields_of after_name.now) }
 {
+    if word == b"NAMES".as_slice() {
+        return Some(Line::Call(names(name.as_bytes(), after_name)?));
+    }
     if word == b"AUTH".as_slice() {
         return login(name, after_name, room);
     }

@@ -1,4 +1,5 @@
 mod QueryLemmas
+mod ArrayLists
 mod SlowLemmas
 mod PlaceLemmas
 mod KeptLemmas

@@ -5,6 +5,7 @@ ghost use Rattle.judy_model.specs.declared.quotas.Right.TheVariants.{Change};
 ghost use Rattle.judy_model.specs.Solo.{MayLackMemory};
 ghost use Rattle.judy_reference.specs.Store.{IsKept};
 
+mod arrays;
 mod byte_walks;
 mod bytes;
 mod content;
@@ -129,6 +130,7 @@ impl Store {
                 let (entries, others) = (self.one.content(name), self.one.content(other));
                 Ok(shared::intersection(entries, others, *x, *n, &mut found.listing))
             }
+            Call::Names(from, n) => Ok(arrays::names(self, from, *n, &mut found.listing)),
             Call::Used => Ok(Reply::Used(used, quota.entries, pieces, quota.pieces)),
         }
     }

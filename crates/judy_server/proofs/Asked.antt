@@ -1,15 +1,17 @@
 -- What is known of a call that a line asks for, and of its speaker.
-use Rattle.std.proofs.Common.{◌≡◌, ◌<◌, ℕ, Bool, true, false, cond, List, [], ◌∷◌, length, Option, Some, None, refl, sym, ◌∙◌, ap, subst}
+use Rattle.std.proofs.Common.{◌≡◌, ◌<◌, ℕ, Bool, true, false, cond, List, [], ◌∷◌, length, Option, Some, None, refl, sym, ◌∙◌, ap, arith, subst}
 use Rattle.std.specs.Prelude.{IfSome, IsTrue, codes, option_map, option_and_then}
 use Rattle.std.specs.Ordering.{eq_by_cmp}
-use Rattle.judy_model.specs.Commands.{commands, entries_of, free_with, string_with}
+use Rattle.judy_model.specs.Commands.{commands, entries_of, free_with, kind_number, string_with}
 use Rattle.judy_model.specs.Contents.{string_order}
-use Rattle.judy_model.specs.Grammar.{at_command, call_by, fields_of, intersection_call, intersection_with, is_name, is_string, key_of, long_call, names_another, numbers_of_fields, one_call}
+use Rattle.judy_model.specs.Grammar.{at_command, call_by, fields_of, is_name, is_string, key_of, names_call, numbers_of_fields}
 use Rattle.judy_model.specs.Grammar.{string_call, string_of}
-use Rattle.judy_model.specs.Reading.{auth_of, named_request, request_by, request_of_fields}
+use Rattle.judy_model.specs.Reading.{auth_of, named_request, other_request, request_by, request_of_fields}
 use Rattle.judy_model.specs.Speakers.{Speaker}
+use Rattle.judy_model.proofs.lemmas.CallLemmas.{made_call, names_made}
+use Rattle.judy_model.specs.declared.calls.ArraysFrom.{ArraysFrom}
 use Rattle.judy_model.specs.declared.calls.Call.{Call}
-use Rattle.judy_model.specs.declared.calls.Call.TheVariants.{One, Long, Str, Bytes, Intersect, Used}
+use Rattle.judy_model.specs.declared.calls.Call.TheVariants.{One, Long, Str, Bytes, Intersect, Names, Used}
 use Rattle.judy_model.specs.declared.calls.Search.{Search}
 use Rattle.judy_model.specs.declared.calls.Search.TheVariants as search
 use Rattle.judy_model.specs.declared.calls.StrCall.{StrCall}
@@ -151,11 +153,6 @@ string_call_passes operation (key ∷ more) =
 
 -- ---- a request of a line
 
-not_string : {C : Type 0} (wrap : C → Call) (o : Option C) (name : List ℕ) (c : StrCall) → ((x : C) → wrap x ≡ Str name c → ⊥)
-    → option_map (λ x. request.Call x) (option_map wrap o) ≡ Some (request.Call (Str name c)) → ⊥
-not_string wrap None name c never h = cc
-not_string wrap (Some x) name c never h = let is : wrap x ≡ Str name c = cc in never x is
-
 the_string : (other name : List ℕ) (o : Option StrCall) (c : StrCall)
     → option_map (λ x. request.Call x) (option_map (λ x. Str other x) o) ≡ Some (request.Call (Str name c)) → o ≡ Some c
 the_string other name None c h = cc
@@ -171,31 +168,39 @@ not_auth command other (token ∷ []) name c h = by (eq_by_cmp string_order comm
     by true false h = cc
     by false b h = cc
 
--- nor is an intersection, or another call of a set
-no_intersection : (other : List ℕ) (more : List (List ℕ)) (name : List ℕ) (c : StrCall)
-    → option_map (λ x. request.Call x) (intersection_call other more) ≡ Some (request.Call (Str name c)) → ⊥
-no_intersection other [] name c h = cc
-no_intersection other (field ∷ more) name c h = by (is_name field) (numbers_of_fields more) h
+-- the call that a request makes
+the_call : (o : Option Call) (call : Call) → option_map (λ x. request.Call x) o ≡ Some (request.Call call) → o ≡ Some call
+the_call None call h = cc
+the_call (Some x) call h = let is : x ≡ call = cc in ap Some is
+
+-- nor does a word list arrays
+not_names : (field : List ℕ) (more : List (List ℕ)) (name : List ℕ) (c : StrCall)
+    → option_map (λ x. request.Call x) (names_call field more) ≡ Some (request.Call (Str name c)) → ⊥
+not_names field more name c h =
+    let (from, k, is) = names_made field more (Str name c) (the_call (names_call field more) (Str name c) h) in
+    unlike from k is
   where
-    of_most : (i : ℕ) (o : Option ℕ)
-        → option_map (λ x. request.Call x) (option_map (λ most. Intersect other field i most) o) ≡ Some (request.Call (Str name c)) → ⊥
-    of_most i None h = cc
-    of_most i (Some most) h = cc
+    unlike : (from : ArraysFrom) (k : ℕ) → Names from k ≡ Str name c → ⊥
+    unlike from k is = cc
 
-    by : (b : Bool) (o : Option Numbers)
-        → option_map (λ x. request.Call x) (cond b (option_and_then (λ ns. intersection_with other field ns) o) None) ≡ Some (request.Call (Str name c)) → ⊥
-    by false o h = cc
-    by true None h = cc
-    by true (Some numbers.Nothing) h = cc
-    by true (Some (numbers.One i)) h = cc
-    by true (Some (numbers.Two i n)) h = of_most i (entries_of n) h
-    by true (Some (numbers.Three i j k)) h = cc
+not_other : (word field : List ℕ) (more : List (List ℕ)) (name : List ℕ) (c : StrCall)
+    → other_request word field more ≡ Some (request.Call (Str name c)) → ⊥
+not_other word field more name c h = by (eq_by_cmp string_order word (codes "NAMES")) h
+  where
+    by : (b : Bool) → cond b (option_map (λ x. request.Call x) (names_call field more)) (auth_of word field more) ≡ Some (request.Call (Str name c)) → ⊥
+    by true e = not_names field more name c e
+    by false e = not_auth word field more name c e
 
-set_no_string : (operation : Operation) (other : List ℕ) (more : List (List ℕ)) (name : List ℕ) (c : StrCall) (b : Bool)
-    → option_map (λ x. request.Call x) (cond b (intersection_call other more) (option_map (λ x. One other x) (one_call operation more)))
-    ≡ Some (request.Call (Str name c)) → ⊥
-set_no_string operation other more name c true h = no_intersection other more name c h
-set_no_string operation other more name c false h = not_string (λ x. One other x) (one_call operation more) name c (λ x e. cc) h
+-- the number of a command's kind
+abbrev kind_of_command : Option Command → ℕ
+kind_of_command None = 4
+kind_of_command (Some command) = kind_number command.kind
+
+-- a command that makes a call of a JudySL is one of that kind
+is_of_strings : (k : Kind) (operation : Operation) (other : List ℕ) (more : List (List ℕ)) (name : List ℕ) (c : StrCall)
+    → option_map (λ x. request.Call x) (call_by k operation other more) ≡ Some (request.Call (Str name c)) → kind_number k ≡ 2
+is_of_strings k operation other more name c h =
+    sym (ap kind_of_command (made_call k operation other more (Str name c) (the_call (call_by k operation other more) (Str name c) h)))
 
 -- a request of an array
 request_passes : (c : Command) (other : List ℕ) (more : List (List ℕ)) (name : List ℕ) (call : StrCall)
@@ -203,10 +208,10 @@ request_passes : (c : Command) (other : List ℕ) (more : List (List ℕ)) (name
 request_passes c other more name call = by c.kind
   where
     by : (k : Kind) → option_map (λ x. request.Call x) (call_by k c.operation other more) ≡ Some (request.Call (Str name call)) → has_key_string call ≡ true
-    by kind.One h = absurd (set_no_string c.operation other more name call (names_another c.operation) h)
-    by kind.Long h = absurd (not_string (λ x. Long other x) (long_call c.operation more) name call (λ x e. cc) h)
+    by kind.One h = let two = is_of_strings kind.One c.operation other more name call h in absurd (omega (arith, two))
+    by kind.Long h = let two = is_of_strings kind.Long c.operation other more name call h in absurd (omega (arith, two))
     by kind.Str h = subst Passes (the_string other name (string_call c.operation more) call h) (string_call_passes c.operation more)
-    by kind.Bytes h = absurd (not_string (λ x. Bytes other x) _ name call (λ x e. cc) h)
+    by kind.Bytes h = let two = is_of_strings kind.Bytes c.operation other more name call h in absurd (omega (arith, two))
 
 fields_pass : (fields : List (List ℕ)) (name : List ℕ) (c : StrCall) → request_of_fields fields ≡ Some (request.Call (Str name c)) → has_key_string c ≡ true
 fields_pass [] name c h = cc
@@ -224,7 +229,7 @@ fields_pass (command ∷ []) name c h = by (eq_by_cmp string_order command (code
 fields_pass (command ∷ other ∷ more) name c h = by (is_name other) h
   where
     by_row : (o : Option Command) → request_by o command other more ≡ Some (request.Call (Str name c)) → has_key_string c ≡ true
-    by_row None h = absurd (not_auth command other more name c h)
+    by_row None h = absurd (not_other command other more name c h)
     by_row (Some row) h = request_passes row other more name c h
 
     by : (a : Bool) → cond a (named_request command other more) None ≡ Some (request.Call (Str name c)) → has_key_string c ≡ true
@@ -238,6 +243,7 @@ asked_string (Long name c) asked = refl
 asked_string (Str name c) (line, is) = fields_pass (fields_of line) name c is
 asked_string (Bytes name c) asked = refl
 asked_string (Intersect name other i n) asked = refl
+asked_string (Names from n) asked = refl
 asked_string Used asked = refl
 
 -- ---- speakers

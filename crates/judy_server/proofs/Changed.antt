@@ -3,9 +3,9 @@
 --     changed-named     a table makes of the arrays of each name what the record of its leavers tells
 --     HasLasted         what a story leaves as it was
 --     story-named       a story makes of the arrays of each name what its records tell
-use Rattle.std.proofs.Common.{◌≡◌, ◌≢◌, ◌<◌, ◌==◌, ℕ, Bool, true, false, not, cond, List, [], ◌∷◌, ◌++◌, length, map, Option, Some, None, Result, Ok, Err}
+use Rattle.std.proofs.Common.{◌≡◌, ◌≢◌, ◌<◌, ◌==◌, ℕ, Bool, true, false, not, cond, List, [], ◌∷◌, length, map, Option, Some, None}
 use Rattle.std.proofs.Common.{inl, inr, refl, sym, ◌∙◌, ap, subst, get_or, arith, append-nil, lt-ltb, suc, ◌⊎◌, ◌+◌, zero}
-use Rattle.std.specs.Prelude.{◌||◌, ◌&&◌, filter, option_map, slice_get}
+use Rattle.std.specs.Prelude.{◌||◌, ◌&&◌, filter, slice_get}
 use Rattle.std.specs.List.{AllByRecursion, list_all, list_any, position_or_len}
 use Rattle.std.specs.Str.{bytes_eq}
 use Rattle.std.proofs.lemmas.Bool.{and_from, and_parts, eqb-true}
@@ -18,14 +18,13 @@ use Rattle.judy_journal.specs.Journals.{record_of}
 use Rattle.judy_journal.specs.Replays.{RecordsTellAll, told}
 use Rattle.judy_journal.proofs.lemmas.LeavingLemmas.{gone_is_read, gone_tells_no_call}
 use Rattle.judy_model.specs.Grammar.{is_name}
-use Rattle.judy_model.specs.Tenant.{State, no_arrays}
+use Rattle.judy_model.specs.Tenant.{State}
 use Rattle.judy_many.specs.Statuses.{Lasts}
 use Rattle.judy_many.specs.Stories.{Story, recorded_in}
 use Rattle.judy_many.specs.Stories.Moment.{Changed, Did, Ran}
 use Rattle.judy_many.specs.Sessions.{records_in}
 use Rattle.judy_table.specs.declared.tenant.Tenant.{Tenant}
-use Rattle.judy_table.specs.Freezes.{with_freeze}
-use Rattle.judy_table.specs.Seats.{AreRows, IsSpelled, has_name, name_at, row_after, seat_of, seated}
+use Rattle.judy_table.specs.Seats.{AreRows, IsSpelled, has_name, seat_of, seated}
 use Rattle.judy_table.specs.Tenants.{is_vacant, place_of, read_table, vacant}
 use Rattle.judy_table.proofs.lemmas.Freezes.{freeze-place}
 use Rattle.judy_table.proofs.lemmas.Seats.{has-place, keeps-place, no-place, seat-name}

@@ -5,21 +5,19 @@
 --     calls-are-steps          of records of calls these are the calls
 --     none-told                records of calls tell nothing of a name that has no place
 --     turns-named              lines make of the arrays what their records tell
-use Rattle.std.proofs.Common.{◌≡◌, ◌⊎◌, inl, inr, ℕ, ◌==◌, Bool, true, false, cond, List, [], ◌∷◌, ◌++◌, map, zip}
-use Rattle.std.proofs.Common.{Option, Some, None, Result, Ok, Err, refl, sym, ◌∙◌, ap, subst, append_assoc}
-use Rattle.std.specs.List.{filter_map, cons_option, list_any}
+use Rattle.std.proofs.Common.{◌≡◌, inl, inr, ℕ, Bool, true, false, cond, List, [], ◌∷◌, ◌++◌}
+use Rattle.std.proofs.Common.{Option, Some, None, Ok, refl, sym, ◌∙◌, ap, append_assoc}
+use Rattle.std.specs.List.{cons_option}
 use Rattle.std.specs.Str.{bytes_eq}
 use Rattle.std.proofs.lemmas.Slice.Eq.{bytes_eq-Decides}
-use Rattle.judy_journal.specs.declared.replays.Unplayed.{Unplayed}
 use Rattle.judy_journal.specs.Leaving.{gone_in}
-use Rattle.judy_journal.specs.Replays.{AreRecords, HaveAnswered, Places, RecordsTellAll, Told, after_call, after_calls, call_told, calls_named, event_at, event_for, event_told, told}
+use Rattle.judy_journal.specs.Replays.{AreRecords, Places, RecordsTellAll, Told, after_call, after_calls, call_told, calls_named, event_at, event_for, event_told, told}
 use Rattle.judy_journal.specs.Replays.{again}
 use Rattle.judy_model.specs.declared.calls.Call.{Call}
 use Rattle.judy_model.specs.declared.replies.Reply.{Reply}
 use Rattle.judy_model.specs.Speakers.{Event}
 use Rattle.judy_model.specs.Tenant.{State, no_arrays}
 use Rattle.judy_many.specs.Sessions.{AreTurns, Turn, records_in}
-use Rattle.judy_table.specs.declared.tenant.Tenant.{Tenant}
 use Rattle.judy_table.specs.Seats.{AreRows}
 use Rattle.judy_table.specs.Tenants.{place_of}
 use Rattle.judy_tenants.specs.Held.{IsSoundService, states_of}

@@ -2,28 +2,26 @@
 --     plays-named       one record makes of the arrays of each name what it tells
 --     replayed-named    so do records
 --     begun-named       a service that has begun with records has the arrays that they tell
-use Rattle.std.proofs.Common.{◌≡◌, ℕ, Bool, true, false, not, cond, List, [], ◌∷◌, ◌++◌, map, Option, Some, None, Result, Ok, Err}
+use Rattle.std.proofs.Common.{◌≡◌, ℕ, Bool, true, false, not, cond, List, [], ◌∷◌, ◌++◌, Option, Some, None, Result, Ok, Err}
 use Rattle.std.proofs.Common.{inl, refl, sym, ◌∙◌, ap, subst, get_or, append-nil}
 use Rattle.std.proofs.lemmas.List.{get_or-map}
 use Rattle.std.proofs.lemmas.List.Quantifiers.{position-Some}
-use Rattle.std.specs.Prelude.{◌||◌, ◌&&◌, filter, MatchBool}
-use Rattle.std.specs.List.{list_any}
+use Rattle.std.specs.Prelude.{◌||◌, MatchBool}
 use Rattle.std.specs.Str.{bytes_eq}
 use Rattle.std.proofs.lemmas.Slice.Eq.{bytes_eq-Decides}
 use Rattle.judy_journal.specs.declared.replays.Unplayed.{Unplayed}
 use Rattle.judy_journal.specs.declared.replays.Unplayed.TheVariants as unplayed
 use Rattle.judy_journal.specs.Leaving.{gone_in}
-use Rattle.judy_journal.specs.Replays.{AreRecords, HaveAnswered, Places, RecordsTellAll, Told, event_at, event_for, event_told, outcome, told}
+use Rattle.judy_journal.specs.Replays.{AreRecords, HaveAnswered, Places, RecordsTellAll, Told, event_at, event_for, event_told, told}
 use Rattle.judy_journal.proofs.lemmas.ReplayLemmas.{asked_again, outcome_is}
 use Rattle.judy_model.specs.declared.replies.Reply.{Reply}
 use Rattle.judy_model.specs.Speakers.{Event}
-use Rattle.judy_model.specs.Tenant.{State, changes, no_arrays}
+use Rattle.judy_model.specs.Tenant.{State, no_arrays}
 use Rattle.judy_table.specs.declared.tenant.Tenant.{Tenant}
 use Rattle.judy_table.specs.Tenants.{place_of, vacant}
 use Rattle.judy_tenants.specs.Held.{IsSoundService, quotas_of, states_of}
-use Rattle.judy_server.specs.Named.{arrays_at, arrays_named}
-use Rattle.judy_server.specs.Replays.{AreReplayed, HaveLeft, IsMadeAgain, IsPassedOver, Plays, PlaysAs, PlaysChange, PlaysLeaving, changing, marks_of, places_in}
-use Rattle.judy_server.specs.Tally.{Tallied, can_note, is_among, with_absent, with_name, without_absent, without_names}
+use Rattle.judy_server.specs.Replays.{AreReplayed, HaveLeft, IsMadeAgain, IsPassedOver, Plays, PlaysAs, PlaysChange, changing, marks_of, places_in}
+use Rattle.judy_server.specs.Tally.{Tallied, can_note, is_among, with_absent, with_name, without_names}
 use Rattle.judy_server.proofs.Naming.{Step, after_steps, after_steps-append, calls-are-steps, none-told, steps-append, steps_named, steps_of}
 use Rattle.judy_server.proofs.lemmas.Crashes.{named-by-place}
 

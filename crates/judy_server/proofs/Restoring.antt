@@ -3,14 +3,14 @@
 --     same-arrays        records that are those of a story give the arrays at its end
 --     story-cut          a story is cut after the line of a record, and the lines behind it that have none
 --     crash-restores     after a crash the arrays are those after the first lines
-use Rattle.std.proofs.Common.{◌≡◌, ◌⊎◌, inl, inr, ℕ, ◌<◌, ◌+◌, ◌^◌, Bool, true, false, List, [], ◌∷◌, ◌++◌, length, zip}
-use Rattle.std.proofs.Common.{Option, Some, None, Result, Ok, refl, sym, ◌∙◌, ap, arith, subst, append_assoc, append-nil, length-append}
+use Rattle.std.proofs.Common.{◌≡◌, ◌⊎◌, inl, inr, ℕ, ◌<◌, ◌+◌, ◌^◌, Bool, true, false, List, [], ◌∷◌, ◌++◌, length}
+use Rattle.std.proofs.Common.{Option, Some, None, refl, sym, ◌∙◌, ap, arith, subst, append_assoc, append-nil, length-append}
 use Rattle.std.proofs.lemmas.List.{append_cancel_left}
 use Rattle.std.specs.Prelude.{is_some}
-use Rattle.judy_journal.specs.Acts.{DiskAct, File, Goes, IsWriting, Journal as Written, phase_with, standing}
+use Rattle.judy_journal.specs.Acts.{DiskAct, File, Goes, IsWriting, Journal as Written, standing}
 use Rattle.judy_journal.specs.Acts.DiskAct.{Began as FileBegan, Kept as FileKept, Synced as FileSynced}
 use Rattle.judy_journal.specs.Crashes.{JournalIsExact}
-use Rattle.judy_journal.specs.Journals.{Commit, record_of, sum_at}
+use Rattle.judy_journal.specs.Journals.{Commit, record_of}
 use Rattle.judy_journal.specs.Leaving.{gone_request}
 use Rattle.judy_journal.specs.Replays.{RecordsTellAll}
 use Rattle.judy_journal.specs.Notes.{changes_in}
@@ -23,9 +23,8 @@ use Rattle.judy_model.specs.Stream.Heard.{TooLong, Unclear, Asked}
 use Rattle.judy_model.specs.Tenant.{no_arrays}
 use Rattle.judy_protocol.specs.Plain.{counts}
 use Rattle.judy_many.specs.Books.{Journal, journal_of, opened}
-use Rattle.judy_many.specs.Crowds.{HasServedMany}
 use Rattle.judy_many.specs.Journaling.{AnswersAreKept, AreKept, IsJournaled, IsOnDisk, RepliesAreKept, StoriesAreWritten, disk_act, disk_acts, journal_after, journal_since, writer_at}
-use Rattle.judy_many.specs.Nets.{Act, Acts}
+use Rattle.judy_many.specs.Nets.{Act}
 use Rattle.judy_many.specs.Nets.Act.{Replied, Wrote}
 use Rattle.judy_many.specs.Records.{IsRecord, IsRecorded}
 use Rattle.judy_many.specs.Sessions.{AreTurns, IsTurn, Turn, calls_if, records_in}
@@ -33,16 +32,10 @@ use Rattle.judy_many.specs.Statuses.{Lasts}
 use Rattle.judy_many.specs.Stories.{Moment, Story, acts_by, acts_in, recorded_by, recorded_in, turns_by, turns_in}
 use Rattle.judy_many.specs.Stories.Moment.{Changed, Did, Ran}
 use Rattle.judy_many.specs.declared.network.Sync.{Sync}
-use Rattle.judy_many.specs.declared.network.Sync.TheVariants as sync
-use Rattle.judy_many.specs.declared.serve.Ending.{Ending}
-use Rattle.judy_many.specs.declared.serve.Limits.{Limits}
 use Rattle.judy_many.proofs.Journals.{since-append}
 use Rattle.judy_many.proofs.Recording.{records_in-append}
-use Rattle.judy_table.specs.Seats.{AreRows, name_at}
-use Rattle.judy_table.specs.Tenants.{place_of}
-use Rattle.judy_table.specs.declared.tenant.Tenant.{Tenant}
-use Rattle.judy_tenants.specs.Held.{IsSoundService, states_of}
-use Rattle.judy_server.specs.Crashes.{AreHalves, CrashesLoseNothing, HasCrashed, HasResumed, IsCutWithin, IsRestored, Stock, records_with}
+use Rattle.judy_table.specs.Seats.{name_at}
+use Rattle.judy_server.specs.Crashes.{AreHalves, CrashesLoseNothing, HasCrashed, HasResumed, IsCutWithin, Stock, records_with}
 use Rattle.judy_server.specs.Named.{HaveSame}
 use Rattle.judy_server.specs.Rules.{server_rules}
 use Rattle.judy_server.specs.Tally.{Tallied}

@@ -21,6 +21,7 @@ use Rattle.judy_model.specs.Speakers.{Speaker}
 use Rattle.judy_model.specs.Stream.{Heard}
 use Rattle.judy_model.specs.Stream.Heard.{Asked, TooLong, Unclear}
 use Rattle.judy_model.specs.declared.calls.Call.{Call}
+use Rattle.judy_model.specs.declared.calls.Call.TheVariants as call
 use Rattle.judy_model.specs.declared.commands.Command.{Command}
 use Rattle.judy_model.specs.declared.requests.Line.TheVariants as request
 use Rattle.judy_table.specs.declared.tenant.Tenant.{Tenant}
@@ -28,7 +29,7 @@ use Rattle.judy_table.specs.Seats.{name_at}
 use Rattle.judy_table.specs.Tenants.{place_of}
 use Rattle.judy_tenants.specs.Held.{Held}
 use Rattle.judy_server.specs.declared.absent.TheConstants.{ABSENT_LIMIT}
-use Rattle.judy_server.specs.declared.calls.TheConstants.{HELLO, NO_REQUEST, PING}
+use Rattle.judy_server.specs.declared.calls.TheConstants.{HELLO, NAMES, NO_REQUEST, PING}
 use Rattle.judy_server.specs.declared.tally.Tally.{Tally}
 use Rattle.judy_server.specs.declared.tally.TheConstants.{CALLS}
 
@@ -37,17 +38,22 @@ use Rattle.judy_server.specs.declared.tally.TheConstants.{CALLS}
 -- the command that each request begins with, and `none` for a line that is no request
 unfoldable pub call_names : List (List ℕ)
 call_names =
-    codes "AUTH" ∷ codes "QUIT" ∷ codes "USED" ∷ (command_words ++ codes "PING" ∷ codes "HELLO" ∷ codes "none" ∷ [])
+    codes "AUTH" ∷ codes "QUIT" ∷ codes "USED" ∷ (command_words ++ codes "PING" ∷ codes "HELLO" ∷ codes "NAMES" ∷ codes "none" ∷ [])
 
--- the place there of a command; that of `USED` for none
-abbrev pub place_by : Option Command → ℕ
-place_by (Some command) = 3 + command_place command
-place_by None = 2
+-- the place there of a call that names no array
+abbrev pub whole_place : Call → ℕ
+whole_place (call.Names from n) = NAMES
+whole_place _ = 2
+
+-- the place there of a command; this one, if there is none
+abbrev pub place_by : ℕ → Option Command → ℕ
+place_by whole (Some command) = 3 + command_place command
+place_by whole None = whole
 
 -- The place of the command that makes a call. An insertion is counted by its command, whatever value it gives;
 -- an addition by its own.
 abbrev pub place_of_call : Call → ℕ
-place_of_call call = place_by (command_of call)
+place_of_call call = place_by (whole_place call) (command_of call)
 
 -- The place of what a line asks for. `proofs/lemmas/Commands.antt` proves that a request's name there is
 -- its own command.

@@ -1,6 +1,6 @@
 //! What a line can ask for: the names, and the place of each call's name.
 ghost use Rattle.std.specs.Prelude.{◌≡◌, ◌<◌, Some, slice_get};
-ghost use Rattle.judy_server.specs.Tally.{call_names, place_of_call, reply_kinds};
+ghost use Rattle.judy_server.specs.Tally.{call_names, place_of_call, reply_kinds, whole_place};
 
 use crate::tally::CALLS;
 use judy_model::{COMMANDS, Call, command_word};
@@ -11,8 +11,11 @@ pub const PING: usize = COMMANDS + 3;
 /// The place of `HELLO`.
 pub const HELLO: usize = COMMANDS + 4;
 
+/// The place of `NAMES`.
+pub const NAMES: usize = COMMANDS + 5;
+
 /// The place of a line that is no request.
-pub const NO_REQUEST: usize = COMMANDS + 5;
+pub const NO_REQUEST: usize = COMMANDS + 6;
 
 /// What the lines at a place ask for: the command that a request begins with, or `none`.
 #[tactic(auto, unfolding(crate::specs::Tally::call_names))]
@@ -26,6 +29,7 @@ pub fn call_name(place: usize) -> &'static str
         2 => "USED",
         PING => "PING",
         HELLO => "HELLO",
+        NAMES => "NAMES",
         NO_REQUEST => "none",
         _ => command_word(place - 3),
     }
@@ -51,12 +55,22 @@ pub fn reply_kind(place: usize) -> &'static str
     }
 }
 
+/// The place of a call that names no array.
+fn whole_place(call: &Call<'_>) -> usize
+    ensures { result ≡ whole_place call.now }
+{
+    match call {
+        Call::Names(..) => NAMES,
+        _ => 2,
+    }
+}
+
 /// The place of a call.
 pub fn place_of_call(call: &Call<'_>) -> usize
     ensures { result ≡ place_of_call call.now }
 {
     match call.command() {
         Some(command) => 3 + command.place(),
-        None => 2,
+        None => whole_place(call),
     }
 }

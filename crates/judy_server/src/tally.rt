@@ -15,7 +15,7 @@ use judy_protocol::{Line, Refusal};
 use judy_table::TenantId;
 
 /// How many things a line can ask for: `AUTH`, `QUIT`, `USED`, the commands, `PING`, `HELLO`, and nothing.
-pub const CALLS: usize = COMMANDS + 6;
+pub const CALLS: usize = COMMANDS + 7;
 
 /// How many kinds of replies there are.
 pub const KINDS: usize = 10;

@@ -34,6 +34,7 @@ not-memory memory quota s new c r e = sym (ap (λ z. is_memory z.0) e) ∙ memor
 -- a call that names no array, or two, is answered at no place, and asks for nothing there
 pub answered-nowhere : (c : Call) → is_of_array c ≡ false → (a : Blocks) (w : ℕ) (r : Reply) (b : Blocks) (x : ℕ) → AnswersAt a w c r b x → ⊥
 answered-nowhere (call.Intersect name other i n) h a w r b x e = absurd e
+answered-nowhere (call.Names from n) h a w r b x e = absurd e
 answered-nowhere call.Used h a w r b x e = absurd e
 answered-nowhere (call.One name c) h a w r b x e = cc
 answered-nowhere (call.Long name c) h a w r b x e = cc
@@ -42,6 +43,7 @@ answered-nowhere (call.Bytes name c) h a w r b x e = cc
 
 pub asks-nowhere : (c : Call) → is_of_array c ≡ false → (b : Blocks) (w : ℕ) → asks_at b w c ≡ false
 asks-nowhere (call.Intersect name other i n) h b w = refl
+asks-nowhere (call.Names from n) h b w = refl
 asks-nowhere call.Used h b w = refl
 asks-nowhere (call.One name c) h b w = cc
 asks-nowhere (call.Long name c) h b w = cc

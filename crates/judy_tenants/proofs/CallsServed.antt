@@ -250,6 +250,8 @@ module _ {H : List ℕ → ℕ} {tenants : List Tenant} {old : Stock} {t : ℕ} 
         none-at (call.Bytes name f) i h = absent-in m.laws Bytes old.arena.blocks old.directory.0 t name h
         none-at (call.Intersect name other x n) i h =
             absurd (let no : false ≡ true = ap (λ d. asks_at old.arena.blocks (at old.directory.0 (key_of_call t c)).root d) i ∙ asked in cc)
+        none-at (call.Names from n) i h =
+            absurd (let no : false ≡ true = ap (λ d. asks_at old.arena.blocks (at old.directory.0 (key_of_call t c)).root d) i ∙ asked in cc)
         none-at call.Used i h = absurd (unlike (ap (λ d. asks_at old.arena.blocks (at old.directory.0 (key_of_call t c)).root d) i ∙ asked))
           where
             unlike : false ≡ true → ⊥

@@ -71,4 +71,5 @@ calls-add-one of_words of_strings of_bytes H (call.Bytes name c) a b w x r s e =
           true (bytes_in a w) (bytes_effect c) (new_pieces (call.Bytes name c)) rises (its_size string_pieces (bytes_effect c) (bytes_alike c)));
     }
 calls-add-one of_words of_strings of_bytes H (call.Intersect name other i n) a b w x r s e = absurd e
+calls-add-one of_words of_strings of_bytes H (call.Names from n) a b w x r s e = absurd e
 calls-add-one of_words of_strings of_bytes H call.Used a b w x r s e = absurd e

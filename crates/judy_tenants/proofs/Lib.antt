@@ -17,6 +17,7 @@ mod CallsServed
 mod Runs
 mod Fresh
 mod Sound
+mod Listing
 mod Frees
 mod Marked
 mod Carried

@@ -61,6 +61,7 @@ nothing-rests H empties a b (call.Str name c) r x h e s =
 nothing-rests H empties a b (call.Bytes name c) r x h e s =
     ((empties H b).1 x).bytes s (left (λ l. bytes_step true l c) (bytes_in a 0) (bytes_in b x) r (empties H a).0.bytes (effect_rests string_order (bytes_effect c) h) e)
 nothing-rests H empties a b (call.Intersect name other i n) r x h e s = absurd e
+nothing-rests H empties a b (call.Names from n) r x h e s = absurd e
 nothing-rests H empties a b call.Used r x h e s = absurd e
 
 -- without a place there is nothing

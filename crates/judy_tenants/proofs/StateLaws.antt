@@ -238,6 +238,7 @@ module _ {H : List ℕ → ℕ} (laws : KindLaws H) where
   asks-in b d t (call.Str name c) = ap (λ l. string_asks_for_new l c) (sym (holds-in Str b d t name))
   asks-in b d t (call.Bytes name c) = ap (λ l. bytes_asks_for_new l c) (sym (holds-in Bytes b d t name))
   asks-in b d t (call.Intersect name other i n) = refl
+  asks-in b d t (call.Names from n) = refl
   asks-in b d t call.Used = refl
 
   -- ---- one array changed
@@ -370,6 +371,7 @@ module _ {H : List ℕ → ℕ} (laws : KindLaws H) where
       let room : Bool = has_room quota (state_in a.blocks d t) (call.Bytes name f) in
       answered-in Bytes r x (λ l. bytes_step room l f) (effect_way string_order room (bytes_in a.blocks (at d (spot_of t Bytes name)).root) (bytes_effect f) way ∙ answers)
   step-in quota (call.Intersect name other i n) r x answers way = absurd answers
+  step-in quota (call.Names from n) r x answers way = absurd answers
   step-in quota call.Used r x answers way = absurd answers
 
   -- writing an array's own content changes nothing
@@ -418,6 +420,7 @@ module _ {H : List ℕ → ℕ} (laws : KindLaws H) where
       refused-in Bytes b d t name shelf (λ l. bytes_step (has_room quota (state_in b d t) (call.Bytes name f)) l f)
       (ap (λ r. bytes_step r l f) room ∙ effect_full string_order l (bytes_effect f) (sym (asks-in b d t (call.Bytes name f)) ∙ asks))
   full-in quota (call.Intersect name other i n) b d t shelf asks room = cc
+  full-in quota (call.Names from n) b d t shelf asks room = cc
   full-in quota call.Used b d t shelf asks room = cc
 
   -- ---- counts

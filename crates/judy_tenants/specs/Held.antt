@@ -27,7 +27,7 @@ use Rattle.std.specs.FinMap.{find}
 use Rattle.judy_arena.specs.Blocks.{count_up}
 use Rattle.judy_arena.specs.Takes.{Rise}
 use Rattle.judy_model.specs.declared.calls.Call.{Call}
-use Rattle.judy_model.specs.declared.calls.Call.TheVariants.{One, Long, Str, Bytes, Intersect, Used}
+use Rattle.judy_model.specs.declared.calls.Call.TheVariants.{One, Long, Str, Bytes, Intersect, Names, Used}
 use Rattle.judy_model.specs.declared.quotas.Quota.{Quota}
 use Rattle.judy_model.specs.declared.replies.Reply.{Reply}
 use Rattle.judy_model.specs.declared.replies.Reply.TheVariants as reply
@@ -204,6 +204,7 @@ NamesNothing s (Long name c) = content_of s.long name ≡ []
 NamesNothing s (Str name c) = content_of s.string name ≡ []
 NamesNothing s (Bytes name c) = content_of s.bytes name ≡ []
 NamesNothing s (Intersect name other i n) = ⊥
+NamesNothing s (Names from n) = ⊥
 NamesNothing s Used = ⊥
 
 -- no request was refused

@@ -4,8 +4,12 @@
 --                           block belongs to an array
 --     sizes_in b places t   the words in the blocks of each of them
 --     key_of_call t call    the directory's key of the array that a call of the tenant t names
-use Rattle.std.specs.Prelude.{ℕ, List, map}
+--     start_of_list t from  the directory's key where a list of the tenant's arrays begins
+--     has_start from        whether that key itself may be the first of the list
+use Rattle.std.specs.Prelude.{ℕ, Bool, true, false, List, [], map}
 use Rattle.judy_arena.specs.Blocks.{Blocks}
+use Rattle.judy_model.specs.declared.calls.ArraysFrom.{ArraysFrom}
+use Rattle.judy_model.specs.declared.calls.ArraysFrom.TheVariants as from
 use Rattle.judy_model.specs.declared.calls.Call.{Call}
 use Rattle.judy_arena.specs.Totals.{words_over}
 use Rattle.judy_model.specs.Tenant.{Arrays, State}
@@ -59,3 +63,13 @@ IsHeld H b places = IsShelf (IsPlaceAt H) place_numbers IsSameAt b places
 -- the key of the array that a call names
 abbrev pub key_of_call : ℕ → Call → List ℕ
 key_of_call t call = spot_of t (kind_of_call call) (name_of_call call)
+
+-- the directory's key where a list of the tenant's arrays begins
+abbrev pub start_of_list : ℕ → ArraysFrom → List ℕ
+start_of_list t from.First = spot_of t One []
+start_of_list t (from.Behind kind name) = spot_of t kind name
+
+-- whether that key itself may be the first of the list
+abbrev pub has_start : ArraysFrom → Bool
+has_start from.First = true
+has_start (from.Behind kind name) = false

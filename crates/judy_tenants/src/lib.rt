@@ -3,6 +3,7 @@
 #![tactic(auto)]
 
 mod accounts;
+mod arrays;
 mod changing;
 mod freeing;
 mod grants;

@@ -209,7 +209,7 @@ fn insertions_ask_of_nothing(call: &Call<'_>)
         Call::Long(_, call) => maps_ask_of_nothing(*call),
         Call::Str(_, _) => {}
         Call::Bytes(_, _) => {}
-        Call::Intersect(..) | Call::Used => {}
+        Call::Intersect(..) | Call::Names(..) | Call::Used => {}
     }
 }
 

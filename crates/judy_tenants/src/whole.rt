@@ -10,6 +10,7 @@ ghost use Rattle.judy_tenants.specs.States.{IsHeld, state_in};
 ghost use Rattle.judy_words.specs.OneArrays.{one_in};
 
 use crate::accounts::Account;
+use crate::arrays::names;
 use crate::laws;
 use crate::stock::{Stock, stands_at};
 use judy_bytes::OrderHash;
@@ -30,7 +31,7 @@ fn set_of(stock: &Stock, tenant: TenantId, name: &Name) -> Ref
 /// The reply to a call that names no array, or two. It changes nothing.
 pub fn overlook<'a, H: OrderHash>(
     stock: &Stock,
-    _hash: H,
+    hash: H,
     tenant: TenantId,
     account: Account,
     quota: Quota,
@@ -52,6 +53,7 @@ pub fn overlook<'a, H: OrderHash>(
             let (set, other) = (set_of(stock, tenant, name), set_of(stock, tenant, other));
             intersection(&stock.arena, set, other, *x, *most, listing)
         }
+        Call::Names(from, most) => names(stock, hash, tenant, from, *most, listing),
         _ => Reply::Used(account.entries, quota.entries, account.pieces, quota.pieces),
     }
 }

@@ -43,6 +43,7 @@ change_of (calls.Long name call) = option_map (change kind.Long name) (does_of (
 change_of (calls.Str name call) = option_map (change kind.Str name) (does_of (string_operation call))
 change_of (calls.Bytes name call) = option_map (change kind.Bytes name) (does_of (bytes_operation call))
 change_of (calls.Intersect name other i n) = None
+change_of (calls.Names from n) = None
 change_of calls.Used = None
 
 -- the letter that stands for a kind of array

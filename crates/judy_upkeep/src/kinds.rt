@@ -97,7 +97,7 @@ impl Change {
             Call::Long(name, call) => change_of(Kind::Long, name, does_of(call.operation())),
             Call::Str(name, call) => change_of(Kind::Str, name, does_of(call.operation())),
             Call::Bytes(name, call) => change_of(Kind::Bytes, name, does_of(call.operation())),
-            Call::Intersect(..) | Call::Used => None,
+            Call::Intersect(..) | Call::Names(..) | Call::Used => None,
         }
     }
 }

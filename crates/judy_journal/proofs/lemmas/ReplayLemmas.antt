@@ -10,7 +10,7 @@ use Rattle.std.proofs.lemmas.List.{map-append}
 use Rattle.std.proofs.lemmas.List.Elements.{filter_map-append}
 use Rattle.std.proofs.lemmas.Slice.Eq.{bytes_eq-Decides}
 use Rattle.judy_model.specs.declared.calls.Call.{Call}
-use Rattle.judy_model.specs.declared.calls.Call.TheVariants.{One, Long, Str, Bytes, Intersect, Used}
+use Rattle.judy_model.specs.declared.calls.Call.TheVariants.{One, Long, Str, Bytes, Intersect, Names, Used}
 use Rattle.judy_model.specs.declared.calls.Given.{Given}
 use Rattle.judy_model.specs.declared.quotas.Quota.{Quota}
 use Rattle.judy_model.specs.declared.replies.Reply.{Reply}
@@ -114,6 +114,7 @@ allowed_same quota s (Bytes name c) h =
     (effect_same string_order (has_room quota s (Bytes name c)) (content_of s.bytes name) (bytes_effect c) h
     ∙ ap (λ room. (bytes_step room (content_of s.bytes name) c).1) (sym (ample_room s (Bytes name c))))
 allowed_same quota s (Intersect name other i n) h = refl
+allowed_same quota s (Names from n) h = refl
 allowed_same quota s Used h = refl
 
 -- under any right

@@ -1,6 +1,9 @@
 -- A call that a command makes is of that command.
-use Rattle.std.proofs.Common.{◌≡◌, ℕ, Bool, true, false, cond, List, [], ◌∷◌, refl, ap, ◌∙◌, sym, subst, Option, Some, None}
+use Rattle.std.proofs.Common.{◌≡◌, ◌⊎◌, inl, inr, ℕ, Bool, true, false, cond, List, [], ◌∷◌, refl, ap, ◌∙◌, sym, subst, Option, Some, None}
 use Rattle.std.specs.Prelude.{IfSome, option_map, option_and_then}
+use Rattle.judy_model.specs.ArrayLists.{kind_named}
+use Rattle.judy_model.specs.declared.calls.ArraysFrom.{ArraysFrom}
+use Rattle.judy_model.specs.declared.calls.ArraysFrom.TheVariants as start
 use Rattle.judy_model.specs.declared.calls.BytesCall.TheVariants as bytes
 use Rattle.judy_model.specs.declared.calls.Call.{Call}
 use Rattle.judy_model.specs.declared.calls.Call.TheVariants.{One, Long, Str, Bytes}
@@ -18,7 +21,7 @@ use Rattle.judy_model.specs.declared.commands.Operation.TheVariants.{Insert, Add
 use Rattle.judy_model.specs.declared.commands.Operation.TheVariants.{FirstEmpty, NextEmpty, LastEmpty, PrevEmpty}
 use Rattle.judy_model.specs.Commands.{bytes_operation, bytes_with, entries_of, command_of, first_keys, free_with, long_operation, long_with, one_operation, one_with}
 use Rattle.judy_model.specs.Commands.{string_operation, string_with, to}
-use Rattle.judy_model.specs.Grammar.{begins_walk, bytes_call, call_by, first_keys_call, intersection_call, intersection_with, is_name, key_of, long_call, names_another, numbers_of_fields, one_call, string_call, string_of}
+use Rattle.judy_model.specs.Grammar.{begins_walk, bytes_call, call_by, first_keys_call, intersection_call, intersection_with, is_name, key_of, long_call, names_another, names_behind, names_call, names_with, numbers_of_fields, one_call, string_call, string_of}
 
 -- the call, if there is one, is of this operation
 abbrev IsOf : {C : Type 0} → (C → Operation) → Operation → Option C → Type 0
@@ -227,3 +230,33 @@ made_call kind.Long operation name more call = in_call long_operation kind.Long 
 made_call kind.Str operation name more call = in_call string_operation kind.Str operation (λ c. Str name c) (string_call operation more) call (λ c. refl)
     (string_call_made operation more)
 made_call kind.Bytes operation name more call = bytes_kind_made operation name more call
+
+-- ---- lists of arrays
+
+-- the result of a step, if the step before gave a value
+pub from_value : {A B : Type 0} (f : A → Option B) (o : Option A) (y : B) → option_and_then f o ≡ Some y → (x : A) × (o ≡ Some x) × (f x ≡ Some y)
+from_value f (Some x) y h = (x, refl, h)
+from_value f None y h = cc
+
+-- the value before a map, from the value after it
+pub from_map : {A B : Type 0} (f : A → B) (o : Option A) (y : B) → option_map f o ≡ Some y → (x : A) × (o ≡ Some x) × (f x ≡ y)
+from_map f (Some x) y h = (x, refl, cc)
+from_map f None y h = cc
+
+-- the branch that gave a value
+pub from_if : {A : Type 0} (b : Bool) (x y : Option A) (v : A) → cond b x y ≡ Some v → ((b ≡ true) × (x ≡ Some v)) ⊎ ((b ≡ false) × (y ≡ Some v))
+from_if true x y v h = inl (refl, h)
+from_if false x y v h = inr (refl, h)
+
+-- a call that lists arrays is one
+pub names_made : (field : List ℕ) (more : List (List ℕ)) (call : Call) → names_call field more ≡ Some call
+    → (from : ArraysFrom) × (k : ℕ) × (calls.Names from k ≡ call)
+names_made field [] call h = let (k, found, same) = from_map (λ k. calls.Names start.First k) _ call h in (start.First, k, same)
+names_made field (name ∷ []) call h = cc
+names_made field (name ∷ number ∷ []) call h =
+    let (kind, is, made) = from_value (λ k. names_behind k name number) (kind_named field) call h in
+    elim (from_if (is_name name) (names_with (start.Behind kind name) number) None call made) [
+      | inl hit ↦ let (k, found, same) = from_map (λ k. calls.Names (start.Behind kind name) k) _ call hit.1 in (start.Behind kind name, k, same)
+      | inr out ↦ absurd (let none : None ≡ Some call = out.1 in cc)
+    ]
+names_made field (name ∷ number ∷ e ∷ more) call h = cc

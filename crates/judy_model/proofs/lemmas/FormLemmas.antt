@@ -13,7 +13,7 @@ use Rattle.std.proofs.lemmas.Bool.{and_from}
 use Rattle.std.proofs.lemmas.Bool.Decides.{nat_tests}
 use Rattle.std.proofs.lemmas.Nat.{mod_below}
 use Rattle.judy_model.specs.declared.calls.Call.{Call}
-use Rattle.judy_model.specs.declared.calls.Call.TheVariants.{One, Long, Str, Bytes, Intersect, Used}
+use Rattle.judy_model.specs.declared.calls.Call.TheVariants.{One, Long, Str, Bytes, Intersect, Names, Used}
 use Rattle.judy_model.specs.declared.calls.OneCall.{OneCall}
 use Rattle.judy_model.specs.declared.calls.OneCall.TheVariants as one
 use Rattle.judy_model.specs.declared.calls.LongCall.{LongCall}
@@ -370,6 +370,7 @@ allowed_keeps_form quota s (Bytes name c) h w = record {
       (byte_form room (content_of s.bytes name) (bytes_effect c) (bytes_fills c) (content_form string_order is_bytes_entry s.bytes name h.bytes) w);
 }
 allowed_keeps_form quota s (Intersect name other i n) h w = h
+allowed_keeps_form quota s (Names from n) h w = h
 allowed_keeps_form quota s Used h w = h
 
 -- each call keeps them well-formed

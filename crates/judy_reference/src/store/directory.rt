@@ -1,15 +1,27 @@
 //! The arrays of one kind, in the order of their names.
-ghost use Rattle.std.specs.Prelude.{◌≡◌, ◌<◌, ◌^◌, [], OnOk, OnErr, not, filter};
-ghost use Rattle.std.specs.Ordering.{eq_by_cmp};
-ghost use Rattle.judy_model.specs.Contents.{string_order, value_of, with_entry, without_key};
+ghost use Rattle.std.specs.Prelude.{◌≡◌, ◌<◌, ◌^◌, [], OnOk, OnErr, not, filter, option_map};
+ghost use Rattle.std.specs.Ordering.{eq_by_cmp, is_gt};
+ghost use Rattle.judy_model.specs.ArrayLists.{array_key, count_of, counted, key_of_start};
+ghost use Rattle.judy_model.specs.Contents.{next, string_order, value_of, with_entry, without_key};
 ghost use Rattle.judy_model.specs.Pieces.{string_pieces};
 ghost use Rattle.judy_model.specs.Tenant.{content_of, with_content, entries_in, pieces_in};
 ghost use Rattle.judy_reference.specs.Store.{AreKept};
 
 use super::content::{Content, search};
-use judy_model::{Name, OwnedKey};
+use judy_model::{ArrayCount, ArraysFrom, Kind, Name, OwnedKey};
 use std::alloc::{AllocError, Global};
 use std::marker::Model;
+
+/// Whether an array comes behind a place in the order of all arrays.
+fn is_behind(kind: Kind, name: &Name, from: &ArraysFrom) -> bool
+    ensures { result ≡ is_gt (string_order (array_key kind name.now) (key_of_start from.now)) }
+{
+    match from {
+        ArraysFrom::First => true,
+        ArraysFrom::Behind(other, bound) if kind == *other => *name > *bound,
+        ArraysFrom::Behind(other, _) => kind.number() > other.number(),
+    }
+}
 
 /// Arrays by name. An array without entries is left out.
 #[derive(Drop)]
@@ -47,6 +59,23 @@ impl<K: Ord> Directory<K> {
             Ok(place) => self.arrays[place].1.entries(),
             Err(_) => &[],
         }
+    }
+
+    /// The first array behind a place in the order of all arrays, of which the directory has those of this kind.
+    pub fn next(&self, kind: Kind, from: &ArraysFrom) -> Option<ArrayCount>
+        ensures { option_map count_of result
+            ≡ next string_order (counted kind self.now) (key_of_start from.now) }
+    {
+        for array in self.arrays.iter() {
+            if is_behind(kind, &array.0, from) {
+                return Some(ArrayCount {
+                    kind,
+                    name: array.0.copied(),
+                    entries: array.1.len() as u64,
+                });
+            }
+        }
+        None
     }
 
     /// The value of a key of the array of this name.

@@ -1,7 +1,7 @@
 -- Lines one after another are a run of calls, whatever their connections.
 --     made-answered     calls one after another are a run
 --     turns-answered    so are lines
-use Rattle.std.proofs.Common.{◌≡◌, List, [], ◌∷◌, ◌++◌, zip, refl, sym, ap, subst}
+use Rattle.std.proofs.Common.{◌≡◌, List, [], ◌∷◌, zip, refl, sym, ap, subst}
 use Rattle.judy_journal.specs.Replays.{HaveAnswered}
 use Rattle.judy_journal.proofs.lemmas.ReplayLemmas.{HaveAnswered-append}
 use Rattle.judy_model.specs.declared.replies.Reply.{Reply}

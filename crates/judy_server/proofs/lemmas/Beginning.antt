@@ -1,18 +1,14 @@
 -- The start with a journal is one that a crash can follow.
 --     whole-append     whole files, and one that has only its first line
 --     start-goes-on    what was played, and where the writer goes on
-use Rattle.std.proofs.Common.{◌≡◌, inl, inr, ℕ, suc, ◌+◌, List, [], ◌∷◌, ◌++◌, length, Option, Some, None, refl, sym, ◌∙◌, ap, ap₂, subst, arith, length-append}
+use Rattle.std.proofs.Common.{◌≡◌, inl, inr, ℕ, ◌+◌, List, [], ◌∷◌, ◌++◌, length, Option, Some, None, refl, sym, ◌∙◌, ap, ap₂, subst, arith, length-append}
 use Rattle.std.specs.Prelude.{IsTrue}
-use Rattle.judy_journal.specs.Acts.{AreWhole, File, IsWhole}
+use Rattle.judy_journal.specs.Acts.{AreWhole, File}
 use Rattle.judy_journal.specs.Journals.{Commit, is_line, journal_text, sum_after, sum_at}
 use Rattle.judy_journal.specs.Writes.{Writing, all_records, begun}
-use Rattle.judy_many.specs.declared.serve.Limits.{Limits}
-use Rattle.judy_programs.specs.Asking.{Log}
-use Rattle.judy_programs.specs.Journaled.{HasMade, HasServedOn, writer_there}
-use Rattle.judy_programs.specs.declared.socket.Hosted.{Hosted}
-use Rattle.judy_recovery.specs.Whole.{IsStart, Kept, segment_before}
+use Rattle.judy_programs.specs.Journaled.{HasMade, writer_there}
+use Rattle.judy_recovery.specs.Whole.{IsStart, segment_before}
 use Rattle.judy_server.specs.Crashes.{HasBegunWith, HasResumed, IsNew, StartsGoOn, Stock}
-use Rattle.judy_server.specs.Rules.{server_rules}
 use Rattle.judy_server.proofs.lemmas.Begun.{begun-table}
 
 -- the checksum after commits and more

@@ -1,7 +1,7 @@
 -- A service that has begun with records: they were played without its quotas, and then its table was put in force.
 --     begun-table     the table is that of the first service
 --     states-after    each place has the arrays that it had after the records
-use Rattle.std.proofs.Common.{◌≡◌, ◌||◌, ℕ, Bool, true, false, List, [], ◌∷◌, Option, Some, None, refl, sym, ◌∙◌, ap, subst}
+use Rattle.std.proofs.Common.{◌≡◌, ◌||◌, ℕ, true, List, [], ◌∷◌, refl, sym, ◌∙◌, ap, subst}
 use Rattle.std.specs.List.{AllByRecursion}
 use Rattle.std.proofs.lemmas.Bool.{and_from}
 use Rattle.judy_model.specs.Tenant.{no_arrays}

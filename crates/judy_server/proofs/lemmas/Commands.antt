@@ -12,17 +12,17 @@ use Rattle.judy_model.specs.Contents.{string_order}
 use Rattle.judy_model.specs.Grammar.{Spell, SpellCall, at_command, call_by}
 use Rattle.judy_model.specs.Stream.Heard.{Asked, TooLong, Unclear}
 use Rattle.judy_model.specs.declared.calls.Call.{Call}
-use Rattle.judy_model.specs.declared.calls.Call.TheVariants.{One, Long, Str, Bytes, Intersect, Used}
+use Rattle.judy_model.specs.declared.calls.Call.TheVariants.{One, Long, Str, Bytes, Intersect, Names, Used}
 use Rattle.judy_model.specs.declared.commands.Command.{Command}
 use Rattle.judy_model.specs.declared.requests.Line.{Line}
 use Rattle.judy_model.specs.declared.requests.Line.TheVariants as request
-use Rattle.judy_server.specs.Tally.{call_names, call_place, place_by, place_of_call}
-use Rattle.judy_server.specs.declared.calls.TheConstants.{HELLO, PING}
+use Rattle.judy_server.specs.Tally.{call_names, call_place, place_by, place_of_call, whole_place}
+use Rattle.judy_server.specs.declared.calls.TheConstants.{HELLO, NAMES, PING}
 
 -- ---- calls
 
 -- each command of the table is named by its word
-all_named : map (λ row. slice_get call_names (place_by (Some row.1))) commands ≡ map (λ row. Some row.0) commands
+all_named : map (λ row. slice_get call_names (place_by 2 (Some row.1))) commands ≡ map (λ row. Some row.0) commands
 unfolding call_names
 all_named = refl
 
@@ -48,8 +48,8 @@ by_command : (word name : List ℕ) (more : List (List ℕ)) (call : Call) (o : 
     → option_and_then (λ c. call_by c.kind c.operation name more) o ≡ Some call → slice_get call_names (place_of_call call) ≡ Some word
 by_command word name more call None is e = cc
 by_command word name more call (Some c) is e =
-    ap (λ o. slice_get call_names (place_by o)) (made_call c.kind c.operation name more call e)
-    ∙ named (λ command. slice_get call_names (place_by (Some command))) word commands c all_named is
+    ap (λ o. slice_get call_names (place_by (whole_place call) o)) (made_call c.kind c.operation name more call e)
+    ∙ named (λ command. slice_get call_names (place_by 2 (Some command))) word commands c all_named is
 
 -- ---- lines
 
@@ -61,9 +61,10 @@ three_names : (slice_get call_names 0 ≡ Some (codes "AUTH")) × (slice_get cal
 unfolding call_names
 three_names = (refl, refl, refl)
 
-two_names : (slice_get call_names PING ≡ Some (codes "PING")) × (slice_get call_names HELLO ≡ Some (codes "HELLO"))
+last_names : (slice_get call_names PING ≡ Some (codes "PING")) × (slice_get call_names HELLO ≡ Some (codes "HELLO"))
+    × (slice_get call_names NAMES ≡ Some (codes "NAMES"))
 unfolding call_names
-two_names = (refl, refl)
+last_names = (refl, refl, refl)
 
 counted_call : (fields : List (List ℕ)) (call : Call) → SpellCall fields call → slice_get call_names (place_of_call call) ≡ slice_get fields 0
 counted_call fields call (word, name, more, e, is, found) =
@@ -73,9 +74,11 @@ counted_call fields call (word, name, more, e, is, found) =
 pub counted-by-its-command : (fields : List (List ℕ)) (r : Line) → Spell fields r → slice_get call_names (call_place (Asked r)) ≡ slice_get fields 0
 counted-by-its-command fields (request.Auth name token) s = first fields (codes "AUTH") (name ∷ token ∷ []) (slice_get call_names 0) s.0 three_names.0
 counted-by-its-command fields request.Quit s = first fields (codes "QUIT") [] (slice_get call_names 1) s three_names.1
-counted-by-its-command fields request.Ping s = first fields (codes "PING") [] (slice_get call_names PING) s two_names.0
-counted-by-its-command fields request.Hello s = first fields (codes "HELLO") [] (slice_get call_names HELLO) s two_names.1
+counted-by-its-command fields request.Ping s = first fields (codes "PING") [] (slice_get call_names PING) s last_names.0
+counted-by-its-command fields request.Hello s = first fields (codes "HELLO") [] (slice_get call_names HELLO) s last_names.1
 counted-by-its-command fields (request.Call Used) s = first fields (codes "USED") [] (slice_get call_names 2) s three_names.2
+counted-by-its-command fields (request.Call (Names from n)) (field, more, e, is, made) =
+    first fields (codes "NAMES") (field ∷ more) (slice_get call_names NAMES) e last_names.2
 counted-by-its-command fields (request.Call (Intersect name other i n)) s = counted_call fields (Intersect name other i n) s
 counted-by-its-command fields (request.Call (One name c)) s = counted_call fields (One name c) s
 counted-by-its-command fields (request.Call (Long name c)) s = counted_call fields (Long name c) s

@@ -5,17 +5,17 @@
 --     stays-if          so it does where a look at the text found an order
 --     no-order          a text is none where it found none
 --     if-made           what follows of a step that was made
-use Rattle.std.proofs.Common.{◌≡◌, ◌⊎◌, inl, inr, ◌∙◌, ◌&&◌, ℕ, Bool, true, false, not, List, Option, Some, None, ap, arith, is_some, refl, subst, sym}
+use Rattle.std.proofs.Common.{◌≡◌, inl, ◌∙◌, ◌&&◌, ℕ, Bool, true, false, not, List, Option, Some, None, ap, arith, is_some, refl, subst, sym}
 use Rattle.std.specs.Prelude.{MatchBool, option_map, slice_get}
 use Rattle.std.proofs.lemmas.List.Elements.{recursion_from_All}
 use Rattle.judy_model.specs.Tenant.{no_arrays}
 use Rattle.judy_model.specs.declared.quotas.Quota.{Quota}
-use Rattle.judy_table.proofs.lemmas.Freezes.{freeze-at, freeze-names, freeze-vacant}
+use Rattle.judy_table.proofs.lemmas.Freezes.{freeze-at, freeze-vacant}
 use Rattle.judy_table.specs.Freezes.{frozen_row, with_freeze}
-use Rattle.judy_table.specs.Seats.{AreRows, name_at}
+use Rattle.judy_table.specs.Seats.{AreRows}
 use Rattle.judy_table.specs.Tenants.{is_vacant, vacant}
 use Rattle.judy_table.specs.declared.tenant.Tenant.{Tenant}
-use Rattle.judy_tenants.specs.Changes.{HasChanged, has_tenant, stays_at}
+use Rattle.judy_tenants.specs.Changes.{HasChanged, has_tenant}
 use Rattle.judy_tenants.specs.Held.{Held, IsSoundService, quotas_of, sizes_of, states_of}
 use Rattle.judy_server.specs.Orders.{Freeze, order_in}
 use Rattle.judy_server.specs.Reloads.{IsMeant, IsOrdered, IsReload, KeepsRest}

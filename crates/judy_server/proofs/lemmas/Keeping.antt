@@ -2,11 +2,10 @@
 --     place-stays  a place keeps its arrays and its name when a table that has all tenants is put in force
 --     name-of      the name of a place, by its row; quota-of, tenant-of, so are its quota and whether it has a tenant
 use Rattle.std.proofs.Common.{◌≡◌, ◌∙◌, ◌⊎◌, inl, inr, ◌||◌, ℕ, zero, suc, Bool, true, false, not, List, [], ◌∷◌}
-use Rattle.std.proofs.Common.{length, Option, Some, None, Result, Ok, Err, ap, arith, refl, subst, sym}
-use Rattle.std.specs.Prelude.{IfOk, map, option_map, slice_get, unwrap_or}
+use Rattle.std.proofs.Common.{length, Option, Some, None, ap, arith, refl, subst, sym}
+use Rattle.std.specs.Prelude.{map, option_map, slice_get, unwrap_or}
 use Rattle.std.specs.List.{AllByRecursion}
 use Rattle.std.specs.FinMap.{is_sorted}
-use Rattle.std.specs.Result.{result_unwrap_or}
 use Rattle.std.proofs.lemmas.Bool.{and_parts}
 use Rattle.std.proofs.lemmas.List.Elements.{recursion_from_All}
 use Rattle.std.proofs.lemmas.List.Sums.{sum_by-cons}
@@ -15,18 +14,14 @@ use Rattle.judy_model.specs.Contents.{Order, string_order, word_order}
 use Rattle.judy_model.specs.Tenant.{Arrays, State, entries_in, no_arrays}
 use Rattle.judy_model.specs.WellFormed.{IsWellFormed, IsWithin, are_arrays, is_bytes_entry, is_long_entry, is_one_entry, is_string_entry}
 use Rattle.judy_model.specs.declared.quotas.Quota.{Quota}
-use Rattle.judy_table.specs.declared.fault.TableFault.{TableFault}
 use Rattle.judy_table.specs.declared.tenant.Tenant.{Tenant}
 use Rattle.judy_table.specs.Seats.{AreRows, has_name, name_at, seat_of, seated}
 use Rattle.judy_table.proofs.lemmas.Seats.{seat-name}
-use Rattle.judy_table.specs.Tenants.{is_vacant, read_table, vacant}
+use Rattle.judy_table.specs.Tenants.{is_vacant, vacant}
 use Rattle.judy_tenants.specs.Changes.{HasChanged, has_tenant}
 use Rattle.judy_tenants.specs.Held.{Held, IsSoundService, no_quota, quotas_of, states_of}
 use Rattle.judy_tenants.proofs.lemmas.Changed.{new-has-none, stays-named}
-use Rattle.judy_server.specs.Orders.{order_in}
 use Rattle.judy_server.specs.Reloads.{has_all, is_kept}
-use Rattle.judy_server.specs.Tally.{Tallied}
-use Rattle.judy_server.proofs.lemmas.Orders.{reload-seated}
 
 -- ---- a place without a tenant
 

@@ -8,27 +8,21 @@
 --     story-recorded         the records of its lines are those of their calls
 --     story-answered         its calls are a run
 --     story-tells            each tenant has the arrays that the records of its name make
-use Rattle.std.proofs.Common.{◌≡◌, ◌⊎◌, inl, inr, ℕ, zero, suc, ◌<◌, ◌==◌, Bool, true, false, not, cond, List, [], ◌∷◌, ◌++◌, length, map, zip}
-use Rattle.std.proofs.Common.{Option, Some, None, Result, Ok, Err, refl, sym, ◌∙◌, ap, subst, get_or, arith, append_assoc, append-nil, lt-ltb}
-use Rattle.std.specs.Prelude.{◌||◌, IsTrue, option_map, slice_get, unwrap_or, nat_lt}
-use Rattle.std.specs.List.{filter_map, cons_option}
+use Rattle.std.proofs.Common.{◌≡◌, inl, inr, ℕ, zero, suc, ◌<◌, ◌==◌, Bool, true, false, not, cond, List, [], ◌∷◌, length, map, zip}
+use Rattle.std.proofs.Common.{Option, Some, None, Ok, refl, sym, ◌∙◌, ap, subst, get_or, arith, lt-ltb}
+use Rattle.std.specs.Prelude.{◌||◌, slice_get, nat_lt}
 use Rattle.std.specs.Str.{bytes_eq}
 use Rattle.std.proofs.lemmas.Bool.{and_parts, eqb-true}
 use Rattle.std.proofs.lemmas.List.Quantifiers.{position-Some}
 use Rattle.std.proofs.lemmas.List.Sums.{position_or_len_is}
-use Rattle.std.proofs.lemmas.Option.{slice_get-get_or, slice_get_within, get_or_from_slice_get, unwrap_or-slice_get}
+use Rattle.std.proofs.lemmas.Option.{slice_get-get_or, slice_get_within, get_or_from_slice_get}
 use Rattle.std.proofs.lemmas.Slice.Eq.{bytes_eq-Decides}
-use Rattle.judy_journal.specs.declared.replays.Unplayed.{Unplayed}
 use Rattle.judy_journal.specs.Journals.{Commit}
-use Rattle.judy_journal.specs.Replays.{Places, record_of, Told, told, event_told, event_for, event_at, again, HaveAnswered, AreRecords, IsNamed, after_calls, calls_named}
-use Rattle.judy_journal.proofs.lemmas.ReplayLemmas.{asks_again, records_tell_one_change, AreRecords-append, HaveAnswered-append}
-use Rattle.judy_model.specs.declared.calls.Call.{Call}
-use Rattle.judy_model.specs.declared.quotas.Right.TheVariants.{Change}
+use Rattle.judy_journal.specs.Replays.{Places, record_of, Told, told, event_told, event_for, event_at, AreRecords}
+use Rattle.judy_journal.proofs.lemmas.ReplayLemmas.{asks_again, records_tell_one_change, AreRecords-append}
 use Rattle.judy_model.specs.declared.replies.Reply.{Reply}
 use Rattle.judy_model.specs.declared.requests.Line.TheVariants as request
 use Rattle.judy_model.specs.Grammar.{is_name}
-use Rattle.judy_model.specs.Reading.{request_of}
-use Rattle.judy_model.specs.Service.{States}
 use Rattle.judy_model.specs.Speakers.{Event, Speaker}
 use Rattle.judy_model.specs.Stream.{Heard, event_of}
 use Rattle.judy_model.specs.Stream.Heard.{TooLong, Unclear, Asked}
@@ -38,21 +32,15 @@ use Rattle.judy_protocol.specs.Plain.{counts, is_refused, says_unchanged}
 use Rattle.judy_protocol.specs.Services.{HasLoggedIn}
 use Rattle.judy_many.specs.Records.{IsRecord, IsRecorded}
 use Rattle.judy_many.specs.Sessions.{AreTurns, IsTurn, Turn, calls_if, calls_of, records_in}
-use Rattle.judy_many.specs.Statuses.{Lasts}
-use Rattle.judy_many.specs.Stories.{Story, turns_in}
-use Rattle.judy_many.specs.Stories.Moment.{Changed, Did, Ran}
-use Rattle.judy_many.proofs.Recording.{records_in-append}
 use Rattle.judy_table.specs.Seats.{AreRows, knows, name_at, are_distinct}
 use Rattle.judy_table.specs.Tenants.{is_vacant, place_of, vacant}
 use Rattle.judy_table.specs.declared.tenant.Tenant.{Tenant}
 use Rattle.judy_table.proofs.lemmas.Seats.{known-name, knows-place, one-place}
-use Rattle.judy_tenants.specs.Held.{IsSoundService, states_of}
 use Rattle.judy_server.specs.Crashes.{answered_in}
 use Rattle.judy_server.specs.Rules.{server_rules}
 use Rattle.judy_server.specs.Tally.{Tallied}
-use Rattle.judy_server.proofs.lemmas.Answering.{turns-answered}
 use Rattle.judy_server.proofs.lemmas.Keeping.{name-of}
-use Rattle.judy_server.proofs.lemmas.Space.{rows-stay, sound-turns}
+use Rattle.judy_server.proofs.lemmas.Space.{rows-stay}
 
 -- ---- names and places
 

@@ -6,8 +6,8 @@ use crate::checks::{holds, holds_at, same, same_at};
 use crate::lines::asks::name;
 use arrayvec::ArrayVec;
 use judy_model::{
-    BytesCall, COMMANDS, Call, Given, KEY_LIMIT, Key, Kind, Line, LongCall, Name, OneCall,
-    Operation, Search, StrCall, Token, command_word,
+    ArraysFrom, BytesCall, COMMANDS, Call, Given, KEY_LIMIT, Key, Kind, Line, LongCall, Name,
+    OneCall, Operation, Search, StrCall, Token, command_word,
 };
 use judy_protocol::{Syntax, read_line};
 use std::alloc::{AllocError, Global};
@@ -135,6 +135,56 @@ fn each_request_of_two_sets(rt: HostRuntime) -> Result<(), Fail> {
     same(&rt, read_line(b" J1I  a a -1 009 ", &mut room), Ok(want));
     let want = Line::Call(Call::Intersect(name("a"), name("7"), 0, 1));
     same(&rt, read_line(b"J1I a 7 0 1", &mut room), Ok(want));
+    Ok(())
+}
+
+#[test]
+fn lists_of_arrays(rt: HostRuntime) -> Result<(), Fail> {
+    let alloc = rt.alloc();
+    for most in [1, 7, 65_535] {
+        let line = format!(in alloc; "NAMES {most}")?;
+        let call = Call::Names(ArraysFrom::First, most);
+        compare(&rt, alloc, line.as_str(), call)?;
+    }
+    let kinds = [
+        ("J1", Kind::One),
+        ("JL", Kind::Long),
+        ("JSL", Kind::Str),
+        ("JHS", Kind::Bytes),
+    ];
+    for (word, kind) in kinds {
+        let line = format!(in alloc; "NAMES {word} A_b-9.z 12")?;
+        let call = Call::Names(ArraysFrom::Behind(kind, array()), 12);
+        compare(&rt, alloc, line.as_str(), call)?;
+    }
+    let mut room = [0; KEY_LIMIT];
+    let want = Line::Call(Call::Names(ArraysFrom::First, 5));
+    same(
+        &rt,
+        read_line(b"  NAMES  00000000000000000005 ", &mut room),
+        Ok(want),
+    );
+    let wrong: [&[u8]; 16] = [
+        b"NAMES",
+        b"NAMES 0",
+        b"NAMES 65536",
+        b"NAMES -1",
+        b"NAMES 000000000000000000005",
+        b"NAMES J1",
+        b"NAMES J1 a",
+        b"NAMES J1 a 0",
+        b"NAMES J1 a -1",
+        b"NAMES J1 a 5 6",
+        b"NAMES J1 a/b 5",
+        b"NAMES j1 a 5",
+        b"NAMES J2 a 5",
+        b"NAMES JSLX a 5",
+        b"NAMES 5 5",
+        b"names 5",
+    ];
+    for line in wrong {
+        same(&rt, read_line(line, &mut room), Err(Syntax));
+    }
     Ok(())
 }
 

@@ -3,7 +3,7 @@
 use crate::calls::{
     Fields, OF_KEYS, OF_SETS, OF_STRINGS, OF_WORDS, bytes, drawn, long, one, string,
 };
-use judy_model::{Call, Name, Operation};
+use judy_model::{ArraysFrom, Call, Kind, Name, Operation};
 use std::test::Fail;
 
 const MAX: u64 = 18_446_744_073_709_551_615;
@@ -151,14 +151,27 @@ impl Dice {
         Call::Intersect(name, other, word, 1 + self.roll(4) as u16)
     }
 
-    /// A call of an array of the first name, or of the sets of both.
+    /// A list of arrays, from the first one or from behind an array of this name.
+    fn names(&mut self, name: Name) -> Call<'static> {
+        let from = match self.roll(8) {
+            0..=3 => ArraysFrom::First,
+            4 => ArraysFrom::Behind(Kind::One, name),
+            5 => ArraysFrom::Behind(Kind::Long, name),
+            6 => ArraysFrom::Behind(Kind::Str, name),
+            _ => ArraysFrom::Behind(Kind::Bytes, name),
+        };
+        Call::Names(from, 1 + self.roll(4) as u16)
+    }
+
+    /// A call of an array of the first name, or of the sets of both, or of the tenant.
     pub(crate) fn call(&mut self, name: Name, other: Name) -> Result<Call<'static>, Fail> {
         match self.roll(20) {
             0..=4 => self.one(name),
             5..=9 => self.long(name),
-            10..=14 => self.strings(name),
-            15..=17 => self.bytes(name),
-            18 => Ok(self.intersection(name, other)),
+            10..=13 => self.strings(name),
+            14..=16 => self.bytes(name),
+            17 => Ok(self.intersection(name, other)),
+            18 => Ok(self.names(name)),
             _ => Ok(Call::Used),
         }
     }

@@ -7,7 +7,7 @@ use judy_arena::{Arena, NoMemory};
 use judy_bytes::{OrderHash, Sha256Hash};
 use judy_directory::Place;
 use judy_kinds::{answer, array_of, asks, is_callable};
-use judy_model::{Call, KEY_LIMIT, Key, Kind, Name, OwnedReply, ReplyRoom, StrCall};
+use judy_model::{ArraysFrom, Call, KEY_LIMIT, Key, Kind, Name, OwnedReply, ReplyRoom, StrCall};
 use std::alloc::Global;
 use std::process::Abort;
 use std::test::Fail;
@@ -237,6 +237,7 @@ fn key(bytes: &[u8]) -> Result<Key<'_>, Fail> {
 #[test]
 fn what_calls_are_of(rt: HostRuntime) -> Result<(), Fail> {
     holds(&rt, array_of(&Call::Used).is_none());
+    holds(&rt, array_of(&Call::Names(ArraysFrom::First, 1)).is_none());
     let call = Call::Str(name()?, StrCall::Get(key(b"a\0b")?));
     let (kind, named) = array_of(&call).ok_or("an array")?;
     same(&rt, kind, Kind::Str);

@@ -20,7 +20,7 @@ at_command (suc (suc zero)) low few = absurd (omega (arith, low))
 at_command (suc (suc (suc place))) low few =
     let small : place < COMMANDS = omega (arith, few) in
     let same : place ≡ suc (suc (suc place)) - 3 = omega arith in
-    in_first command_words (codes "PING" ∷ codes "HELLO" ∷ codes "none" ∷ []) place small ∙ ap (slice_get command_words) same
+    in_first command_words (codes "PING" ∷ codes "HELLO" ∷ codes "NAMES" ∷ codes "none" ∷ []) place small ∙ ap (slice_get command_words) same
 
 pub returns-in_default : goal.returns-in_default
 returns-in_default c = at_command c.args.place (omega arith) (omega arith) ∙ c.command_word.ensures

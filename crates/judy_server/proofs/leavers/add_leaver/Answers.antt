@@ -1,4 +1,4 @@
-use Rattle.std.proofs.Common.{◌≡◌, ◌∙◌, sym}
+use Rattle.std.proofs.Common.{◌∙◌, sym}
 use Rattle.judy_server.proofs.Gathering.{gathered-first, gathered-more}
 use Rattle.judy_server.proofs.leavers.add_leaver.Goals as goal
 

@@ -1,4 +1,4 @@
-use Rattle.std.proofs.Common.{◌≡◌, ◌+◌, subst, arith, take}
+use Rattle.std.proofs.Common.{◌+◌, subst, arith, take}
 use Rattle.judy_server.specs.Reloads.{AreGathered, lacking}
 use Rattle.judy_server.proofs.Gathering.{gone-next, kept-next}
 use Rattle.judy_server.proofs.leavers.add_row.Goals as goal

@@ -1,5 +1,5 @@
-use Rattle.std.proofs.Common.{◌≡◌, subst, arith}
-use Rattle.judy_server.specs.Reloads.{AreGathered, lacking}
+use Rattle.std.proofs.Common.{subst, arith}
+use Rattle.judy_server.specs.Reloads.{AreGathered}
 use Rattle.judy_server.proofs.Gathering.{lacking-all, leavers-are}
 use Rattle.judy_server.proofs.leavers.find_lacking.Goals as goal
 

@@ -1,8 +1,7 @@
-use Rattle.std.proofs.Common.{◌≡◌, ◌∙◌, subst, sym}
+use Rattle.std.proofs.Common.{◌∙◌, subst, sym}
 use Rattle.std.specs.Prelude.{IfOk}
 use Rattle.judy_many.specs.Changes.{AreLeavers}
 use Rattle.judy_server.specs.Orders.{freeze_of}
-use Rattle.judy_server.specs.Reloads.{leavers}
 use Rattle.judy_server.proofs.Gathering.{leavers-order, leavers-table, told-none}
 use Rattle.judy_server.proofs.lemmas.Freezing.{no-order}
 use Rattle.judy_server.proofs.leavers.find_leavers.Goals as goal

@@ -1,4 +1,4 @@
-use Rattle.std.proofs.Common.{◌≡◌, ◌≤◌, ◌+◌, ◌∙◌, ap, arith, map, refl, sym, take}
+use Rattle.std.proofs.Common.{◌≡◌, ◌≤◌, ◌+◌, ◌∙◌, ap, arith, map, sym, take}
 use Rattle.std.specs.Prelude.{count_by, option_map}
 use Rattle.judy_table.specs.Shown.{seen}
 use Rattle.judy_server.specs.Present.{speaks_for}

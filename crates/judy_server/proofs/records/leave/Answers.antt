@@ -1,4 +1,4 @@
-use Rattle.std.proofs.Common.{◌≡◌, ℕ, List, Bool, false, get_or, ap, sym, ◌∙◌}
+use Rattle.std.proofs.Common.{ℕ, List, Bool, false, get_or, ap, sym, ◌∙◌}
 use Rattle.judy_server.specs.Replays.{marks_of}
 use Rattle.judy_server.proofs.Leaving.{freed-by-marks, mark-known}
 use Rattle.judy_server.proofs.records.leave.Goals as goal

@@ -1,4 +1,4 @@
-use Rattle.std.proofs.Common.{◌<◌, ℕ, List, Some, length, drop, take, sym, ap, ◌∙◌, arith, eq-eqb, get_or}
+use Rattle.std.proofs.Common.{◌<◌, ℕ, List, Some, length, drop, sym, ap, ◌∙◌, arith, eq-eqb, get_or}
 use Rattle.judy_server.proofs.Replaying.{cut_at, no_cut}
 use Rattle.judy_server.proofs.records.parts.Goals as goal
 

@@ -1,4 +1,4 @@
-use Rattle.std.proofs.Common.{Option, None, sym, subst}
+use Rattle.std.proofs.Common.{Option, sym, subst}
 use Rattle.judy_journal.specs.Leaving.{gone_in}
 use Rattle.judy_journal.specs.Replays.{Told}
 use Rattle.judy_server.specs.Replays.{PlaysAs}

@@ -1,4 +1,4 @@
-use Rattle.std.proofs.Common.{ℕ, length}
+use Rattle.std.proofs.Common.{length}
 use Rattle.judy_server.specs.Tally.{tallied}
 use Rattle.judy_server.proofs.Replaying.{HasPlayed}
 use Rattle.judy_server.proofs.records.replay_all.Given as goal

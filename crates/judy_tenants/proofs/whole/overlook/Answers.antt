@@ -34,3 +34,8 @@ returns-in-Intersect g c =
     ∙ ap (λ r. (r, s)) (sym (c.intersection.ensures
     ∙ ap (λ l. intersection_reply (intersect l (one_in b c.set_of-other.result) call.x call.most)) set
     ∙ ap (λ m. intersection_reply (intersect (content_of s.one call.name) m call.x call.most)) other))
+
+pub returns-in-Names : goal.returns-in-Names
+returns-in-Names g c =
+    let s = state_in c.args.stock.now.arena.blocks c.args.stock.now.directory.0 c.args.tenant in
+    ap (allowed_step c.args.quota s) c.in-Names.is ∙ ap (λ r. (r, s)) (sym c.names.ensures)
