@@ -2,7 +2,7 @@
 --     last-above-0       the last segment that is found has a number above 0
 --     compacted_ok       the files were replaced, or those of an earlier compaction removed
 --     compacted_err      a step of that failed
-use Rattle.std.proofs.Common.{◌≡◌, ◌≤◌, ◌<◌, ◌+◌, ◌-◌, ℕ, Bool, List, Option, Some, None, Ok, Err, sym, ◌∙◌, ap, subst, inl, inr, arith}
+use Rattle.std.proofs.Common.{◌≡◌, ◌≤◌, ◌<◌, ◌+◌, ℕ, Bool, List, Option, Some, None, Ok, Err, sym, ◌∙◌, ap, subst, inl, inr, arith}
 use Rattle.std.proofs.lemmas.Bool.Decides.{nat_tests}
 use Rattle.judy_disk.specs.Acts.{Act as DiskAct}
 use Rattle.judy_disk.specs.Listings.{Scans, segments_in, snapshots_in, torn_among}

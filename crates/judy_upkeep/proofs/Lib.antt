@@ -5,3 +5,4 @@ mod Played
 mod Printed
 mod Removing
 mod Scanned
+mod Words

@@ -9,6 +9,7 @@ use Rattle.std.specs.Prelude.{◌≡◌, ◌⊎◌, ℕ, zero, suc, true, false,
 use Rattle.judy_model.specs.Grammar.{fields_of, key_of, number_of_field}
 use Rattle.judy_model.specs.Reading.{request_of}
 use Rattle.judy_model.specs.Speakers.{Speaker}
+use Rattle.judy_model.specs.Tenant.{changes}
 use Rattle.judy_model.specs.declared.calls.Call.{Call}
 use Rattle.judy_model.specs.declared.replies.Reply.{Reply}
 use Rattle.judy_model.specs.declared.replies.Reply.TheVariants as reply
@@ -16,10 +17,8 @@ use Rattle.judy_model.specs.declared.requests.Line.TheVariants as request
 use Rattle.judy_protocol.specs.Services.{Made}
 use Rattle.judy_recovery.specs.declared.faults.Reason.{Reason}
 use Rattle.judy_recovery.specs.declared.faults.Reason.TheVariants as reason
-use Rattle.judy_upkeep.specs.Changes.{change_of}
 use Rattle.judy_upkeep.specs.declared.asking.Came.{Came}
 use Rattle.judy_upkeep.specs.declared.asking.Came.TheVariants as what
-use Rattle.judy_upkeep.specs.declared.kinds.Change.{Change}
 
 -- the value and the key of one entry, if these are its fields
 abbrev pub entry_in : List (List ℕ) → Option (ℕ × List ℕ)
@@ -85,14 +84,14 @@ HasAsked who made speakers tenant line (Ok came) last last' old new = Finds who 
 HasAsked who made speakers tenant line (Err why) last last' old new =
     Finds who made speakers tenant line (Err why) last last' old new ⊎ ((last' ≡ last) × (new ≡ old))
 
--- The call of a line was made, and it is one that may change this.
+-- The call of a line was made, and it is one that may change an array.
 pub record Alters {S K : Type 0} (who : K → Speaker) (made : Made S) (speakers : List K) (tenant : ℕ) (line : List ℕ)
-    (change : Change) (old new : S) : Type 0 where
+    (old new : S) : Type 0 where
   pub came : Came
   pub given : Gives who made speakers tenant line (Ok came) old new
-  pub changes : change_of given.call ≡ Some change
+  pub alters : changes given.call ≡ true
 
 -- The same. If it fails, it may not have been made.
-abbrev pub HasChanged : {S K : Type 0} → (K → Speaker) → Made S → List K → ℕ → List ℕ → Result Change Reason → S → S → Type 0
-HasChanged who made speakers tenant line (Ok change) old new = Alters who made speakers tenant line change old new
+abbrev pub HasChanged : {S K T : Type 0} → (K → Speaker) → Made S → List K → ℕ → List ℕ → Result T Reason → S → S → Type 0
+HasChanged who made speakers tenant line (Ok done) old new = Alters who made speakers tenant line old new
 HasChanged who made speakers tenant line (Err why) old new = Gives who made speakers tenant line (Err why) old new ⊎ (new ≡ old)

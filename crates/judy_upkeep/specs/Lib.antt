@@ -1,11 +1,10 @@
+pub mod Arrays
 pub mod Asking
-pub mod Changes
 pub mod Compacting
 pub mod Directories
 pub mod Leaving
 pub mod Lines
 pub mod Notes
-pub mod Noting
 pub mod Output
 pub mod Playing
 pub mod Printing

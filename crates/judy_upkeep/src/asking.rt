@@ -3,13 +3,14 @@ ghost use Rattle.std.specs.Prelude.{◌≡◌, ◌≤◌, length, IfOk};
 ghost use Rattle.std.specs.List.{All};
 ghost use Rattle.judy_protocol.specs.Services.{IsAsked, IsKnown};
 ghost use Rattle.judy_model.specs.Grammar.{fields_of};
+ghost use Rattle.judy_upkeep.specs.Arrays.{HasTold};
 ghost use Rattle.judy_upkeep.specs.Asking.{HasAsked, HasChanged, came_at, entry_in, key_in, listed_came};
 
-use crate::kinds::Change;
+use crate::kinds::{Array, array_of};
 use crate::lines::put;
 use arrayvec::ArrayVec;
 use itoa::Buffer;
-use judy_model::{Call, KEY_LIMIT, Key, Reply, ReplyRoom};
+use judy_model::{ArraysFrom, Call, KEY_LIMIT, Key, Reply, ReplyRoom};
 use judy_programs::Opens;
 use judy_protocol::{Line, Served, key, next_field, next_number, read_line};
 use judy_recovery::Reason;
@@ -221,8 +222,7 @@ impl<S: Served> Asking<S> {
     }
 
     /// Makes the call that a line of this tenant asks for, which must be one that may change an array.
-    /// Returns what it may change.
-    pub fn change(&mut self, tenant: usize, line: &[u8]) -> Result<Change, Reason>
+    pub fn change(&mut self, tenant: usize, line: &[u8]) -> Result<(), Reason>
         ensures changed { HasChanged S.who S.made self.old.speakers.items tenant line.now result
             self.old.service self.new.service }
         ensures speakers { self.new.speakers.items ≡ self.old.speakers.items }
@@ -231,9 +231,9 @@ impl<S: Served> Asking<S> {
         let Ok(Line::Call(call)) = read_line(line, &mut self.key) else {
             return Err(Reason::Record);
         };
-        let Some(change) = Change::of(&call) else {
+        if !call.changes() {
             return Err(Reason::Record);
-        };
+        }
         let Some(speaker) = self.speakers.get(tenant) else {
             return Err(Reason::Tenant);
         };
@@ -241,9 +241,26 @@ impl<S: Served> Asking<S> {
             .service
             .call(self.alloc, *speaker, &call, &mut self.found);
         match came_of(&reply, &mut self.key) {
-            Ok(_) => Ok(change),
+            Ok(_) => Ok(()),
             Err(why) => Err(why),
         }
+    }
+
+    /// The first array of this tenant that has entries, in the order of kinds and names. None if there is none.
+    pub fn first_array(&mut self, tenant: usize) -> Result<Option<Array>, Reason>
+        ensures told { HasTold S.who S.made self.old.speakers.items tenant result self.old.service
+            self.new.service }
+        ensures speakers { self.new.speakers.items ≡ self.old.speakers.items }
+        ensures last { self.new.last.items ≡ self.old.last.items }
+    {
+        let call = Call::Names(ArraysFrom::First, 1);
+        let Some(speaker) = self.speakers.get(tenant) else {
+            return Err(Reason::Tenant);
+        };
+        let reply = self
+            .service
+            .call(self.alloc, *speaker, &call, &mut self.found);
+        array_of(&reply)
     }
 
     /// The key that was found last.

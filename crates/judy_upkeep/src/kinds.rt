@@ -1,36 +1,15 @@
-//! The arrays that records make, and what their calls do to them.
-ghost use Rattle.std.specs.Prelude.{◌≡◌, option_map};
-ghost use Rattle.judy_upkeep.specs.Changes.{change, change_of, does_of, kind_at, letter_of};
+//! The arrays of a tenant, as the reply to `NAMES 1` tells the first.
+ghost use Rattle.std.specs.Prelude.{◌≡◌};
+ghost use Rattle.judy_model.specs.ArrayLists.{kind_named};
+ghost use Rattle.judy_model.specs.Grammar.{fields_of};
+ghost use Rattle.judy_upkeep.specs.Arrays.{array_at, array_in, listed_array};
 
-use judy_model::{Call, Kind, Name, Operation};
-
-/// The letter that stands for a kind of array.
-pub fn letter(kind: Kind) -> u8
-    ensures { result ≡ letter_of kind }
-{
-    match kind {
-        Kind::One => b'1',
-        Kind::Long => b'L',
-        Kind::Str => b'S',
-        Kind::Bytes => b'H',
-    }
-}
-
-/// The kind that a letter stands for.
-pub fn kind_of(letter: u8) -> Option<Kind>
-    ensures { result ≡ kind_at letter }
-{
-    match letter {
-        b'1' => Some(Kind::One),
-        b'L' => Some(Kind::Long),
-        b'S' => Some(Kind::Str),
-        b'H' => Some(Kind::Bytes),
-        _ => None,
-    }
-}
+use judy_model::{Kind, Name, Reply};
+use judy_protocol::{next_field, next_number};
+use judy_recovery::Reason;
 
 /// An array of a tenant.
-#[derive(Debug, PartialEq, Eq, Drop)]
+#[derive(Debug, Drop)]
 pub struct Array {
     /// Its kind.
     pub kind: Kind,
@@ -38,66 +17,61 @@ pub struct Array {
     pub name: Name,
 }
 
-/// What a call may do to an array.
-#[derive(Clone, Copy, Debug, PartialEq, Eq)]
-pub enum Does {
-    /// It may make an entry, or write the value of one.
-    Makes,
-    /// It removes an entry.
-    Removes,
-    /// It removes all entries.
-    Frees,
-}
-
-/// What a call may change.
-#[derive(Debug, Drop)]
-pub struct Change {
-    /// The array.
-    pub array: Array,
-    /// What is done to it.
-    pub does: Does,
-}
-
-/// What an operation does to an array, if it may change it.
-fn does_of(operation: Operation) -> Option<Does>
-    ensures { result ≡ does_of operation }
+/// The kind that a word names.
+fn kind_named(word: &[u8]) -> Option<Kind>
+    ensures { result ≡ kind_named word.now }
 {
-    match operation {
-        Operation::Insert
-        | Operation::Add
-        | Operation::Keep
-        | Operation::Exchange
-        | Operation::Fill => Some(Does::Makes),
-        Operation::Remove | Operation::Take | Operation::Pop | Operation::Cut => {
-            Some(Does::Removes)
-        }
-        Operation::Free => Some(Does::Frees),
-        _ => None,
+    if word == b"J1".as_slice() {
+        return Some(Kind::One);
+    }
+    if word == b"JL".as_slice() {
+        return Some(Kind::Long);
+    }
+    if word == b"JSL".as_slice() {
+        return Some(Kind::Str);
+    }
+    if word == b"JHS".as_slice() {
+        return Some(Kind::Bytes);
+    }
+    None
+}
+
+/// The array that the text of a reply names: its kind, its name, and how many entries it has.
+fn array_in(text: &[u8]) -> Option<Array>
+    ensures { result ≡ array_in (fields_of text.now) }
+{
+    let (word, after_word) = next_field(text)?;
+    let (name, after_name) = next_field(after_word)?;
+    let (_, after_count) = next_number(after_name)?;
+    if next_field(after_count).is_some() {
+        return None;
+    }
+    Some(Array {
+        kind: kind_named(word)?,
+        name: Name::read(name)?,
+    })
+}
+
+/// The array of a reply, by how many it has, and their text.
+fn array_with(count: u16, text: &[u8]) -> Result<Option<Array>, Reason>
+    ensures { result ≡ listed_array count (array_in (fields_of text.now)) }
+{
+    if count == 0 {
+        return Ok(None);
+    }
+    match array_in(text) {
+        Some(array) => Ok(Some(array)),
+        None => Err(Reason::Record),
     }
 }
 
-/// The change of an array.
-fn change_of(kind: Kind, name: &Name, does: Option<Does>) -> Option<Change>
-    ensures { result ≡ option_map (change kind name.now) does }
+/// The array that a reply names. None if there is none.
+pub fn array_of(reply: &Reply<'_>) -> Result<Option<Array>, Reason>
+    ensures { result ≡ array_at reply.now }
 {
-    let array = Array {
-        kind,
-        name: name.copied(),
-    };
-    Some(Change { array, does: does? })
-}
-
-impl Change {
-    /// What a call may change. None if it changes nothing.
-    pub fn of(call: &Call<'_>) -> Option<Change>
-        ensures { result ≡ change_of call.now }
-    {
-        match call {
-            Call::One(name, call) => change_of(Kind::One, name, does_of(call.operation())),
-            Call::Long(name, call) => change_of(Kind::Long, name, does_of(call.operation())),
-            Call::Str(name, call) => change_of(Kind::Str, name, does_of(call.operation())),
-            Call::Bytes(name, call) => change_of(Kind::Bytes, name, does_of(call.operation())),
-            Call::Intersect(..) | Call::Names(..) | Call::Used => None,
-        }
+    match reply {
+        Reply::Entries(count, text) => array_with(*count, text.as_bytes()),
+        Reply::Memory => Err(Reason::Memory),
+        _ => Err(Reason::Record),
     }
 }

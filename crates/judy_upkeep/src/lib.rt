@@ -2,7 +2,6 @@
 //! are made smaller, begun and examined.
 #![tactic(auto)]
 
-mod arrays;
 mod asking;
 mod beginning;
 mod closing;

@@ -1,16 +1,15 @@
-//! Plays the records of a journal to a service of made-up tenants, and notes which arrays they make.
-ghost use Rattle.std.specs.Prelude.{◌≡◌, ◌∷◌, ℕ, List, Ok, codes, refl, IfOk, OnOk};
+//! Plays the records of a journal to a service of made-up tenants.
+ghost use Rattle.std.specs.Prelude.{◌≡◌, ◌<◌, ◌∷◌, ℕ, List, Ok, codes, refl, IfOk, OnOk};
 ghost use Rattle.judy_protocol.specs.Plain.{spaced_more};
 ghost use Rattle.judy_upkeep.specs.Asking.{Gives};
 ghost use Rattle.judy_upkeep.specs.Leaving.{AreNames};
 ghost use Rattle.judy_upkeep.specs.Lines.{call_text};
-ghost use Rattle.judy_upkeep.specs.Playing.{AreLeft, ArePlayed, HasSwept, IsEmptied, IsProbed, Leaves, Plays, both, played-then};
+ghost use Rattle.judy_upkeep.specs.Playing.{AreLeft, ArePlayed, IsEmptied, Leaves, Plays, played-then};
 
-use crate::arrays::Arrays;
 use crate::asking::{Asking, Came};
 use crate::kinds::Array;
 use crate::leaving::{cut_name, others_gone};
-use crate::lines::{Text, from_first, write_call, write_look};
+use crate::lines::{Text, write_call};
 use crate::tenants::Tenants;
 use arrayvec::ArrayVec;
 use judy_journal::read_record;
@@ -25,8 +24,6 @@ use std::alloc::Global;
 pub struct Playing<S: Served> {
     /// The entries of all tenants.
     pub entries: Asking<S>,
-    /// Which arrays they may be in.
-    pub arrays: Arrays<S>,
     /// The names of the tenants.
     pub tenants: Tenants,
     line: Text,
@@ -36,10 +33,8 @@ impl<S: Opens + Drop> Playing<S> {
     /// No record was played.
     pub fn open(alloc: Global, secret: &[u8]) -> Result<Playing<S>, Reason> {
         let entries = Asking::open(alloc, secret)?;
-        let arrays = Arrays::open(alloc, secret)?;
         Ok(Playing {
             entries,
-            arrays,
             tenants: Tenants::new(alloc),
             line: ArrayVec::new(),
         })
@@ -47,18 +42,18 @@ impl<S: Opens + Drop> Playing<S> {
 }
 
 impl<S: Served> Playing<S> {
-    /// Removes all entries of an array. Returns how many there were.
+    /// Removes all entries of an array that has some. Returns how many there were.
     pub fn free(&mut self, tenant: usize, array: &Array) -> Result<u64, Reason>
         ensures freed { IfOk result (λ count. Gives S.who S.made self.old.entries.speakers.items tenant
             (call_text array.now (codes "FA")) (Ok (Came.Count count)) self.old.entries.service
             self.new.entries.service) }
+        ensures some { IfOk result (λ count. 0 < count) }
         ensures speakers { self.new.entries.speakers.items ≡ self.old.entries.speakers.items }
-        ensures noters { self.new.arrays.asking.speakers.items ≡ self.old.arrays.asking.speakers.items }
-        ensures arrays { self.new.arrays.asking.service ≡ self.old.arrays.asking.service }
         ensures names { self.new.tenants.names.items ≡ self.old.tenants.names.items }
     {
         write_call(array, b"FA", &mut self.line);
         match self.entries.ask(tenant, self.line.as_slice())? {
+            Came::Count(0) => Err(Reason::Record),
             Came::Count(count) => Ok(count),
             _ => Err(Reason::Record),
         }
@@ -66,15 +61,13 @@ impl<S: Served> Playing<S> {
 
     /// Removes all arrays of a tenant.
     fn free_all(&mut self, tenant: usize) -> Result<(), Reason>
-        ensures freed { OnOk result (IsEmptied S.who S.made self.old.entries.speakers.items
-            self.old.arrays.asking.speakers.items tenant (both self.old.entries.service self.old.arrays.asking.service)
-            (both self.new.entries.service self.new.arrays.asking.service)) }
+        ensures freed { OnOk result (IsEmptied S.who S.made self.old.entries.speakers.items tenant
+            self.old.entries.service self.new.entries.service) }
         ensures speakers { self.new.entries.speakers.items ≡ self.old.entries.speakers.items }
-        ensures noters { self.new.arrays.asking.speakers.items ≡ self.old.arrays.asking.speakers.items }
         ensures names { self.new.tenants.names.items ≡ self.old.tenants.names.items }
     {
         for _ in 0..u64::MAX {
-            let Some(array) = self.arrays.take(tenant)? else {
+            let Some(array) = self.entries.first_array(tenant)? else {
                 return Ok(());
             };
             self.free(tenant, &array)?;
@@ -82,86 +75,12 @@ impl<S: Served> Playing<S> {
         Err(Reason::Record)
     }
 
-    /// Whether an array has no entry.
-    fn is_empty(&mut self, tenant: usize, array: &Array) -> Result<bool, Reason>
-        ensures probed { IfOk result (λ empty. IsProbed S.who S.made self.old.entries.speakers.items tenant
-            array.now empty self.old.entries.service self.new.entries.service) }
-        ensures speakers { self.new.entries.speakers.items ≡ self.old.entries.speakers.items }
-        ensures noters { self.new.arrays.asking.speakers.items ≡ self.old.arrays.asking.speakers.items }
-        ensures arrays { self.new.arrays.asking.service ≡ self.old.arrays.asking.service }
-        ensures names { self.new.tenants.names.items ≡ self.old.tenants.names.items }
-    {
-        write_look(array, b"F", from_first(array.kind), &mut self.line);
-        let came = self.entries.ask(tenant, self.line.as_slice())?;
-        match came {
-            Came::Nothing => Ok(true),
-            _ => Ok(false),
-        }
-    }
-
-    /// Forgets an array if it has no entry. Returns how many are noted of it still.
-    fn forget_empty(&mut self, tenant: usize, array: &Array) -> Result<u64, Reason>
-        ensures swept { IfOk result (λ _. HasSwept S.who S.made self.old.entries.speakers.items
-            self.old.arrays.asking.speakers.items (both self.old.entries.service self.old.arrays.asking.service)
-            (both self.new.entries.service self.new.arrays.asking.service)) }
-        ensures speakers { self.new.entries.speakers.items ≡ self.old.entries.speakers.items }
-        ensures noters { self.new.arrays.asking.speakers.items ≡ self.old.arrays.asking.speakers.items }
-        ensures names { self.new.tenants.names.items ≡ self.old.tenants.names.items }
-    {
-        if self.is_empty(tenant, array)? {
-            self.arrays.forget(tenant, array)?;
-            return Ok(0);
-        }
-        Ok(1)
-    }
-
-    /// Forgets the arrays of a tenant that have no entry. Returns how many others there are.
-    fn sweep_tenant(&mut self, tenant: usize) -> Result<u64, Reason>
-        ensures swept { IfOk result (λ _. HasSwept S.who S.made self.old.entries.speakers.items
-            self.old.arrays.asking.speakers.items (both self.old.entries.service self.old.arrays.asking.service)
-            (both self.new.entries.service self.new.arrays.asking.service)) }
-        ensures speakers { self.new.entries.speakers.items ≡ self.old.entries.speakers.items }
-        ensures noters { self.new.arrays.asking.speakers.items ≡ self.old.arrays.asking.speakers.items }
-        ensures names { self.new.tenants.names.items ≡ self.old.tenants.names.items }
-    {
-        let mut next = self.arrays.first(tenant)?;
-        let mut others: u64 = 0;
-        for _ in 0..u64::MAX {
-            let Some(array) = next else {
-                return Ok(others);
-            };
-            next = self.arrays.next(tenant, &array)?;
-            others = others.saturating_add(self.forget_empty(tenant, &array)?);
-        }
-        Err(Reason::Record)
-    }
-
-    /// Forgets the arrays that have no entry.
-    fn sweep(&mut self) -> Result<(), Reason>
-        ensures swept { OnOk result (HasSwept S.who S.made self.old.entries.speakers.items
-            self.old.arrays.asking.speakers.items (both self.old.entries.service self.old.arrays.asking.service)
-            (both self.new.entries.service self.new.arrays.asking.service)) }
-        ensures speakers { self.new.entries.speakers.items ≡ self.old.entries.speakers.items }
-        ensures noters { self.new.arrays.asking.speakers.items ≡ self.old.arrays.asking.speakers.items }
-        ensures names { self.new.tenants.names.items ≡ self.old.tenants.names.items }
-    {
-        let mut others: u64 = 0;
-        for tenant in 0..self.tenants.count() {
-            others = others.saturating_add(self.sweep_tenant(tenant)?);
-        }
-        self.arrays.set_due(others);
-        Ok(())
-    }
-
     /// A tenant leaves. One that has no record has nothing to take along.
     fn leave(&mut self, name: &[u8]) -> Result<(), Reason>
-        ensures left { OnOk result (Leaves S.who S.made self.old.entries.speakers.items
-            self.old.arrays.asking.speakers.items name.now
-            (both self.old.entries.service self.old.arrays.asking.service)
-            self.old.tenants.names.items (both self.new.entries.service self.new.arrays.asking.service)
+        ensures left { OnOk result (Leaves S.who S.made self.old.entries.speakers.items name.now
+            self.old.entries.service self.old.tenants.names.items self.new.entries.service
             self.new.tenants.names.items) }
         ensures speakers { self.new.entries.speakers.items ≡ self.old.entries.speakers.items }
-        ensures noters { self.new.arrays.asking.speakers.items ≡ self.old.arrays.asking.speakers.items }
     {
         if !name_ok(name) {
             return Err(Reason::Record);
@@ -178,12 +97,10 @@ impl<S: Served> Playing<S> {
     fn leave_all(&mut self, first: &[u8], others: &[u8]) -> Result<(), Reason>
         requires { AreNames others.now }
         ensures left { OnOk result ((names : List (List ℕ)) × (others.now ≡ spaced_more names)
-            × AreLeft S.who S.made self.old.entries.speakers.items self.old.arrays.asking.speakers.items
-            (first.now ∷ names) (both self.old.entries.service self.old.arrays.asking.service)
-            self.old.tenants.names.items (both self.new.entries.service self.new.arrays.asking.service)
+            × AreLeft S.who S.made self.old.entries.speakers.items (first.now ∷ names)
+            self.old.entries.service self.old.tenants.names.items self.new.entries.service
             self.new.tenants.names.items) }
         ensures speakers { self.new.entries.speakers.items ≡ self.old.entries.speakers.items }
-        ensures noters { self.new.arrays.asking.speakers.items ≡ self.old.arrays.asking.speakers.items }
     {
         self.leave(first)?;
         let mut rest = others;
@@ -196,13 +113,10 @@ impl<S: Served> Playing<S> {
 
     /// Plays a record.
     fn play_record(&mut self, record: &[u8]) -> Result<(), Reason>
-        ensures played { OnOk result (Plays S.who S.made self.old.entries.speakers.items
-            self.old.arrays.asking.speakers.items record.now
-            (both self.old.entries.service self.old.arrays.asking.service)
-            self.old.tenants.names.items (both self.new.entries.service self.new.arrays.asking.service)
+        ensures played { OnOk result (Plays S.who S.made self.old.entries.speakers.items record.now
+            self.old.entries.service self.old.tenants.names.items self.new.entries.service
             self.new.tenants.names.items) }
         ensures speakers { self.new.entries.speakers.items ≡ self.old.entries.speakers.items }
-        ensures noters { self.new.arrays.asking.speakers.items ≡ self.old.arrays.asking.speakers.items }
     {
         let Some((name, request)) = read_record(record) else {
             return Err(Reason::Record);
@@ -211,12 +125,7 @@ impl<S: Served> Playing<S> {
             return self.leave_all(name, others);
         }
         let tenant = self.tenants.number_of(name)?;
-        let change = self.entries.change(tenant, request)?;
-        self.arrays.note(tenant, change)?;
-        if self.arrays.is_due() {
-            self.sweep()?;
-        }
-        Ok(())
+        self.entries.change(tenant, request)
     }
 }
 
@@ -224,10 +133,8 @@ impl<S: Served> Player for Playing<S> {
     /// The records were played, one after another, and nothing else was done.
     ghost plays = { λ before records after.
         (after.entries.speakers.items ≡ before.entries.speakers.items)
-        × (after.arrays.asking.speakers.items ≡ before.arrays.asking.speakers.items)
-        × ArePlayed S.who S.made before.entries.speakers.items before.arrays.asking.speakers.items records
-        (both before.entries.service before.arrays.asking.service) before.tenants.names.items
-        (both after.entries.service after.arrays.asking.service) after.tenants.names.items };
+        × ArePlayed S.who S.made before.entries.speakers.items records before.entries.service
+        before.tenants.names.items after.entries.service after.tenants.names.items };
 
     fn play(&mut self, records: &[u8]) -> Result<(), Halt> {
         let mut rest = records;
@@ -243,14 +150,10 @@ impl<S: Served> Player for Playing<S> {
         Ok(())
     }
 
-    ghost rests = { λ _. (refl, refl, (refl, refl)) };
+    ghost rests = { λ _. (refl, (refl, refl)) };
 
     ghost joins = { λ before middle after records more first next. played-then S.who S.made
-        before.entries.speakers.items middle.entries.speakers.items after.entries.speakers.items
-        before.arrays.asking.speakers.items middle.arrays.asking.speakers.items
-        after.arrays.asking.speakers.items records more
-        (both before.entries.service before.arrays.asking.service) before.tenants.names.items
-        (both middle.entries.service middle.arrays.asking.service) middle.tenants.names.items
-        (both after.entries.service after.arrays.asking.service) after.tenants.names.items
-        first.0 first.1 first.2 next.0 next.1 next.2 };
+        before.entries.speakers.items middle.entries.speakers.items after.entries.speakers.items records more
+        before.entries.service before.tenants.names.items middle.entries.service middle.tenants.names.items
+        after.entries.service after.tenants.names.items first.0 first.1 next.0 next.1 };
 }

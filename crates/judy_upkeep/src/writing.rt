@@ -144,7 +144,7 @@ impl Walk {
         name: &Name,
     ) -> Result<(), Reason> {
         for _ in 0..u64::MAX {
-            let Some(array) = playing.arrays.take(tenant)? else {
+            let Some(array) = playing.entries.first_array(tenant)? else {
                 return Ok(());
             };
             self.write_array(playing, output, tenant, name, &array)?;

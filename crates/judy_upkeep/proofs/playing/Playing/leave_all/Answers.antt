@@ -1,37 +1,33 @@
 use Rattle.std.proofs.Common.{◌∙◌, ◌∷◌, [], refl}
-use Rattle.judy_upkeep.specs.Playing.{both}
 use Rattle.judy_upkeep.proofs.Played.{first-name, left-first}
 use Rattle.judy_upkeep.proofs.playing.Playing.leave_all.Goals as goal
 
 pub loop-name-init : goal.loop-name-init
 loop-name-init g c = record {
   speakers = c.leave.ensures.speakers;
-  noters = c.leave.ensures.noters;
   are_names = c.requires;
   left = λ more new names same left. (
     more,
     same,
-    left-first g.S.Served.who g.S.Served.made c.args.self.now.entries.speakers.items c.args.self.now.entries.speakers.items c.args.self.now.arrays.asking.speakers.items c.args.self.now.arrays.asking.speakers.items c.args.first.now more
-        (both c.args.self.now.entries.service c.args.self.now.arrays.asking.service) c.args.self.now.tenants.names.items
-        (both c.leave.new.self.entries.service c.leave.new.self.arrays.asking.service) c.leave.new.self.tenants.names.items new names
-        refl refl c.in_ok-leave.ensures.left left,
+    left-first g.S.Served.who g.S.Served.made c.args.self.now.entries.speakers.items c.args.self.now.entries.speakers.items c.args.first.now more
+        c.args.self.now.entries.service c.args.self.now.tenants.names.items c.leave.new.self.entries.service
+        c.leave.new.self.tenants.names.items new names refl c.in_ok-leave.ensures.left left,
   );
 }
 
 pub loop-name-preserved : goal.loop-name-preserved
 loop-name-preserved g c = record {
   speakers = c.leave-in-Some.ensures.speakers ∙ c.loop-name.invariant.speakers;
-  noters = c.leave-in-Some.ensures.noters ∙ c.loop-name.invariant.noters;
   are_names = c.in-Some.ensures.others;
   left = λ more new names same left. c.loop-name.invariant.left (c.in-Some.name.now ∷ more) new names
       (first-name c.loop-name.rest.now c.in-Some.name.now c.in-Some.after.now c.in-Some.ensures.cut.0 more c.loop-name.invariant.are_names
       c.in-Some.ensures.cut.1 same)
-      (left-first g.S.Served.who g.S.Served.made c.args.self.now.entries.speakers.items c.loop-name.self.entries.speakers.items c.args.self.now.arrays.asking.speakers.items c.loop-name.self.arrays.asking.speakers.items c.in-Some.name.now more
-      (both c.loop-name.self.entries.service c.loop-name.self.arrays.asking.service) c.loop-name.self.tenants.names.items
-      (both c.leave-in-Some.new.self.entries.service c.leave-in-Some.new.self.arrays.asking.service) c.leave-in-Some.new.self.tenants.names.items
-      new names c.loop-name.invariant.speakers c.loop-name.invariant.noters c.in_ok-leave-2.ensures.left left);
+      (left-first g.S.Served.who g.S.Served.made c.args.self.now.entries.speakers.items c.loop-name.self.entries.speakers.items
+      c.in-Some.name.now more c.loop-name.self.entries.service c.loop-name.self.tenants.names.items
+      c.leave-in-Some.new.self.entries.service c.leave-in-Some.new.self.tenants.names.items new names c.loop-name.invariant.speakers
+      c.in_ok-leave-2.ensures.left left);
 }
 
 pub returns-clause-left : goal.returns-clause-left
-returns-clause-left g c = c.loop-name.invariant.left [] (both c.loop-name.self.entries.service c.loop-name.self.arrays.asking.service)
-    c.loop-name.self.tenants.names.items c.in_default.ensures.none (refl, refl)
+returns-clause-left g c = c.loop-name.invariant.left [] c.loop-name.self.entries.service c.loop-name.self.tenants.names.items
+    c.in_default.ensures.none (refl, refl)

@@ -1,8 +1,5 @@
-use Rattle.std.proofs.Common.{◌∙◌, ◌++◌, List, ℕ, ap, codes, inl, inr, refl, subst, sym}
-use Rattle.judy_upkeep.specs.Playing.{both}
-use Rattle.judy_upkeep.specs.Tenants.{IsNumbered, Names}
-use Rattle.judy_upkeep.proofs.Asked.{map_ok}
-use Rattle.judy_upkeep.proofs.Played.{swept-then}
+use Rattle.std.proofs.Common.{◌∙◌, ◌++◌, List, ℕ, ap, codes, inl, inr}
+use Rattle.judy_upkeep.proofs.Asked.{altered, map_ok}
 use Rattle.judy_upkeep.proofs.playing.Playing.play_record.Goals as goal
 
 pub leave_all-requires : goal.leave_all-requires
@@ -21,30 +18,8 @@ returns-in-Some-others_gone-clause-played g c = map_ok c.leave_all.result (λ le
   });
 }) c.leave_all.ensures.left
 
-pub returns-in_ok-sweep-clause-played : goal.returns-in_ok-sweep-clause-played
-returns-in_ok-sweep-clause-played g c = record {
-  name = c.in-Some.name.now;
-  request = c.in-Some.request.now;
-  no_space = c.in-Some.ensures.0;
-  cut = c.in-Some.ensures.1;
-  plays = inr (record {
-    tenant = c.in_ok-tenant.tenant;
-    numbered = subst (λ (v : Names). IsNumbered c.args.self.now.tenants.names.items c.in-Some.name.now c.in_ok-tenant.tenant v)
-        (sym c.sweep.ensures.names) c.in_ok-tenant.ensures;
-    change = c.in_ok-change.change;
-    mid = both c.change.new.self.service c.note.new.self.asking.service;
-    altered = c.in_ok-change.ensures.changed;
-    noted = c.in_ok-note.ensures.noted;
-    swept = swept-then g.S.Served.who g.S.Served.made c.args.self.now.entries.speakers.items c.change.new.self.speakers.items c.args.self.now.arrays.asking.speakers.items
-        c.note.new.self.asking.speakers.items (both c.change.new.self.service c.note.new.self.asking.service)
-        (both c.change.new.self.service c.note.new.self.asking.service)
-        (both c.sweep.new.self.entries.service c.sweep.new.self.arrays.asking.service) c.change.ensures.speakers c.note.ensures.speakers
-        (0, refl) c.in_ok-sweep.ensures.swept;
-  });
-}
-
-pub returns-else-is_due-clause-played : goal.returns-else-is_due-clause-played
-returns-else-is_due-clause-played g c = record {
+pub returns-clause-played : goal.returns-clause-played
+returns-clause-played g c = map_ok c.change.result (λ changed. record {
   name = c.in-Some.name.now;
   request = c.in-Some.request.now;
   no_space = c.in-Some.ensures.0;
@@ -52,10 +27,7 @@ returns-else-is_due-clause-played g c = record {
   plays = inr (record {
     tenant = c.in_ok-tenant.tenant;
     numbered = c.in_ok-tenant.ensures;
-    change = c.in_ok-change.change;
-    mid = both c.change.new.self.service c.note.new.self.asking.service;
-    altered = c.in_ok-change.ensures.changed;
-    noted = c.in_ok-note.ensures.noted;
-    swept = (0, refl);
+    altered = changed;
   });
-}
+}) (altered g.S.Served.who g.S.Served.made c.args.self.now.entries.speakers.items c.in_ok-tenant.tenant c.in-Some.request.now c.change.result
+    c.args.self.now.entries.service c.change.new.self.service c.change.ensures.changed)
