@@ -573,6 +573,31 @@ static void make_call(struct tenant *t, const struct request *r)
     }
 }
 
+/* Says the arrays that have entries, by kind and name, behind the place of the request. */
+static void say_names(struct tenant *t, const struct request *r)
+{
+    static const char *const kinds[] = {"J1", "JL", "JSL", "JHS"};
+    static char items[LIST_LIMIT + 1];
+    uint8_t place[40];
+    size_t len = 0;
+    Word_t count = 0;
+    strcpy((char *)place, r->name);
+    items[0] = 0;
+    for (Word_t *p; count < r->words[0] && (p = (Word_t *)JudySLNext(t->arrays, place, PJE0));) {
+        const struct array *a = (const struct array *)*p;
+        char item[80];
+        size_t more = (size_t)snprintf(item, sizeof item, " %s %s %lu", kinds[place[0] - 'a'], place + 1, a->entries);
+        if (!a->entries)
+            continue;
+        if (len + more > LIST_LIMIT)
+            break;
+        memcpy(items + len, item, more + 1);
+        len += more;
+        count++;
+    }
+    say("E %lu%s", count, items);
+}
+
 /* ---- connections ---- */
 
 struct connection {
@@ -624,12 +649,15 @@ static int answer(struct connection *c, const uint8_t *line, size_t len)
         return 1;
     }
     int is_used = count == 1 && is_word(fields[0], "USED");
-    if (!is_used && (count == 0 || !read_call(fields, count, &r)))
+    int is_names = count > 0 && read_names(fields, count, &r);
+    if (!is_used && !is_names && (count == 0 || !read_call(fields, count, &r)))
         say("ERR SYNTAX");
     else if (!c->speaker)
         say("ERR AUTH");
     else if (is_used)
         say("Q %lu %lu %lu %lu", c->speaker->used, c->speaker->quota, c->speaker->pieces, c->speaker->most);
+    else if (is_names)
+        say_names(c->speaker, &r);
     else if (!c->may_change && r.command->call <= FREE)
         say("ERR READONLY");
     else

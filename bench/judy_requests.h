@@ -106,6 +106,24 @@ static int read_name(struct field f, enum kind kind, char name[40])
     return 1;
 }
 
+/* Reads NAMES: the place behind which it begins, a letter for a kind and a name, and how many arrays it asks for. */
+static int read_names(const struct field *fields, int count, struct request *r)
+{
+    static const char *const kinds[] = {"J1", "JL", "JSL", "JHS"};
+    int kind = 0;
+    if (!is_word(fields[0], "NAMES") || (count != 2 && count != 4))
+        return 0;
+    r->name[0] = 0;
+    if (count == 4) {
+        while (kind < 4 && !is_word(fields[1], kinds[kind]))
+            kind++;
+        if (kind == 4 || !read_name(fields[2], (enum kind)kind, r->name))
+            return 0;
+    }
+    r->given = 1;
+    return read_word(fields[count - 1], &r->words[0]) && r->words[0] >= 1 && r->words[0] <= MOST_ENTRIES;
+}
+
 /* Reads the call of an array that the fields spell. */
 static int read_call(const struct field *fields, int count, struct request *r)
 {

@@ -123,7 +123,7 @@ class Lines:
         """The next line. It does not end the connection."""
         while True:
             chance = self.draw.random()
-            line = self.log_in() if chance < 0.06 else self.call() if chance < 0.5 else self.draw.choice((b"USED", b"PING", b"HELLO")) if chance < 0.52 else self.hostile.line()
+            line = self.log_in() if chance < 0.06 else self.call() if chance < 0.5 else self.draw.choice((b"USED", b"PING", b"HELLO", self.hostile.walk.names())) if chance < 0.52 else self.hostile.line()
             if b"\n" not in line and call_of(line)[0] != "QUIT":
                 return line
 

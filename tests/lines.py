@@ -1,6 +1,6 @@
 """Lines of requests from a seed: long walks of well-formed calls, and hostile lines."""
 
-from oracle import COMMANDS, EXCHANGES, FREES, GREATEST, INSERTS, LOOKS, OPERATIONS, REMOVES, SHARED_STEPS, Tenant
+from oracle import COMMANDS, EXCHANGES, FREES, GREATEST, INSERTS, KINDS, LOOKS, OPERATIONS, REMOVES, SHARED_STEPS, Tenant
 from oracle import read_bytes, read_most, read_name, read_string, read_word
 
 TENANTS = [
@@ -153,6 +153,25 @@ class Walk:
         lines += [b"J1I %s %s %d 65535" % (one, it, low) for it in (other, one)]
         return [b"AUTH e e", *lines][::-1]
 
+    def crowd(self):
+        """Lines that make more arrays than a reply of NAMES has room for; then lines of NAMES that begin everywhere among
+        them; then the arrays go, some by their last entry and some as a whole. The last line is the first of the list."""
+        puts = ((b"J1S %s 1", b"J1U %s 1", b"J1FA %s"), (b"JLI %s 1", b"JLD %s 1", b"JLFA %s"), (b"JSLI %s x61", b"JSLD %s x61", b"JSLFA %s"), (b"JHSI %s x61", b"JHSD %s x61", b"JHSFA %s"))
+        made = [(self.random.randrange(4), (b"%d." % self.random.getrandbits(50)) + b"n" * self.random.choice((0, 1, 9, 14, 14))) for _ in range(self.random.randrange(300, 500))]
+        made += [(kind, name + b"-"[: self.random.randrange(2)]) for kind, name in made[:20]]
+        lines = [puts[kind][0] % name for kind, name in made]
+        lines += [self.names([name for _, name in made]) for _ in range(40)]
+        lines += [puts[kind][self.random.choice((1, 2))] % name for kind, name in made]
+        return [b"AUTH e e", *lines, b"NAMES 65535"][::-1]
+
+    def names(self, names=None):
+        """A line that asks for names of arrays: for the first ones, or for those behind a kind and a name."""
+        if self.random.random() < 0.3:
+            return b"NAMES %s" % self.most()
+        name = self.random.choice(names or NAMES)
+        name = self.random.choice((name, name, name, name[: self.random.randrange(len(name)) + 1], (name + b"-")[:32], b"-", b"z"))
+        return b"NAMES %s %s %s" % (self.random.choice(list(KINDS)), name, self.most())
+
     def line(self):
         """The next line."""
         if self.run:
@@ -162,6 +181,8 @@ class Walk:
             self.run = self.march()
         elif draw < 0.00051:
             self.run = self.weave()
+        elif draw < 0.00053:
+            self.run = self.crowd()
         self.left -= 1
         if self.left <= 0:
             self.enter_a_time()
@@ -170,6 +191,8 @@ class Walk:
             return self.log_in()
         if draw < self.wanders + 0.007:
             return b"USED" if draw < self.wanders + 0.005 else self.random.choice((b"PING", b"HELLO"))
+        if draw < self.wanders + 0.017:
+            return self.names()
         return self.call()
 
 
@@ -210,16 +233,24 @@ class Hostile:
         """Another field in place of one: a command, a name, a word or a key, valid or not."""
         field = fields[at]
         if at == 0:
-            others = [field.lower(), field + b"E", field[:-1], field + field, b"QUITE", b"AUTH", b"USED", b"PING", b"HELLO", b"\xff" + field]
+            others = [field.lower(), field + b"E", field[:-1], field + field, b"QUITE", b"AUTH", b"USED", b"NAMES", b"PING", b"HELLO", b"\xff" + field]
             return self.random.choice(others + sorted(COMMANDS))
-        if at == 1 or (at == 2 and fields[0] in COMMANDS and COMMANDS[fields[0]].must[:1] == (read_name,)):
-            length = self.random.choice((1, 31, 32, 33, 64))
-            return self.random.choice((field * 33, b"n" * length, field + b"/", b"\xc3\xa4", b"a\0b", b"a.B_-9", b"nobody", field.upper()))
+        if fields[0] == b"NAMES" and at == len(fields) - 1:
+            return self.bent_word(field)
+        if fields[0] == b"NAMES" and at == 1:
+            return self.random.choice((*KINDS, *KINDS, field.lower(), field + b"S", field[:-1] or b"J", b"J2", b"J", b"JS", b"J1S", b"AUTH", b"JHS\r"))
+        if at == 1 or (at == 2 and (fields[0] == b"NAMES" or (fields[0] in COMMANDS and COMMANDS[fields[0]].must[:1] == (read_name,)))):
+            return self.bent_name(field)
         if field.startswith(b"x") or (fields[0][:2] in (b"JS", b"JH") and self.random.random() < 0.5):
             return self.bent_key(field)
         if fields[0] == b"AUTH":
             return self.random.choice((b"wrong", b"look", b"abc", b"a" * 128, b"a" * 129, b"tok\x7fen", b"\x1f", field + b"~", field[:-1] or b"?"))
         return self.bent_word(field)
+
+    def bent_name(self, field):
+        """A text that may or may not be a name."""
+        length = self.random.choice((1, 31, 32, 33, 64))
+        return self.random.choice((field * 33, b"n" * length, field + b"/", b"\xc3\xa4", b"a\0b", b"a.B_-9", b"nobody", field.upper()))
 
     def bent_word(self, field):
         """A text that may or may not be a word."""

@@ -26,6 +26,7 @@ LIST_LIMIT = 4088  # the most bytes of the entries in a reply
 SHARED_LIMIT = 4067  # the most bytes of the indexes in the reply of an intersection
 SHARED_STEPS = 2048  # the most steps of an intersection
 MOST_ENTRIES = 65535  # the most entries that a walk, an intersection or the removal of a range may ask for
+KINDS = {b"J1": "One", b"JL": "Long", b"JSL": "Str", b"JHS": "Bytes"}  # the word of NAMES for each kind, in its order
 NAME = re.compile(rb"[A-Za-z0-9_.-]{1,32}\Z")
 TOKEN = re.compile(rb"[!-~]{1,128}\Z")
 DIGITS = re.compile(rb"[0-9]{1,20}\Z")
@@ -175,6 +176,16 @@ class Owner:
         """The entries under a name. An array that was never written has none."""
         return self.arrays.get((kind, name)) or Entries()
 
+    def names(self, behind, most):
+        """The arrays that have entries, by kind and then by name: all of them, or those behind a kind and a name. Each
+        as its kind, its name and its number of entries; at most `most` of them, and as many as fit into a reply."""
+        places = {kind: at for at, kind in enumerate(KINDS.values())}
+        found = sorted((places[kind], name, len(array.keys)) for (kind, name), array in self.arrays.items() if array.keys)
+        if behind is not None:
+            found = [it for it in found if it[:2] > (places[behind[0]], behind[1])]
+        words = list(KINDS)
+        return listed(b"%s %s %d" % (words[place], name, count) for place, name, count in found[:most])
+
     def add(self, kind, name, key):
         """Inserts a new entry with value 0 under a name, or raises Full."""
         pieces = pieces_of(key)
@@ -268,6 +279,15 @@ def read_string(field):
     if 0 in key:
         raise Syntax
     return key
+
+
+def read_names(fields):
+    """The fields of NAMES: the kind and the name that it begins behind, or None, and how many arrays it asks for."""
+    if len(fields) == 1:
+        return None, read_most(fields[0])
+    if len(fields) != 3 or fields[0] not in KINDS:
+        raise Syntax
+    return (KINDS[fields[0]], read_name(fields[1])), read_most(fields[2])
 
 
 # ---- what the operations do ----
@@ -543,6 +563,8 @@ def read_line(line):
         return fields[0], ()
     if len(fields) == 3 and fields[0] == b"AUTH":
         return b"AUTH", (read_name(fields[1]), read_token(fields[2]))
+    if fields[:1] == [b"NAMES"]:
+        return b"NAMES", read_names(fields[1:])
     if len(fields) < 2 or fields[0] not in COMMANDS:
         raise Syntax
     command, given = COMMANDS[fields[0]], fields[2:]
@@ -593,6 +615,8 @@ class Connection:
         owner, may_change = self.speaker
         if command == b"USED":
             return b"Q %d %d %d %d" % (owner.used, owner.tenant.quota, owner.pieces, owner.tenant.most)
+        if command == b"NAMES":
+            return owner.names(*fields)
         kind, operation, _, _ = COMMANDS[command]
         if operation.does != LOOKS and not may_change:
             return b"ERR READONLY"

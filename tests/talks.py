@@ -45,8 +45,8 @@ def log_in_as(tenant):
 
 
 def own_line(draw, hostile, names):
-    """A line whose reply depends on no other client: it asks for no counts of the tenant, and calls
-    only arrays of these names."""
+    """A line whose reply depends on no other client: it asks for no counts or names of the tenant,
+    and calls only arrays of these names."""
     while True:
         line = hostile.walk.line() if draw.random() < 0.4 else hostile.line()
         try:
