@@ -73,6 +73,9 @@ typedef int jd_jl_visit(uint64_t index, uint64_t value, void *context);
 typedef int jd_js_visit(const char *key, uint64_t value, void *context);
 typedef int jd_jh_visit(const void *key, size_t length, uint64_t value, void *context);
 
+/* The same for each array of the tenant that has entries. A kind is "J1", "JL", "JSL" or "JHS". */
+typedef int jd_name_visit(const char *kind, const char *name, uint64_t entries, void *context);
+
 /* A shared library has these names and no others. */
 #ifdef __GNUC__
 #pragma GCC visibility push(default)
@@ -87,6 +90,8 @@ int jd_fd(jd *connection);
 
 int jd_auth(jd *connection, const char *tenant, const char *token);
 int jd_used(jd *connection, struct jd_usage *usage);
+/* A scan of the tenant's arrays by kind and name: of all, or behind the array of a kind and a name, if they are not null. */
+int jd_names(jd *connection, const char *kind, const char *name, jd_name_visit *visit, void *context);
 int jd_ping(jd *connection);
 
 /* Any line, without its line feed. The reply, also of a refusal, goes to a buffer of JD_REPLY_ROOM bytes. */

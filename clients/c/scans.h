@@ -18,24 +18,36 @@ struct listing {
     uint64_t count;
 };
 
+/* What is not read of a reply that came. */
+static struct text text_of(const struct listing *l)
+{
+    return (struct text){.at = l->reply, .end = l->reply + strlen(l->reply)};
+}
+
 /* Asks for a line. Returns 1 with nothing of it read, or a fault. */
 static int ask_line(jd *c, const char *word, const char *name, const struct fields *fields, struct listing *l)
 {
     int code = call(c, word, name, fields, &(struct result){.form = LINE, .reply = l->reply});
     if (code > 0)
-        l->rest = (struct text){.at = l->reply, .end = l->reply + strlen(l->reply)};
+        l->rest = text_of(l);
     return code;
+}
+
+/* The number of entries of a reply is read, if it came: 1, or a fault. */
+static int begin_entries(jd *c, int code, struct listing *l)
+{
+    if (code <= 0)
+        return code;
+    l->rest = text_of(l);
+    if (skip(&l->rest, "E ") && read_word(&l->rest, &l->count) && (l->count > 0 || l->rest.at == l->rest.end))
+        return 1;
+    return fail(c, JD_REPLY);
 }
 
 /* Asks for entries. Returns 1 with the number of them read, or a fault. */
 static int ask_entries(jd *c, const char *word, const char *name, const struct fields *fields, struct listing *l)
 {
-    int code = ask_line(c, word, name, fields, l);
-    if (code <= 0)
-        return code;
-    if (skip(&l->rest, "E ") && read_word(&l->rest, &l->count) && (l->count > 0 || l->rest.at == l->rest.end))
-        return 1;
-    return fail(c, JD_REPLY);
+    return begin_entries(c, ask_line(c, word, name, fields, l), l);
 }
 
 /* Asks for indexes that two sets share. Returns 1 with the number of them read, and where the next line goes on, 0
@@ -119,7 +131,88 @@ static int scan_words(struct scan *s, const char *first, const char *next)
     }
 }
 
+/* The place of a scan of names: behind an array, or with no kind at the first. */
+struct place {
+    int kind; /* in KINDS, or -1 */
+    char name[NAME_LIMIT + 1];
+};
+
+static const char *const KINDS[] = {"J1", "JL", "JSL", "JHS"};
+
+/* The place of a kind in KINDS, or -1. */
+static int kind_of(struct text kind)
+{
+    int at = 3;
+    while (at >= 0 && !is_text(kind, KINDS[at]))
+        at--;
+    return at;
+}
+
+/* Asks for the arrays behind a place. Returns 1 with the number of them read, or a fault. */
+static int ask_names(jd *c, const struct place *behind, struct listing *l)
+{
+    struct result result = {.form = LINE, .reply = l->reply};
+    int code = start(c, &result);
+    if (code < 0)
+        return code;
+    put_text(c, "NAMES ");
+    if (behind->kind >= 0) {
+        put_text(c, KINDS[behind->kind]);
+        put_text(c, " ");
+        put_text(c, behind->name);
+        put_text(c, " ");
+    }
+    put_word(c, MANY);
+    return begin_entries(c, finish(c, &result), l);
+}
+
+/* Reads an array, whose place must be behind the one before. */
+static bool read_array(struct listing *l, struct place *place, uint64_t *entries)
+{
+    int before = place->kind, kind = kind_of(next_field(l));
+    struct text field = next_field(l);
+    size_t length = (size_t)(field.end - field.at);
+    char name[NAME_LIMIT + 1];
+    if (kind < 0 || length > NAME_LIMIT || !read_next(l, entries))
+        return false;
+    memcpy(name, field.at, length);
+    name[length] = 0;
+    if (!is_name(name) || kind < before || (kind == before && strcmp(name, place->name) <= 0))
+        return false;
+    place->kind = kind;
+    strcpy(place->name, name);
+    return true;
+}
+
 /* ---- the functions of the header ---- */
+
+int jd_names(jd *c, const char *kind, const char *name, jd_name_visit *visit, void *context)
+{
+    struct place place = {.kind = -1};
+    struct listing l;
+    if (c->is_queueing)
+        return JD_USE;
+    if (kind && name) {
+        place.kind = kind_of((struct text){.at = kind, .end = kind + strlen(kind)});
+        if (place.kind < 0 || !is_name(name))
+            return JD_NAME;
+        strcpy(place.name, name);
+    }
+    for (;;) {
+        int code = ask_names(c, &place, &l);
+        if (code <= 0 || l.count == 0)
+            return code;
+        for (uint64_t i = 0, entries; i < l.count; i++) {
+            if (!read_array(&l, &place, &entries))
+                return fail(c, JD_REPLY);
+            code = after_visit(c, visit(KINDS[place.kind], place.name, entries, context));
+            if (code <= 0)
+                return code;
+        }
+        if (l.rest.at != l.rest.end)
+            return fail(c, JD_REPLY);
+    }
+}
 
 int jd_j1_scan(jd *c, const char *name, uint64_t from, jd_j1_visit *visit, void *context)
 {

@@ -1,14 +1,16 @@
 """What the tests of the command line `judy` share: a server for each of their modules, and running
 programs that leave nothing behind."""
 
+import gc
 import os
 import select
 import signal
 import subprocess
 import sys
 import unittest
+from unittest import mock
 
-from judyd import Client
+from judyd import Client, command
 from served import HERE, Served
 
 RUNNING = []
@@ -32,6 +34,12 @@ def run_judy(script, *words, **how):
     judy = start_judy(*words, **how)
     said, wrong = judy.communicate(script, timeout=120)
     return judy.returncode, said.decode(), wrong.decode()
+
+
+def judy_here(*words, token="abc"):
+    """The status of judy in this process, whose parts a test may have replaced."""
+    with mock.patch.object(sys, "argv", ["judy", *words]), mock.patch.dict(os.environ, JUDY_TOKEN=token), mock.patch.object(signal, "signal"), mock.patch.object(gc, "disable"):
+        return command.main()
 
 
 def alice(path=None, **how):

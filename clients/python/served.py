@@ -110,9 +110,9 @@ class WithServer(unittest.TestCase):
         cls.served = Served(clients=cls.clients)
         cls.addClassCleanup(cls.served.end)
 
-    def alice(self, timeout: float = 60, catalogue: bool = False, reconnect: bool = False, retry: Retry = QUERIES) -> Client:
+    def alice(self, timeout: float = 60, reconnect: bool = False, retry: Retry = QUERIES) -> Client:
         """A client of alice, which is closed after the test."""
-        client = Client(self.served.path, timeout, catalogue=catalogue, reconnect=reconnect, retry=retry)
+        client = Client(self.served.path, timeout, reconnect=reconnect, retry=retry)
         self.addCleanup(client.close)
         return client.auth("alice", "abc")
 

@@ -10,7 +10,7 @@ from typing import Dict, List, NamedTuple, Optional, Tuple
 from judyd import wording
 
 CAUSES = ("quit", "end", "fault", "login", "idle", "turn", "memory", "gone", "kick")
-CALLS = ("AUTH", "QUIT", "USED", *sorted(wording.CALLS), "PING", "HELLO", "none")
+CALLS = ("AUTH", "QUIT", "USED", *sorted(wording.CALLS), "PING", "HELLO", "NAMES", "none")
 KINDS = {b"FULL": "full", b"ERR MEMORY": "memory", b"ERR AUTH": "auth", b"ERR READONLY": "readonly", b"ERR SYNTAX": "syntax", b"ERR LONG": "long", b"ERR CLIENTS": "clients", b"ERR FROZEN": "frozen", b"ERR JOURNAL": "journal"}
 
 

@@ -258,14 +258,14 @@ class Forms(WithTasks):
         def defaults(call):
             return {it.name: it.default for it in inspect.signature(call).parameters.values() if it.default is not it.empty}
 
-        pairs = [(judyd.Client, aio.Client), (judyd.Pool, aio.Pool), (judyd.Pipeline, aio.Pipeline), (judyd.Client.pipeline, aio.Client.pipeline)]
+        pairs = [(judyd.Client, aio.Client), (judyd.Pool, aio.Pool), (judyd.Pipeline, aio.Pipeline), (judyd.Client.pipeline, aio.Client.pipeline), (judyd.Client.names, aio.Client.names)]
         for name in ("Judy1", "JudyL", "JudySL", "JudyHS"):
             for word, method in inspect.getmembers(getattr(aio, name), inspect.isfunction):
                 if not word.startswith("_"):
                     pairs.append((getattr(getattr(judyd, name), word), method))
         self.assertGreater(len(pairs), 60)
         for other, mine in pairs:
-            shared = {word: value for word, value in defaults(other).items() if word not in ("catalogue", "entries")}
+            shared = {word: value for word, value in defaults(other).items() if word != "entries"}
             self.assertEqual((mine, defaults(mine)), (mine, shared))
 
     def test_what_is_shown(self):

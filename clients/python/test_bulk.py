@@ -204,13 +204,6 @@ class Sums(WithClient):
 
         self.assertEqual(asked(True, self.served.path, job), (([1, 2], [3, 2**64 - 1]), 3))
 
-    def test_additions_with_a_catalogue(self):
-        client = self.alice(catalogue=True)
-        h = client.judyhs("h")
-        self.assertEqual(h.add_many([(b"k", 1), (b"k", 2), (b"l", 5)]), [1, 3, 5])
-        self.assertEqual((sorted(h), client.arrays()), ([b"k", b"l"], [("JHS", "h")]))
-        h.clear()
-
     def test_more_than_all_buffers_hold(self):
         keys = [b"%04d" % it * 250 for it in range(500)]  # a megabyte of lines in a window
         for is_aio in (False, True):

@@ -85,8 +85,6 @@ class Checked(unittest.TestCase):
 class Recorder:
     """Keeps the lines of calls."""
 
-    _catalogue = None
-
     def __init__(self):
         self.lines = []
 
@@ -162,9 +160,9 @@ class Commands(unittest.TestCase):
             changes = ("Insert", "Add", "Keep", "Fill", "Exchange", "Remove", "Take", "Pop", "Cut", "Free")
             self.assertEqual((line, is_query(line)), (line, operation not in changes))
             self.assertEqual((line, is_same_twice(line)), (line, operation not in ("Add", "Fill", "Pop", "Cut")))
-        for line in (b"USED", b"PING", b"HELLO", b"AUTH alice abc"):
+        for line in (b"USED", b"PING", b"HELLO", b"NAMES 5", b"NAMES J1 a 5", b"AUTH alice abc"):
             self.assertTrue(is_query(line), line)
-        for line in (b"QUIT", b"", b"PING 1", b"HELLOS", b"J1X a 1", b"J1TT a 1", b"j1t a 1", b"AUTHX a b", b"USED 1"):
+        for line in (b"QUIT", b"", b"PING 1", b"HELLOS", b"J1X a 1", b"J1TT a 1", b"j1t a 1", b"AUTHX a b", b"USED 1", b"NAMES", b"NAMESX 5", b"names 5"):
             self.assertFalse(is_query(line) or is_same_twice(line), line)
 
 

@@ -22,6 +22,12 @@ from judyd.wording import WORDS, told, wrong_in  # noqa: E402
 from served import HERE, Served, odd_server  # noqa: E402
 
 
+NO_NAMES = {
+    "NAMES": "it is written NAMES [kind name] n", "NAMES J1 a": "it is written", "NAMES J1 a 5 5": "it is written", "NAMES 0": "1 to 65535", "NAMES 65536": "1 to 65535", "NAMES -1": "1 to 65535",
+    "NAMES J1 a 0": "1 to 65535", "NAMES J2 a 5": "a kind is J1, JL, JSL or JHS, and not J2", "NAMES j1 a 5": "a kind is", "NAMES J1 a/ 5": "a name is", "NAMES a": "a number is", "NAMES J1 a b": "a number is", "names 5": "NAMES",
+}  # fmt: skip
+
+
 class Scripts(JudyTest):
     """Scripts, and one call on the command line."""
 
@@ -67,11 +73,20 @@ class Scripts(JudyTest):
         self.assertIn("JLI name i [v]", run_judy(b"", "help", "JLI")[1])
 
     def test_each_field_that_is_wrong(self):
-        for request in ("J1T a 1", "JSLI w x41 5", "JHSG h x00", "USED", "AUTH alice abc", "JLI m -1", "J1C a 0 18446744073709551615"):
+        for request in ("J1T a 1", "JSLI w x41 5", "JHSG h x00", "USED", "AUTH alice abc", "JLI m -1", "J1C a 0 18446744073709551615", "NAMES 5", "NAMES JHS a 65535"):
             self.assertEqual(wrong_in(request), "")
-        for request in ("", "j1t a 1", "J1T", "J1T a", "J1T a b", "J1T a/b 1", "JSLI w x4", "JSLI w x00", "J1C a 1", "USED 1", "AUTH alice", "J1T a 18446744073709551616", "JHSG h x" + "0" * 2002):
+        for request in ("", "j1t a 1", "J1T", "J1T a", "J1T a b", "J1T a/b 1", "JSLI w x4", "JSLI w x00", "J1C a 1", "USED 1", "AUTH alice", "J1T a 18446744073709551616", "JHSG h x" + "0" * 2002, *NO_NAMES):
             self.assertNotEqual(wrong_in(request), "")
             self.assertIn("ERR SYNTAX", run_judy(request.encode() + b"\n" if request else b" . \n", "-u", "alice")[1])
+
+    def test_names(self):
+        for request, said in NO_NAMES.items():
+            self.assertIn(said, wrong_in(request))
+        script = b"J1S ids 5\nJSLI words \"tree\" 3\nNAMES 5\nNAMES J1 ids 1\nNAMES JHS z 1\nJ1FA ids\nJSLFA words\n"
+        self.assertEqual(run_judy(script, "-u", "alice")[1].splitlines()[2:5], ["E 2 J1 ids 1 JSL words 1", "E 1 JSL words 1", "E 0"])
+        rows = [row.split() for row in run_judy(script, "-u", "alice", "--pretty")[1].splitlines()[-5:-2]]
+        self.assertEqual(rows, ["NAMES 5 2 found J1:ids 1 JSL:words 1".split(), "NAMES J1 ids 1 1 found JSL:words 1".split(), "NAMES JHS z 1 0 found".split()])
+        self.assertIn("NAMES [kind name] n", run_judy(b"", "help", "NAMES")[1])
 
     def test_bytes_outside_utf_8(self):
         self.assertEqual(run_judy(b'JHSI h "\xe9" 7\nJHSG h xe9\nJHSFA h\n', "-u", "alice"), (0, "V 0\nV 7\nN 1\n", ""))

@@ -1,17 +1,22 @@
 """Tests of `judy backup` against a real `judyd serve`."""
 
+import io
 import os
 import resource
 import signal
 import sys
 import time
 import unittest
+from contextlib import redirect_stdout
+from unittest import mock
 
 sys.path.insert(0, os.path.dirname(os.path.abspath(__file__)))
 
-from judy_runs import JudyTest, alice, run_judy, start_judy  # noqa: E402
-from judyd import Client  # noqa: E402
+from judy_runs import JudyTest, alice, judy_here, run_judy, start_judy  # noqa: E402
+from judyd import Client, backups  # noqa: E402
+from judyd.copies import all_arrays  # noqa: E402
 from served import Served, table  # noqa: E402
+from test_restarts import scripted  # noqa: E402
 
 BOTH = "# two tenants\n\nalice look J1:ids JL:hits\nbob hello J1:few\n"
 
@@ -78,7 +83,7 @@ class Backups(JudyTest):
         before = self.there()
         for row, why in (
             ("alice wrong J1:ids", "the server does not know this tenant and token"), ("alice look J1:typo J1:ids", "nothing under J1:typo"),
-            ("alice look --all", "the tenant has no catalogue of its arrays: name them"), ("alice look JHS:none J1:ids", "nothing under JHS:none"),
+            ("alice wrong --all", "the server does not know this tenant and token"), ("alice look JHS:none J1:ids", "nothing under JHS:none"),
         ):  # fmt: skip
             status, said, wrong = self.backup("%s\nbob hello J1:few\n" % row)
             self.assertEqual((status, said), (1, "bob: 3 entries of 3\n"))
@@ -120,13 +125,45 @@ class Backups(JudyTest):
         self.assertEqual(self.backup("alice look J1:ids JL:none\n")[0], 1)
         self.assertEqual(self.backup("alice look --empty J1:ids JL:none\n")[:2], (0, "alice: 3000 entries of 3100\n"))
 
-    def test_all_of_a_catalogue(self):
-        with alice(self.own.path, catalogue=True) as client:
+    def test_all_arrays(self):
+        with alice(self.own.path) as client:
             client.judyhs("keys").update((b"key %d" % at, at) for at in range(50))
-            client.judy1("ids").add(9999)
-        self.assertEqual(self.backup("alice look --all\n")[0], 0)
+            client.judysl(".arrays").insert(b"J1:gone", 1)
+        self.assertEqual(self.backup("alice look --all\nbob hello --empty --all\n"), (0, "alice: 3151 entries of 3151\nbob: 3 entries of 3\n", ""))
         dump = self.there()["alice.dump"]
-        self.assertEqual((dump.count(b"JHSI keys"), dump.count(b"J1S ids")), (50, 3001))
+        self.assertEqual(dump.splitlines()[0].split()[4:], [b"J1:ids", b"JL:hits", b"JSL:.arrays", b"JHS:keys"])
+        self.assertEqual((dump.count(b"JHSI keys"), dump.count(b"J1S ids"), self.check("alice.dump"), self.check("bob.dump", "bob", "hello")), (50, 3000, True, True))
+
+    def test_all_arrays_of_a_tenant_without_any(self):
+        """The last good dump stays, as after a restart without a journal."""
+        rows = "alice look --all\nbob hello --empty --all\n"
+        self.assertEqual(self.backup(rows)[0], 0)
+        before = self.there()
+        self.own.restart()
+        for _ in range(2):
+            status, said, wrong = self.backup(rows)
+            self.assertEqual((status, said, wrong.count("it has no entries; "), wrong.count("stays as it was"), self.there()), (1, "", 2, 2, before))
+
+    def test_all_arrays_of_an_older_server(self):
+        self.assertEqual(self.backup("alice look --all\n")[0], 0)
+        before = self.there()
+        with scripted([b"OK", b"ERR SYNTAX"], [b"OK", b"E 1 3", b"1 3"]) as (path, got):
+            status, said, wrong = run_judy(b"", *self.words("alice look --all\n"), path=path)
+        self.assertEqual((status, said, got, self.there()), (1, "", ["AUTH alice look", "NAMES 65535"], before))
+        self.assertIn("judy: alice: ERR SYNTAX: this server is older than NAMES and does not list the arrays of a tenant: name them; ", wrong)
+
+    def test_all_arrays_while_they_come_and_go(self):
+        def listed(wire):
+            names = all_arrays(wire)
+            with alice(self.own.path) as other:
+                other.judyl("hits").free_array()
+                other.judy1("later").update(range(7))
+            return names
+
+        with mock.patch.object(backups, "all_arrays", listed), redirect_stdout(io.StringIO()) as said:
+            self.assertEqual(judy_here("-s", self.own.path, *self.words("alice look --all\n")), 0)
+        self.assertEqual(said.getvalue(), "alice: 3000 entries of 3007\n")
+        self.assertEqual(self.there()["alice.dump"].splitlines()[0].split()[4:], [b"J1:ids", b"JL:hits"])
 
     def test_a_full_disk(self):
         self.backup()

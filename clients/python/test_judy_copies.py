@@ -6,11 +6,15 @@ import subprocess
 import sys
 import time
 import unittest
+from unittest import mock
 
 sys.path.insert(0, os.path.dirname(os.path.abspath(__file__)))
 
-from judy_runs import JudyTest, alice, run_judy, start_judy  # noqa: E402
+from judy_runs import JudyTest, alice, judy_here, run_judy, start_judy  # noqa: E402
+from judyd import command  # noqa: E402
+from judyd.copies import all_arrays  # noqa: E402
 from served import PROGRAM, table  # noqa: E402
+from test_restarts import scripted  # noqa: E402
 
 
 class Copies(JudyTest):
@@ -30,7 +34,7 @@ class Copies(JudyTest):
     def tearDown(self):
         super().tearDown()
         with alice() as client:
-            for kind, name in [*(text.split(":") for text in self.ARRAYS), ("JSL", ".arrays")]:
+            for kind, name in client.arrays():
                 {"J1": client.judy1, "JL": client.judyl, "JSL": client.judysl, "JHS": client.judyhs}[kind](name).free_array()
             self.assertEqual(client.used().used, 0)
 
@@ -134,7 +138,6 @@ class Copies(JudyTest):
         self.assertEqual(run_judy(b"", "-u", "alice", "load", path), (0, "", ""))
         self.assertIn("an array is J1:NAME", run_judy(b"", "-u", "alice", "dump", "ids")[2])
         self.assertIn("a name is 1 to 32 of", run_judy(b"", "-u", "alice", "dump", "JHS:keys=FILE")[2])
-        self.assertIn("no catalogue", run_judy(b"", "-u", "alice", "dump", "--all")[2])
 
     def test_a_load_that_is_refused(self):
         status, said, wrong = run_judy(b"".join(b"J1S a %d\n" % i for i in range(5000)), "-u", "bob", "load", "--unchecked", token="hello")
@@ -146,18 +149,54 @@ class Copies(JudyTest):
         self.assertEqual((status, wrong.splitlines()[-1]), (1, "judy: refused: 3 of 25002 loaded; what follows was not sent"))
         self.assertEqual(run_judy(b"", "-u", "bob", "J1FA", "ids", token="hello")[1], "N 3\n")
 
-    def test_all_of_a_catalogue(self):
-        self.empty()
-        with alice(catalogue=True) as client:
-            client.judy1("ids").update(range(9))
-            client.judyhs("keys").update((key, at) for at, key in enumerate(self.keys))
+    def test_all_arrays(self):
+        with alice() as client:
+            client.judysl(".arrays").insert(b"J1:gone", 1)
+            client.judy1("a").update(range(9))
         dump = self.dump("--all")
-        self.assertEqual(dump.count(b"\n"), 2 + 9 + 3002 + 2)
+        first, *entries, _ = dump.splitlines()
+        self.assertEqual((first.split()[4:], len(entries)), ([b"J1:a", b"J1:ids", b"JL:hits", b"JSL:.arrays", b"JSL:words", b"JHS:keys"], self.ENTRIES + 10))
+        self.assertEqual(self.dump("--all", "--empty").splitlines()[1:-1], dump.splitlines()[1:-1])
         self.empty()
+        self.assertEqual(self.dump("--all").splitlines()[0].split()[4:], [b"J1:a", b"JSL:.arrays"])
         self.assertEqual(run_judy(dump, "-u", "alice", "load"), (0, "", ""))
         self.assertEqual(self.dump("--all").splitlines()[1:-1], dump.splitlines()[1:-1])
-        with alice(catalogue=True) as client:
-            self.assertEqual((client.arrays(), len(list(client.judyhs("keys")))), ([("J1", "ids"), ("JHS", "keys")], 3002))
+        self.assertEqual(run_judy(b"", "dump", "-u", "alice", "--all", token="look")[1].splitlines()[1:-1], dump.decode().splitlines()[1:-1])
+
+    def test_all_arrays_of_a_tenant_without_any(self):
+        self.empty()
+        dump = self.dump("--all")
+        self.assertRegex(dump.decode(), r"\A# judy-dump 1 \S+Z\n# end 0 sha256 [0-9a-f]{64}\n\Z")
+        path = self.file("all", b"the one before")
+        self.assertEqual(run_judy(b"", "dump", "-u", "alice", "--all", "-o", path), (0, "", ""))
+        for words in (("check", path), ("load", path), ("check", "--whole", path)):
+            self.assertEqual(run_judy(b"", "-u", "alice", *words)[::2], (0, ""))
+
+    def test_all_arrays_of_an_older_server(self):
+        path = self.file("kept", b"the last good one")
+        with scripted([b"OK", b"ERR SYNTAX"]) as (older, got):
+            status, said, wrong = run_judy(b"", "-u", "alice", "dump", "--all", "-o", path, path=older)
+        self.assertEqual((status, said, got), (1, "", ["AUTH alice abc", "NAMES 65535"]))
+        self.assertEqual(wrong, "judy: refused: ERR SYNTAX: this server is older than NAMES and does not list the arrays of a tenant: name them\n")
+        with open(path, "rb") as file:
+            self.assertEqual(file.read(), b"the last good one")
+
+    def test_all_arrays_while_they_come_and_go(self):
+        """An array that went after it was listed is dumped without entries, and one that came then is not dumped."""
+        path = self.file("dump", b"")
+
+        def listed(wire):
+            names = all_arrays(wire)
+            with alice() as other:
+                other.judy1("ids").free_array()
+                other.judysl("later").insert(b"k", 1)
+            return names
+
+        with mock.patch.object(command, "all_arrays", listed):
+            self.assertEqual(judy_here("-s", self.path(), "-u", "alice", "dump", "--all", "-o", path), 0)
+        with open(path, "rb") as file:
+            first, *entries, _ = file.read().splitlines()
+        self.assertEqual((first.decode().split()[4:], len(entries), {it[:5] for it in entries}), (self.ARRAYS, 15002, {b"JLI h", b"JSLI ", b"JHSI "}))
 
     def test_others_are_served_between(self):
         judy = start_judy("-u", "alice", "dump", *["JL:hits"] * 20)

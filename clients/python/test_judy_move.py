@@ -6,15 +6,18 @@ import os
 import socket
 import sys
 import unittest
+from unittest import mock
 
 sys.path.insert(0, os.path.dirname(os.path.abspath(__file__)))
 
-from judy_runs import JudyTest, alice, run_judy, start_judy  # noqa: E402
-from judyd.copies import read_name  # noqa: E402
+from judy_runs import JudyTest, alice, judy_here, run_judy, start_judy  # noqa: E402
+from judyd import command  # noqa: E402
+from judyd.copies import all_arrays, read_name  # noqa: E402
 from judyd.errors import Error  # noqa: E402
 from judyd.moves import Move, move  # noqa: E402
 from judyd.wire import Wire  # noqa: E402
 from served import Served, table  # noqa: E402
+from test_restarts import scripted  # noqa: E402
 
 FREES = b"".join(b"%bFA %b\n" % pair for pair in ((b"J1", b"ids"), (b"JL", b"hits"), (b"JSL", b"words"), (b"JHS", b"keys"), (b"JSL", b".arrays")))
 
@@ -82,20 +85,49 @@ class Moves(JudyTest):
         status, said, wrong = run_judy(b"", "-u", "alice", "move", "--to", self.path(), "--free", *self.named, path=self.there.path)  # and back
         self.assertEqual((status, said.count("\n"), wrong, self.used()), (0, 4, "", (25002, 0)))
 
-    def test_all_of_a_catalogue(self):
+    def test_all_arrays(self):
+        with alice() as client:
+            client.judysl(".arrays").insert(b"J1:gone", 1)
+        status, said, wrong = self.move("--all", "--free")
+        self.assertEqual((status, wrong, self.used()), (0, "", (0, 25003)))
+        self.assertEqual(said, "J1:ids: 10000 entries\nJL:hits: 9000 entries\nJSL:.arrays: 1 entries\nJSL:words: 3000 entries\nJHS:keys: 3002 entries\n")
+        with alice(self.there.path) as client:
+            self.assertEqual((client.array_counts()["JHS", "keys"], len(client.arrays())), (3002, 5))
+
+    def test_all_arrays_of_a_tenant_without_any(self):
         with wire_to(self.path()) as wire:
             wire.ask(FREES, 5)
-        self.fill(catalogue=True)
-        before = self.used()[0]
-        self.assertEqual((self.move("--all", "--free")[0], self.used()), (0, (0, before)))
-        with alice(self.there.path, catalogue=True) as client:
-            self.assertEqual((len(client.arrays()), len(list(client.judyhs("keys")))), (4, 3002))
+        for words in (("--all",), ("--all", "--free")):
+            self.assertEqual((self.move(*words), self.used()), ((0, "the tenant has no arrays\n", ""), (0, 0)))
+        with alice(self.there.path) as client:  # what is there stays
+            client.judy1("ids").add(5)
+            self.assertEqual((self.move("--all", "--free"), self.used()), ((0, "the tenant has no arrays\n", ""), (0, 1)))
+
+    def test_all_arrays_of_an_older_server(self):
+        with scripted([b"OK", b"ERR SYNTAX"]) as (path, got):
+            status, said, wrong = run_judy(b"", "-u", "alice", "move", "--to", self.there.path, "--all", "--free", path=path)
+        self.assertEqual((status, said, got, self.used()), (1, "", ["AUTH alice abc", "NAMES 65535"], (25002, 0)))
+        self.assertEqual(wrong, "judy: refused: ERR SYNTAX: this server is older than NAMES and does not list the arrays of a tenant: name them\n")
+
+    def test_an_array_comes_after_the_list(self):
+        """Nothing is freed then."""
+
+        def listed(wire):
+            names = all_arrays(wire)
+            with alice() as other:
+                other.judyl("later").insert(1, 2)
+            return names
+
+        with mock.patch.object(command, "all_arrays", listed), contextlib.redirect_stderr(io.StringIO()) as wrong, contextlib.redirect_stdout(io.StringIO()):
+            self.assertEqual(judy_here("-s", self.path(), "-u", "alice", "move", "--to", self.there.path, "--all", "--free"), 1)
+        self.assertIn("1 entries of the tenant are not in these arrays", wrong.getvalue())
+        with alice() as client:
+            self.assertEqual((client.judyl("later").free_array(), self.used()), (1, (25002, 25002)))
 
     def test_what_is_refused_before_anything_changes(self):
         self.refused("nothing under J1:typo; nothing was moved", "J1:typo", *self.named)
         self.refused("J1:ids is named twice", "J1:ids", "J1:ids")
         self.refused("move what? J1:ids and so on, or --all")
-        self.refused("no catalogue", "--all")
         self.refused("an array is J1:NAME", "ids")
         self.refused("the server does not know this tenant and token", *self.named, token="abd")
         self.refused("the second server does not know this tenant and token", *self.named, more={"JUDY_NEW_TOKEN": "abd"})

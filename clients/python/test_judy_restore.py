@@ -15,6 +15,7 @@ from judy_runs import JudyTest, alice, run_judy, start_judy  # noqa: E402
 from judyd import Client, Closed, Frozen  # noqa: E402
 from served import Served, table  # noqa: E402
 from status_server import StatusServer  # noqa: E402
+from test_restarts import scripted  # noqa: E402
 
 ARRAYS = ["J1:ids", "JL:hits", "JSL:words"]
 FREED = "J1:ids: 3000 entries freed\nJL:hits: 100 entries freed\nJSL:words: 500 entries freed\n"
@@ -139,20 +140,39 @@ class Restores(RestoreTest):
         self.spoil()
         self.assertEqual((self.restore()[0], self.entries()), (0, before))
 
-    def test_all_of_a_catalogue(self):
+    def test_all_arrays(self):
         self.own.restart()
-        with alice(self.own.path, catalogue=True) as client:
+        with alice(self.own.path) as client:
             client.judy1("ids").update(range(10))
             client.judyhs("keys").update((b"key %d" % i, i) for i in range(50))
         dump, before = self.dumped("all", "--all"), self.entries("--all")
-        with alice(self.own.path, catalogue=True) as client:
+        with alice(self.own.path) as client:
             client.judyl("later").update((i, i) for i in range(7))
+            client.judysl(".arrays").insert(b"J1:ids", 1)
             client.judyhs("keys").insert(b"another", 1)
         status, said, wrong = self.restore("--all", dump)
-        self.assertEqual((status, wrong, "JL:later: 7 entries freed\n" in said), (0, "", True))
+        freed = "J1:ids: 10 entries freed\nJHS:keys: 51 entries freed\nJL:later: 7 entries freed\nJSL:.arrays: 1 entries freed\n"
+        self.assertEqual((status, wrong, said), (0, "", freed + "60 entries, alike\n"))
         self.assertEqual(self.entries("--all"), before)
-        with alice(self.own.path, catalogue=True) as client:
-            self.assertEqual((client.arrays(), client.judyl("later").count()), ([("J1", "ids"), ("JHS", "keys")], 0))
+        with alice(self.own.path) as client:
+            self.assertEqual(client.arrays(), [("J1", "ids"), ("JHS", "keys")])
+
+    def test_all_arrays_of_a_tenant_without_any(self):
+        self.own.restart()
+        none = self.dumped("none", "--all")
+        self.assertEqual(self.restore("--all", none), (0, "0 entries, alike\n", ""))
+        before = "J1:ids: 0 entries freed\nJL:hits: 0 entries freed\nJSL:words: 0 entries freed\n"
+        self.assertEqual(self.restore("--all", self.dump), (0, before + "3600 entries, alike\n", ""))
+        freed = "J1:ids: 3000 entries freed\nJL:hits: 100 entries freed\nJSL:words: 500 entries freed\n"
+        self.assertEqual(self.restore("--all", none), (0, freed + "0 entries, alike\n", ""))
+
+    def test_all_arrays_of_an_older_server(self):
+        before = self.entries()
+        with scripted([b"OK", b"Q 3600 1000000 3600 126000000", b"ERR SYNTAX"]) as (path, got):
+            status, said, wrong = run_judy(b"", *self.words("--all", self.dump), path=path)
+        self.assertEqual((status, said, got[1:]), (1, "", ["USED", "NAMES 65535"]))
+        self.assertEqual(wrong, "judy: refused: ERR SYNTAX: this server is older than NAMES and does not list the arrays of a tenant: name them\n")
+        self.assertEqual((self.entries(), self.may_write()), (before, True))
 
     def test_nothing_is_done(self):
         before = self.entries()
@@ -164,7 +184,7 @@ class Restores(RestoreTest):
                 file.write(data)
         for words, wanted in (
             ([cut], "line 3602: the dump"), ([changed], "the SHA-256 differs"), (["/dev/null"], "no regular file"),
-            (["/nowhere"], "No such file"), (["--all", self.dump], "no catalogue"),
+            (["/nowhere"], "No such file"), (["--all", "/nowhere"], "No such file"),
         ):  # fmt: skip
             status, said, wrong = self.restore(*words)
             self.assertEqual((status, said, wanted in wrong, wrong.count("\n")), (1, "", True, 1), wrong)

@@ -7,12 +7,10 @@ import inspect
 import os
 import sys
 import unittest
-from contextlib import nullcontext
 
 sys.path.insert(0, os.path.dirname(os.path.abspath(__file__)))
 
 from judyd import MAX, Full, JudyError, KeyTooLong, NoMemory, ReadOnly, aio  # noqa: E402
-from judyd.catalogue import Catalogue  # noqa: E402
 from judyd.client import Arrays  # noqa: E402
 from judyd.lines import joined  # noqa: E402
 from served import WithServer  # noqa: E402
@@ -56,9 +54,8 @@ class Kept(Arrays):
     """A client without a server, which keeps the lines that it is to send, in windows. It has the given
     replies, or else those of empty arrays."""
 
-    def __init__(self, *replies, catalogue=None):
-        super().__init__()
-        self.sent, self._given, self._catalogue = [], list(replies), catalogue
+    def __init__(self, *replies):
+        self.sent, self._given = [], list(replies)
 
     def _exchange(self, lines, is_quiet=False):
         self.sent.append(lines.each())
@@ -66,9 +63,6 @@ class Kept(Arrays):
 
     def _server(self):
         return self
-
-    def _held(self):
-        return nullcontext()
 
 
 class KeptByTasks(aio.Client):
@@ -166,16 +160,6 @@ class Lines(WithBoth):
         keys = [b"a", b"\0", b"x" * 1001, b"b"]
         self.both("judysl", "get_many", lambda: keys, [[b"JSLG a x61", b"JSLG a x62"]], [(it, None) for it in keys])
         self.both("judyhs", "get_many", lambda: ["a", "\ud800"], [[b"JHSG a x61"]], [("a", None), ("\ud800", None)], "utf-8")
-
-    def test_a_catalogue_has_lines_of_its_own_among_them(self):
-        client, note = Kept(catalogue=Catalogue()), b"JSLI .arrays %s 1"
-        client.judyl("a").update((it, it) for it in range(1001))
-        (*_, first), second = client.sent[0][:3], client.sent[1]
-        self.assertEqual((len(client.sent[0]), first, second), (1001, b"JLI a 1 1", [note % hexed(b"JL:a"), b"JLI a 1000 1000"]))
-        client.sent.clear()
-        client.judyhs("a").update({b"k": 1})
-        self.assertEqual(client.judyhs("a").delete_many([b"k"]), 0)
-        self.assertEqual(client.sent, [[note % hexed(b"JHS:a"), b"JHSI a x6b 1"], [b"JHSD a x6b"]])
 
 
 class Ends(WithBoth):

@@ -208,11 +208,11 @@ class Losses(WithServer):
         self.assertEqual((other.judy1("ids").free_array(), other.judyl("m").free_array()), (5, 2))
 
 
-class Catalogued(WithServer):
-    """A client that keeps a catalogue of its arrays."""
+class Listed(WithServer):
+    """The arrays that have entries."""
 
-    def test_arrays_are_noted(self):
-        client = self.alice(catalogue=True)
+    def test_arrays_come_and_go(self):
+        client = self.alice()
         ids, m = client.judy1("ids"), client.judyl("m")
         self.assertEqual([ids.add_absent(5), m.insert_absent(5, 6), client.arrays()], [5, 5, [("J1", "ids"), ("JL", "m")]])
         self.assertEqual([ids.pop(), m.popitem(), ids.free_array(), m.free_array(), client.arrays()], [5, (5, 6), 0, 0, []])

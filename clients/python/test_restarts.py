@@ -77,6 +77,7 @@ class Rules(unittest.TestCase):
             (lambda c: c.judysl("a").next(b"k"), "JSLN a x6b", b"NULL", None),
             (lambda c: c.judyhs("a").get(b"k"), "JHSG a x6b", b"V 3", 3),
             (lambda c: c.used().most, "USED", b"Q 1 2 3 4", 4),
+            (lambda c: c.names(("JL", "a"), 1), "NAMES JL a 1", b"E 1 JSL b 2", [("JSL", "b", 2)]),
         ):
             for retry in (QUERIES, IDEMPOTENT):
                 self.assertEqual(self.once_lost(call, reply, retry), (result, ["AUTH alice abc", line]))

@@ -181,6 +181,9 @@ def pipelines(client: judyd.Client) -> None:
         pipe.judy1("ids").add(5)
         pipe.judyl("m")[5] = 6
         used: judyd.Later[judyd.Used] = pipe.used()
+        arrays: judyd.Later[List[judyd.NamedArray]] = pipe.names(("J1", "ids"), 5)
+        pipe.names("J1", 5)  # wrong
+        pipe.arrays()  # wrong
         pipe.judy1("ids").add("5")  # wrong
         hits: int = pipe.judyl("m").add(5)  # wrong
         kept: judyd.Later[Optional[int]] = pipe.judyl("m").keep(5, 6)
@@ -200,7 +203,7 @@ def pipelines(client: judyd.Client) -> None:
     first: Optional[Tuple[str, int]] = item.result()
     number: str = late.result()  # wrong
     wrong_first: Optional[Tuple[bytes, int]] = item.result()  # wrong
-    print(is_new, hits, fine, first, number, wrong_first, used)
+    print(is_new, hits, fine, first, number, wrong_first, used, arrays)
 
 
 async def tasks(client: aio.Client) -> None:
@@ -218,6 +221,12 @@ async def tasks(client: aio.Client) -> None:
         late: judyd.Later[bool] = pipe.judy1("ids").set(5)
     async with aio.Pool("socket", 8, "alice", "abc").client() as other:
         await other.used()
+        pairs: List[Tuple[str, str]] = await other.arrays()
+        counts: Dict[Tuple[str, str], int] = await other.array_counts()
+        listed: List[judyd.NamedArray] = await other.names(pairs[0])
+        later: List[judyd.NamedArray] = other.names()  # wrong
+        await other.names(5)  # wrong
+        print(counts, listed, later)
     aio.Pool("socket", 8)  # wrong
     async for key, value in client.judysl("s", "utf-8").walk():
         text: str = key
@@ -263,3 +272,11 @@ def errors(client: judyd.Client) -> None:
     quota: int = client.used().quota
     client.used().limit  # wrong
     print(used, quota)
+    pairs: List[Tuple[str, str]] = client.arrays()
+    counts: Dict[Tuple[str, str], int] = client.array_counts()
+    listed: List[judyd.NamedArray] = client.names(client.names(pairs[0], 9)[-1])
+    entries: str = listed[0].entries  # wrong
+    client.names("J1", "ids")  # wrong
+    client.names(("J1", 5))  # wrong
+    client.arrays()[0].entries  # wrong
+    print(counts, entries)

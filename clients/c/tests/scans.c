@@ -1,11 +1,12 @@
-/* jd_j1_scan, jd_j1_intersect, jd_jl_scan, jd_js_scan and jd_jh_scan. Ends with status 1 and a line for the first that is wrong.
+/* jd_j1_scan, jd_j1_intersect, jd_jl_scan, jd_js_scan, jd_jh_scan and jd_names. Ends with status 1 and a line for the first that is wrong.
  *
  * usage: scans all PATH SEED COUNT      a judyd with the tenant alice (token abc); arrays of about COUNT entries,
  *                                       alone and beside a writer
  *        scans plain PATH COUNT         one scan of a JudyL with the entries 0 to COUNT - 1, and nothing else
  *        scans shared PATH COUNT        what the sets twos and threes, multiples of 2 and of 3 below COUNT, share
- *        scans odd PATH 1|i|l|s|h COUNT a server whose last reply on each of COUNT connections is none to a scan of this
- *                                       kind; before it comes the entry 5, 5 with the value 1, or a with the value 1
+ *        scans odd PATH 1|i|l|s|h|n COUNT a server whose last reply on each of COUNT connections is none to a scan of this
+ *                                       kind; before it comes the entry 5, 5 with the value 1, a with the value 1, or
+ *                                       the array a of the kind JL with one entry
  *        scans refused PATH             one that replies `ERR FROZEN`, `ERR NEW`, `V 1 5` */
 #define _POSIX_C_SOURCE 200809L
 
@@ -495,6 +496,109 @@ static void check_calls(jd *c, uint64_t count)
     CHECK(1, jd_j1_free_array(c, "one", &m.count));
 }
 
+/* ---- names ---- */
+
+enum { ARRAYS = 90 /* of each kind: more than fit into one reply */ };
+
+/* What a scan of names has to visit: arrays by kind, and then by number; the visit of place `last` ends the scan. */
+struct arrays {
+    jd *c;
+    size_t at, last;
+    bool asks; /* each visit makes a call */
+};
+
+/* The name of an array, of 32 bytes. */
+static void name_of(size_t at, char name[33])
+{
+    snprintf(name, 33, "name_%027zu", at % ARRAYS);
+}
+
+static int visit_array(const char *kind, const char *name, uint64_t entries, void *context)
+{
+    static const char *const kinds[] = {"J1", "JL", "JSL", "JHS"};
+    struct arrays *w = context;
+    char wanted[33];
+    name_of(w->at, wanted);
+    CHECK(1, w->at < 4 * ARRAYS);
+    CHECK(0, strcmp(kind, kinds[w->at / ARRAYS]));
+    CHECK(0, strcmp(name, wanted));
+    CHECK(1, entries == 1 + w->at % 2);
+    if (w->asks)
+        CHECK(1, jd_ping(w->c));
+    return w->at++ == w->last;
+}
+
+static int visit_no_name(const char *kind, const char *name, uint64_t entries, void *context)
+{
+    (void)kind, (void)name, (void)entries, (void)context;
+    exit(1);
+}
+
+/* Leaves a queue open. */
+static int visit_name_and_begin(const char *kind, const char *name, uint64_t entries, void *context)
+{
+    (void)kind, (void)name, (void)entries;
+    jd_begin(context, NULL, 0);
+    return 0;
+}
+
+static int visit_and_free(const char *kind, const char *name, uint64_t entries, void *context)
+{
+    struct arrays *w = context;
+    CHECK(1, entries > 0);
+    CHECK(0, strcmp(kind, "JSL"));
+    CHECK(1, jd_js_free_array(w->c, name, NULL));
+    w->at++;
+    return 0;
+}
+
+/* Makes arrays in another order than they are scanned. */
+static void make_arrays(jd *c)
+{
+    char name[33];
+    CHECK(1, jd_begin(c, NULL, 0));
+    for (size_t at = 4 * ARRAYS; at-- > 0;)
+        for (uint64_t entry = 0; entry < 1 + at % 2; entry++) {
+            const char *key = entry ? "b" : "a";
+            name_of(at, name);
+            switch (at / ARRAYS) {
+            case 0: jd_j1_set(c, name, entry); break;
+            case 1: jd_jl_ensure(c, name, entry, NULL); break;
+            case 2: jd_js_ensure(c, name, key, NULL); break;
+            default: jd_jh_ensure(c, name, key, 1, NULL);
+            }
+        }
+    CHECK(1, jd_end(c));
+}
+
+static void check_names(jd *c)
+{
+    static const char *const kinds[] = {"J1", "JL", "JSL", "JHS"};
+    struct arrays w = {.c = c, .last = SIZE_MAX};
+    char name[33];
+    make_arrays(c);
+    CHECK(1, jd_names(c, NULL, NULL, visit_array, &w));
+    CHECK(1, w.at == 4 * ARRAYS);
+    for (size_t behind = 0; behind < 4 * ARRAYS; behind += 7) {
+        name_of(behind, name);
+        w = (struct arrays){.c = c, .at = behind + 1, .last = behind % 2 ? SIZE_MAX : behind + 1 + behind / 4, .asks = true};
+        CHECK(w.last < 4 * ARRAYS ? 0 : 1, jd_names(c, kinds[behind / ARRAYS], name, visit_array, &w));
+        CHECK(1, w.at == (w.last < 4 * ARRAYS ? w.last + 1 : 4 * ARRAYS));
+    }
+    CHECK(JD_USE, jd_names(c, NULL, NULL, visit_name_and_begin, c));
+    CHECK(1, jd_end(c));
+    for (size_t at = 0; at < ARRAYS; at++) {
+        name_of(at, name);
+        CHECK(1, jd_j1_free_array(c, name, NULL));
+        CHECK(1, jd_jl_free_array(c, name, NULL));
+        CHECK(1, jd_jh_free_array(c, name, NULL));
+    }
+    w = (struct arrays){.c = c};
+    CHECK(1, jd_names(c, "JL", "z", visit_and_free, &w));
+    CHECK(1, w.at == ARRAYS);
+    CHECK(1, jd_names(c, NULL, NULL, visit_no_name, NULL));
+}
+
 static void check_refused(jd *c)
 {
     char key[JD_KEY_LIMIT + 2];
@@ -506,6 +610,11 @@ static void check_refused(jd *c)
     CHECK(JD_NAME, jd_j1_intersect(c, "one", "no name", 0, visit_none, NULL));
     CHECK(JD_NAME, jd_j1_intersect(c, "one", "", 0, visit_none, NULL));
     CHECK(JD_NAME, jd_jh_scan(c, "no name", NULL, 0, NULL, NULL));
+    CHECK(JD_NAME, jd_names(c, "J1", "no name", visit_no_name, NULL));
+    CHECK(JD_NAME, jd_names(c, "J1", "", visit_no_name, NULL));
+    CHECK(JD_NAME, jd_names(c, "J1", "nnnnnnnnnnnnnnnnnnnnnnnnnnnnnnnnn", visit_no_name, NULL));
+    CHECK(JD_NAME, jd_names(c, "J2", "one", visit_no_name, NULL));
+    CHECK(JD_NAME, jd_names(c, "", "one", visit_no_name, NULL));
     CHECK(JD_KEY, jd_js_scan(c, "words", key, NULL, NULL));
     CHECK(JD_KEY, jd_jh_scan(c, "h", key, JD_KEY_LIMIT + 1, NULL, NULL));
     CHECK(1, jd_begin(c, codes, 2));
@@ -514,6 +623,7 @@ static void check_refused(jd *c)
     CHECK(JD_USE, jd_jl_scan(c, "l", 0, NULL, NULL));
     CHECK(JD_USE, jd_js_scan(c, "words", "", NULL, NULL));
     CHECK(JD_USE, jd_jh_scan(c, "h", NULL, 0, NULL, NULL));
+    CHECK(JD_USE, jd_names(c, NULL, NULL, visit_no_name, NULL));
     CHECK(JD_QUEUED, jd_j1_set(c, "one", 5));
     CHECK(1, jd_end(c));
     CHECK(1, codes[0]);
@@ -524,10 +634,13 @@ static void check_refused(jd *c)
     CHECK(JD_AUTH, jd_auth(c, "alice", "wrong"));
     CHECK(JD_AUTH, jd_j1_scan(c, "one", 0, visit_none, NULL));
     CHECK(JD_AUTH, jd_j1_intersect(c, "one", "one", 0, visit_none, NULL));
+    CHECK(JD_AUTH, jd_names(c, NULL, NULL, visit_no_name, NULL));
     CHECK(1, jd_auth(c, "alice", "abc"));
     CHECK(1, jd_j1_unset(c, "one", 5));
     CHECK(1, jd_j1_scan(c, "one", 0, visit_none, NULL));
     CHECK(1, jd_j1_intersect(c, "one", "one", 0, visit_none, NULL));
+    CHECK(1, jd_names(c, NULL, NULL, visit_no_name, NULL));
+    CHECK(1, jd_names(c, "JHS", "zz", visit_no_name, NULL));
 }
 
 static void check_all(const char *path, uint64_t seed, size_t count)
@@ -549,6 +662,7 @@ static void check_all(const char *path, uint64_t seed, size_t count)
     check_strings(c, count / 10);
     check_bytes(c, count / 10, &state);
     check_lengths(c);
+    check_names(c);
     check_calls(c, count / 4);
     check_beside(path, c, count / 4, seed, change_map, scan_map);
     check_beside(path, c, count / 4, seed, change_sets, scan_sets);
@@ -583,7 +697,13 @@ static int visit_byte_a(const void *key, size_t length, uint64_t value, void *co
     return visit_five(5, value, context);
 }
 
-/* A scan of a kind, which is `1`, `i` for what two sets share, `l`, `s` or `h`. */
+static int visit_array_a(const char *kind, const char *name, uint64_t entries, void *context)
+{
+    CHECK(0, strcmp(kind, "JL"));
+    return visit_a(name, entries, context);
+}
+
+/* A scan of a kind, which is `1`, `i` for what two sets share, `l`, `s`, `h`, or `n` for names. */
 static int scan(jd *c, char kind)
 {
     switch (kind) {
@@ -591,6 +711,7 @@ static int scan(jd *c, char kind)
     case 'i': return jd_j1_intersect(c, "a", "b", 0, visit_index_five, NULL);
     case 'l': return jd_jl_scan(c, "a", 0, visit_five, NULL);
     case 'h': return jd_jh_scan(c, "a", NULL, 0, visit_byte_a, NULL);
+    case 'n': return jd_names(c, NULL, NULL, visit_array_a, NULL);
     default: return jd_js_scan(c, "a", "", visit_a, NULL);
     }
 }
@@ -667,7 +788,7 @@ int main(int count, char **words)
     else if (count == 3 && !strcmp(words[1], "refused"))
         check_unknown(words[2]);
     else {
-        fprintf(stderr, "usage: scans all PATH SEED COUNT, scans plain|shared PATH COUNT, scans odd PATH 1|i|l|s|h COUNT, scans refused PATH\n");
+        fprintf(stderr, "usage: scans all PATH SEED COUNT, scans plain|shared PATH COUNT, scans odd PATH 1|i|l|s|h|n COUNT, scans refused PATH\n");
         return 2;
     }
     return 0;

@@ -44,13 +44,14 @@ from .errors import (
 from .fields import MAX, Hello, Shared, Used
 from .late import Later
 from .maps import JudyHS, JudyL, JudySL
+from .names import NamedArray
 from .pipeline import Pipeline
 from .pool import Pool
 from .retry import IDEMPOTENT, QUERIES, Retry
 from .sets import Judy1
 
 __all__ = [
-    "MAX", "TIMEOUT", "QUERIES", "IDEMPOTENT", "Retry", "Client", "Visitor", "Pool", "Pipeline", "Later", "Used", "Hello", "Shared", "Judy1", "JudyL", "JudySL", "JudyHS",
+    "MAX", "TIMEOUT", "QUERIES", "IDEMPOTENT", "Retry", "Client", "Visitor", "Pool", "Pipeline", "Later", "Used", "NamedArray", "Hello", "Shared", "Judy1", "JudyL", "JudySL", "JudyHS",
     "JudyError", "Error", "Closed", "NoServer", "ConnectionLost", "TimedOut", "Restarted",
     "PoolEmpty", "Refused", "Full", "NoMemory", "ReadOnly", "Frozen", "JournalFull", "NotAuthorized", "TooManyClients", "Syntax", "Long", "KeyTooLong",
 ]  # fmt: skip

@@ -4,17 +4,18 @@ import asyncio
 import os
 import ssl
 from collections import deque
-from typing import Any, Callable, Deque, Iterable, List, NoReturn, Optional, Tuple, TypeVar, overload
+from typing import Any, Callable, Deque, Dict, Iterable, List, NoReturn, Optional, Tuple, TypeVar, overload
 
-from .aioarrays import Judy1, JudyHS, JudyL, JudySL
+from .aioarrays import Judy1, JudyHS, JudyL, JudySL, walked
 from .aiolink import Link, opened_link
 from .bound import Bound
 from .client import TIMEOUT
 from .connection import Address, SameServer, checked_address, checked_timeout, place_of
 from .errors import Closed, ConnectionLost, JudyError, NoServer, Restarted, all_checked, checked, refusal_of
-from .fields import Hello, Used, hello_of, name_field, nothing_of, plain_lines, token_field, used_of
+from .fields import MOST, Hello, Used, hello_of, name_field, nothing_of, plain_lines, token_field, used_of
 from .late import LateArrays, Later
 from .lines import Lines, cut
+from .names import Behind, NamedArray, listing, names_line, names_of
 from .retry import LOGGER, QUERIES, TRIES, Exchange, Retry, checked_retry, rule_of, tenant_of
 
 T = TypeVar("T")
@@ -23,8 +24,6 @@ T = TypeVar("T")
 class Client(Bound):
     """A connection to a judyd for the tasks of one event loop: see `help(judyd.aio)`. The first call
     makes the connection. The parameters are those of `judyd.Client`."""
-
-    _catalogue = None
 
     def __init__(
         self, address: Address, timeout: Optional[float] = TIMEOUT, tls: Optional[ssl.SSLContext] = None,
@@ -77,6 +76,22 @@ class Client(Bound):
     async def hello(self) -> Hello:
         """The version and the limits of the server's protocol, as a `Hello`. It needs no log-in."""
         return await self._ask(b"HELLO", hello_of)
+
+    async def names(self, behind: Behind = None, most: int = MOST) -> List[NamedArray]:
+        """The first of the tenant's arrays that have entries, or those behind an array, which may be absent: at
+        most `most` of them and as many as fit into a reply, each as a `NamedArray`. Go on behind the last of them
+        until there is none."""
+        return await self._ask(names_line(behind, most), names_of)
+
+    async def arrays(self) -> List[Tuple[str, str]]:
+        """The kinds and names of all arrays of the tenant that have entries, as ("J1", "ids"), by kind and then by name.
+        It sends a line for each 4,088 bytes of them. An array that comes or goes meanwhile may be there or not."""
+        return list(await self.array_counts())
+
+    async def array_counts(self) -> Dict[Tuple[str, str], int]:
+        """The same, with how many entries each array has: {("J1", "ids"): 3}. A count is that of the moment when the
+        server listed the array."""
+        return {(it.kind, it.name): it.entries async for it in walked(listing(), self)}
 
     async def lines(self, lines: Iterable[bytes]) -> List[bytes]:
         """Sends lines as they are, bytes without LF, and returns the list of their replies. If a call
@@ -224,8 +239,6 @@ class Pipeline(LateArrays):
     Otherwise it is like the pipeline of `judyd.Client`: a refused call does not stop the others, and the
     end of the block raises the first refusal, unless `raises=False`.
     """
-
-    _catalogue = None
 
     def __init__(self, client: Client, window: Optional[int] = 1000, raises: bool = True, is_quiet: bool = False) -> None:
         super().__init__()

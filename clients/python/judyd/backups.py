@@ -2,10 +2,10 @@
 
     # tenant  token  arrays
     alice     look   J1:ids JL:hits JHS:keys
-    bob       hello  --empty --all
+    bob       hello  --all
 
-A row has a tenant, its token (the read-only one is enough) and its arrays, or --all for those of its
-catalogue. Under --empty an array may have no entries. The dump of alice is alice.dump, and the one
+A row has a tenant, its token (the read-only one is enough) and its arrays, or --all for all that have
+entries. Under --empty an array that is named may have no entries. The dump of alice is alice.dump, and the one
 before it alice.dump.1.
 """
 
@@ -27,7 +27,7 @@ from .wire import Wire
 
 @dataclass
 class Row:
-    """A tenant of the list. With no arrays it has those of its catalogue."""
+    """A tenant of the list. Without arrays, all that have entries are dumped."""
 
     tenant: str
     token: str
@@ -96,13 +96,10 @@ def alone(folder: str) -> Iterator[None]:
 
 def dump_of(server: Server, row: Row, path: str) -> str:
     """Dumps a tenant, and returns a line with how many of its entries the dump has."""
-    names = row.arrays
-    if not names:
-        with server.client(row.tenant, row.token) as client:
-            names = all_arrays(client)
+    may_be_empty = row.may_be_empty or not row.arrays  # an array that is not named may go meanwhile
     with server.wire(row.tenant, row.token) as wire, replaced(path, path + ".1") as file:
-        empty, count = dump_all(wire, names, row.may_be_empty, lambda data: write_all(file, data))
-        if empty and not row.may_be_empty:
+        empty, count = dump_all(wire, row.arrays or all_arrays(wire), may_be_empty, lambda data: write_all(file, data))
+        if empty and not may_be_empty:
             raise Error("nothing under %s" % ", ".join(map(str, empty)))
         if count == 0:
             raise Error("it has no entries")

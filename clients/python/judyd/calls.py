@@ -36,7 +36,7 @@ Plain = Callable[[Sequence[Any]], Optional[Sequence[int]]]
 _LOOKS = "|".join(word for word, command in COMMANDS.items() if command.does == "looks")
 _DO_MORE = ("Add", "Fill", "Pop", "Cut")  # operations that run twice change what they did not change before
 _SAME_TWICE = "|".join(word for word, command in COMMANDS.items() if command.does != "looks" and command.operation not in _DO_MORE)
-_QUERY = re.compile(("(?:%s) |(?:USED|PING|HELLO)$|AUTH " % _LOOKS).encode())
+_QUERY = re.compile(("(?:%s|NAMES) |(?:USED|PING|HELLO)$|AUTH " % _LOOKS).encode())
 _CHANGE = re.compile(("(?:%s) " % _SAME_TWICE).encode())
 
 
@@ -88,20 +88,11 @@ class Calls(Bound, Generic[Number]):
         """The result of a call. It is quiet if its result is not used."""
         return self._asker._ask(self._line(letters, *fields), read, is_quiet)
 
-    def _put(self, letters: bytes, read: Callable[[bytes], object], *fields: bytes, is_quiet: bool = False) -> Any:
-        """A call that may insert an entry. If the client keeps a catalogue, the catalogue gets the
-        array first."""
-        if self._asker._catalogue is not None:
-            self._asker._catalogue.note(self._asker, self._prefix, self.name)
-        return self._ask(letters, read, *fields, is_quiet=is_quiet)
-
     def free_array(self) -> Number:
         """FreeArray: empties the array and returns how many entries it had."""
         return self._free()
 
     def _free(self, is_quiet: bool = False) -> Any:
-        if self._asker._catalogue is not None:
-            return self._asker._catalogue.free(self)
         return self._ask(b"FA", count_of, is_quiet=is_quiet)
 
 
@@ -144,7 +135,7 @@ class Judy1Calls(Empties[Number, Found], Generic[Yes, Number, Found, Both]):
 
     def set(self, index: int) -> Yes:
         """Set: inserts an index, and returns whether it was absent."""
-        return self._put(b"S", flag, word_field(index))
+        return self._ask(b"S", flag, word_field(index))
 
     def unset(self, index: int) -> Yes:
         """Unset: removes an index, and returns whether it was present."""
@@ -152,7 +143,7 @@ class Judy1Calls(Empties[Number, Found], Generic[Yes, Number, Found, Both]):
 
     def add_absent(self, start: int = 0) -> Found:
         """AddAbsent: inserts the least absent index from `start` on, and returns it; None if there is none."""
-        return self._put(b"SE", index_of, word_field(start))
+        return self._ask(b"SE", index_of, word_field(start))
 
     def pop_first(self, low: int = 0, high: int = MAX) -> Found:
         """PopFirst: removes the least index from `low` to `high`, both included, and returns it; None if
@@ -203,7 +194,7 @@ class MapCalls(Calls[Number], Generic[K, Yes, Number, Found]):
 
     def _insert(self, key: K, value: Optional[int], is_quiet: bool = False) -> Any:
         more = () if value is None else (word_field(value),)
-        return self._put(b"I", value_of, self._key(key), *more, is_quiet=is_quiet)
+        return self._ask(b"I", value_of, self._key(key), *more, is_quiet=is_quiet)
 
     def add(self, key: K, n: int = 1) -> Number:
         """Adds `n` to the value of a key, modulo 2^64, and returns the new value. An absent key counts
@@ -234,12 +225,12 @@ class MapCalls(Calls[Number], Generic[K, Yes, Number, Found]):
         return fields
 
     def _add(self, key: K, n: int) -> Any:
-        return self._put(b"A", value_of, self._key(key), step_field(n))
+        return self._ask(b"A", value_of, self._key(key), step_field(n))
 
     def keep(self, key: K, value: int) -> Found:
         """Stores a value if the key is absent, and returns None. A present key keeps its value, which is
         returned."""
-        return self._put(b"K", value_or_none, self._key(key), word_field(given(value)))
+        return self._ask(b"K", value_or_none, self._key(key), word_field(given(value)))
 
     def exchange(self, key: K, old: int, new: int) -> Found:
         """Stores `new` if the value of a key is `old`. Returns the value before, which is `old` exactly if
@@ -279,7 +270,7 @@ class JudyLCalls(MapCalls[int, Yes, Number, Found], Empties[Number, Found], Gene
     def insert_absent(self, start: int, value: int) -> Found:
         """InsertAbsent: inserts the least absent index from `start` on with a value, and returns the index;
         None if there is none."""
-        return self._put(b"IE", index_of, word_field(start), word_field(given(value)))
+        return self._ask(b"IE", index_of, word_field(start), word_field(given(value)))
 
     def pop_first(self, low: int = 0, high: int = MAX) -> Item:
         """PopFirst: removes the least index from `low` to `high`, both included, and returns it with its

@@ -1,20 +1,20 @@
 """A client of a judyd."""
 
 import ssl
-from contextlib import nullcontext
-from typing import Any, Callable, ContextManager, Iterable, List, Optional, Set, Tuple, TypeVar, overload
+from typing import Any, Callable, ContextManager, Dict, Iterable, Iterator, List, Optional, Tuple, TypeVar, overload
 
 from .bound import Bound
-from .catalogue import Catalogue, listed
 from .connection import Address
 from .errors import checked
-from .fields import Hello, Used, hello_of, name_field, nothing_of, plain_lines, token_field, used_of
+from .fields import MOST, Hello, Used, hello_of, name_field, nothing_of, plain_lines, token_field, used_of
 from .lines import Lines, cut
 from .link import Link
 from .maps import JudyHS, JudyL, JudySL
+from .names import Behind, NamedArray, listing, names_line, names_of
 from .pipeline import Pipeline
 from .retry import QUERIES, Retry, checked_retry, rule_of
 from .sets import Judy1
+from .walks import walked
 
 T = TypeVar("T")
 
@@ -26,10 +26,6 @@ class Arrays(Bound):
     """What a client and a visitor share: the arrays of a tenant, over `_exchange`."""
 
     _is_late = False
-    _catalogue: Optional[Catalogue] = None
-
-    def __init__(self) -> None:
-        self._noted: Set[Tuple[bytes, str]] = set()
 
     def used(self) -> Used:
         """The tenant's numbers of entries and pieces, and its quota of both, as a `Used`."""
@@ -73,9 +69,24 @@ class Arrays(Bound):
         encoding."""
         return JudyHS(self, name, encoding)
 
+    def names(self, behind: Behind = None, most: int = MOST) -> List[NamedArray]:
+        """The first of the tenant's arrays that have entries, or those behind an array, which may be absent: at
+        most `most` of them and as many as fit into a reply, each as a `NamedArray`. Go on behind the last of them
+        until there is none."""
+        return self._ask(names_line(behind, most), names_of)
+
     def arrays(self) -> List[Tuple[str, str]]:
-        """The kinds and names of the tenant's arrays, as ("J1", "ids"), as the catalogue has them."""
-        return listed(self)
+        """The kinds and names of all arrays of the tenant that have entries, as ("J1", "ids"), by kind and then by name.
+        It sends a line for each 4,088 bytes of them. An array that comes or goes meanwhile may be there or not."""
+        return [(it.kind, it.name) for it in self._listed()]
+
+    def array_counts(self) -> Dict[Tuple[str, str], int]:
+        """The same, with how many entries each array has: {("J1", "ids"): 3}. A count is that of the moment when the
+        server listed the array."""
+        return {(it.kind, it.name): it.entries for it in self._listed()}
+
+    def _listed(self) -> Iterator[NamedArray]:
+        return walked(listing(), self)
 
     def pipeline(self, window: Optional[int] = 1000, raises: bool = True, is_quiet: bool = False) -> Pipeline:
         """A `Pipeline` of calls, with up to `window` in flight at once; with None all of them. It is
@@ -92,10 +103,6 @@ class Arrays(Bound):
 
     def _exchange(self, lines: Lines, is_quiet: bool = False) -> bytes:
         """The replies to lines, each with its LF."""
-        raise NotImplementedError
-
-    def _held(self) -> ContextManager[None]:
-        """No other thread makes calls of this client meanwhile."""
         raise NotImplementedError
 
     def _server(self) -> object:
@@ -126,19 +133,14 @@ class Client(Arrays):
     where no other client writes: see `help(judyd.Retry)`. After a restart of the server the arrays are
     empty. So a job of several windows, as a walk, an `update` or a pipeline, raises `Restarted` if it
     met two servers, and its caller begins it again.
-
-    With `catalogue=True` the client keeps the names of the arrays that it writes to, in an array of the
-    tenant: see `help(judyd.catalogue)`.
     """
 
     def __init__(
         self, address: Address, timeout: Optional[float] = TIMEOUT, tls: Optional[ssl.SSLContext] = None,
-        catalogue: bool = False, reconnect: bool = False, retry: Retry = QUERIES,
+        reconnect: bool = False, retry: Retry = QUERIES,
     ) -> None:  # fmt: skip
-        super().__init__()
         self._retry = checked_retry(retry, reconnect)
-        self._catalogue = Catalogue() if catalogue else None
-        self._link = Link(address, timeout, tls, reconnect, self._noted.clear)
+        self._link = Link(address, timeout, tls, reconnect)
 
     def __repr__(self) -> str:
         return "<Client %s>" % self._link
@@ -152,7 +154,6 @@ class Client(Arrays):
     def auth(self, name: str, token: str) -> "Client":
         """Logs in, and returns the client. Raises NotAuthorized if the tenant is unknown or the
         token is wrong. Then nobody is logged in, and the connection stays open for another try."""
-        self._noted.clear()
         checked(self._log_in(b"AUTH %s %s" % (name_field(name), token_field(token))))
         return self
 
@@ -210,7 +211,6 @@ class Visitor(Arrays):
     """
 
     def __init__(self, open_client: Callable[[], Client]) -> None:
-        super().__init__()
         self._open = open_client
         self._client: Optional[Client] = None
         self._latest: object = None
@@ -223,9 +223,6 @@ class Visitor(Arrays):
             return super()._ask(line, read, is_quiet)
         finally:
             self._pause()
-
-    def _held(self) -> ContextManager[None]:
-        return nullcontext()
 
     def _server(self) -> object:
         return self._latest

@@ -59,9 +59,10 @@ def run_dump(options: argparse.Namespace) -> int:
         raise ValueError("dump what? J1:ids and so on, or --all")
     signal.signal(signal.SIGTERM, lambda *_: sys.exit(143))  # so that no file is left beside
     gc.disable()  # a dump has many small objects and no cycles
-    names = all_arrays(visitor_of(options)) if options.all else [read_name(text) for text in options.arrays]
+    named = [read_name(text) for text in options.arrays]
     with wire_of(options) as wire:
-        return transfer.dump(wire, names, options.output, options.empty)
+        names = all_arrays(wire) if options.all else named
+        return transfer.dump(wire, names, options.output, options.empty or options.all)  # one that is not named may go meanwhile
 
 
 def run_load(options: argparse.Namespace) -> int:
@@ -101,7 +102,7 @@ def run_move(options: argparse.Namespace) -> int:
     signal.signal(signal.SIGTERM, lambda *_: sys.exit(143))
     gc.disable()
     with wire_of(options) as source, second_server(options) as target:
-        names = all_arrays(visitor_of(options)) if options.all else named
+        names = all_arrays(source) if options.all else named
         return moves.move(source, target, names, options.all, options.part, options.free)
 
 

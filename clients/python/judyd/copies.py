@@ -10,12 +10,12 @@ from dataclasses import dataclass
 from itertools import groupby
 from typing import Any, Callable, Dict, Iterable, Iterator, List, NamedTuple, Optional, Tuple
 
-from .catalogue import ARRAYS
 from .client import Arrays
-from .errors import Error
 from .fields import name_field
+from .names import KINDS, listing
+from .walks import Ask, walked
+from .wire import Wire
 
-KINDS = ("J1", "JL", "JSL", "JHS")
 _PUTS = {"J1S": "J1", "JLI": "JL", "JSLI": "JSL", "JHSI": "JHS"}
 SHOWN = 20
 """How many differences are printed one by one."""
@@ -60,12 +60,25 @@ def put_in(arrays: Arrays, array: ArrayName, items: Iterable[Item]) -> None:
     array.within(arrays).update((index for index, _ in items) if array.kind == "J1" else items)
 
 
-def all_arrays(arrays: Arrays) -> List[ArrayName]:
-    """The arrays of a tenant's catalogue, and the catalogue itself."""
-    listed = [ArrayName(kind, name) for kind, name in arrays.arrays()]
-    if not listed:
-        raise Error("the tenant has no catalogue of its arrays: name them")
-    return [ArrayName("JSL", ARRAYS), *listed]
+class _Asker:
+    """What a walk asks, over a wire, which is one connection to one server."""
+
+    def __init__(self, wire: Wire) -> None:
+        self._wire = wire
+
+    def _replies(self, lines: Ask) -> List[bytes]:
+        return [self._wire.ask(line + b"\n", 1)[:-1] for line in lines]
+
+    def _server(self) -> object:
+        return self._wire
+
+    def _pause(self) -> None:
+        """The connection stays."""
+
+
+def all_arrays(wire: Wire) -> List[ArrayName]:
+    """The arrays of a tenant that have entries."""
+    return [ArrayName(it.kind, it.name) for it in walked(listing(), _Asker(wire))]
 
 
 class Progress:

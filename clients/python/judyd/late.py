@@ -5,7 +5,8 @@ from typing import Any, Callable, Generic, Iterable, List, Mapping, Optional, Tu
 from .bound import Bound
 from .calls import Judy1Calls, JudyHSCalls, JudyLCalls, JudySLCalls, MapCalls, given
 from .errors import Closed, JudyError, checked, is_refusal
-from .fields import Shared, Used, used_of
+from .fields import MOST, Shared, Used, used_of
+from .names import Behind, NamedArray, names_line, names_of
 
 T = TypeVar("T")
 K = TypeVar("K")
@@ -108,6 +109,11 @@ class LateArrays(Bound):
     def used(self) -> Later[Used]:
         """The tenant's numbers of entries and pieces, and its quota of both, as a `Used`."""
         return self._ask(b"USED", used_of)
+
+    def names(self, behind: Behind = None, most: int = MOST) -> Later[List[NamedArray]]:
+        """The first of the tenant's arrays that have entries, or those behind an array, which may be absent: at
+        most `most` of them and as many as fit into a reply, each as a `NamedArray`."""
+        return self._ask(names_line(behind, most), names_of)
 
     def judy1(self, name: str) -> LateJudy1:
         """The calls of the set of words with this name."""

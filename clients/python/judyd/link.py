@@ -18,14 +18,13 @@ class Link:
     """The connection of a client, with its log-in. One thread at a time uses it. With `reconnect` a
     new connection replaces a lost one."""
 
-    def __init__(self, address: Address, timeout: Optional[float], tls: Optional[ssl.SSLContext], reconnect: bool, on_new: Callable[[], None]) -> None:
+    def __init__(self, address: Address, timeout: Optional[float], tls: Optional[ssl.SSLContext], reconnect: bool) -> None:
         checked_address(address)
         checked_timeout(timeout)
         self._connect: Callable[[], Connection] = lambda: Connection(address, timeout, tls)
         self._place = place_of(address)
         self._timeout = timeout
         self._reconnect = reconnect
-        self._on_new = on_new  # is called when a new connection has taken the place of another
         self._lock = threading.RLock()
         self._process = os.getpid()
         self._is_busy = False
@@ -116,7 +115,6 @@ class Link:
             raise
         self.connection, self._server = connection, connection.server or object()
         LOGGER.info("%s: connected again", self)
-        self._on_new()
         self._may_open = self._reconnect
         return connection
 

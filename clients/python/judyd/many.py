@@ -96,11 +96,6 @@ def get_key(calls: Any, key: Any) -> Any:
         return None
 
 
-def no_lines(_: List[Any]) -> Optional[Lines]:
-    """No lines, so that each thing gets a call of its own."""
-    return None
-
-
 class Many:
     """Calls of an array for many things, with many lines in flight at once."""
 
@@ -114,10 +109,9 @@ class Many:
         window that has it. The calls are quiet if their results are not used. A window is made ahead
         unless the caller acts between two windows.
 
-        `lines_of` makes the lines of a window at once. If it makes none, and for a client with a
-        catalogue, which has lines of its own among them, `call` makes the call of each thing."""
+        `lines_of` makes the lines of a window at once. If it makes none, `call` makes the call of each thing."""
         same = SameServer(self._asker._server)
-        for window, lines in Ahead(things, no_lines if self._asker._catalogue is not None else lines_of, is_ahead):
+        for window, lines in Ahead(things, lines_of, is_ahead):
             if lines is None:
                 replies = self._piped(window, call, is_quiet)
             else:

@@ -80,7 +80,7 @@ class Move:
 
     def free(self, counts: List[int]) -> None:
         """Frees the arrays in the source. `counts` has how many entries of each were copied."""
-        for array, count in reversed(list(zip(self._arrays, counts))):  # the catalogue last
+        for array, count in zip(self._arrays, counts):
             reply = self._source.ask(b"%bFA %b\n" % (array.kind.encode(), array.name.encode()), 1)[:-1]
             freed = count_of(checked(reply))
             if freed != count:
@@ -106,6 +106,9 @@ def _has_any(wire: Wire, array: ArrayName) -> bool:
 
 def move(source: Wire, target: Wire, arrays: List[ArrayName], is_all: bool, is_part: bool, is_freed: bool) -> int:
     """Moves arrays, prints how many entries each has, and returns the status."""
+    if not arrays:
+        print("the tenant has no arrays")
+        return 0
     going = Move(source, target, arrays)
     counts = []
     try:

@@ -145,8 +145,8 @@ def subcommand(name: str) -> argparse.ArgumentParser:
         sub.add_argument("number", nargs="?", type=int, default=1, metavar="N", help="what to add; less than 0 subtracts")
     elif name == "dump":
         sub.add_argument("-o", "--output", metavar="FILE", help="write a file beside FILE, which takes its place when the dump is whole")
-        sub.add_argument("--all", action="store_true", help="all arrays of the tenant's catalogue")
-        sub.add_argument("--empty", action="store_true", help="an array may have no entries")
+        sub.add_argument("--all", action="store_true", help="all arrays of the tenant that have entries")
+        sub.add_argument("--empty", action="store_true", help="an array that is named may have no entries")
         sub.add_argument("arrays", nargs="*", metavar="ARRAY", help="J1:NAME, JL:NAME, JSL:NAME or JHS:NAME")
     elif name in ("load", "check"):
         sub.add_argument("--unchecked", action="store_true", help="take lines that are no whole dump, without a check")
@@ -158,7 +158,7 @@ def subcommand(name: str) -> argparse.ArgumentParser:
         sub.add_argument("list", metavar="LIST", help="a file with a row for each tenant: TENANT TOKEN ARRAY.. or --all")
     elif name == "restore":
         sub.add_argument("--control", required=True, metavar="PATH", help="the socket of judyd serve --control")
-        sub.add_argument("--all", action="store_true", help="free the other arrays of the tenant's catalogue too")
+        sub.add_argument("--all", action="store_true", help="free the tenant's other arrays too")
         sub.add_argument("tenant", metavar="TENANT", help="whose arrays; it needs no token")
         sub.add_argument("dumps", nargs="+", metavar="DUMP", help="a file of judy dump or judy backup")
     elif name == "compact":
@@ -176,7 +176,7 @@ def subcommand(name: str) -> argparse.ArgumentParser:
         sub.add_argument("--new-token-file", metavar="FILE", help="the tenant's token there, if it is another one (else JUDY_NEW_TOKEN)")
         sub.add_argument("--free", action="store_true", help="free the arrays in the first server, once all of them are alike in both")
         sub.add_argument("--part", action="store_true", help="the tenant may have other arrays, which stay")
-        sub.add_argument("--all", action="store_true", help="all arrays of the tenant's catalogue")
+        sub.add_argument("--all", action="store_true", help="all arrays of the tenant that have entries")
         sub.add_argument("arrays", nargs="*", metavar="ARRAY", help="as for dump")
     elif name == "table":
         sub.add_argument("file", metavar="FILE", help="- for standard input")

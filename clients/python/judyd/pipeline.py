@@ -3,7 +3,7 @@
 import os
 import threading
 from collections import deque
-from typing import Any, Callable, ContextManager, Deque, List, Optional, Set, Tuple, TypeVar
+from typing import Any, Callable, Deque, List, Optional, Tuple, TypeVar
 
 from .connection import SameServer
 from .errors import Closed, ConnectionLost, JudyError, refusal_of
@@ -33,8 +33,6 @@ class Pipeline(LateArrays):
     def __init__(self, client: Any, window: Optional[int] = 1000, raises: bool = True, is_quiet: bool = False) -> None:
         super().__init__()
         self._client = client
-        self._catalogue = client._catalogue
-        self._noted: Set[Tuple[bytes, str]] = set()
         if not isinstance(window, (int, type(None))):
             raise TypeError("the window of a pipeline is an int, or None, and not %r" % (window,))
         self._window = window
@@ -88,11 +86,6 @@ class Pipeline(LateArrays):
             if self._window is not None and len(self._waiting) >= self._window:
                 self.flush()
         return later
-
-    def _held(self) -> ContextManager[object]:
-        """No other thread adds calls meanwhile."""
-        self._check_process()
-        return self._lock
 
     def _check_process(self) -> None:
         if self._process != os.getpid():

@@ -129,12 +129,11 @@ class Restore:
     def run(self, is_all: bool) -> int:
         """Frees the arrays, loads the dumps, compares, and returns the status."""
         arrays = [array for dump in self._dumps for array in dump.arrays]
-        if is_all:
-            with self._client() as client:
-                arrays = list(dict.fromkeys([*arrays, *all_arrays(client)]))
         with _in_place(lambda: self._server.wire(self._tenant, self._token)) as wire:
             self.is_connected = True
             self._check_quota(wire)
+            if is_all:
+                arrays = list(dict.fromkeys([*arrays, *all_arrays(wire)]))
             self._free(wire, arrays)
             if any(load_blocks(wire, dump.blocks(), dump.count) for dump in self._dumps):
                 return 1

@@ -59,7 +59,7 @@ class Judy1(Ranked[int], Many, Judy1Calls[bool, int, Optional[int], Shared], Mut
 
     def add(self, index: int) -> None:
         """Inserts an index."""
-        self._put(b"S", flag, word_field(index), is_quiet=True)
+        self._ask(b"S", flag, word_field(index), is_quiet=True)
 
     def discard(self, index: int) -> None:
         """Removes an index, if it is present. One that is out of range never is."""

@@ -4,7 +4,6 @@ import sys
 from itertools import groupby
 from typing import Iterable, Iterator, List, Optional, Tuple
 
-from .catalogue import ARRAYS
 from .copies import SHOWN, ArrayName, Progress
 from .dumpfile import NoDump, Reader, Write, Writer, is_regular, replaced, verify, whole_lines, write_all
 from .errors import Closed, Error
@@ -33,7 +32,7 @@ def dump_all(wire: Wire, arrays: List[ArrayName], may_be_empty: bool, write: Wri
             dump.entries(lines, count)
             progress.add(count)
         progress.end()
-        if progress.count == 0 and array.name != ARRAYS:
+        if progress.count == 0:
             empty.append(array)
     if may_be_empty or not empty:
         dump.end()

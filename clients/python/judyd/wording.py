@@ -6,6 +6,7 @@ from difflib import get_close_matches
 from typing import Dict, List, Match, NamedTuple, Optional, Tuple
 
 from .fields import KEY_LIMIT, LINE_LIMIT, MAX, MOST
+from .names import KINDS
 from .words import COMMANDS as COMMANDS_OF_ARRAYS
 from .words import Command
 
@@ -18,18 +19,25 @@ _KEY = re.compile(r"x([0-9A-Fa-f]{2})*\Z")
 
 class Call(NamedTuple):
     """A request of the protocol: its word, its name in the manual, its fields, how many of them are
-    required, and what it does."""
+    required, what it does, and how many of the first fields may be left out, all of them or none."""
 
     word: str
     name: str
     fields: Tuple[str, ...]
     least: int
     what: str
+    ahead: int = 0
 
     def usage(self) -> str:
         """Its form."""
-        optional = ["[%s]" % field for field in self.fields[self.least :]]
-        return " ".join([self.word, *self.fields[: self.least], *optional])
+        first, must, may = self.fields[: self.ahead], self.fields[self.ahead : self.least], self.fields[self.least :]
+        return " ".join([self.word, *(["[%s]" % " ".join(first)] if first else []), *must, *("[%s]" % field for field in may)])
+
+    def fields_of(self, count: int) -> Optional[Tuple[str, ...]]:
+        """The fields that so many are; None if it has no such form."""
+        if self.ahead and count == len(self.fields) - self.ahead:
+            return self.fields[self.ahead :]
+        return self.fields[:count] if self.least <= count <= len(self.fields) else None
 
 
 _EMPTY = "1 i, or 0 if there is none"
@@ -104,6 +112,7 @@ def _help_of_kind(kind: str) -> str:
 OTHERS = [
     Call("AUTH", "", ("tenant", "token"), 2, "logs in: OK, or ERR AUTH or ERR CLIENTS, after which nobody is logged in"),
     Call("USED", "", (), 0, "Q used quota pieces most: entries and pieces, each with its quota"),
+    Call("NAMES", "", ("kind", "name", "n"), 3, "the first n arrays that have entries, or those behind a kind (J1, JL, JSL, JHS) and a name: E, how many, and each as its kind, its name and its number of entries", 2),
     Call("QUIT", "", (), 0, "BYE, and the connection ends"),
     Call("PING", "", (), 0, "OK, without a log-in too"),
     Call("HELLO", "", (), 0, "JUDYD, the version of the protocol, and the most bytes of a line, a reply, a name, a token and a key"),
@@ -114,7 +123,7 @@ LONG_NAMES = {call.name: call.word for call in CALLS.values()}
 COMMANDS = sorted([*LONG_NAMES, *WORDS])
 HELP = """Lines of the protocol, one reply each; help and a word describes one, as help J1S:
 %s
-  USED   AUTH tenant token   QUIT   PING   HELLO
+  USED   NAMES [kind name] n   AUTH tenant token   QUIT   PING   HELLO
 A word is a decimal number up to 18446744073709551615, or -1 for that number. A key is x and hexadecimal digits, or a "text".
 The manual's names work too, as Judy1Set for J1S. At a terminal Tab completes, and help, ?, exit and quit work.""" % "\n".join("  " + _help_of_kind(kind) for kind in _THINGS)
 
@@ -210,9 +219,10 @@ def wrong_in(request: str) -> str:
     call = WORDS.get(word)
     if call is None:
         return "no such request: %s%s" % (word, _near(word))
-    if not call.least <= len(fields) <= len(call.fields):
+    kinds = call.fields_of(len(fields))
+    if kinds is None:
         return "it is written %s" % call.usage()
-    for what, field in zip(call.fields, fields):
+    for what, field in zip(kinds, fields):
         wrong = _wrong_field(what, field, call.word.startswith("JSL"))
         if wrong:
             return wrong
@@ -222,16 +232,19 @@ def wrong_in(request: str) -> str:
 
 
 def _ends_with_entries(call: Call, fields: List[str]) -> bool:
-    """Whether the last of these fields is a number of entries: that of a search, of an intersection, or of the removal
-    of a range. That of an addition and of ByCount is not."""
-    may_have = call.fields[-1:] == ("n",) and COMMANDS_OF_ARRAYS[call.word].operation not in ("Add", "Nth")
-    return may_have and len(fields) == len(call.fields)
+    """Whether the last of these fields is a number of entries: that of a search, of an intersection, of the removal
+    of a range, or of arrays. That of an addition and of ByCount is not."""
+    command = COMMANDS_OF_ARRAYS.get(call.word)
+    may_have = call.fields[-1:] == ("n",) and (command is None or command.operation not in ("Add", "Nth"))
+    return may_have and call.fields_of(len(fields)) in (call.fields, ("n",))
 
 
 def _wrong_field(what: str, field: str, is_string: bool) -> Optional[str]:
     """What is wrong with a field."""
     if what in ("name", "other", "tenant"):
         return None if _NAME.match(field) else "a name is 1 to 32 of A-Z a-z 0-9 _ - . and not %s" % field
+    if what == "kind":
+        return None if field in KINDS else "a kind is J1, JL, JSL or JHS, and not %s" % field
     if what == "token":
         return None if _TOKEN.match(field) else "a token is 1 to 128 characters from ! to ~"
     if what == "key":
@@ -258,6 +271,8 @@ def told(request: str, reply: str) -> Tuple[str, str, str]:
     fields = reply.split(" ")
     call = CALLS.get((request.split() or [""])[0])
     if is_refused(reply) or call is None:
+        if fields[0] == "E":
+            return "%s found" % fields[1], " ".join("%s:%s %s" % it for it in zip(fields[2::3], fields[3::3], fields[4::3])), ""
         if fields[0] == "Q" and len(fields) == 5:
             return "%s of %s entries, %s of %s pieces" % tuple(fields[1:]), "", ""
         return reply.lower() if is_refused(reply) else reply, "", ""
