@@ -10,8 +10,9 @@ each.
 
 redis gets the nearest command: a sorted set by score for a JudyL, one by text for a JudySL, and a script for
 `JLT`, which takes an entry. It intersects three sets, or sorted sets, by one command. judyd has none for three: the
-client asks for the words that the first set shares with the second and with the third (`J1I`), both at once, and
-keeps those that are in both answers. The program is the path in JUDYD, otherwise crates/judyd/out/judyd.
+client asks for the words that two of them share (`J1I`), and with each next line it tests the words of the reply
+before in the third (`J1T`), all of these in flight at once. So the third set costs a search for each shared word,
+where `J1I` of another two would cost two for each of its steps, of which there are more. The program is the path in JUDYD, otherwise crates/judyd/out/judyd.
 """
 
 import argparse
@@ -149,17 +150,15 @@ class Judyd:
 
     @staticmethod
     def shared(client, replies, _):
-        """The words that three sets share: those that the first one shares with each of the others."""
-        found, going_on = {b"b": set(), b"c": set()}, {b"b": b"0", b"c": b"0"}
-        while going_on:
-            client.sendall(b"".join(b"J1I a %b %b 65535\n" % it for it in going_on.items()))
-            for other in list(going_on):
-                _, following, _, *words = replies.readline().split()
-                found[other].update(words)
-                going_on[other] = following
-                if following == b"0":
-                    del going_on[other]
-        return sorted(map(int, found[b"b"] & found[b"c"]))
+        """The words that three sets share."""
+        found, going_on, words = [], 0, []
+        while going_on is not None or words:
+            line = b"" if going_on is None else b"J1I a b %d 65535\n" % going_on
+            client.sendall(line + b"".join(b"J1T c %d\n" % it for it in words))
+            _, following, _, *shared = map(bytes.decode, replies.readline().split()) if line else ("I", "0", "0")
+            found += [it for it in words if replies.readline() == b"1\n"]
+            going_on, words = int(following) or None, list(map(int, shared))
+        return found
 
     @staticmethod
     def take(word):
